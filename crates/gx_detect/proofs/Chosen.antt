@@ -6,10 +6,9 @@ use Rattle.std.specs.List.{Contains}
 use Rattle.gx_ids.specs.declared.ids.Gxid.{Gxid}
 use Rattle.gx_waits.specs.declared.placed_edge.PlacedEdge.{PlacedEdge}
 use Rattle.gx_waits.specs.Edge.{names}
-use Rattle.gx_waits.specs.Closed.{IsStuck, IsNamedIn}
+use Rattle.gx_waits.specs.Closed.{IsNamed, IsNamedIn, IsStuck}
 use Rattle.gx_waits.specs.Victims.{AreVictims, IsGreatestInCore}
 use Rattle.gx_waits.proofs.Members.{Has, has_from_contains, each_from_all}
-use Rattle.gx_detect.specs.Reduce.{IsNamed}
 use Rattle.gx_detect.specs.Core.{IsCore, AreNamed, HaveClosedCores}
 use Rattle.gx_detect.proofs.CoreNames.{last_is_greatest, none_is_empty}
 

@@ -9,14 +9,14 @@ use Rattle.std.specs.List.{Contains, AllPairs}
 use Rattle.std.specs.List.Sorted.{IsStrictlyIncreasing}
 use Rattle.gx_ids.specs.declared.ids.Gxid.{Gxid}
 use Rattle.gx_waits.specs.declared.placed_edge.PlacedEdge.{PlacedEdge}
-use Rattle.gx_waits.specs.Closed.{IsStuck}
+use Rattle.gx_waits.specs.Closed.{IsNamed, IsStuck}
 use Rattle.gx_waits.specs.Victims.{IsNamedInCore, IsGreatestInCore}
 use Rattle.gx_waits.proofs.Members.{Has, has_from_contains, contains_from_has}
 use Rattle.gx_waits.proofs.Determined.{same_gxid}
 use Rattle.gx_detect.specs.declared.place.Place.{Place}
 use Rattle.gx_detect.specs.declared.place.Place.TheVariants.{Anywhere}
 use Rattle.gx_detect.specs.Settled.{IsSettled}
-use Rattle.gx_detect.specs.Reduce.{is_left, IsNamed}
+use Rattle.gx_detect.specs.Reduce.{is_left}
 use Rattle.gx_detect.specs.Core.{IsCore, AreNamed, turned, holder_is_left}
 use Rattle.gx_detect.proofs.Stuck.{has_filter, filter_has}
 use Rattle.gx_detect.proofs.Turned.{map_has, has_map, counted_is_held, named_is_counted, is_core, none_stuck}

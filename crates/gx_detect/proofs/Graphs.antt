@@ -11,7 +11,7 @@ use Rattle.gx_waits.specs.declared.edge.Edge.{Edge}
 use Rattle.gx_waits.specs.declared.graph.LocalGraph.{LocalGraph}
 use Rattle.gx_waits.specs.declared.placed_edge.PlacedEdge.{PlacedEdge}
 use Rattle.gx_waits.specs.LocalGraph.{edges_of}
-use Rattle.gx_waits.specs.Closed.{IsStuck}
+use Rattle.gx_waits.specs.Closed.{IsNamed, IsStuck}
 use Rattle.gx_waits.specs.Finish.{CanFinish}
 use Rattle.gx_waits.proofs.Members.{has_from_contains, contains_from_has}
 use Rattle.gx_waits.proofs.StuckWaits.{stuck_never_finishes}
@@ -20,7 +20,7 @@ use Rattle.gx_detect.specs.declared.place.Place.{Place}
 use Rattle.gx_detect.specs.declared.place.Place.TheVariants.{Anywhere}
 use Rattle.gx_detect.specs.Place.{waits_in}
 use Rattle.gx_detect.specs.Settled.{IsSettled}
-use Rattle.gx_detect.specs.Reduce.{is_left, kept_edges, IsNamed}
+use Rattle.gx_detect.specs.Reduce.{is_left, kept_edges}
 use Rattle.gx_detect.proofs.Stuck.{has_filter, filter_has, left_test, test_left, left_is_stuck, stuck_is_left, stuck_has, finishes}
 
 abbrev pub placed : LocalGraph → List PlacedEdge

@@ -6,7 +6,7 @@ use Rattle.std.specs.Prelude.{IsTrue}
 use Rattle.std.specs.List.{Contains, Any}
 use Rattle.gx_ids.specs.declared.ids.Gxid.{Gxid}
 use Rattle.gx_waits.specs.declared.placed_edge.PlacedEdge.{PlacedEdge}
-use Rattle.gx_waits.specs.Closed.{IsStuck, Waits, WaitsAt}
+use Rattle.gx_waits.specs.Closed.{IsNamed, IsStuck, Waits, WaitsAt}
 use Rattle.gx_waits.specs.Finish.{Move, IsLet, IsPlan}
 use Rattle.gx_waits.specs.Finish.Move.{End, Back}
 use Rattle.gx_waits.specs.Victims.{IsCorePart}
@@ -16,7 +16,7 @@ use Rattle.gx_detect.specs.declared.place.Place.{Place}
 use Rattle.gx_detect.specs.declared.place.Place.TheVariants.{Anywhere}
 use Rattle.gx_detect.specs.Place.{waits_in}
 use Rattle.gx_detect.specs.Settled.{IsSettled, IsLeft}
-use Rattle.gx_detect.specs.Reduce.{is_left, IsNamed}
+use Rattle.gx_detect.specs.Reduce.{is_left}
 use Rattle.gx_detect.specs.Core.{IsCore, turned}
 use Rattle.gx_detect.proofs.Reduced.{still_let}
 use Rattle.gx_detect.proofs.Stuck.{has_filter, filter_has, left_test, test_left, stuck_is_left}

@@ -4,13 +4,12 @@ use Rattle.std.specs.Prelude.{Contains, filter, not}
 use Rattle.gx_ids.specs.declared.ids.Gxid.{Gxid}
 use Rattle.gx_waits.specs.declared.placed_edge.PlacedEdge.{PlacedEdge}
 use Rattle.gx_waits.specs.declared.verdict.Verdict.TheVariants.{Victims}
-use Rattle.gx_waits.specs.Closed.{IsNamedInStuck, IsStuck}
+use Rattle.gx_waits.specs.Closed.{IsNamed, IsNamedInStuck, IsStuck}
 use Rattle.gx_waits.specs.Edge.{names}
 use Rattle.gx_waits.specs.Victims.{AreVictims, IsGreatestInCore, IsVerdict}
 use Rattle.gx_waits.proofs.Members.{has_from_contains, all_from_each, each_from_all}
 use Rattle.gx_waits.proofs.StuckWaits.{stuck_never_finishes}
 use Rattle.gx_detect.specs.Core.{HaveClosedCores, IsCore}
-use Rattle.gx_detect.specs.Reduce.{IsNamed}
 use Rattle.gx_detect.proofs.CoreNames.{core_name}
 use Rattle.gx_detect.specs.Deadlocks.{AreVictimsInTurn, IsVictim, NamesVictims, naming}
 

@@ -3,11 +3,10 @@ use Rattle.std.specs.Prelude.{◌<◌, ℕ, List, [], ◌∷◌, Bool, false, Co
 use Rattle.gx_ids.specs.declared.ids.Gxid.{Gxid}
 use Rattle.gx_waits.specs.declared.placed_edge.PlacedEdge.{PlacedEdge}
 use Rattle.gx_waits.specs.Edge.{names}
-use Rattle.gx_waits.specs.Closed.{IsClosed}
+use Rattle.gx_waits.specs.Closed.{IsClosed, IsNamed}
 use Rattle.gx_waits.specs.Victims.{IsCorePart, IsInCore}
 use Rattle.gx_detect.specs.declared.place.Place.{Place}
 use Rattle.gx_detect.specs.declared.place.Place.TheVariants.{Anywhere}
-use Rattle.gx_detect.specs.Reduce.{IsNamed}
 
 -- these edges are the whole core: the largest part in which each waiter is waited for. It is closed
 pub record IsCore (edges core : List PlacedEdge) : Type 0 where

@@ -4,11 +4,10 @@ use Rattle.gx_ids.specs.declared.ids.Gxid.{Gxid}
 use Rattle.gx_waits.specs.declared.placed_edge.PlacedEdge.{PlacedEdge}
 use Rattle.gx_waits.specs.declared.verdict.Verdict.{Verdict}
 use Rattle.gx_waits.specs.declared.verdict.Verdict.TheVariants.{Nothing, Victims}
-use Rattle.gx_waits.specs.Closed.{IsClosed, IsWithin}
+use Rattle.gx_waits.specs.Closed.{IsClosed, IsNamed, IsWithin}
 use Rattle.gx_waits.specs.Edge.{names}
 use Rattle.gx_waits.specs.Finish.{CanFinish}
-use Rattle.gx_waits.specs.Victims.{IsInCore}
-use Rattle.gx_detect.specs.Reduce.{IsNamed}
+use Rattle.gx_waits.specs.Victims.{IsInCore, IsYoungest}
 
 -- a closed set of waits, all of whose members are waited for, and none of whom can finish; no other wait of the core is
 -- left out, so that it holds all deadlocks there are
@@ -18,11 +17,6 @@ pub record IsDeadlock (edges set : List PlacedEdge) : Type 0 where
   pub waited_for : All (λ e. Any (λ f. f.edge.holder ≡ e.edge.waiter) set) set
   pub never : (v : Gxid) → IsNamed set v → CanFinish edges v → ⊥
   pub whole : (e : PlacedEdge) → IsInCore edges e → Contains set e
-
--- the youngest transaction that a set of waits names, since later ones have greater numbers
-pub record IsYoungest (set : List PlacedEdge) (v : Gxid) : Type 0 where
-  pub member : IsNamed set v
-  pub youngest : (w : Gxid) → IsNamed set w → w.0 ≤ v.0
 
 -- the transaction is the youngest of a deadlock
 pub record IsVictim (edges : List PlacedEdge) (v : Gxid) : Type 0 where

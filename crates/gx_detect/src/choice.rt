@@ -1,11 +1,10 @@
 ghost use Rattle.std.specs.Prelude.{◌≡◌, ◌↔◌, ◌⊎◌, List, [], IfOk, IfSome, IfNone, Contains, map, filter};
 ghost use Rattle.gx_ids.specs.declared.ids.Gxid.{Gxid};
 ghost use Rattle.gx_waits.specs.declared.placed_edge.PlacedEdge.{PlacedEdge};
-ghost use Rattle.gx_waits.specs.Closed.{IsStuck};
+ghost use Rattle.gx_waits.specs.Closed.{IsNamed, IsStuck};
 ghost use Rattle.gx_waits.specs.LocalGraph.{edges_of};
 ghost use Rattle.gx_waits.specs.Victims.{AreVictims, IsGreatestInCore};
 ghost use Rattle.gx_detect.specs.Core.{AreNamed, HaveClosedCores, IsCore, turned};
-ghost use Rattle.gx_detect.specs.Reduce.{IsNamed};
 
 use crate::edges::{all_edges, edges_without, left_edges};
 use crate::names::{gxids, holders_left, sort_once};

@@ -1,10 +1,10 @@
 ghost use Rattle.std.specs.Prelude.{◌≡◌, ◌↔◌, IfOk, Bool, map, Contains};
 ghost use Rattle.gx_ids.specs.declared.ids.Gxid.{Gxid};
 ghost use Rattle.gx_waits.specs.declared.placed_edge.PlacedEdge.{PlacedEdge};
-ghost use Rattle.gx_waits.specs.Closed.{IsStuck};
+ghost use Rattle.gx_waits.specs.Closed.{IsNamed, IsStuck};
 ghost use Rattle.gx_waits.specs.Finish.{CanFinish};
 ghost use Rattle.gx_waits.specs.LocalGraph.{edges_of};
-ghost use Rattle.gx_detect.specs.Reduce.{IsNamed, kept_edges};
+ghost use Rattle.gx_detect.specs.Reduce.{kept_edges};
 
 use crate::edges::{all_edges, left_in_graph};
 use crate::settle::settle;

@@ -13,7 +13,7 @@ use Rattle.gx_waits.proofs.Determined.{same_gxid}
 use Rattle.gx_waits.proofs.Members.{Has, any_from_has, contains_from_has, has_from_any, has_from_contains}
 use Rattle.gx_locks.specs.declared.hold.Hold.{Hold}
 use Rattle.gx_locks.specs.declared.key.Key.TheVariants.{On}
-use Rattle.gx_locks.specs.Graphs.{edges_at, same_edge, with_edge, with_hold, with_wait}
+use Rattle.gx_waits.specs.Graph.{edges_at, same_edge, with_edge, with_hold, with_wait}
 use Rattle.gx_locks.specs.Holds.{claims_of, is_under}
 use Rattle.gx_locks.proofs.Meets.{Meets_from_test, parts, test_from_Meets}
 

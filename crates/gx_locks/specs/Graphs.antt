@@ -1,31 +1,7 @@
 -- Who waits for whom at a node, by its locks.
-use Rattle.std.specs.Prelude.{◌==◌, Bool, not, if◌then◌else◌, ◌&&◌, List, [], ◌∷◌, ◌++◌, fold}
-use Rattle.std.specs.List.{list_any}
-use Rattle.gx_waits.specs.Claim.{edge_of, meets}
-use Rattle.gx_waits.specs.declared.claim.Claim.{Claim}
-use Rattle.gx_waits.specs.declared.edge.Edge.{Edge}
+use Rattle.gx_waits.specs.Graph.{edges_at}
 use Rattle.gx_waits.specs.declared.graph.LocalGraph.{LocalGraph}
 use Rattle.gx_locks.specs.Locks.{Locks}
-
--- whether two edges are one
-abbrev pub same_edge : Edge → Edge → Bool
-same_edge a b = (a.waiter.0 == b.waiter.0) && ((a.holder.0 == b.holder.0) && (if a.dotted then b.dotted else not b.dotted))
-
--- the edges with one more; an edge that is there already isn't added again
-abbrev pub with_edge : List Edge → Edge → List Edge
-with_edge edges edge = if list_any (same_edge edge) edges then edges else edges ++ edge ∷ []
-
--- the edges with the one from a wait to a hold, where it meets that
-abbrev pub with_hold : Claim → List Edge → Claim → List Edge
-with_hold wait edges hold = if meets wait hold then with_edge edges (edge_of wait hold) else edges
-
--- the edges with those from a wait, by hold
-abbrev pub with_wait : List Claim → List Edge → Claim → List Edge
-with_wait holds edges wait = fold (with_hold wait) edges holds
-
--- the edges of waits and holds, by wait and then by hold, each once
-abbrev pub edges_at : List Claim → List Claim → List Edge
-edges_at waits holds = fold (with_wait holds) [] waits
 
 -- the graph of a node with these locks
 abbrev pub graph_at : Locks → LocalGraph

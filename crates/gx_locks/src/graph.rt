@@ -1,5 +1,5 @@
 ghost use Rattle.std.specs.Prelude.{◌≡◌, IfOk, OnOk};
-ghost use Rattle.gx_locks.specs.Graphs.{edges_at, with_hold, with_wait};
+ghost use Rattle.gx_waits.specs.Graph.{edges_at, with_hold, with_wait};
 ghost use Rattle.gx_locks.specs.Holds.{claims_of};
 ghost use Rattle.gx_locks.specs.Book.{IsFiled, claims_in};
 

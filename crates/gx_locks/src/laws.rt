@@ -2,7 +2,7 @@
 ghost use Rattle.std.specs.Prelude.{◌↔◌, IsTrue, List};
 ghost use Rattle.gx_waits.specs.declared.claim.Claim.{Claim};
 ghost use Rattle.gx_waits.specs.Claim.{AreEdges, Meets, meets};
-ghost use Rattle.gx_locks.specs.Graphs.{edges_at};
+ghost use Rattle.gx_waits.specs.Graph.{edges_at};
 ghost use Rattle.gx_locks.specs.Locks.{Locks};
 ghost use Rattle.gx_locks.specs.Runs.{Call, IsRun, IsSound};
 

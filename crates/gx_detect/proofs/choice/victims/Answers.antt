@@ -1,10 +1,9 @@
 use Rattle.std.proofs.Common.{◌≡◌, ◌<◌, ◌∙◌, ap, sym, subst, List, [], ◌++◌, length, append-nil}
 use Rattle.std.specs.Prelude.{IfSome, IfNone}
 use Rattle.gx_waits.specs.declared.placed_edge.PlacedEdge.{PlacedEdge}
-use Rattle.gx_waits.specs.Closed.{IsStuck}
+use Rattle.gx_waits.specs.Closed.{IsNamed, IsStuck}
 use Rattle.gx_waits.specs.LocalGraph.{edges_of}
 use Rattle.gx_waits.specs.Victims.{AreVictims, IsGreatestInCore}
-use Rattle.gx_detect.specs.Reduce.{IsNamed}
 use Rattle.gx_detect.specs.Core.{IsCore, HaveClosedCores}
 use Rattle.gx_detect.proofs.Chosen.{edges_without_of, greatest_fewer, one_more_victim, one_more_core, none_chosen}
 use Rattle.gx_detect.proofs.choice.victims.Goals as goal

@@ -1,5 +1,5 @@
 use Rattle.std.proofs.Common.{◌≡◌, drop}
-use Rattle.gx_locks.specs.Graphs.{with_wait}
+use Rattle.gx_waits.specs.Graph.{with_wait}
 use Rattle.gx_locks.specs.Holds.{claims_of}
 use Rattle.gx_locks.proofs.graph.add_edges.Given as goal
 

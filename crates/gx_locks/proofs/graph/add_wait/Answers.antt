@@ -2,7 +2,7 @@ use Rattle.std.proofs.Common.{List, ap, ◌∙◌}
 use Rattle.std.proofs.lemmas.Result.{IfOk-equal}
 use Rattle.gx_locks.specs.declared.hold.Hold.{Hold}
 use Rattle.gx_locks.specs.declared.key.Key.TheVariants.{On}
-use Rattle.gx_locks.specs.Graphs.{with_wait}
+use Rattle.gx_waits.specs.Graph.{with_wait}
 use Rattle.gx_locks.specs.Holds.{claims_of}
 use Rattle.gx_locks.proofs.Edges.{edges-filed}
 use Rattle.gx_locks.proofs.graph.add_wait.Goals as goal

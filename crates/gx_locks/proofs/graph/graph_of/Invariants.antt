@@ -1,7 +1,7 @@
 use Rattle.std.proofs.Common.{◌≡◌, drop}
 use Rattle.std.specs.Prelude.{fold}
 use Rattle.gx_locks.specs.Book.{claims_in}
-use Rattle.gx_locks.specs.Graphs.{edges_at, with_wait}
+use Rattle.gx_waits.specs.Graph.{edges_at, with_wait}
 use Rattle.gx_locks.proofs.graph.graph_of.Given as goal
 
 abbrev pub invariant-loop-wait : goal.invariant-loop-wait
