@@ -66,12 +66,12 @@ reported round k (q ∷ rs) r (inr h) t = go (is_from round k q) (reported round
     go true s = refl
     go false s = s
 
-has_reported : (round k : ℕ) (reports : List Report) → is_some (first_from round reports k) ≡ true → HasReported round k reports
+pub has_reported : (round k : ℕ) (reports : List Report) → is_some (first_from round reports k) ≡ true → HasReported round k reports
 has_reported round k reports e =
     let r = reporter round k reports e in any_from_has (λ report. (report.round ≡ round) × (report.graph.node.0 ≡ k)) reports r.0 r.1
     (facts round k r.0 r.2)
 
-is_reported : (round k : ℕ) (reports : List Report) → HasReported round k reports → is_some (first_from round reports k) ≡ true
+pub is_reported : (round k : ℕ) (reports : List Report) → HasReported round k reports → is_some (first_from round reports k) ≡ true
 is_reported round k reports h =
     let r = has_from_any (λ report. (report.round ≡ round) × (report.graph.node.0 ≡ k)) reports h in reported round k reports r.0 r.1
     (test round k r.0 r.2)

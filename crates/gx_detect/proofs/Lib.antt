@@ -3,6 +3,7 @@ pub mod Victim
 pub mod Places
 pub mod Told
 pub mod Complete
+pub mod Awaited
 pub mod Marks
 pub mod Reduced
 pub mod Stuck

@@ -1,5 +1,5 @@
 -- What the segments have reported in a round: a place for each, in the order of their numbers, which are from 1.
-use Rattle.std.specs.Prelude.{ℕ, ◌+◌, ◌≤◌, ◌==◌, if◌then◌else◌, List, [], ◌∷◌, Option, Some, unwrap_or}
+use Rattle.std.specs.Prelude.{ℕ, ◌+◌, ◌≤◌, ◌==◌, Bool, false, if◌then◌else◌, List, [], ◌∷◌, Option, Some, is_none, unwrap_or}
 use Rattle.gx_ids.specs.declared.ids.Node.{Node}
 use Rattle.gx_waits.specs.declared.graph.LocalGraph.{LocalGraph}
 
@@ -17,3 +17,8 @@ noted_from number (report ∷ reports) graph =
 -- the reports once a graph came
 abbrev pub noted : List (Option LocalGraph) → LocalGraph → List (Option LocalGraph)
 noted reports graph = noted_from 1 reports graph
+
+-- the segment has a place among these, of which the first is that of the segment with this number, and hasn't reported
+abbrev pub lacks_from : ℕ → List (Option LocalGraph) → Node → Bool
+lacks_from number [] segment = false
+lacks_from number (report ∷ reports) segment = if segment.0 == number then is_none report else lacks_from (number + 1) reports segment

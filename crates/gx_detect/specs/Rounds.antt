@@ -2,12 +2,13 @@
 use Rattle.std.specs.Prelude.{◌≡◌, ℕ, ◌+◌, ◌<◌, ◌^◌, ◌==◌, Bool, false, if◌then◌else◌, is_none, is_some, List, [], ◌∷◌, map, length, replicate, Option, None, Some}
 use Rattle.std.specs.List.{filter_map, list_all, range_with_len}
 use Rattle.std.specs.Option.{option_map}
+use Rattle.gx_ids.specs.declared.ids.Node.{Node}
 use Rattle.gx_msg.specs.declared.message.Message.TheVariants.{Collect}
 use Rattle.gx_msg.specs.declared.message.Out.{Out}
 use Rattle.gx_waits.specs.declared.graph.LocalGraph.{LocalGraph}
 use Rattle.gx_waits.specs.declared.placed_edge.PlacedEdge.{PlacedEdge}
 use Rattle.gx_waits.specs.LocalGraph.{edges_of}
-use Rattle.gx_detect.specs.Reports.{noted}
+use Rattle.gx_detect.specs.Reports.{lacks_from, noted}
 
 -- how many segments there are, how many rounds have begun, and, while the last of them runs, what was reported in it
 pub record Rounds : Type 0 where
@@ -38,6 +39,14 @@ collects segments round = map (λ k. record { node = record { 0 = k }; message =
 -- a graph comes for a round: it is noted where that round runs
 abbrev pub heard : Rounds → ℕ → LocalGraph → Rounds
 heard d round graph = if round == d.begun then record d { reports = option_map (λ reports. noted reports graph) d.reports } else d
+
+-- a round runs, and the segment hasn't reported in it
+abbrev pub lacks : Option (List (Option LocalGraph)) → Node → Bool
+lacks None segment = false
+lacks (Some reports) segment = lacks_from 1 reports segment
+
+abbrev pub awaits : Rounds → Node → Bool
+awaits d segment = lacks d.reports segment
 
 -- every segment has reported
 abbrev pub are_all : Option (List (Option LocalGraph)) → Bool

@@ -3,7 +3,7 @@ ghost use Rattle.std.specs.Option.{ForSome, option_map};
 ghost use Rattle.gx_waits.specs.Victims.{IsVerdict};
 ghost use Rattle.gx_detect.specs.Deadlocks.{NamesVictims};
 ghost use Rattle.gx_detect.specs.Reports.{IsSegment, noted};
-ghost use Rattle.gx_detect.specs.Rounds.{HasNumber, are_all, collects, ended, gathered, graphs_in, heard, is_complete, is_idle, no_rounds, started};
+ghost use Rattle.gx_detect.specs.Rounds.{HasNumber, are_all, awaits, collects, ended, gathered, graphs_in, heard, is_complete, is_idle, no_rounds, started};
 ghost use Rattle.gx_detect.specs.Verdicts.{verdict_of};
 
 use crate::reports::Reports;
@@ -51,6 +51,23 @@ impl Detector {
         ensures { result ≡ is_idle self.now }
     {
         self.running.is_none()
+    }
+
+    /// The number of the round that began last, and 0 before the first.
+    pub fn round(&self) -> u64
+        ensures { result ≡ self.now.begun }
+    {
+        self.begun
+    }
+
+    /// Whether a round runs in which the segment hasn't reported yet.
+    pub fn awaits(&self, segment: Node) -> bool
+        ensures { result ≡ awaits self.now segment }
+    {
+        match &self.running {
+            Some(reports) => reports.lacks(segment),
+            None => false,
+        }
     }
 
     /// Begins the next round, numbered from 1. The answer asks each segment for its graph.

@@ -1,11 +1,13 @@
 //! Laws of verdicts, and of the rounds, over every list of calls and every list of reports.
 ghost use Rattle.std.specs.Prelude.{◌≡◌, ◌↔◌, ◌∷◌, ℕ, List, true, false};
 ghost use Rattle.gx_ids.specs.declared.ids.Gxid.{Gxid};
+ghost use Rattle.gx_ids.specs.declared.ids.Node.{Node};
 ghost use Rattle.gx_waits.specs.Victims.{IsVerdict};
 ghost use Rattle.gx_waits.specs.declared.graph.LocalGraph.{LocalGraph};
 ghost use Rattle.gx_waits.specs.declared.placed_edge.PlacedEdge.{PlacedEdge};
 ghost use Rattle.gx_waits.specs.declared.verdict.Verdict.{Verdict};
-ghost use Rattle.gx_detect.specs.Rounds.{Rounds, gathered, is_complete, started};
+ghost use Rattle.gx_detect.specs.Reports.{IsSegment};
+ghost use Rattle.gx_detect.specs.Rounds.{Rounds, awaits, gathered, is_complete, started};
 ghost use Rattle.gx_detect.specs.Calls.{AreOfFirstReports, Call, HasReported, HaveAllReported, Hear, Report, after, after_reports, begun_by, heard_since, is_running, of_segment, told};
 ghost use Rattle.gx_detect.specs.Verdicts.{verdict_of};
 
@@ -24,6 +26,12 @@ pub fn calls_tell_the_rounds()
 /// A round is complete exactly where it runs and a graph came for it from every segment since it began.
 pub fn complete_is_a_report_of_each_segment()
     ensures { (segments : ℕ) (calls : List Call) → (is_complete (after segments calls) ≡ true) ↔ ((is_running calls ≡ true) × HaveAllReported segments calls) }
+{}
+
+/// A segment's graph is awaited exactly while a round runs and none came for it from there since it began.
+pub fn awaited_segments_have_not_reported()
+    ensures { (segments : ℕ) (calls : List Call) (segment : Node) → (awaits (after segments calls) segment ≡ true)
+        ↔ ((is_running calls ≡ true) × IsSegment segments segment × (HasReported (begun_by calls) segment.0 (heard_since calls) → ⊥)) }
 {}
 
 /// A complete round is decided over the coordinator's own graph and the first graph of each segment, in their order.

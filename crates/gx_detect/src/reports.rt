@@ -1,8 +1,8 @@
 ghost use Rattle.std.specs.Prelude.{◌≡◌, ◌∷◌, None, IfOk, is_some, length, replicate};
 ghost use Rattle.std.specs.List.{filter_map, list_all};
-ghost use Rattle.gx_detect.specs.Reports.{IsSegment, noted};
+ghost use Rattle.gx_detect.specs.Reports.{IsSegment, lacks_from, noted};
 
-use gx_ids::{Duplicate, Mem};
+use gx_ids::{Duplicate, Mem, Node};
 use gx_waits::LocalGraph;
 use std::alloc::Global;
 use std::marker::Model;
@@ -39,6 +39,21 @@ impl Reports {
     {
         let report = &mut self.graphs[usize::from(graph.node.0) - 1];
         *report = Some(report.take().unwrap_or(graph));
+    }
+
+    /// Whether the segment hasn't reported.
+    pub fn lacks(&self, segment: Node) -> bool
+        ensures { result ≡ lacks_from 1 self.now segment }
+    {
+        let graphs = self.graphs.as_slice();
+        let place = usize::from(segment.0);
+        if place == 0 {
+            return false;
+        }
+        if place > graphs.len() {
+            return false;
+        }
+        graphs[place - 1].is_none()
     }
 
     /// Whether every segment has reported.

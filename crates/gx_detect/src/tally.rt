@@ -40,8 +40,12 @@ impl Tally {
         ensures there { OnOk result (count_at self.new place ≡ count_at self.old place + 1) }
         ensures elsewhere { OnOk result ((p : Place) → p ≢ place → count_at self.new p ≡ count_at self.old p) }
     {
-        let count = self.counts.get(&place).copied().unwrap_or(0);
-        self.counts.insert(place, count + 1)?;
+        match self.counts.get_mut(&place) {
+            Some(count) => *count += 1,
+            None => {
+                self.counts.insert(place, 1)?;
+            }
+        }
         Ok(())
     }
 
