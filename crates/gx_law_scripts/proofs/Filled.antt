@@ -52,10 +52,10 @@ begin-written most None = tt
 begin-written most (Some level) = tt
 
 insert-written : (d : Limits) (s : StmtSyn) (ts : List Token) → rule.insert d s ts → IsWritten (length ts) s
-insert-written d s ts (a, e, (us, vs, name, (p, f, (ws, xs, (y, is, one), (q, g, (as, bs, first, rest, list)), cut)), all)) =
+insert-written d s ts (a, e, (us, vs, name, (p, f, (ws, xs, (y, is, one), (q, g, (hs, bs, first, rest, list)), cut)), all)) =
     let few = items-few (rule.tuple d) q.1 bs rest in
     let word = ap length one in
-    let items = ap length list ∙ length-append as bs in
+    let items = ap length list ∙ length-append hs bs in
     let values = ap length cut ∙ length-append ws xs in
     let whole = ap length all ∙ length-append us vs in
     let tuples = ap length (f ∙ g) in
