@@ -1,4 +1,5 @@
 pub mod Tools
+mod Lengths
 pub mod Lexed
 pub mod Written
 pub mod Answered

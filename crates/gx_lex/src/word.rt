@@ -1,4 +1,4 @@
-ghost use Rattle.std.specs.Prelude.{◌≡◌};
+ghost use Rattle.std.specs.Prelude.{◌≡◌, ℕ, List, length};
 ghost use Rattle.gx_lex.specs.Words;
 ghost use Rattle.gx_lex.specs.Words.{number_of, text_of, keyword_of};
 ghost use Rattle.gx_lex.specs.declared.word.Word.{Word};
@@ -182,6 +182,67 @@ impl Word {
     }
 }
 
+// Keywords among which one of so many letters is found: those of that length. None is longer than 11 letters.
+fn of_length(letters: usize) -> &'static [Word]
+    ensures { (text : List ℕ) → length text ≡ letters → Words.find text result.now ≡ keyword_of text }
+{
+    match letters {
+        0 => &[],
+        1 => &[],
+        2 => &[Word::On, Word::By, Word::To, Word::In, Word::Or],
+        3 => &[
+            Word::Off,
+            Word::Set,
+            Word::Row,
+            Word::Sum,
+            Word::Min,
+            Word::Max,
+            Word::Asc,
+            Word::And,
+            Word::Not,
+        ],
+        4 => &[
+            Word::Text,
+            Word::Lose,
+            Word::From,
+            Word::Read,
+            Word::Into,
+            Word::Lock,
+            Word::Mode,
+            Word::Desc,
+        ],
+        5 => &[
+            Word::Table,
+            Word::Begin,
+            Word::Level,
+            Word::Group,
+            Word::Order,
+            Word::Limit,
+            Word::Where,
+            Word::Share,
+            Word::Count,
+        ],
+        6 => &[
+            Word::Bigint,
+            Word::Repeat,
+            Word::Number,
+            Word::Commit,
+            Word::Select,
+            Word::Insert,
+            Word::Values,
+            Word::Update,
+            Word::Delete,
+            Word::Access,
+        ],
+        7 => &[],
+        8 => &[Word::Segments, Word::Detector, Word::Randomly, Word::Rollback],
+        9 => &[Word::Isolation, Word::Committed, Word::Exclusive],
+        10 => &[Word::Repeatable],
+        11 => &[Word::Distributed],
+        _ => &WORDS,
+    }
+}
+
 /// The first of these keywords that is spelled so, where there is one.
 fn find(words: &[Word], text: &[u8]) -> Option<Word>
     ensures { result ≡ Words.find text.now words.now }
@@ -198,5 +259,5 @@ fn find(words: &[Word], text: &[u8]) -> Option<Word>
 pub fn keyword(text: &[u8]) -> Option<Word>
     ensures { result ≡ keyword_of text.now }
 {
-    find(&WORDS, text)
+    find(of_length(text.len()), text)
 }
