@@ -235,7 +235,12 @@ fn of_length(letters: usize) -> &'static [Word]
             Word::Access,
         ],
         7 => &[],
-        8 => &[Word::Segments, Word::Detector, Word::Randomly, Word::Rollback],
+        8 => &[
+            Word::Segments,
+            Word::Detector,
+            Word::Randomly,
+            Word::Rollback,
+        ],
         9 => &[Word::Isolation, Word::Committed, Word::Exclusive],
         10 => &[Word::Repeatable],
         11 => &[Word::Distributed],
