@@ -121,10 +121,14 @@ and_cancelled w g = coord_more w (cancel_turn w.coord g)
 abbrev pub seg_did : World → Node → Event → SegTurn → World
 seg_did w i e turn = record (noted w i turn.seg.clock e turn.marks) { segs = with_at w.segs i.0 turn.seg }
 
+-- by what the coordinator does in one event: its whole rule, or the event by itself
+abbrev pub does_by : (Coord → NodeEvent → Bool → CoordTurn) → Script → World → Event → Node → Bool → Option NodeEvent → World
+does_by rule script w e at fails None = w
+does_by rule script w e at fails (Some here) =
+    if is_same_node at the_coordinator then coord_did w e (rule w.coord here fails) else seg_did w at e (seg_rule script (w.segs at.0) here fails)
+
 abbrev pub does : Script → World → Event → Node → Bool → Option NodeEvent → World
-does script w e at fails None = w
-does script w e at fails (Some here) =
-    if is_same_node at the_coordinator then coord_did w e (coord_rule script w.coord here fails) else seg_did w at e (seg_rule script (w.segs at.0) here fails)
+does script = does_by (coord_rule script) script
 
 -- One event; what isn't admitted doesn't happen. `fails` says whether the node's journal fails to take an item.
 abbrev pub happens : Script → World → Event → Bool → World
