@@ -163,7 +163,7 @@ module _ (script : Script) (some : 1 ≤ script.segments) where
       by_test true is ok = coord-any w k l e x fails
       by_test false is ok =
           seg-low script w l e x fails n (resume_keeps script (w.segs n.0) (λ h. IsLow h.0 w.coord.table) (l.segs n.0) g (wait_of (w.segs n.0).locks g) (local_of (w.segs n.0) g).suspended)
-          (plain-none script (w.segs n.0).node (segment.on_event script (w.segs n.0) x fails).marks (seg_stays script (w.segs n.0) (subst (IsSegment script) (sym (k.well.names n.0)) (resumes_there script some w n g k.well ok)) x fails).marks)
+          (plain-none script (w.segs n.0).node (segment.on_event script (w.segs n.0) x fails).marks (seg_stays script (w.segs n.0) (subst (IsSegment script) (sym (k.well.names n.0)) (resumes_there script w n g k.well ok)) x fails).marks)
 
   event-any : (w : World) (e : Event) (fails : Bool) → Knows script w → Low w → can script w e ≡ true → Low (does script w e (node_of e) fails (at_node w e))
   event-any w (event.Receive from to number) fails k l ok = arrives w from to number fails (found from to number w.sent) refl k l

@@ -15,9 +15,14 @@ use Rattle.gx_store.specs.Journals.{is_same_node}
 use Rattle.gx_store.specs.Messages.{IsSending, Receives}
 use Rattle.gx_store.specs.Ordered.{IsLink, IsSegment}
 use Rattle.gx_store.specs.Refusals.{the_coordinator}
-use Rattle.gx_rules.specs.AtCoordinator.{coord_can, coord_rule, coord_turn}
+use Rattle.gx_rules.specs.AtCoordinator.{cancel_turn, coord_can, coord_rule, coord_sends, coord_turn}
 use Rattle.gx_rules.specs.AtSegment.{seg_rule}
-use Rattle.gx_rules.specs.Machine.{World, and_cancelled, coord_did, found, happens, new_world, seg_can, seg_did, world_of}
+use Rattle.gx_rules.specs.Coordinators.{CoordTurn}
+use Rattle.gx_rules.specs.Machine.{World, and_cancelled, coord_did, found, happens, new_world, posted, seg_can, seg_did, world_of}
+use Rattle.gx_store.specs.declared.run.Step.{Step}
+use Rattle.gx_store.specs.Points.{marks_in}
+use Rattle.gx_rules.specs.Sending.{clock_after}
+use Rattle.gx_law_order.proofs.More.{marks-last, marks-more}
 use Rattle.gx_law_order.specs.Moves.{Move, world_by}
 use Rattle.gx_law_order.specs.Moves.Move.{Turn, Cancel}
 use Rattle.gx_law_order.proofs.Letters.{IsFound, IsLetter, found_is}
@@ -89,6 +94,20 @@ place-of script w good e here.Round n away c ok = absurd (cc)
 pub from-coordinator : (script : Script) (i : ℕ) (from : Node) → 1 ≤ i → IsLink script from (at i) → from ≡ the_coordinator
 from-coordinator script i from one (inl l) = l.0
 from-coordinator script i from one (inr l) = absurd (one-le-zero i one (ap (λ (n : Node). n.0) l.1))
+
+-- A TURN OF THE COORDINATOR
+-- The world after a single turn that ends with these steps: what an event does by itself has a step of its own, and a victim's turn
+-- stands in the last one.
+abbrev pub after_turn : World → ℕ → CoordTurn → List Step → World
+after_turn w clock turn steps =
+    record w { coord = (coord_sends clock turn).coord; steps = steps; sent = posted the_coordinator clock (coord_sends clock turn).marks w.sent }
+
+-- either way its marks stand behind all others
+pub marks-by-event : (script : Script) (w : World) (e : Event) (x : NodeEvent) (fails : Bool) → marks_in (coord_did w e (coord_turn script w.coord x fails)).steps ≡ marks_in w.steps ++ (coord_turn script w.coord x fails).marks
+marks-by-event script w e x fails = marks-last w.steps (record { stamp = record { clock = clock_after w.coord.clock x; node = the_coordinator }; event = e; marks = (coord_turn script w.coord x fails).marks })
+
+pub marks-by-victim : (w : World) (g : Gxid) → HasNamed w.steps w.coord.clock w.coord.rounds g → marks_in (and_cancelled w g).steps ≡ marks_in w.steps ++ (cancel_turn w.coord g).marks
+marks-by-victim w g h = marks-more w.steps h.before h.step (cancel_turn w.coord g).marks h.is
 
 -- THE INDUCTION
 -- of the moves as well, for what looks back on them

@@ -9,19 +9,20 @@ use Rattle.gx_store.specs.declared.event.Event.{Event}
 use Rattle.gx_store.specs.declared.mark.Mark.{Mark}
 use Rattle.gx_store.specs.declared.mark.Mark.TheVariants as mark
 use Rattle.gx_store.specs.declared.node.NodeEvent.{NodeEvent}
+use Rattle.gx_store.specs.declared.run.Step.{Step}
 use Rattle.gx_store.specs.Marks.{start_count}
 use Rattle.gx_store.specs.Ordered.{IsAtNode, IsSegment}
 use Rattle.gx_store.specs.Points.{marks_in}
-use Rattle.gx_rules.specs.AtCoordinator.{cancel_turn, cancels, coord_sends, coord_turn, on_event}
+use Rattle.gx_rules.specs.AtCoordinator.{cancels, coord_sends, coord_turn, on_event}
 use Rattle.gx_rules.specs.AtSegment.{seg_rule}
-use Rattle.gx_rules.specs.Coordinators.{Coord, CoordTurn}
+use Rattle.gx_rules.specs.Coordinators.{CoordTurn}
 use Rattle.gx_rules.specs.Machine.{World, and_cancelled, coord_did, seg_did, world_of}
 use Rattle.gx_rules.specs.Sending.{clock_after, counted, numbered}
 use Rattle.gx_law_order.specs.Numbers.{AreStartsNumbered}
 use Rattle.gx_law_order.proofs.Lists.{Each}
 use Rattle.gx_law_order.proofs.Numbers.{IsNumbered, NoStart, calm-more, calm-numbered, cancel-numbered, event-numbered, numbered-append}
-use Rattle.gx_law_order.proofs.Induction.{at-events}
-use Rattle.gx_law_order.proofs.More.{marks-last, marks-more}
+use Rattle.gx_law_order.proofs.Induction.{after_turn, at-events, marks-by-event, marks-by-victim}
+use Rattle.gx_law_order.proofs.More.{marks-last}
 use Rattle.gx_law_order.proofs.Ordered.{Well, moves_well, seg_marks}
 use Rattle.gx_law_order.proofs.Sent.{at}
 
@@ -41,12 +42,12 @@ segment-calm script i one (m ∷ ms) e = (tt, segment-calm script i one ms e.1)
 -- ONE MOVE
 module _ (script : Script) (w : World) (k : Counts w) where
   -- a single turn of the coordinator, with what it sends
-  sends-counts : (turn : CoordTurn) (clock : ℕ) (v : World) → IsNumbered (marks_in w.steps) turn → v.coord ≡ (coord_sends clock turn).coord → marks_in v.steps ≡ marks_in w.steps ++ (coord_sends clock turn).marks → Counts v
-  sends-counts turn clock v f same marks =
+  turn-counts : (turn : CoordTurn) (clock : ℕ) (steps : List Step) → IsNumbered (marks_in w.steps) turn → marks_in steps ≡ marks_in w.steps ++ (coord_sends clock turn).marks → Counts (after_turn w clock turn steps)
+  turn-counts turn clock steps f marks =
       record {
-        marks = subst (AreStartsNumbered []) (sym marks) (numbered-append [] (marks_in w.steps) (turn.marks ++ sent) k.marks (numbered-append (marks_in w.steps) turn.marks sent f.marks (calm-numbered (marks_in w.steps ++ turn.marks) sent quiet)));
-        stands = ap (λ (c : Coord). c.table.next.0) same ∙ f.stands
-            ∙ ap (λ n. n + 1) (sym (calm-more (marks_in w.steps ++ turn.marks) sent quiet) ∙ ap start_count (append_assoc (marks_in w.steps) turn.marks sent ∙ sym marks));
+        marks = subst (AreStartsNumbered []) (sym marks)
+            (numbered-append [] (marks_in w.steps) (turn.marks ++ sent) k.marks (numbered-append (marks_in w.steps) turn.marks sent f.marks (calm-numbered (marks_in w.steps ++ turn.marks) sent quiet)));
+        stands = f.stands ∙ ap (λ n. n + 1) (sym (calm-more (marks_in w.steps ++ turn.marks) sent quiet) ∙ ap start_count (append_assoc (marks_in w.steps) turn.marks sent ∙ sym marks));
       }
     where
       sent : List Mark
@@ -70,7 +71,8 @@ module _ (script : Script) (some : 1 ≤ script.segments) where
   starts-numbered es =
       (at-events script some (Well script) Counts (moves_well script some) (record { marks = tt; stands = refl })
       (λ w well k e x fails t ok next.
-      sends-counts script w k (on_event script w.coord x fails) (clock_after w.coord.clock x) (coord_did w e (coord_turn script w.coord x fails)) (event-numbered (marks_in w.steps) script w.coord x fails k.stands) refl (marks-last w.steps _))
+      turn-counts script w k (on_event script w.coord x fails) (clock_after w.coord.clock x) (coord_did w e (coord_turn script w.coord x fails)).steps
+      (event-numbered (marks_in w.steps) script w.coord x fails k.stands) (marks-by-event script w e x fails))
       (λ w well k g h next.
-      sends-counts script w k (cancels w.coord g) w.coord.clock (and_cancelled w g) (cancel-numbered (marks_in w.steps) w.coord g k.stands) refl (marks-more w.steps h.before h.step (cancel_turn w.coord g).marks h.is))
+      turn-counts script w k (cancels w.coord g) w.coord.clock (and_cancelled w g).steps (cancel-numbered (marks_in w.steps) w.coord g k.stands) (marks-by-victim w g h))
       (λ w well k e x fails j place t ok next. serve-counts script w k well e x fails j place) es).marks

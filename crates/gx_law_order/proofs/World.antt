@@ -1,5 +1,5 @@
 -- Over every run of the machine, whoever a snapshot sees has ended, and whoever has committed is seen.
-use Rattle.std.proofs.Common.{◌≡◌, ◌≤◌, ◌<◌, ℕ, List, [], ◌∷◌, ◌++◌, Bool, true, refl, sym, subst, ap, ◌∙◌, arith}
+use Rattle.std.proofs.Common.{◌≡◌, ◌≤◌, ◌<◌, ℕ, List, [], ◌∷◌, ◌++◌, Bool, refl, sym, subst, ap, ◌∙◌, arith}
 use Rattle.std.proofs.lemmas.List.{append_assoc}
 use Rattle.gx_lemmas.proofs.Tests.{false-true}
 use Rattle.gx_lemmas.proofs.Numbers.{one-le-zero}
@@ -14,7 +14,7 @@ use Rattle.gx_store.specs.declared.run.Step.{Step}
 use Rattle.gx_store.specs.Ordered.{IsAtNode, IsSegment}
 use Rattle.gx_store.specs.Points.{marks_in}
 use Rattle.gx_store.specs.Refusals.{the_coordinator}
-use Rattle.gx_rules.specs.AtCoordinator.{cancel_turn, cancels, coord_can, coord_sends, coord_turn, on_event}
+use Rattle.gx_rules.specs.AtCoordinator.{cancels, coord_sends, coord_turn, on_event}
 use Rattle.gx_rules.specs.AtSegment.{seg_rule}
 use Rattle.gx_rules.specs.Coordinators.{Coord, CoordTurn}
 use Rattle.gx_rules.specs.Machine.{World, and_cancelled, coord_did, new_world, seg_did, world_of}
@@ -23,16 +23,15 @@ use Rattle.gx_law_order.specs.Seen.{AreEndedSeen}
 use Rattle.gx_law_order.proofs.Lists.{Each}
 use Rattle.gx_law_order.proofs.Lines.{past-still}
 use Rattle.gx_law_order.specs.Moves.{Move, world_by}
-use Rattle.gx_law_order.proofs.Induction.{at-moves}
-use Rattle.gx_law_order.proofs.More.{marks-last, marks-more}
-use Rattle.gx_law_order.proofs.Moves.{HasNamed, moves_after, world-moves}
+use Rattle.gx_law_order.proofs.Induction.{after_turn, at-moves, marks-by-event, marks-by-victim}
+use Rattle.gx_law_order.proofs.More.{marks-last}
+use Rattle.gx_law_order.proofs.Moves.{moves_after, world-moves}
 use Rattle.gx_law_order.proofs.Ordered.{Well, moves_well, new_well, seg_marks}
 use Rattle.gx_law_order.proofs.Turns.{Good}
 use Rattle.gx_law_order.proofs.Past.{Past, Still, seen-append, still-seen}
 use Rattle.gx_law_order.proofs.Replies.{cancel-good, event-good}
 use Rattle.gx_law_order.proofs.Sent.{at}
 use Rattle.gx_law_order.proofs.Sessions.{Kept}
-use Rattle.gx_ids.specs.declared.ids.Gxid.{Gxid}
 
 pub record Knows (script : Script) (w : World) : Type 0 where
   pub well : Well script w
@@ -64,13 +63,12 @@ segment-still script i one (m ∷ ms) e = (tt, segment-still script i one ms e.1
 -- ONE MOVE
 module _ (script : Script) (w : World) (n : Knows script w) where
   -- a single turn of the coordinator, with what it sends
-  sends-knows : (turn : CoordTurn) (clock : ℕ) (v : World) → Good script (marks_in w.steps) turn → v.coord ≡ (coord_sends clock turn).coord → marks_in v.steps ≡ marks_in w.steps ++ (coord_sends clock turn).marks → Well script v → Knows script v
-  sends-knows turn clock v f same marks well =
+  turn-knows : (turn : CoordTurn) (clock : ℕ) (steps : List Step) → Good script (marks_in w.steps) turn → marks_in steps ≡ marks_in w.steps ++ (coord_sends clock turn).marks → Well script (after_turn w clock turn steps) → Knows script (after_turn w clock turn steps)
+  turn-knows turn clock steps f marks well =
       record {
         well = well;
-        kept = subst (Kept script) (sym same) (record { whole = f.kept.whole; tied = f.kept.tied; placed = f.kept.placed; queued = f.kept.queued });
-        past = subst (λ c. Past c (marks_in v.steps)) (sym same)
-            (subst (λ m. Past last m) (append_assoc (marks_in w.steps) turn.marks sent ∙ sym marks) (past-still turn.coord last (marks_in w.steps ++ turn.marks) sent f.past refl still));
+        kept = record { whole = f.kept.whole; tied = f.kept.tied; placed = f.kept.placed; queued = f.kept.queued };
+        past = subst (λ m. Past last m) (append_assoc (marks_in w.steps) turn.marks sent ∙ sym marks) (past-still turn.coord last (marks_in w.steps ++ turn.marks) sent f.past refl still);
         seen = subst (λ m. AreEndedSeen [] m) (sym marks) (seen-append [] (marks_in w.steps) (turn.marks ++ sent) n.seen (seen-append (marks_in w.steps) turn.marks sent f.seen (still-seen (marks_in w.steps ++ turn.marks) sent still)));
       }
     where
@@ -82,14 +80,6 @@ module _ (script : Script) (w : World) (n : Knows script w) where
 
       still : Each Still sent
       still = numbered-still turn.coord.sent turn.outs
-
-  turn-knows : (e : Event) (x : NodeEvent) (fails : Bool) → coord_can script w.coord x ≡ true → Well script (coord_did w e (coord_turn script w.coord x fails)) → Knows script (coord_did w e (coord_turn script w.coord x fails))
-  turn-knows e x fails ok well =
-      sends-knows (on_event script w.coord x fails) (clock_after w.coord.clock x) (coord_did w e (coord_turn script w.coord x fails)) (event-good script w.coord (marks_in w.steps) n.kept n.past x fails ok) refl (marks-last w.steps _) well
-
-  cancel-knows : (g : Gxid) → HasNamed w.steps w.coord.clock w.coord.rounds g → Well script (and_cancelled w g) → Knows script (and_cancelled w g)
-  cancel-knows g h well =
-      sends-knows (cancels w.coord g) w.coord.clock (and_cancelled w g) (cancel-good w.coord (marks_in w.steps) n.kept n.past g.0) refl (marks-more w.steps h.before h.step (cancel_turn w.coord g).marks h.is) well
 
   serve-knows : (e : Event) (x : NodeEvent) (fails : Bool) (i : ℕ) → (place : IsSegment script (at i)) → Well script (seg_did w (at i) e (seg_rule script (w.segs i) x fails)) → Knows script (seg_did w (at i) e (seg_rule script (w.segs i) x fails))
   serve-knows e x fails i place well =
@@ -131,8 +121,11 @@ module _ (script : Script) (some : 1 ≤ script.segments) where
   pub moves_knows : (ms : List Move) → Knows script (world_by script ms)
   moves_knows =
       at-moves script some (Well script) (Knows script) (moves_well script some) new_knows
-      (λ w good n e x fails t ok well. turn-knows script w n e x fails ok well)
-      (λ w good n g h well. cancel-knows script w n g h well)
+      (λ w good n e x fails t ok well.
+      turn-knows script w n (on_event script w.coord x fails) (clock_after w.coord.clock x) (coord_did w e (coord_turn script w.coord x fails)).steps
+      (event-good script w.coord (marks_in w.steps) n.kept n.past x fails ok) (marks-by-event script w e x fails) well)
+      (λ w good n g h well.
+      turn-knows script w n (cancels w.coord g) w.coord.clock (and_cancelled w g).steps (cancel-good w.coord (marks_in w.steps) n.kept n.past g.0) (marks-by-victim w g h) well)
       (λ w good n e x fails i place t ok well. serve-knows script w n e x fails i place well)
 
   pub world_knows : (es : List (Event × Bool)) → Knows script (world_of script es)
