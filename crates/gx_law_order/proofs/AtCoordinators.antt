@@ -1,8 +1,7 @@
 -- What the coordinator sends goes to segments, and its marks stand at the coordinator.
-use Rattle.std.proofs.Common.{◌≡◌, ◌≤◌, ℕ, zero, suc, ◌+◌, List, [], ◌∷◌, ◌∙◌, length, Option, Some, None, Result, Ok, Err, Bool, true, false, refl, if◌then◌else◌, ◌==◌, ◌&&◌, arith, eqb}
+use Rattle.std.proofs.Common.{◌≡◌, ◌≤◌, ℕ, suc, ◌+◌, List, [], ◌∷◌, ◌∙◌, length, Option, Some, None, Result, Ok, Err, Bool, true, false, refl, if◌then◌else◌, ◌==◌, ◌&&◌, arith, eqb}
 use Rattle.std.proofs.lemmas.Bool.Decides.{nat_tests}
-use Rattle.std.specs.Prelude.{is_none, is_some, map}
-use Rattle.std.specs.List.{range_with_len}
+use Rattle.std.specs.Prelude.{is_none, is_some}
 use Rattle.std.proofs.lemmas.List.{length-replicate}
 use Rattle.std.proofs.lemmas.Bool.{and_parts, eqb-true}
 use Rattle.gx_ids.specs.declared.ids.Cid.{Cid}
@@ -53,7 +52,7 @@ use Rattle.gx_rules.specs.Fits.{fits_part}
 use Rattle.gx_rules.specs.Maps.{with_at}
 use Rattle.gx_law_order.proofs.AtSegments.{PlainAt}
 use Rattle.gx_law_order.proofs.Lists.{Each, each_append, each_map}
-use Rattle.gx_law_order.proofs.Places.{IsAtOneOf, IsOneOf, PlanIn, plan_in}
+use Rattle.gx_law_order.proofs.Places.{IsAtOneOf, IsOneOf, PlanIn, collects-each, plan_in}
 use Rattle.gx_law_order.proofs.Tables.{AreIn, FoundIn, OutIn, PhaseIn, TableIn, TurnIn, begun_in, enlisted_in, find_in, has_in, live_in, on_abort_in, on_commit_in, on_reply_in, with_in, without_in}
 use Rattle.gx_rules.specs.Locks.{hold_mark, release_marks, with_hold}
 use Rattle.gx_locks.specs.Locks.{Locks, is_free, resumed, wait_of}
@@ -423,13 +422,9 @@ module _ (script : Script) where
             within m h = omega arith
         at false q d = absurd (cc)
 
-    asked_all : (round k m : ℕ) → 1 ≤ k → k + m ≤ n + 1 → Each (OutIn n) (map (λ i. record { node = record { 0 = i }; message = message.Collect round }) (range_with_len k m))
-    asked_all round k zero one h = tt
-    asked_all round k (suc m) one h = ((one, omega arith), asked_all round (k + 1) m (omega arith) (omega arith))
-
     round_begun : (c : Coord) → CoordIn c → CoordStays c.sent (begins_round script c)
     round_begun c e =
-        record { coord = record { table = e.table; works = e.works; reports = length-replicate n None }; counts = refl; marks = tt; outs = asked_all (c.rounds + 1) 1 n (omega arith) (omega arith) }
+        record { coord = record { table = e.table; works = e.works; reports = length-replicate n None }; counts = refl; marks = tt; outs = collects-each (OutIn n) n (c.rounds + 1) (λ i one within. (one, within)) }
 
     pub coord_stays : (c : Coord) (e : NodeEvent) (fails : Bool) → CoordIn c → CoordStays c.sent (on_event script c e fails)
     coord_stays c (event.Deliver from envelope) fails e = message_taken c from fails envelope.message e
