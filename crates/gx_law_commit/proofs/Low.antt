@@ -142,13 +142,13 @@ module _ (script : Script) (some : 1 ≤ script.segments) where
   world-low es =
       let l = at-events script some (Knows script) Low (moves_knows script some) new-low
       (λ w n l e x fails t ok next.
-        turn-low w l (on_event script w.coord x fails) (clock_after w.coord.clock x) (coord_did w e (coord_turn script w.coord x fails)).steps n.kept.whole
-        (event-low script w.coord n.kept.whole (past-dense w.coord (marks_in w.steps) n.past) l.orders x fails)
-        (plain-none script the_coordinator (on_event script w.coord x fails).marks (coord_stays script some w.coord x fails n.well.coordinator).marks))
+      turn-low w l (on_event script w.coord x fails) (clock_after w.coord.clock x) (coord_did w e (coord_turn script w.coord x fails)).steps n.kept.whole
+      (event-low script w.coord n.kept.whole (past-dense w.coord (marks_in w.steps) n.past) l.orders x fails)
+      (plain-none script the_coordinator (on_event script w.coord x fails).marks (coord_stays script some w.coord x fails n.well.coordinator).marks))
       (λ w n l g h next.
-        turn-low w l (cancels w.coord g) w.coord.clock (and_cancelled w g).steps n.kept.whole (cancel-low script w.coord n.kept.whole (past-dense w.coord (marks_in w.steps) n.past) l.orders g)
-        (plain-none script the_coordinator (cancels w.coord g).marks (cancel_stays script some w.coord g n.well.coordinator).marks))
+      turn-low w l (cancels w.coord g) w.coord.clock (and_cancelled w g).steps n.kept.whole (cancel-low script w.coord n.kept.whole (past-dense w.coord (marks_in w.steps) n.past) l.orders g)
+      (plain-none script the_coordinator (cancels w.coord g).marks (cancel_stays script some w.coord g n.well.coordinator).marks))
       (λ w n l e x fails i place t ok next.
-        seg-low script w l e x fails (at i) (heard-low script w l e x fails i t ok)
-        (plain-none script (w.segs i).node (segment.on_event script (w.segs i) x fails).marks (seg_stays script (w.segs i) (subst (IsSegment script) (sym (n.well.names i)) place) x fails).marks)) es in
+      seg-low script w l e x fails (at i) (heard-low script w l e x fails i t ok)
+      (plain-none script (w.segs i).node (segment.on_event script (w.segs i) x fails).marks (seg_stays script (w.segs i) (subst (IsSegment script) (sym (n.well.names i)) place) x fails).marks)) es in
       record { segments = l.segs; commands = all-low (world_of script es).coord.table (world_of script es).sent l.sent }
