@@ -139,7 +139,7 @@ module _ (script : Script) (some : 1 ≤ script.segments) (numbered_lines : AreL
             → AreEarned script (es ++ (event.Resume n g, fails) ∷ []) (if b then coord_did (world_of script es) (event.Resume n g) (coord_rule script (world_of script es).coord (here.Resume g) fails) else seg_did (world_of script es) n (event.Resume n g) (seg_rule script ((world_of script es).segs n.0) (here.Resume g) fails))
         by_test true ok = coord-earned es (event.Resume n g, fails) t (event.Resume n g) (here.Resume g) fails
         by_test false ok =
-            let place = resumes_there script some (world_of script es) n g (world_well script some es) ok in
+            let place = resumes_there script (world_of script es) n g (world_well script some es) ok in
             seg-earned es t n (event.Resume n g) fails (here.Resume g) place (resumed-late script some numbered_lines es n g fails place ok) (resumption-does script some numbered_lines es n g fails place ok)
 
     event-earned : (e : Event) (fails : Bool) → can script (world_of script es) e ≡ true → AreEarned script (es ++ (e, fails) ∷ []) (does script (world_of script es) e (node_of e) fails (at_node (world_of script es) e))

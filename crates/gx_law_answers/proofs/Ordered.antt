@@ -32,7 +32,7 @@ use Rattle.gx_law_order.proofs.Changing.{change-parts}
 use Rattle.gx_law_order.proofs.Lists.{Each, each_append, each_weaker}
 use Rattle.gx_law_order.proofs.Ordered.{at_coordinator, world_well}
 use Rattle.gx_law_order.proofs.Waiting.{freed}
-use Rattle.gx_law_order.proofs.World.{marks-last}
+use Rattle.gx_law_order.proofs.More.{marks-last}
 use Rattle.gx_law_sessions.specs.Orders.{IsOrder}
 use Rattle.gx_law_sessions.proofs.Outs.{order-more}
 use Rattle.gx_law_changes.proofs.Frames.{IsWork}

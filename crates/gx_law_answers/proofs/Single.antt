@@ -51,7 +51,8 @@ use Rattle.gx_rules.specs.AtSegment.{seg_rule}
 use Rattle.gx_rules.specs.Machine.{World, after, at_node, can, can_here, coord_did, does, happens, new_world, node_of, seg_can, seg_did, world_of}
 use Rattle.gx_rules.specs.Sending.{counted, numbered}
 use Rattle.gx_law_order.proofs.Ordered.{Well, happens_well}
-use Rattle.gx_law_order.proofs.World.{Knows, marks-last, world_knows}
+use Rattle.gx_law_order.proofs.More.{marks-last}
+use Rattle.gx_law_order.proofs.World.{Knows, world_knows}
 use Rattle.gx_law_sessions.specs.Scanned.{began_from}
 use Rattle.gx_law_sessions.specs.Orders.{level_by}
 use Rattle.gx_law_sessions.specs.Standing.{HasSnapshot, IsStanding, Owns, Roots, Stands}

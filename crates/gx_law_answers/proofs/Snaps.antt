@@ -20,7 +20,7 @@ use Rattle.gx_store.specs.Legal.{LegalSnap}
 use Rattle.gx_store.specs.Marks.{has_snapshot, is_same_gxid, is_snapped}
 use Rattle.gx_store.specs.Points.{marks_in}
 use Rattle.gx_rules.specs.Machine.{world_of}
-use Rattle.gx_law_order.proofs.World.{marks-last}
+use Rattle.gx_law_order.proofs.More.{marks-last}
 use Rattle.gx_law_sessions.specs.Scanned.{began_from}
 use Rattle.gx_law_sessions.specs.Rest.{EachMark}
 use Rattle.gx_law_sessions.proofs.Given.{Given}

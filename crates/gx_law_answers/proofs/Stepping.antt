@@ -82,7 +82,7 @@ module _ (script : Script) (some : 1 ≤ script.segments) (numbered : AreLinesNu
             → P (es ++ (event.Resume n g, fails) ∷ [])
         by_test true ok is = kept.coord es (event.Resume n g) fails (here.Resume g) is p
         by_test false ok is =
-            let place = resumes_there script some (world_of script es) n g (world_well script some es) ok in
+            let place = resumes_there script (world_of script es) n g (world_well script some es) ok in
             kept.seg es n (event.Resume n g) fails (here.Resume g) place (resumed-late script some numbered es n g fails place ok) (resumption-does script some numbered es n g fails place ok) p
 
     by-event : (e : Event) (fails : Bool) → can script (world_of script es) e ≡ true → Is e fails (does script (world_of script es) e (node_of e) fails (at_node (world_of script es) e)) → P (es ++ (e, fails) ∷ [])

@@ -42,7 +42,8 @@ use Rattle.gx_rules.specs.Sending.{clock_after, counted, numbered}
 use Rattle.gx_law_order.proofs.Lists.{Each, each_append, each_weaker, get_last}
 use Rattle.gx_law_order.proofs.Past.{aborted-append}
 use Rattle.gx_law_order.proofs.Waiting.{going-out}
-use Rattle.gx_law_order.proofs.World.{Knows, marks-last}
+use Rattle.gx_law_order.proofs.More.{marks-last}
+use Rattle.gx_law_order.proofs.World.{Knows}
 use Rattle.gx_law_order.proofs.Numbers.{NoStart}
 use Rattle.gx_law_commit.specs.Followed.{AnswersAt, DoMarksAnswer, DoStepsAnswer}
 use Rattle.gx_law_commit.specs.Standings.{at, gx, waits_in}

@@ -40,7 +40,8 @@ use Rattle.gx_rules.specs.Sending.{clock_after, counted, numbered}
 use Rattle.gx_law_order.proofs.Lists.{Each, each_weaker}
 use Rattle.gx_law_order.proofs.Past.{aborted-append, committed-append}
 use Rattle.gx_law_order.proofs.Waiting.{GoesOn, Waits, going-on, going-out, going-ways}
-use Rattle.gx_law_order.proofs.World.{Knows, marks-last}
+use Rattle.gx_law_order.proofs.More.{marks-last}
+use Rattle.gx_law_order.proofs.World.{Knows}
 use Rattle.gx_law_commit.specs.Followed.{DoStepsEnd}
 use Rattle.gx_law_commit.specs.Pairs.{Pair}
 use Rattle.gx_law_commit.specs.Said.{Said, SaidIn, gxid_in, is_answer, segment_of}

@@ -126,7 +126,7 @@ module _ (script : Script) (some : 1 ≤ script.segments) (Q : World → Type 0)
 
         by_test : (b : Bool) → (if b then coord_can script w.coord x else seg_can script (w.segs n.0) x) ≡ true → Q (if b then coord_did w e (coord_rule script w.coord x fails) else seg_did w n e (seg_rule script (w.segs n.0) x fails))
         by_test true ok = coord-keeps w k v q e x fails ok tt
-        by_test false ok = seg-keeps w k v q e x fails n.0 (resumes_there script some w n g k.well ok) ok
+        by_test false ok = seg-keeps w k v q e x fails n.0 (resumes_there script w n g k.well ok) ok
 
     event-keeps : (w : World) (e : Event) (fails : Bool) → Knows script w → Holds script w → Q w → can script w e ≡ true → Q (does script w e (node_of e) fails (at_node w e))
     event-keeps w (event.Receive from to number) fails k v q ok = arrives w from to number fails (found from to number w.sent) refl k v q ok

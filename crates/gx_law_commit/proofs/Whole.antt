@@ -36,7 +36,8 @@ use Rattle.gx_law_order.proofs.Letters.{IsFound, IsLetter, found_is}
 use Rattle.gx_law_order.proofs.Lists.{Each, each_append}
 use Rattle.gx_law_order.proofs.Numbers.{NoStart}
 use Rattle.gx_law_order.proofs.Past.{aborted-append}
-use Rattle.gx_law_order.proofs.World.{Knows, happens_knows, marks-last, new_knows}
+use Rattle.gx_law_order.proofs.More.{marks-last}
+use Rattle.gx_law_order.proofs.World.{Knows, happens_knows, new_knows}
 use Rattle.gx_law_commit.specs.Followed.{AnswersAt, DoMarksAnswer, DoMarksEnd, DoStepsAnswer, DoStepsEnd, EndsAt}
 use Rattle.gx_law_commit.specs.Said.{Said, SaidAt, SaidIn, gxid_in, is_answer}
 use Rattle.gx_law_commit.specs.Standings.{Known, at, gx, known_at}

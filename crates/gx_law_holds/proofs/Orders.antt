@@ -38,7 +38,8 @@ use Rattle.gx_law_order.proofs.Letters.{IsFound, IsLetter}
 use Rattle.gx_law_order.proofs.Lists.{Each, each_weaker}
 use Rattle.gx_law_order.proofs.Ordered.{apart-back, at_coordinator, seg_marks}
 use Rattle.gx_law_order.proofs.Sent.{at}
-use Rattle.gx_law_order.proofs.World.{Knows, marks-last}
+use Rattle.gx_law_order.proofs.More.{marks-last}
+use Rattle.gx_law_order.proofs.World.{Knows}
 use Rattle.gx_law_commit.proofs.Always.{each-zip}
 use Rattle.gx_law_commit.proofs.Counts.{NoSent}
 use Rattle.gx_law_commit.proofs.Everywhere.{Holds, posted-each}

@@ -21,7 +21,8 @@ use Rattle.gx_law_order.proofs.Lists.{Each, each_append, each_weaker}
 use Rattle.gx_law_order.proofs.Sessions.{stage_of}
 use Rattle.gx_law_order.proofs.Statuses.Stage.{Live}
 use Rattle.gx_law_order.proofs.Waiting.{IsAmong, each-among}
-use Rattle.gx_law_order.proofs.World.{Knows, marks-last}
+use Rattle.gx_law_order.proofs.More.{marks-last}
+use Rattle.gx_law_order.proofs.World.{Knows}
 use Rattle.gx_law_commit.specs.Said.{SaidAt, SaidIn, segment_of}
 use Rattle.gx_law_commit.specs.Standings.{at}
 use Rattle.gx_law_commit.proofs.Everywhere.{Holds}

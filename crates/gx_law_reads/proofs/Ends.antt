@@ -45,7 +45,8 @@ use Rattle.gx_law_order.proofs.Replies.{event-good}
 use Rattle.gx_law_order.proofs.Stages.{IsWhole, gx}
 use Rattle.gx_law_order.proofs.Statuses.{is_running}
 use Rattle.gx_law_order.proofs.Waiting.{each-among}
-use Rattle.gx_law_order.proofs.World.{Knows, marks-last}
+use Rattle.gx_law_order.proofs.More.{marks-last}
+use Rattle.gx_law_order.proofs.World.{Knows}
 use Rattle.gx_law_commit.specs.Pairs.{bit}
 use Rattle.gx_law_commit.specs.Said.{Said, SaidIn, gxid_in, is_answer}
 use Rattle.gx_law_commit.specs.Standings.{Known, at, known_at}

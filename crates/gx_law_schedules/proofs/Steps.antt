@@ -111,7 +111,7 @@ module _ (script : Script) (some : 1 ≤ script.segments) (Q : World → Type 0)
 
           by_test : (b : Bool) → is_same_node n the_coordinator ≡ b → (if b then coord_can script w.coord x else seg_can script (w.segs n.0) x) ≡ true → Q (if b then coord_did w e (coord_rule script w.coord x fails) else seg_did w n e (seg_rule script (w.segs n.0) x fails))
           by_test true is ok = at-coord es q e x fails (record { admitted = ok; node = same_node n the_coordinator is; is = refl })
-          by_test false is ok = at-seg es q e x fails n (record { admitted = ok; node = refl; place = resumes_there script some w n g (world_well script some es) ok; is = refl })
+          by_test false is ok = at-seg es q e x fails n (record { admitted = ok; node = refl; place = resumes_there script w n g (world_well script some es) ok; is = refl })
 
       admitted : (e : Event) (fails : Bool) → can script w e ≡ true → Q (does script w e (node_of e) fails (at_node w e))
       admitted (event.Receive from to number) fails ok = arrives from to number fails (found from to number w.sent) refl ok

@@ -33,7 +33,8 @@ use Rattle.gx_law_order.proofs.Past.{aborted-append}
 use Rattle.gx_law_order.proofs.Ordered.{at-both, seg_marks}
 use Rattle.gx_law_order.proofs.Sent.{at}
 use Rattle.gx_law_order.proofs.Stages.{gx}
-use Rattle.gx_law_order.proofs.World.{Knows, marks-last}
+use Rattle.gx_law_order.proofs.More.{marks-last}
+use Rattle.gx_law_order.proofs.World.{Knows}
 use Rattle.gx_law_sessions.specs.Finish.{AreCommandsTold}
 use Rattle.gx_law_sessions.specs.Rest.{EachMark, Rest, StartsNothing, is_going_out}
 use Rattle.gx_law_sessions.specs.Standing.{AreSessions, IsSession}

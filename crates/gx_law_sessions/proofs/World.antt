@@ -190,7 +190,7 @@ module _ (script : Script) (some : 1 ≤ script.segments) where
 
         by_test : (b : Bool) → is_same_node m the_coordinator ≡ b → (if b then coord_can script w.coord x else seg_can script (w.segs m.0) x) ≡ true → Holds script (if b then coord_did w e (coord_rule script w.coord x fails) else seg_did w m e (seg_rule script (w.segs m.0) x fails))
         by_test true is ok = coord-holds script some w n h e x fails (resume-effect m g is) tt tt
-        by_test false is ok = seg-holds script some w n h e x fails m.0 tt is (resumes_there script some w m g n.well ok)
+        by_test false is ok = seg-holds script some w n h e x fails m.0 tt is (resumes_there script w m g n.well ok)
 
     event-holds : (e : Event) (fails : Bool) → can script w e ≡ true → Holds script (does script w e (node_of e) fails (at_node w e))
     event-holds (event.Receive from to number) fails ok = arrives from to number fails (found from to number w.sent) refl ok
@@ -306,7 +306,7 @@ module _ (script : Script) (some : 1 ≤ script.segments) where
 
         by_test : (b : Bool) → is_same_node m the_coordinator ≡ b → (if b then coord_can script w.coord x else seg_can script (w.segs m.0) x) ≡ true → AreRestLegal script [] (if b then coord_did w e (coord_rule script w.coord x fails) else seg_did w m e (seg_rule script (w.segs m.0) x fails)).steps
         by_test true is ok = coord-shown e x fails (resume-effect w n h m g is)
-        by_test false is ok = rest-last script [] w.steps _ rest (shown.segments done e x fails (resumes_there script some w m g n.well ok) refl ok)
+        by_test false is ok = rest-last script [] w.steps _ rest (shown.segments done e x fails (resumes_there script w m g n.well ok) refl ok)
 
     event-shown : (e : Event) (fails : Bool) → can script w e ≡ true → AreRestLegal script [] (does script w e (node_of e) fails (at_node w e)).steps
     event-shown (event.Receive from to number) fails ok = arrives-shown from to number fails (found from to number w.sent) refl ok

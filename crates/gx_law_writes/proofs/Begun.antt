@@ -50,7 +50,8 @@ use Rattle.gx_law_order.proofs.Changing.{change-parts, rows-change, stop-keeps}
 use Rattle.gx_law_order.proofs.Lists.{Each, each_append, each_weaker}
 use Rattle.gx_law_order.proofs.Ordered.{at-both, at_coordinator}
 use Rattle.gx_law_order.proofs.Waiting.{GoesOn, GoesOnAtRow, freed, goes-on-is, going-on}
-use Rattle.gx_law_order.proofs.World.{Knows, marks-last}
+use Rattle.gx_law_order.proofs.More.{marks-last}
+use Rattle.gx_law_order.proofs.World.{Knows}
 use Rattle.gx_law_commit.specs.Standings.{at}
 use Rattle.gx_law_commit.proofs.Everywhere.{Holds}
 use Rattle.gx_law_commit.proofs.Steps.{HeardAt, SaidTo, by-heard, world-keeps}

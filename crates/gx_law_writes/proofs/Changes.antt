@@ -213,7 +213,7 @@ module _ (script : Script) (some : 1 ≤ script.segments) (numbered : AreLinesNu
       o = going-on script w (world_well script some es) node.0 g ok
 
       place : IsSegment script (at node.0)
-      place = resumes_there script some w node g (world_well script some es) ok
+      place = resumes_there script w node g (world_well script some es) ok
 
       turn : SegTurn
       turn = resumes (w.segs node.0) g (wait_of (w.segs node.0).locks g) (local_of (w.segs node.0) g).suspended

@@ -35,7 +35,7 @@ use Rattle.gx_law_order.proofs.Letters.{IsFound, IsLetter, found_is}
 use Rattle.gx_law_order.proofs.Lists.{Each}
 use Rattle.gx_law_order.proofs.Ordered.{resumes_there, seg_marks}
 use Rattle.gx_law_order.proofs.Waiting.{going-out}
-use Rattle.gx_law_order.proofs.World.{marks-last}
+use Rattle.gx_law_order.proofs.More.{marks-last}
 use Rattle.gx_store.specs.Language.{AreLinesNumbered}
 use Rattle.gx_law_sessions.specs.Rest.{EachMark}
 use Rattle.gx_law_sessions.proofs.Given.{marks-append}
@@ -177,7 +177,7 @@ module _ (script : Script) (some : 1 ≤ script.segments) (numbered_lines : AreL
 
         by_test : (q : Bool) → (if q then coord_can script w.coord x else seg_can script (w.segs m.0) x) ≡ true → Counted script (if q then coord_did w e (coord_rule script w.coord x fails) else seg_did w m e (seg_rule script (w.segs m.0) x fails))
         by_test true ok = coord-counted e x fails ok (λ i v h cid wrote count part q t. absurd (resume-no g i v q)) (λ i v q t. absurd (resume-no g i v q))
-        by_test false ok = seg-counted e x fails m.0 (resumes_there script some w m g b.knows.well ok)
+        by_test false ok = seg-counted e x fails m.0 (resumes_there script w m g b.knows.well ok)
 
     event-counted : (e : Event) (fails : Bool) → can script w e ≡ true → Counted script (does script w e (node_of e) fails (at_node w e))
     event-counted (event.Receive from to number) fails ok = arrives from to number fails (found from to number w.sent) refl ok

@@ -345,7 +345,7 @@ module _ (script : Script) (some : 1 ≤ script.segments) (numbered_lines : AreL
 
         by_test : (q : Bool) → is_same_node m the_coordinator ≡ q → (if q then coord_can script w.coord x else seg_can script (w.segs m.0) x) ≡ true → AreOthers script [] (if q then coord_did w e (coord_rule script w.coord x fails) else seg_did w m e (seg_rule script (w.segs m.0) x fails)).steps
         by_test true there ok = coord-others e x (λ i v h cid wrote count part q t. absurd (resume-no g i v q)) (λ i v q t. absurd (resume-no g i v q)) (λ z A. goes-out-there script w b.knows m g there ok A) (λ a n q. absurd (resumed-no m g a n q)) fails ok o
-        by_test false there ok = seg-others e x fails m.0 (resumes_there script some w m g b.knows.well ok) (goes-on-faults m.0 g fails (going-on script w b.knows.well m.0 g ok)) o
+        by_test false there ok = seg-others e x fails m.0 (resumes_there script w m g b.knows.well ok) (goes-on-faults m.0 g fails (going-on script w b.knows.well m.0 g ok)) o
 
     event-others : (e : Event) (fails : Bool) → AreOthers script [] w.steps → can script w e ≡ true → AreOthers script [] (does script w e (node_of e) fails (at_node w e)).steps
     event-others (event.Receive from to number) fails o ok = arrives from to number fails (found from to number w.sent) o refl ok

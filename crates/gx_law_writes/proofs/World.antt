@@ -85,7 +85,7 @@ use Rattle.gx_law_changes.proofs.Points.{IsLegalChange, IsOfHere, Ok}
 use Rattle.gx_law_changes.proofs.Rows.{HaveHomes}
 use Rattle.gx_law_changes.proofs.Told.{IsOn, Known}
 use Rattle.gx_law_changes.proofs.Undone.{IsBegun, begun-later, undone, undone-drops}
-use Rattle.gx_law_order.proofs.World.{marks-last}
+use Rattle.gx_law_order.proofs.More.{marks-last}
 use Rattle.gx_store.specs.Language.{AreLinesNumbered}
 use Rattle.gx_law_sessions.specs.Alive.{HasRun, WasUnderWay}
 use Rattle.gx_law_sessions.specs.Orders.{IsOrder, IsServed}
@@ -891,7 +891,7 @@ module _ (script : Script) (some : 1 ≤ script.segments) (numbered_lines : AreL
 
         by_test : (q : Bool) → (if q then coord_can script w.coord x else seg_can script (w.segs m.0) x) ≡ true → let v : World = if q then coord_did w e (coord_rule script w.coord x fails) else seg_did w m e (seg_rule script (w.segs m.0) x fails) in DoViewsStay w v → Leads v
         by_test true ok stay = coord-leads w b.knows.well h e x fails stay
-        by_test false ok stay = goes-on e (λ t. refl) fails m.0 g (resumes_there script some w m g b.knows.well ok) (going-on script w b.knows.well m.0 g ok) stay
+        by_test false ok stay = goes-on e (λ t. refl) fails m.0 g (resumes_there script w m g b.knows.well ok) (going-on script w b.knows.well m.0 g ok) stay
 
     event-holds : (e : Event) (fails : Bool) → can script w e ≡ true → let v : World = does script w e (node_of e) fails (at_node w e) in DoViewsStay w v → Leads v
     event-holds (event.Receive from to number) fails ok stay = arrives from to number fails (found from to number w.sent) refl stay
