@@ -1,5 +1,5 @@
 -- Every run of the machine keeps what holds.
-use Rattle.std.proofs.Common.{◌≡◌, ◌≤◌, ℕ, List, [], ◌∷◌, Some, Bool, true, false, refl, sym, subst, ap, if◌then◌else◌}
+use Rattle.std.proofs.Common.{◌≡◌, ◌≤◌, ℕ, List, [], ◌∷◌, Some, Bool, true, false, refl, sym, subst, if◌then◌else◌}
 use Rattle.std.specs.Prelude.{nat_le}
 use Rattle.gx_ids.specs.declared.ids.Gxid.{Gxid}
 use Rattle.gx_ids.specs.declared.ids.Node.{Node}
@@ -22,7 +22,7 @@ use Rattle.gx_law_order.proofs.Lists.{Each}
 use Rattle.gx_law_order.proofs.Moves.{moves_after, world-moves}
 use Rattle.gx_law_order.proofs.World.{Knows, moves_knows}
 use Rattle.gx_law_commit.specs.Pairs.{Pair}
-use Rattle.gx_law_commit.specs.Said.{AreMeant, Said, SaidAt, SaidIn, gxid_in, is_answer}
+use Rattle.gx_law_commit.specs.Said.{AreMeant, Said, SaidIn, gxid_in, is_answer}
 use Rattle.gx_law_commit.specs.Standings.{at, known_at}
 use Rattle.gx_law_commit.specs.Standings.Standing.{Unborn, Over}
 use Rattle.gx_law_commit.proofs.Events.{IsSaidIn}
