@@ -36,9 +36,8 @@ use Rattle.gx_rules.specs.Machine.{Letter, World, and_cancelled, coord_did, new_
 use Rattle.gx_rules.specs.Segments.{Local, Phase, Seg, SegTurn, local_of, stays, tells_kept}
 use Rattle.gx_rules.specs.Segments.Phase.{Aborted, Committed, Forgotten, Prepared, Reading, Writing}
 use Rattle.gx_rules.specs.Sending.{clock_after}
-use Rattle.gx_rules.specs.Running.{is_granted, slice_lock, starts_slice}
+use Rattle.gx_rules.specs.Running.{slice_lock, starts_slice}
 use Rattle.gx_rules.proofs.Rounds.{collect-ways}
-use Rattle.gx_law_order.specs.Moves.{Move, world_by}
 use Rattle.gx_law_order.proofs.Induction.{after_turn}
 use Rattle.gx_law_order.proofs.Lists.{Each, each_weaker}
 use Rattle.gx_law_order.proofs.Past.{there-drawn}
