@@ -68,7 +68,12 @@ use Rattle.gx_law_sessions.proofs.Under.{Under, refuse-does}
 -- the item of a turn says nothing of sessions
 pub does-with : (script : Script) (steps : List Step) (c : Coord) (e : Event) (turn : CoordTurn) (item : Option JournalItem) → Does script steps c e turn → Does script steps c e (record turn { item = item })
 does-with script steps c e turn item d =
-    record { s = d.s; g = d.g; x = d.x; sessions = d.sessions; works = d.works; next = d.next; whose = d.whose; of = d.of; fresh = d.fresh; alone = d.alone; starts = d.starts; stands = d.stands; legal = d.legal; outs = d.outs; orders = d.orders; gathers = d.gathers; rest = d.rest; owned = d.owned; sent = d.sent; keeps = d.keeps }
+    let a = d.alters in
+    record {
+      alters = record { s = a.s; g = a.g; x = a.x; sessions = a.sessions; works = a.works; next = a.next; whose = a.whose; of = a.of; fresh = a.fresh; alone = a.alone; starts = a.starts; stands = a.stands; outs = a.outs; orders = a.orders; gathers = a.gathers; owned = a.owned; sent = a.sent; keeps = a.keeps };
+      legal = d.legal;
+      rest = d.rest;
+    }
 
 pub rests-now : (script : Script) (steps : List Step) (c : Coord) (from to : Node) (number : ℕ) → Rests script steps c (event.Receive from to number) (rests c)
 rests-now script steps c from to number = record { sessions = λ j. refl; works = λ j. refl; next = refl; quiet = tt; alone = λ j. (refl, refl); outs = λ h. tt; sent = λ h. tt }
