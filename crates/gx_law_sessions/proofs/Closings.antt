@@ -45,6 +45,7 @@ use Rattle.gx_store.specs.Refusals.{HasJournalFailed, IsCause, may_refuse, the_c
 use Rattle.gx_rules.specs.AtCoordinator.{failure_marks, follows, is_awaited, is_committed as is_closed, is_refused, item_for, on_answer, on_done, on_failed, on_message, on_status, reason_of, takes_done}
 use Rattle.gx_rules.specs.Coordinators.{Command, Coord, CoordTurn, Session, rests, session_of, work_of}
 use Rattle.gx_rules.specs.Fits.{fits_part}
+use Rattle.gx_rules.proofs.Rounds.{graph-ways}
 use Rattle.gx_law_order.proofs.Lists.{Each}
 use Rattle.gx_law_order.proofs.Sessions.{Kept, is_closing_in, stage_of}
 use Rattle.gx_law_order.proofs.Stages.{gx}
@@ -275,4 +276,7 @@ message-does script steps c k all gath from some to number fails (message.Commit
 message-does script steps c k all gath from some to number fails (message.Abort g) r n = inr (rests-now script steps c from to number)
 message-does script steps c k all gath from some to number fails (message.Forget g) r n = inr (rests-now script steps c from to number)
 message-does script steps c k all gath from some to number fails (message.Collect round) r n = inr (rests-now script steps c from to number)
-message-does script steps c k all gath from some to number fails (message.Graph round graph) r n = inr (rests-now script steps c from to number)
+message-does script steps c k all gath from some to number fails (message.Graph round graph) r n =
+    graph-ways (Effect script steps c (event.Receive from to number)) c from round graph (inr (rests-now script steps c from to number))
+    (λ taken. inr (record { sessions = λ j. refl; works = λ j. refl; next = refl; quiet = tt; alone = λ j. (refl, refl); outs = λ h. tt; sent = λ h. tt }))
+    (λ taken all. inr (record { sessions = λ j. refl; works = λ j. refl; next = refl; quiet = (tt, tt); alone = λ j. (refl, refl); outs = λ h. tt; sent = λ h. tt }))
