@@ -1,10 +1,9 @@
 -- A victim of a round: its session's line under way is refused.
-use Rattle.std.proofs.Common.{◌≡◌, ◌⊎◌, inl, inr, ℕ, suc, ◌+◌, List, [], ◌∷◌, ◌++◌, Option, Some, None, Bool, true, false, refl, sym, subst, ap, ◌∙◌, ◌==◌, ◌&&◌, ◌||◌, arith, append-nil}
+use Rattle.std.proofs.Common.{◌≡◌, inl, inr, ℕ, suc, List, [], ◌∷◌, ◌++◌, Option, Some, None, Bool, true, false, refl, sym, subst, ap, ◌∙◌, ◌==◌, ◌&&◌, ◌||◌, arith, append-nil}
 use Rattle.std.proofs.lemmas.Bool.{and_parts, eqb-true}
 use Rattle.std.proofs.lemmas.List.Elements.{Contains-append_left, Contains-append_right, Contains-push}
 use Rattle.std.specs.Prelude.{is_some}
 use Rattle.std.specs.List.{Contains}
-use Rattle.gx_lemmas.proofs.Lists.{get-append}
 use Rattle.gx_lemmas.proofs.Numbers.{plus-none}
 use Rattle.gx_lemmas.proofs.Tests.{false-true}
 use Rattle.gx_ids.specs.declared.ids.Gxid.{Gxid}
@@ -15,7 +14,7 @@ use Rattle.gx_dtx.specs.Rules.{on_abort}
 use Rattle.gx_dtx.specs.Table.{find_txn}
 use Rattle.gx_dtx.specs.declared.phase.Phase.{Phase}
 use Rattle.gx_dtx.specs.declared.txn.Txn.{Txn}
-use Rattle.gx_waits.specs.declared.verdict.Verdict.TheVariants.{Dropped, Nothing, Victims}
+use Rattle.gx_waits.specs.declared.verdict.Verdict.TheVariants.{Victims}
 use Rattle.gx_script.specs.declared.Script.{Script}
 use Rattle.gx_script.specs.Session.{block_after_refusal}
 use Rattle.gx_script.specs.declared.state.Block.{Block}
@@ -30,7 +29,7 @@ use Rattle.gx_store.specs.declared.mark.Mark.TheVariants as mark
 use Rattle.gx_store.specs.declared.run.Step.{Step}
 use Rattle.gx_store.specs.Lines.{BlockState, is_command, state_after, stmt_of}
 use Rattle.gx_store.specs.Marks.{answer_count, is_ended}
-use Rattle.gx_store.specs.Points.{ends_in, marks_in, starts_by, starts_in}
+use Rattle.gx_store.specs.Points.{ends_in, marks_in, starts_in}
 use Rattle.gx_store.specs.Refusals.{IsNamed, the_coordinator}
 use Rattle.gx_store.proofs.Runs.{marks_in-push, starts_in-push}
 use Rattle.gx_rules.specs.AtCoordinator.{cancel_turn, cancels, is_refused, is_under_way}
@@ -40,7 +39,7 @@ use Rattle.gx_rules.specs.Rounds.{is_active, is_live}
 use Rattle.gx_rules.specs.Sending.{numbered}
 use Rattle.gx_rules.proofs.Rounds.{cancel-ways}
 use Rattle.gx_law_order.specs.Moves.{names}
-use Rattle.gx_law_order.proofs.Sessions.{Kept, is_live_in, is_working_in, stage_of}
+use Rattle.gx_law_order.proofs.Sessions.{Kept, is_live_in, is_working_in}
 use Rattle.gx_law_order.proofs.Stages.{gx}
 use Rattle.gx_law_order.proofs.Statuses.{stage, stage_in}
 use Rattle.gx_law_order.proofs.Statuses.Stage.{Live}

@@ -1,5 +1,5 @@
 -- What each event does at the coordinator.
-use Rattle.std.proofs.Common.{◌≡◌, ◌≤◌, inl, inr, ℕ, ◌+◌, List, ◌++◌, Option, Some, None, Bool, true, false, refl, sym, subst, ap, ◌∙◌, if◌then◌else◌, ◌&&◌, not, arith}
+use Rattle.std.proofs.Common.{◌≡◌, ◌≤◌, inl, inr, ℕ, ◌+◌, ◌++◌, Option, Some, None, Bool, true, false, refl, sym, subst, ap, ◌∙◌, if◌then◌else◌, ◌&&◌, not, arith}
 use Rattle.std.proofs.lemmas.Bool.Decides.{nat_tests}
 use Rattle.std.specs.Prelude.{IsSome, nat_le}
 use Rattle.std.proofs.lemmas.Bool.{and_parts}
@@ -21,7 +21,7 @@ use Rattle.gx_store.specs.Lines.{next_stmt, stmt_of}
 use Rattle.gx_store.specs.Points.{marks_in}
 use Rattle.gx_store.specs.Refusals.{the_coordinator}
 use Rattle.gx_rules.specs.AtCoordinator.{awaited, awaited_collect, coord_can, is_idle, is_in_block, is_left, is_nothing, next_line, on_event, resends, starts}
-use Rattle.gx_rules.specs.Coordinators.{CoordTurn, session_of, rests, work_of}
+use Rattle.gx_rules.specs.Coordinators.{CoordTurn, session_of}
 use Rattle.gx_rules.specs.Machine.{World}
 use Rattle.gx_rules.specs.Rounds.{awaits_graph}
 use Rattle.gx_rules.specs.Sending.{numbered}

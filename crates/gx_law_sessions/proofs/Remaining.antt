@@ -1,9 +1,8 @@
 -- A run is a legal history if what is left of it is shown.
-use Rattle.std.proofs.Common.{◌≡◌, ◌≤◌, inl, inr, ℕ, List, [], ◌∷◌, ◌++◌, Some, Bool, true, refl, sym, subst, ap, ◌∙◌, append-nil}
+use Rattle.std.proofs.Common.{◌≡◌, ◌≤◌, inl, inr, ℕ, List, [], ◌∷◌, ◌++◌, Some, Bool, true, sym, subst, ap, ◌∙◌, append-nil}
 use Rattle.std.proofs.lemmas.List.{append_assoc}
 use Rattle.gx_ids.specs.declared.ids.Gxid.{Gxid}
 use Rattle.gx_ids.specs.declared.ids.Node.{Node}
-use Rattle.gx_dtx.specs.Rules.{on_abort}
 use Rattle.gx_msg.specs.declared.message.Out.{Out}
 use Rattle.gx_script.specs.declared.Script.{Script}
 use Rattle.gx_store.specs.declared.answer.Refused.TheVariants.{Victim}
@@ -31,7 +30,7 @@ use Rattle.gx_law_order.proofs.Lists.{Each, each_append}
 use Rattle.gx_law_order.proofs.Releases.{each-released}
 use Rattle.gx_law_order.proofs.Sent.{at}
 use Rattle.gx_law_order.proofs.World.{world_knows}
-use Rattle.gx_law_sessions.specs.Finish.{AreCommandsTold, AreVerdictsLegal, IsRestShown, IsVerdictLegal}
+use Rattle.gx_law_sessions.specs.Finish.{AreVerdictsLegal, IsRestShown, IsVerdictLegal}
 use Rattle.gx_law_sessions.specs.Rest.{AreRestLegal, EachMark, Rest}
 use Rattle.gx_law_sessions.proofs.Events.{event-does}
 use Rattle.gx_law_sessions.proofs.Frame.{Effect, Quiet}

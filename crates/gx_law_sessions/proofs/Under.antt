@@ -125,7 +125,7 @@ refuse-legal script steps e s g n b u line earlier at has running reason may c1 
       λ q. legal-abort script steps e s line n b u (Some g) earlier at _ g has refl running (may-abort-refusable b line reason may) (answered-self s (session_of c1 s).lines r (tail ++ later)),
       (
         λ q. legal-answer script steps e s line n b u (Some g) (earlier ++ mark.Abort g ∷ []) at2 (tail ++ later) (session_of c1 s).lines r (ap (λ i. (session_of c1 i).lines) (sym same) ∙ number) (is (tail ++ later) q),
-        lock-given script steps e _ tail later locks
+        lock-given script steps e _ tail later locks,
       ),
     )
   where

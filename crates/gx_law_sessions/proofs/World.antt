@@ -1,8 +1,6 @@
 -- Over every run of the machine, sessions stand as the marks tell, and events and marks are legal if the rest is.
 use Rattle.std.proofs.Common.{◌≡◌, ◌≤◌, inl, ℕ, List, [], ◌++◌, ◌∷◌, Bool, true, false, refl, sym, subst, arith}
 use Rattle.std.proofs.lemmas.Bool.Decides.{nat_tests}
-use Rattle.gx_lemmas.proofs.Numbers.{one-le-zero}
-use Rattle.gx_ids.specs.declared.ids.Node.{Node}
 use Rattle.gx_script.specs.declared.Script.{Script}
 use Rattle.gx_store.specs.declared.event.Event.{Event}
 use Rattle.gx_store.specs.declared.node.NodeEvent.{NodeEvent}
@@ -10,7 +8,6 @@ use Rattle.gx_store.specs.declared.node.NodeEvent.TheVariants as here
 use Rattle.gx_store.specs.Journals.{is_same_node}
 use Rattle.gx_store.specs.Language.{AreLinesNumbered}
 use Rattle.gx_store.specs.Legal.{AreLegalSteps}
-use Rattle.gx_store.specs.Ordered.{IsSegment}
 use Rattle.gx_store.specs.Points.{marks_in}
 use Rattle.gx_store.specs.Refusals.{the_coordinator}
 use Rattle.gx_rules.specs.Machine.{World, after, happens, new_world, seg_can, world_of}

@@ -1,5 +1,5 @@
--- What is left to show of the machine for its runs to be legal histories: what the marks of segments' steps say of rows, and of
--- a command that was gathered, or that a segment failed, what its answer says.
+-- What is left to show of the machine for its runs to be legal histories: what the marks of segments' steps say of rows, of a
+-- command that was gathered, or that a segment failed, what its answer says, and of a recheck that whom it names is cancelled.
 use Rattle.std.specs.Prelude.{◌≡◌, Bool, true, List, [], ◌∷◌, ◌++◌, Some}
 use Rattle.gx_ids.specs.declared.ids.Cid.{Cid}
 use Rattle.gx_ids.specs.declared.ids.Gxid.{Gxid}
