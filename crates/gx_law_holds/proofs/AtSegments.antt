@@ -1,5 +1,6 @@
 -- What a segment's event makes of its locks.
-use Rattle.std.proofs.Common.{◌≡◌, ◌==◌, ◌&&◌, ◌||◌, ◌⊎◌, inl, inr, ℕ, List, [], ◌∷◌, ◌++◌, Option, Some, None, Bool, true, false, not, refl, sym, subst, ap, ◌∙◌, if◌then◌else◌, eqb, nat_lt, arith}
+use Rattle.std.proofs.Common.{◌≡◌, ◌==◌, ◌&&◌, ◌||◌, inl, inr, ℕ, List, [], ◌∷◌, ◌++◌, Option, Some, None, Bool, true, false, not, refl, sym, subst, ap, ◌∙◌, if◌then◌else◌, eqb, nat_lt, arith}
+use Rattle.std.proofs.lemmas.Bool.{or_right}
 use Rattle.std.proofs.lemmas.Bool.Decides.{nat_tests}
 use Rattle.std.proofs.lemmas.List.Folds.{Any-from_list_any, list_any-from_Any}
 use Rattle.std.specs.List.{list_any}
@@ -35,10 +36,10 @@ use Rattle.gx_msg.specs.declared.reply.Reply.{Reply}
 use Rattle.gx_script.specs.declared.Script.{Script}
 use Rattle.gx_store.specs.declared.mark.Mark.{Mark}
 use Rattle.gx_store.specs.declared.mark.Mark.TheVariants as mark
-use Rattle.gx_store.specs.Marks.{is_ended, is_same_gxid}
+use Rattle.gx_store.specs.Marks.{is_aborted, is_committed, is_ended, is_same_gxid}
 use Rattle.gx_store.specs.Refusals.{the_coordinator}
 use Rattle.gx_store.specs.Waits.{claim, holds_from}
-use Rattle.gx_rules.specs.AtSegment.{commits, ends, finishes, if_fits, on_abort, on_commit, on_commit_prepared, on_exec, on_forget, on_message, on_prepare, once, promises, raised, repeats, resumes, takes, unless_below, was_prepared}
+use Rattle.gx_rules.specs.AtSegment.{aborts, commits, ends, finishes, forgets, if_fits, on_abort, on_commit, on_commit_prepared, on_exec, on_forget, on_message, on_prepare, once, promises, raised, repeats, resumes, takes, unless_below, was_prepared}
 use Rattle.gx_rules.specs.Fits.{fits_exec, holds_locks, is_right_slice, is_waiting, reads_nothing}
 use Rattle.gx_rules.specs.Maps.{each_below}
 use Rattle.gx_rules.specs.Locks.{has_there, hold_mark, release_mark, release_marks, released, wait_mark, with_hold, with_wait}
@@ -55,10 +56,11 @@ use Rattle.gx_law_order.proofs.Lists.{Each, each_append, each_weaker}
 use Rattle.gx_law_order.proofs.OwnLocks.{IsOwn, WritersLock, rows-own, slice-rows}
 use Rattle.gx_law_order.proofs.Waiting.{GoesOnSo, HasDone, IsAtARow, IsAtTable, IsWanted, freed, goes-on-ways, is_open_phase}
 use Rattle.gx_law_holds.specs.Lasting.{IsLasting}
+use Rattle.gx_law_holds.specs.Waiting.{IsForEnd}
 use Rattle.gx_law_holds.proofs.AtRows.{AtRows, HoldsAtRow, HoldsWaiting, rows-with, waiting-later}
 use Rattle.gx_law_holds.proofs.Claims.{gxid-of}
 use Rattle.gx_law_holds.proofs.Lasting.{IsIn, in-added, in-new, in-released}
-use Rattle.gx_law_holds.proofs.Marks.{Locking, NoLock, both, no-lock, wait}
+use Rattle.gx_law_holds.proofs.Marks.{Locking, MayGive, NoLock, both, no-lock, wait}
 use Rattle.gx_law_holds.proofs.Moves.{AreWritesHeld, IsWriting, Runs, WritesOwn, given-back, granted, held-append, phase-at, resumed-end, resumed-so, row-written, started, told-so, writing-of}
 use Rattle.gx_law_holds.proofs.Released.{gives-back}
 use Rattle.gx_law_holds.proofs.Tables.{Changes, HasTable, change-table, own-gxid, slice-lasts, slice-table}
@@ -215,13 +217,13 @@ module _ (script : Script) (P : Gxid → Table → Type 0) (here : Node) (before
 
   -- it begins to wait at a row, with its slice's lock
   waits-so : (k : Change) → IsIn s.locks.holds (slice_lock script g k.slice) → (rid : Rid) (rest : List Rid) (count : ℕ) (wanted : Claim) (m : Moved) → wanted.gxid ≡ g
-      → is_free m.seg.locks.holds wanted ≡ false → Gone m
+      → IsForEnd wanted.object wanted.mode → is_free m.seg.locks.holds wanted ≡ false → Gone m
       → Ended (suspends_at (waits wanted m).moved g k (suspended_at k rid rest count))
-  waits-so k held rid rest count wanted m is met f =
+  waits-so k held rid rest count wanted m is end met f =
       record {
         locking = both here before s.locks m.marks m.seg.locks (wait_mark m.seg.node wanted ∷ []) (with_wait m.seg.locks wanted) f.locking
             (subst (λ n. Locking here (before ++ m.marks) m.seg.locks (wait_mark n wanted ∷ []) (with_wait m.seg.locks wanted)) (sym f.node)
-            (wait here (before ++ m.marks) m.seg.locks wanted met (subst (λ h. wait_of m.seg.locks h ≡ None) (sym is) f.alone)));
+            (wait here (before ++ m.marks) m.seg.locks wanted end met (subst (λ h. wait_of m.seg.locks h ≡ None) (sym is) f.alone)));
         lasts = λ h e. (sym (f.ended h) ∙ sym (ap has_ended (same h)) ∙ e, λ x is l i. f.lasting x l i);
         rows = rows-with script m.seg g now m.seg.locks.holds (f.lasting (slice_lock script g k.slice) (slice-lasts script here g k.slice) held) f.rows;
         writes = held-append script P here s.locks.holds m.marks (wait_mark m.seg.node wanted ∷ []) f.writes tt;
@@ -249,13 +251,13 @@ module _ (script : Script) (P : Gxid → Table → Type 0) (here : Node) (before
 
       by_how : (n : Moved) → WaitsAt m g rid d.version.gxid n → Stopped n
       by_how n (inl h) =
-          subst Stopped (sym h.1) (waits-so k held rid rest count (end_lock g d.version.gxid) m refl (end-met g d.version.gxid m.seg.locks.holds unsettled.0 unsettled.1) f)
+          subst Stopped (sym h.1) (waits-so k held rid rest count (end_lock g d.version.gxid) m refl refl (end-met g d.version.gxid m.seg.locks.holds unsettled.0 unsettled.1) f)
       by_how n (inr (inl h)) =
           subst Stopped (sym h.1)
-          (waits-so k held rid rest count (end_lock g d.version.gxid) (takes_lock (tuple_lock g rid) m) refl
+          (waits-so k held rid rest count (end_lock g d.version.gxid) (takes_lock (tuple_lock g rid) m) refl refl
           (end-met g d.version.gxid (with_hold m.seg.locks (tuple_lock g rid)).holds unsettled.0 (in-added (tuple_lock g rid) (own_lock d.version.gxid) m.seg.locks.holds unsettled.1))
           (granted script P here before s g (tuple_lock g rid) m refl tt h.0 f))
-      by_how n (inr (inr h)) = subst Stopped (sym h.1) (waits-so k held rid rest count (tuple_lock g rid) m refl h.0 f)
+      by_how n (inr (inr h)) = subst Stopped (sym h.1) (waits-so k held rid rest count (tuple_lock g rid) m refl tt h.0 f)
 
   changes-end : (k : Change) → IsIn s.locks.holds (slice_lock script g k.slice) → Ends g k Gone Ended
   changes-end k held = record { done = λ m count f. answered k.cid m _ f; stopped = stops-so k held; failed = λ m cause f. answered k.cid m _ f }
@@ -318,11 +320,11 @@ module _ (script : Script) (P : Gxid → Table → Type 0) (here : Node) (before
         by_slice (slice.Update table assigns cond) seen has f = change (change_of c level seen (slice.Update table assigns cond)) f
         by_slice (slice.Delete table cond) seen has f = change (change_of c level seen (slice.Delete table cond)) f
 
--- who is told to end has its Commit or Abort mark
-abbrev pub IsEndedFor : List Mark → Message → Type 0
-IsEndedFor before (message.Abort g) = is_ended before g ≡ true
-IsEndedFor before (message.Forget g) = is_ended before g ≡ true
-IsEndedFor before _ = Unit {0}
+-- who is told to abort has its Abort mark, and who is told to forget its Commit mark, and no slice that waits
+abbrev pub IsEndedFor : List Mark → Seg → Message → Type 0
+IsEndedFor before s (message.Abort g) = is_aborted before g ≡ true
+IsEndedFor before s (message.Forget g) = (is_ended before g ≡ true) × ((local_of s g).suspended ≡ None)
+IsEndedFor before s _ = Unit {0}
 
 -- the message bids the segment change rows of the table for the transaction
 abbrev pub Bids : Message → Gxid → Table → Type 0
@@ -368,6 +370,13 @@ module _ (script : Script) (P : Gxid → Table → Type 0) (here : Node) (before
         none-own : wait_of s.locks wanted.gxid ≡ None
         none-own = ap (wait_of s.locks) (own-gxid script g x) ∙ none
 
+        for-table : (y : Slice) → IsForEnd (slice_lock script g y).object (slice_lock script g y).mode
+        for-table (slice.Select q) = tt
+        for-table (slice.Insert table new) = tt
+        for-table (slice.Update table assigns cond) = tt
+        for-table (slice.Delete table cond) = tt
+        for-table (slice.Lock table mode) = tt
+
         with-lock : is_free s.locks.holds wanted ≡ true → Runs script P here before s g (takes_lock wanted (starts_from (raised s h)))
         with-lock free =
             granted script P here before s g wanted (starts_from (raised s h)) (own-gxid script g x) (rows-own wanted (slice-rows script g x)) free
@@ -381,7 +390,7 @@ module _ (script : Script) (P : Gxid → Table → Type 0) (here : Node) (before
             (slice-runs script P here (before ++ m.marks) m.seg away g f.node f.owns f.writing f.alone f.opens f.rows c level snapshot x (in-new wanted s.locks.holds) p)
         by_test false met =
             record {
-              locking = subst (λ k. Locking here before s.locks (wait_mark k wanted ∷ []) (with_wait s.locks wanted)) (sym n) (wait here before s.locks wanted met none-own);
+              locking = subst (λ k. Locking here before s.locks (wait_mark k wanted ∷ []) (with_wait s.locks wanted)) (sym n) (wait here before s.locks wanted (for-table x) met none-own);
               lasts = λ k e. (sym (ap has_ended (same k)) ∙ e, λ x is l i. i);
               rows = rows-with script s g now s.locks.holds tt rows;
               writes = tt;
@@ -473,10 +482,10 @@ module _ (script : Script) (P : Gxid → Table → Type 0) (here : Node) (before
     commit-prepared g fails Aborted e = stay
 
     -- it ends, and gives all back that it has here
-    ended : (g : Gxid) (p : Phase) (r : Reply) → has_ended p ≡ true → is_ended before g ≡ true → Goes (ends s g (local_of s g) p r)
-    ended g p r over e =
+    ended : (g : Gxid) (p : Phase) (r : Reply) → has_ended p ≡ true → is_ended before g ≡ true → MayGive before s.locks.waits g → Goes (ends s g (local_of s g) p r)
+    ended g p r over e may =
         record {
-          locking = subst (λ k. Locking here before s.locks (release_marks k s.locks g) (released s.locks g)) (sym n) (gives-back s.locks g here before e);
+          locking = subst (λ k. Locking here before s.locks (release_marks k s.locks g) (released s.locks g)) (sym n) (gives-back s.locks g here before e may);
           lasts = λ h. lasts-so h (eqb h.0 g.0) refl;
           rows = λ h. rows-so h (eqb h.0 g.0) refl;
           writes = releases-writes script P here s.node (has_there s.locks g) s.locks.holds;
@@ -497,19 +506,25 @@ module _ (script : Script) (P : Gxid → Table → Type 0) (here : Node) (before
             waiting-later script here h s.locks.holds (locks.without g s.locks.holds) (λ c is m i. in-released g c s.locks.holds (ap (λ (k : Gxid). eqb k.0 g.0) is ∙ q) i)
             (local_of s h).suspended (rows h)
 
-    abort : (g : Gxid) (p : Phase) → is_ended before g ≡ true → Goes (on_abort s g (local_of s g) p)
-    abort g Reading e = ended g Aborted _ refl e
-    abort g Writing e = ended g Aborted _ refl e
-    abort g Prepared e = ended g Aborted _ refl e
+    dropped : (g : Gxid) → is_aborted before g ≡ true → Goes (aborts s g (local_of s g))
+    dropped g e = ended g Aborted _ refl (or_right (is_committed before g) (is_aborted before g) e) (inr e)
+
+    abort : (g : Gxid) (p : Phase) → is_aborted before g ≡ true → Goes (on_abort s g (local_of s g) p)
+    abort g Reading e = dropped g e
+    abort g Writing e = dropped g e
+    abort g Prepared e = dropped g e
     abort g Committed e = stay
     abort g (Forgotten b) e = stay
     abort g Aborted e = tell g _
 
-    forget : (g : Gxid) (p : Phase) → is_ended before g ≡ true → Goes (on_forget s g (local_of s g) p)
-    forget g Reading e = ended g _ _ refl e
-    forget g Writing e = ended g _ _ refl e
-    forget g Prepared e = ended g _ _ refl e
-    forget g Committed e = ended g _ _ refl e
+    forgotten : (g : Gxid) → (is_ended before g ≡ true) × ((local_of s g).suspended ≡ None) → Goes (forgets s g (local_of s g))
+    forgotten g e = ended g _ _ refl e.0 (inl (single.none g e.1))
+
+    forget : (g : Gxid) (p : Phase) → (is_ended before g ≡ true) × ((local_of s g).suspended ≡ None) → Goes (on_forget s g (local_of s g) p)
+    forget g Reading e = forgotten g e
+    forget g Writing e = forgotten g e
+    forget g Prepared e = forgotten g e
+    forget g Committed e = forgotten g e
     forget g (Forgotten b) e = tell g _
     forget g Aborted e = stay
 
@@ -521,7 +536,7 @@ module _ (script : Script) (P : Gxid → Table → Type 0) (here : Node) (before
     fits true turn e = e refl
     fits false turn e = stay
 
-    pub message_locks : (fails : Bool) (m : Message) → IsEndedFor before m → ((g : Gxid) (table : Table) → Bids m g table → P g table) → Goes (on_message script s fails m)
+    pub message_locks : (fails : Bool) (m : Message) → IsEndedFor before s m → ((g : Gxid) (table : Table) → Bids m g table → P g table) → Goes (on_message script s fails m)
     message_locks fails (message.Exec g c level snapshot h x) e has =
         below g _ (fits (fits_exec script s g c snapshot h x) _ (λ fit. exec g c level snapshot h x
         (last-of (nat_le h.0 g.0) (each_below h.0 (λ k. not (holds_locks (s.locals k)))) (is_some snapshot || reads_nothing x) (is_right_slice script g c x) (nat_lt (local_of s g).last c.0 && is_waiting (local_of s g)) fit) (λ table b. has g table (refl, b)) (local_of s g).phase refl))

@@ -44,7 +44,7 @@ met-some wanted holds e = has-met (Any-from_list_any (meets wanted) holds (not-f
     has-met : Any (λ hold. meets wanted hold ≡ true) holds → Any (λ hold. Meets wanted hold) holds
     has-met a = (a.0, a.1, a.2, a.3, Meets_from_test wanted a.1 a.4)
 
-none-listed : (g : Gxid) (waits : List Claim) → find (is_of g) waits ≡ None → list_any (is_of g) waits ≡ false
+pub none-listed : (g : Gxid) (waits : List Claim) → find (is_of g) waits ≡ None → list_any (is_of g) waits ≡ false
 none-listed g [] e = refl
 none-listed g (x ∷ xs) e = by_test (is_of g x) e (none-listed g xs)
   where

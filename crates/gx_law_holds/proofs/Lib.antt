@@ -9,6 +9,7 @@ pub mod AtSegments
 pub mod Going
 pub mod AtCoordinators
 pub mod Legal
+pub mod Lets
 pub mod Single
 pub mod Own
 pub mod World

@@ -280,7 +280,7 @@ module _ (script : Script) (some : 1 ≤ script.segments) where
       writes =
           none-held script (HeldThere script (marks_in w.steps)) (at i) (λ node. turn.seg.sent) turn.outs (holds_at (marks_in w.steps) (at i)) turn.marks
           (subst (λ hs. AreWritesHeld script (HeldThere script (marks_in w.steps)) (at i) hs turn.marks) (q.locked.marked.segments i place.0).holds
-          (heard-locks script (HeldThere script (marks_in w.steps)) w k e i place.0 (q.locked.rows i) x fails h (bids-held w k q e i place.0 x h)).writes)
+          (heard-locks script (HeldThere script (marks_in w.steps)) w k v e i place.0 (q.locked.rows i) x fails h (bids-held w k q e i place.0 x h)).writes)
 
   new-orders : Ordered script new_world
   new-orders = record { locked = new-locked script some; going = λ g. tt; letters = tt; writes = tt }

@@ -1,10 +1,10 @@
 -- What a transaction gives back at its end is all that it holds and waits for, and nothing else.
-use Rattle.std.proofs.Common.{◌≡◌, ◌==◌, ◌||◌, ◌&&◌, inr, ℕ, Bool, true, false, not, cond, List, [], ◌∷◌, ◌++◌, refl, sym, subst, ap, ◌∙◌, if◌then◌else◌, arith}
+use Rattle.std.proofs.Common.{◌≡◌, ◌==◌, ◌||◌, ◌&&◌, inl, inr, None, Some, ℕ, Bool, true, false, not, cond, List, [], ◌∷◌, ◌++◌, refl, sym, subst, ap, ◌∙◌, if◌then◌else◌, arith}
 use Rattle.std.proofs.lemmas.Bool.Decides.{nat_tests}
 use Rattle.std.proofs.lemmas.List.Folds.{list_any-append}
 use Rattle.std.specs.List.{list_any}
 use Rattle.std.specs.Ordering.{is_gt}
-use Rattle.std.specs.Prelude.{filter, map}
+use Rattle.std.specs.Prelude.{filter, find, map}
 use Rattle.std.specs.declared.cmp.Ordering.{Ordering}
 use Rattle.std.proofs.lemmas.Bool.{or_from, or_left, or_right}
 use Rattle.gx_ids.specs.declared.ids.Gxid.{Gxid}
@@ -22,7 +22,7 @@ use Rattle.gx_rules.specs.Locks.{claim_order, has_there, release_mark, release_m
 use Rattle.gx_law_order.proofs.Lists.{Each, each_append, each_weaker}
 use Rattle.gx_law_holds.specs.Late.{AreReleasesLate}
 use Rattle.gx_law_holds.proofs.Claims.{claim-itself, each-of, each-passes, filter-alike}
-use Rattle.gx_law_holds.proofs.Marks.{AreRight, Locking, ended-more, node-itself}
+use Rattle.gx_law_holds.proofs.Marks.{AreLet, AreRight, Locking, MayGive, aborted-more, ended-more, node-itself}
 
 -- A LIST IN ORDER HAS THE SAME ITEMS
 or-swap : (a b c : Bool) → (a || (b || c)) ≡ (b || (a || c))
@@ -127,6 +127,29 @@ late-releases node g before (c ∷ cs) e f =
     same-gxid : (h k : Gxid) → (h.0 == k.0) ≡ true → h ≡ k
     same-gxid h k e = grind (arith, nat_tests)
 
+-- who has none of some claims has none where one is taken away
+find-less : (p q : Claim → Bool) (xs : List Claim) → find p xs ≡ None → find p (filter q xs) ≡ None
+find-less p q [] e = refl
+find-less p q (x ∷ xs) e = by_tests (p x) refl (q x) e (find-less p q xs)
+  where
+    by_tests : (b : Bool) → p x ≡ b → (d : Bool) → (if b then Some x else find p xs) ≡ None → (find p xs ≡ None → find p (filter q xs) ≡ None) → find p (cond d (x ∷ filter q xs) (filter q xs)) ≡ None
+    by_tests true is d e f = absurd (cc)
+    by_tests false is true e f = ap (λ b. if b then Some x else find p (filter q xs)) is ∙ f e
+    by_tests false is false e f = f e
+
+lets-releases : (node : Node) (g : Gxid) (before : List Mark) (waits cs : List Claim) → Each (λ c. is_of g c ≡ true) cs → MayGive before waits g → AreLet node before waits (map (release_mark node) cs)
+lets-releases node g before waits [] e f = tt
+lets-releases node g before waits (c ∷ cs) e f =
+    (subst (MayGive before waits) (sym (same-gxid c.gxid g e.0)) f, lets-releases node g (before ++ release_mark node c ∷ []) (waits_from node waits (release_mark node c ∷ [])) cs e.1 (later (node.0 == node.0) f))
+  where
+    same-gxid : (h k : Gxid) → (h.0 == k.0) ≡ true → h ≡ k
+    same-gxid h k e = grind (arith, nat_tests)
+
+    later : (b : Bool) → MayGive before waits g → MayGive (before ++ release_mark node c ∷ []) (if b then without c waits else waits) g
+    later true (inl none) = inl (find-less (is_of g) (λ x. not (same_claim c x)) waits none)
+    later false (inl none) = inl none
+    later b (inr over) = inr (aborted-more before (release_mark node c ∷ []) g over)
+
 module _ (l : Locks) (g : Gxid) where
   abbrev parted : Claim → Bool
   parted x = among (filter (is_of g) l.waits) x || among (in_order claim_order (filter (is_of g) l.holds)) x
@@ -154,11 +177,12 @@ module _ (l : Locks) (g : Gxid) where
       each_weaker (λ x. is_of g x ≡ true → among (filter (is_of g) l.waits) x ≡ true) (λ x. is_of g x ≡ true → parted x ≡ true) (λ x f e. or_left (among (filter (is_of g) l.waits) x) _ (f e)) l.waits
       (own-among g l.waits)
 
-  pub gives-back : (node : Node) (before : List Mark) → is_ended before g ≡ true → Locking node before l (release_marks node l g) (released l g)
-  gives-back node before e =
+  pub gives-back : (node : Node) (before : List Mark) → is_ended before g ≡ true → MayGive before l.waits g → Locking node before l (release_marks node l g) (released l g)
+  gives-back node before e may =
       record {
         holds = holds-less node (has_there l g) l.holds ∙ all-of l.holds held-parts;
         waits = waits-less node (has_there l g) l.waits ∙ all-of l.waits awaited-parts;
         right = right-releases node (has_there l g) l.holds l.waits;
         late = late-releases node g before (has_there l g) (each-own l g) e;
+        lets = lets-releases node g before l.waits (has_there l g) (each-own l g) may;
       }

@@ -8,12 +8,13 @@ use Rattle.gx_locks.specs.Locks.{Locks, wait_of}
 use Rattle.gx_script.specs.declared.Script.{Script}
 use Rattle.gx_script.specs.declared.state.Pending.{Pending}
 use Rattle.gx_rules.specs.AtCoordinator.{is_nothing}
-use Rattle.gx_rules.specs.Coordinators.{session_of}
+use Rattle.gx_rules.specs.Coordinators.{session_of, work_of}
 use Rattle.gx_rules.specs.Machine.{World}
 use Rattle.gx_rules.specs.Segments.{local_of}
 use Rattle.gx_law_order.proofs.Lines.{undrawn}
 use Rattle.gx_law_order.proofs.Sessions.{is_working_in, stage_of}
-use Rattle.gx_law_order.proofs.Statuses.Stage.{Live}
+use Rattle.gx_law_order.proofs.Statuses.{Stage}
+use Rattle.gx_law_order.proofs.Statuses.Stage.{Closing, Live}
 use Rattle.gx_law_order.proofs.Waiting.{has-slice, has-statement}
 use Rattle.gx_law_order.proofs.World.{Knows}
 use Rattle.gx_law_commit.proofs.Events.{live-stage}
@@ -31,6 +32,9 @@ module _ (script : Script) (w : World) (n : Knows script w) where
   pub single-here : here.AreSingle w.coord
   single-here =
       record {
+        whole = n.kept.whole;
+        busy = λ g k e. unless-waits w.coord.locks g (λ wanted f. none-some (work_of w.coord g).command k (has-statement script w n g wanted f).idle e);
+        closing = λ g e. unless-waits w.coord.locks g (λ wanted f. apart (has-statement script w n g wanted f).live e);
         new = unless-waits w.coord.locks w.coord.table.next (λ wanted e. begun (has-statement script w n w.coord.table.next wanted e).live);
         idle = λ s i opened. unless-waits w.coord.locks (session_of w.coord s).transaction (λ wanted e.
             not-work (session_of w.coord s).state.pending i
@@ -38,6 +42,9 @@ module _ (script : Script) (w : World) (n : Knows script w) where
         once = λ g wanted e. (has-statement script w n g wanted e).once;
       }
     where
+      apart : {a : Stage} → a ≡ Live → a ≡ Closing → ⊥
+      apart e f = cc
+
       not-work : (q : Pending) → is_nothing q ≡ true → is_working_in q ≡ true → ⊥
       not-work q e f = grind arith
 

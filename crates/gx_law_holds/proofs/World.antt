@@ -2,8 +2,9 @@
 -- and whoever writes at a segment locks itself there.
 use Rattle.std.proofs.Common.{◌≡◌, ◌≤◌, ℕ, List, [], ◌∷◌, ◌++◌, Option, Some, None, Bool, true, false, refl, sym, subst, ap, ◌∙◌, arith}
 use Rattle.std.proofs.lemmas.Bool.Decides.{nat_tests}
-use Rattle.std.proofs.lemmas.Bool.{or_left, or_right}
+use Rattle.std.proofs.lemmas.Bool.{or_left}
 use Rattle.gx_lemmas.proofs.Numbers.{one-le-none, one-le-zero}
+use Rattle.gx_lemmas.proofs.Tests.{true-false}
 use Rattle.gx_ids.specs.declared.ids.Gxid.{Gxid}
 use Rattle.gx_ids.specs.declared.ids.Node.{Node}
 use Rattle.gx_ids.specs.declared.ids.Table.{Table}
@@ -47,16 +48,19 @@ use Rattle.gx_law_commit.proofs.Everywhere.{Holds, parts_in}
 use Rattle.gx_law_commit.specs.Said.{Said, gxid_in, is_answer}
 use Rattle.gx_law_commit.specs.Standings.{known_at}
 use Rattle.gx_law_commit.proofs.Steps.{HeardAt, SaidTo, world-keeps}
+use Rattle.gx_law_commit.proofs.Waiting.{awaited}
 use Rattle.gx_law_holds.specs.Lasting.{DoHoldsLast}
 use Rattle.gx_law_holds.specs.Late.{AreReleasesLate}
 use Rattle.gx_law_holds.specs.Marked.{AreLocksMarked, AreWaitsLegal, IsMarked}
 use Rattle.gx_law_holds.specs.Own.{DoHoldOwn, DoWritersHold}
+use Rattle.gx_law_holds.specs.Waiting.{EachBehind}
 use Rattle.gx_law_holds.proofs.AtCoordinators.{event-holds}
 use Rattle.gx_law_holds.proofs.AtRows.{AtRows}
 use Rattle.gx_law_holds.proofs.AtSegments.{Bids, IsEndedFor, Turn, message_locks, resume_locks}
 use Rattle.gx_law_holds.proofs.Lasting.{IsIn, holds-last, late-front}
 use Rattle.gx_law_holds.proofs.Legal.{right-granted, right-waits, waits-more}
-use Rattle.gx_law_holds.proofs.Marks.{AreRight, Locking, NoLock, Quiet, both, late-append, no-lock, no-lock-quiet, other-holds, other-waits, waits_from-append}
+use Rattle.gx_law_holds.proofs.Marks.{AreLet, AreRight, Locking, NoLock, Quiet, both, late-append, no-lock, no-lock-quiet, other-holds, other-waits, waits_from-append}
+use Rattle.gx_law_holds.proofs.Lets.{LetsWait, behind-append, let-waits}
 use Rattle.gx_law_holds.proofs.Moves.{WritesOwn}
 use Rattle.gx_law_holds.proofs.Own.{Stands, hold-own, new-stands, none-there, old-stands, own-last, stands-at}
 use Rattle.gx_law_holds.proofs.Single.{single-here, single-there}
@@ -67,6 +71,7 @@ pub record Locked (script : Script) (w : World) : Type 0 where
   pub granted : AreGranted [] (marks_in w.steps)
   pub waits : AreWaitsLegal [] (marks_in w.steps)
   pub late : AreReleasesLate [] (marks_in w.steps)
+  pub lets : EachBehind LetsWait [] (marks_in w.steps)
   pub own : DoHoldOwn [] w.steps
   pub writers : Each (Stands w.segs) (marks_in w.steps)
   pub rows : (i : ℕ) → AtRows script (w.segs i) (w.segs i).locks.holds
@@ -110,6 +115,11 @@ module _ (script : Script) (steps : List Step) (s : Step) (here : Node) (at_here
   still-late : (l k : Locks) → Locking here (marks_in steps) l s.marks k → AreReleasesLate [] (marks_in steps) → AreReleasesLate [] (marks_in (steps ++ s ∷ []))
   still-late l k f old = subst (AreReleasesLate []) (sym (marks-last steps s)) (late-append [] (marks_in steps) s.marks old f.late)
 
+  still-lets : (l k : Locks) → IsMarked (marks_in steps) here l → Locking here (marks_in steps) l s.marks k → EachBehind LetsWait [] (marks_in steps) → EachBehind LetsWait [] (marks_in (steps ++ s ∷ []))
+  still-lets l k e f old =
+      subst (EachBehind LetsWait []) (sym (marks-last steps s))
+      (behind-append LetsWait [] (marks_in steps) s.marks old (let-waits script here (marks_in steps) s.marks at_here (subst (λ waits. AreLet here (marks_in steps) waits s.marks) e.waits f.lets)))
+
   -- whoever writes in it locks itself
   still-own : (left : Locks) → IsMarked (marks_in (steps ++ s ∷ [])) here left → Each (WritesOwn left.holds) s.marks → DoHoldOwn [] steps → DoHoldOwn [] (steps ++ s ∷ [])
   still-own left e f old =
@@ -128,12 +138,17 @@ BidsAt w i (here.Resume g) k table = (g ≡ k) × ChangesOf (local_of (w.segs i)
 BidsAt w i _ k table = ⊥
 
 -- ABORT and FORGET come to a segment behind the end
-ended-for : (script : Script) (w : World) (e : Event) (i : ℕ) (from : Node) (envelope : Envelope) → HeardAt script w e i (here.Deliver from envelope) → IsEndedFor (marks_in w.steps) envelope.message
-ended-for script w e i from envelope h = by_message envelope.message h.said
+ended-for : (script : Script) (w : World) → Knows script w → Holds script w → (e : Event) (i : ℕ) (from : Node) (envelope : Envelope) → HeardAt script w e i (here.Deliver from envelope)
+    → IsEndedFor (marks_in w.steps) (w.segs i) envelope.message
+ended-for script w k v e i from envelope h = by_message envelope.message h.said
   where
-    by_message : (m : Message) → (is_answer m ≡ false → Said (known_at w.coord (marks_in w.steps) i (gxid_in m)) (parts_in w i (gxid_in m)) m) → IsEndedFor (marks_in w.steps) m
-    by_message (message.Abort g) f = or_right (is_committed (marks_in w.steps) g) (is_aborted (marks_in w.steps) g) (f refl)
-    by_message (message.Forget g) f = or_left (is_committed (marks_in w.steps) g) (is_aborted (marks_in w.steps) g) (f refl)
+    no-slice : (g : Gxid) → is_committed (marks_in w.steps) g ≡ true → (o : Option Suspended) → (local_of (w.segs i) g).suspended ≡ o → (local_of (w.segs i) g).suspended ≡ None
+    no-slice g over None is = is
+    no-slice g over (Some x) is = absurd (true-false (is_committed (marks_in w.steps) g) over (awaited script w k v i g x is).uncommitted)
+
+    by_message : (m : Message) → (is_answer m ≡ false → Said (known_at w.coord (marks_in w.steps) i (gxid_in m)) (parts_in w i (gxid_in m)) m) → IsEndedFor (marks_in w.steps) (w.segs i) m
+    by_message (message.Abort g) f = f refl
+    by_message (message.Forget g) f = (or_left (is_committed (marks_in w.steps) g) (is_aborted (marks_in w.steps) g) (f refl), no-slice g (f refl) (local_of (w.segs i) g).suspended refl)
     by_message (message.Exec g c level snapshot h x) f = tt
     by_message (message.Prepare g) f = tt
     by_message (message.Commit g) f = tt
@@ -142,11 +157,11 @@ ended-for script w e i from envelope h = by_message envelope.message h.said
     by_message (message.Answer g r) f = tt
     by_message (message.Graph round graph) f = tt
 
-pub heard-locks : (script : Script) (P : Gxid → Table → Type 0) (w : World) → Knows script w → (e : Event) (i : ℕ) → 1 ≤ i → AtRows script (w.segs i) (w.segs i).locks.holds
+pub heard-locks : (script : Script) (P : Gxid → Table → Type 0) (w : World) → Knows script w → Holds script w → (e : Event) (i : ℕ) → 1 ≤ i → AtRows script (w.segs i) (w.segs i).locks.holds
     → (x : NodeEvent) (fails : Bool) → HeardAt script w e i x
     → ((g : Gxid) (table : Table) → BidsAt w i x g table → P g table)
     → Turn script P (at i) (marks_in w.steps) (w.segs i) (segment.on_event script (w.segs i) x fails)
-heard-locks script P w k e i one rows x fails h has = by_event x h has
+heard-locks script P w k v e i one rows x fails h has = by_event x h has
   where
     not-zero : at i ≡ the_coordinator → ⊥
     not-zero z = one-le-zero i one (ap (λ (m : Node). m.0) z)
@@ -155,7 +170,7 @@ heard-locks script P w k e i one rows x fails h has = by_event x h has
         → Turn script P (at i) (marks_in w.steps) (w.segs i) (segment.on_event script (w.segs i) x fails)
     by_event (here.Deliver from envelope) h has =
         message_locks script P (at i) (marks_in w.steps) (w.segs i) not-zero (k.well.names i) (k.well.writers i) (single-there script w k i) rows fails envelope.message
-        (ended-for script w e i from envelope h) has
+        (ended-for script w k v e i from envelope h) has
     by_event (here.Resume g) h has =
         subst (Turn script P (at i) (marks_in w.steps) (w.segs i)) (sym (goes-on-is (w.segs i) g d.wanted d.slice d.claims d.is))
         (resume_locks script P (at i) (marks_in w.steps) (w.segs i) not-zero (k.well.names i) (k.well.writers i) (single-there script w k i) rows g d.wanted d.slice d.is d.waits.done d.lock d.free d.claims
@@ -186,6 +201,7 @@ module _ (script : Script) (some : 1 ≤ script.segments) where
         granted = still-granted script w.steps step the_coordinator there w.coord.locks turn.coord.locks q.marked.coordinator locking q.granted;
         waits = still-waits script w.steps step the_coordinator there w.coord.locks turn.coord.locks q.marked.coordinator locking q.waits;
         late = still-late script w.steps step the_coordinator there w.coord.locks turn.coord.locks locking q.late;
+        lets = still-lets script w.steps step the_coordinator there w.coord.locks turn.coord.locks q.marked.coordinator locking q.lets;
         own = still-own script w.steps step the_coordinator there turn.coord.locks now (no-write turn.coord.locks.holds step.marks there) q.own;
         writers = subst (Each (Stands w.segs)) (sym (marks-last w.steps step)) (each_append (Stands w.segs) (marks_in w.steps) step.marks q.writers (none-there script w.segs step.marks there));
         rows = q.rows;
@@ -218,6 +234,7 @@ module _ (script : Script) (some : 1 ≤ script.segments) where
         granted = still-granted script w.steps step (at i) there (w.segs i).locks turn.seg.locks (q.marked.segments i place.0) locking q.granted;
         waits = still-waits script w.steps step (at i) there (w.segs i).locks turn.seg.locks (q.marked.segments i place.0) locking q.waits;
         late = still-late script w.steps step (at i) there (w.segs i).locks turn.seg.locks locking q.late;
+        lets = still-lets script w.steps step (at i) there (w.segs i).locks turn.seg.locks (q.marked.segments i place.0) locking q.lets;
         own = still-own script w.steps step (at i) there turn.seg.locks now written q.own;
         writers = subst (Each (Stands (with_at w.segs i (seg_rule script (w.segs i) x fails).seg))) (sym (marks-last w.steps step))
             (each_append (Stands (with_at w.segs i (seg_rule script (w.segs i) x fails).seg)) (marks_in w.steps) step.marks
@@ -235,7 +252,7 @@ module _ (script : Script) (some : 1 ≤ script.segments) where
       there = seg_marks script w k.well e x fails i place
 
       made : Turn script (λ g table. Unit {0}) (at i) (marks_in w.steps) (w.segs i) turn
-      made = heard-locks script (λ g table. Unit {0}) w k e i place.0 (q.rows i) x fails h (λ g table b. tt)
+      made = heard-locks script (λ g table. Unit {0}) w k v e i place.0 (q.rows i) x fails h (λ g table b. tt)
 
       locking : Locking (at i) (marks_in w.steps) (w.segs i).locks step.marks turn.seg.locks
       locking = with-sent (at i) (marks_in w.steps) (w.segs i).locks turn.marks turn.seg.locks (λ node. turn.seg.sent) turn.outs made.locking
@@ -251,7 +268,7 @@ module _ (script : Script) (some : 1 ≤ script.segments) where
       written = each_append (WritesOwn turn.seg.locks.holds) turn.marks (numbered (λ node. turn.seg.sent) turn.outs) made.written (sent-written (λ node. turn.seg.sent) turn.outs)
 
   pub new-locked : Locked script new_world
-  new-locked = record { marked = record { coordinator = record { holds = refl; waits = refl }; segments = λ i one. record { holds = refl; waits = refl } }; granted = tt; waits = tt; late = tt; own = tt; writers = tt; rows = λ i h. tt }
+  new-locked = record { marked = record { coordinator = record { holds = refl; waits = refl }; segments = λ i one. record { holds = refl; waits = refl } }; granted = tt; waits = tt; late = tt; lets = tt; own = tt; writers = tt; rows = λ i h. tt }
 
   pub world-locked : (es : List (Event × Bool)) → Locked script (world_of script es)
   world-locked = world-keeps script some (Locked script) coord-keeps seg-keeps new-locked

@@ -4,3 +4,4 @@ pub mod Lasting
 pub mod Orders
 pub mod Writes
 pub mod Own
+pub mod Waiting

@@ -5,6 +5,7 @@ ghost use Rattle.gx_law_holds.specs.Late.{AreReleasesLate};
 ghost use Rattle.gx_law_holds.specs.Marked.{AreLocksMarked, AreWaitsLegal};
 ghost use Rattle.gx_law_holds.specs.Orders.{AreOrdersLocked};
 ghost use Rattle.gx_law_holds.specs.Own.{DoHoldOwn, DoWritersHold};
+ghost use Rattle.gx_law_holds.specs.Waiting.{EachBehind, KeepsWhileWaiting, WaitsForEnd};
 ghost use Rattle.gx_law_holds.specs.Writes.{AreWritesLocked};
 ghost use Rattle.gx_law_order.specs.Runs.{steps_after};
 ghost use Rattle.gx_rules.specs.Machine.{world_of};
@@ -65,4 +66,14 @@ pub fn writers_lock_themselves()
 /// From its first write at a segment until it has ended there, a transaction holds itself there.
 pub fn writers_hold_until_they_end()
     ensures { (script : Script) (events : List (OneEvent × Bool)) → 1 ≤ script.segments → DoWritersHold (world_of script events) }
+{}
+
+/// While a transaction waits at a node it gives nothing back there, the wait itself included, unless it has aborted.
+pub fn who_waits_gives_nothing_back()
+    ensures { (script : Script) (events : List (OneEvent × Bool)) → 1 ≤ script.segments → EachBehind KeepsWhileWaiting [] (marks_in (steps_after script events)) }
+{}
+
+/// Another transaction's end is waited for in mode Share alone, so that a hold on it for a moment is in nobody's way.
+pub fn waits_for_ends_are_shared()
+    ensures { (script : Script) (events : List (OneEvent × Bool)) → 1 ≤ script.segments → EachBehind WaitsForEnd [] (marks_in (steps_after script events)) }
 {}

@@ -1,0 +1,3 @@
+pub mod Committing
+pub mod Blocked
+pub mod Reports
