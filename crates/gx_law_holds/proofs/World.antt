@@ -3,12 +3,11 @@
 use Rattle.std.proofs.Common.{◌≡◌, ◌≤◌, ℕ, List, [], ◌∷◌, ◌++◌, Option, Some, None, Bool, true, false, refl, sym, subst, ap, ◌∙◌, arith}
 use Rattle.std.proofs.lemmas.Bool.Decides.{nat_tests}
 use Rattle.std.proofs.lemmas.Bool.{or_left}
-use Rattle.gx_lemmas.proofs.Numbers.{one-le-none, one-le-zero}
+use Rattle.gx_lemmas.proofs.Numbers.{one-le-zero}
 use Rattle.gx_lemmas.proofs.Tests.{true-false}
 use Rattle.gx_ids.specs.declared.ids.Gxid.{Gxid}
 use Rattle.gx_ids.specs.declared.ids.Node.{Node}
 use Rattle.gx_ids.specs.declared.ids.Table.{Table}
-use Rattle.gx_waits.specs.declared.claim.Claim.{Claim}
 use Rattle.gx_locks.specs.Locks.{Locks}
 use Rattle.gx_msg.specs.declared.message.Envelope.{Envelope}
 use Rattle.gx_msg.specs.declared.message.Message.{Message}
