@@ -12,6 +12,6 @@ returns c =
       c.in_ok-tables.tables.items,
       record { all = c.in_ok-tables.ensures.all; final = c.in_ok-tables.ensures.rows },
       told ∙ ap (λ (s : Script). stopped_summary_of c.args.number s c.run.result.now c.as_slice.result.now) c.script.ensures.value
-      ∙ ap (λ (r : Run). stopped_summary_of c.args.number c.args.world.now.script r c.as_slice.result.now) c.run.ensures.value
-      ∙ ap (stopped_summary_of c.args.number c.args.world.now.script c.args.world.now.run) c.as_slice.ensures.value,
+          ∙ ap (λ (r : Run). stopped_summary_of c.args.number c.args.world.now.script r c.as_slice.result.now) c.run.ensures.value
+          ∙ ap (stopped_summary_of c.args.number c.args.world.now.script c.args.world.now.run) c.as_slice.ensures.value,
     ))
