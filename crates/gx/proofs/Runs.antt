@@ -19,6 +19,9 @@ use Rattle.gx_law_commit.proofs.Always.{world-holds}
 use Rattle.gx_law_commit.proofs.Whole.{world-follows}
 use Rattle.gx_store.specs.Whole.{AreInsertsWhole}
 use Rattle.gx_law_answers.proofs.Join.{legal}
+use Rattle.gx_store.specs.Points.{marks_in}
+use Rattle.gx_law_blocked.specs.Blocked.{DoStayBlocked}
+use Rattle.gx_law_blocked.proofs.Lawful.{run-stays-blocked}
 use Rattle.gx_law_locks.specs.Legal.{AreLocksLegal}
 use Rattle.gx_law_locks.proofs.Legal.{locks-legal}
 use Rattle.gx_law_answers.proofs.Snaps.{snapshots-one}
@@ -41,6 +44,7 @@ run-of script seed run language inserts is driven =
       protocol = by-events script run.steps is (DoStepsFollow script []) (world-follows script language.some_segments);
       tells = by-events script run.steps is (DoStepsTell []) (λ es. (world-holds script language.some_segments es).tells);
       locks = by-events script run.steps is (AreLocksLegal script) (locks-legal script language.some_segments language.numbers);
+      blocked = by-events script run.steps is (λ ss. DoStayBlocked (marks_in ss)) (run-stays-blocked script language.some_segments);
       driven = driven;
     }
 

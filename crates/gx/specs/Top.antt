@@ -25,6 +25,7 @@ use Rattle.gx_store.specs.Runs.{IsLegalHistory}
 use Rattle.gx_store.specs.View.{AreFinalFrom}
 use Rattle.gx_store.specs.Whole.{AreInsertsWhole}
 use Rattle.gx_rules.specs.System.{IsSystemRun}
+use Rattle.gx_law_blocked.specs.Blocked.{DoStayBlocked}
 use Rattle.gx_law_locks.specs.Legal.{AreLocksLegal}
 use Rattle.gx_law_runs.specs.Endings.{IsFinished}
 use Rattle.gx_law_scripts.specs.Tuples.{HaveTuplesTo}
@@ -88,8 +89,8 @@ AreDriven None script steps = AreFirst script [] steps
 AreDriven (Some seed) script steps = AreDrawn script seed [] steps
 
 -- The run is a legal history of one store without segments. Its nodes follow their rules and the commit protocol, its messages are
--- numbered, follow what they tell of, and arrive after they were sent, clocks rise, its locks are legal, and each event is the one
--- that the driver takes.
+-- numbered, follow what they tell of, and arrive after they were sent, clocks rise, its locks are legal, who is blocked stays blocked until
+-- one of them aborts, and each event is the one that the driver takes.
 pub record IsRunOf (script : Script) (seed : Option ℕ) (run : Run) : Type 0 where
   pub legal : IsLegalHistory script run
   pub ordered : AreOrdered script [] run.steps
@@ -97,6 +98,7 @@ pub record IsRunOf (script : Script) (seed : Option ℕ) (run : Run) : Type 0 wh
   pub protocol : DoStepsFollow script [] run.steps
   pub tells : DoStepsTell [] run.steps
   pub locks : AreLocksLegal script run.steps
+  pub blocked : DoStayBlocked (marks_of run)
   pub driven : AreDriven seed script run.steps
 
 -- the tables of a script as they are behind a run

@@ -43,8 +43,8 @@ pub record IsTrueTurn (script : Script) (w : World) (event : Event) (node : Node
 abbrev pub AreNewTurnsTrue : Script → World → Type 0
 AreNewTurnsTrue script w =
     (from to : Node) (number : ℕ) (envelope : Envelope) (fails : Bool) (g : Gxid) (c : Cid) (level : Level) (snapshot : Option Snapshot) (horizon : Gxid) (slice : Slice) (k : Change)
-    → IsSegment script to → found from to number w.sent ≡ Some envelope → envelope.message ≡ Exec g c level snapshot horizon slice → change_of c level snapshot slice ≡ Some k → (local_of (w.segs to.0) g).last < c.0
-    → IsTrueTurn script w (Receive from to number) to g k (on_message script (w.segs to.0) fails envelope.message)
+    → IsSegment script to → found from to number w.sent ≡ Some envelope → envelope.message ≡ Exec g c level snapshot horizon slice → change_of c level snapshot slice ≡ Some k
+    → (local_of (w.segs to.0) g).last < c.0 → IsTrueTurn script w (Receive from to number) to g k (on_message script (w.segs to.0) fails envelope.message)
 
 -- and of one whose wait ends
 abbrev pub AreLaterTurnsTrue : Script → World → Type 0

@@ -182,68 +182,87 @@ impl Word {
     }
 }
 
-// Keywords among which one of so many letters is found: those of that length. None is longer than 11 letters.
+// The keywords of so many letters; none has seven, and none more than eleven.
+const TWO: [Word; 5] = [Word::On, Word::By, Word::To, Word::In, Word::Or];
+
+const THREE: [Word; 9] = [
+    Word::Off,
+    Word::Set,
+    Word::Row,
+    Word::Sum,
+    Word::Min,
+    Word::Max,
+    Word::Asc,
+    Word::And,
+    Word::Not,
+];
+
+const FOUR: [Word; 8] = [
+    Word::Text,
+    Word::Lose,
+    Word::From,
+    Word::Read,
+    Word::Into,
+    Word::Lock,
+    Word::Mode,
+    Word::Desc,
+];
+
+const FIVE: [Word; 9] = [
+    Word::Table,
+    Word::Begin,
+    Word::Level,
+    Word::Group,
+    Word::Order,
+    Word::Limit,
+    Word::Where,
+    Word::Share,
+    Word::Count,
+];
+
+const SIX: [Word; 10] = [
+    Word::Bigint,
+    Word::Repeat,
+    Word::Number,
+    Word::Commit,
+    Word::Select,
+    Word::Insert,
+    Word::Values,
+    Word::Update,
+    Word::Delete,
+    Word::Access,
+];
+
+const EIGHT: [Word; 4] = [
+    Word::Segments,
+    Word::Detector,
+    Word::Randomly,
+    Word::Rollback,
+];
+
+const NINE: [Word; 3] = [Word::Isolation, Word::Committed, Word::Exclusive];
+
+const TEN: [Word; 1] = [Word::Repeatable];
+
+const ELEVEN: [Word; 1] = [Word::Distributed];
+
+// Keywords among which one of so many letters is found.
 fn of_length(letters: usize) -> &'static [Word]
     ensures { (text : List ℕ) → length text ≡ letters → Words.find text result.now ≡ keyword_of text }
 {
     match letters {
         0 => &[],
         1 => &[],
-        2 => &[Word::On, Word::By, Word::To, Word::In, Word::Or],
-        3 => &[
-            Word::Off,
-            Word::Set,
-            Word::Row,
-            Word::Sum,
-            Word::Min,
-            Word::Max,
-            Word::Asc,
-            Word::And,
-            Word::Not,
-        ],
-        4 => &[
-            Word::Text,
-            Word::Lose,
-            Word::From,
-            Word::Read,
-            Word::Into,
-            Word::Lock,
-            Word::Mode,
-            Word::Desc,
-        ],
-        5 => &[
-            Word::Table,
-            Word::Begin,
-            Word::Level,
-            Word::Group,
-            Word::Order,
-            Word::Limit,
-            Word::Where,
-            Word::Share,
-            Word::Count,
-        ],
-        6 => &[
-            Word::Bigint,
-            Word::Repeat,
-            Word::Number,
-            Word::Commit,
-            Word::Select,
-            Word::Insert,
-            Word::Values,
-            Word::Update,
-            Word::Delete,
-            Word::Access,
-        ],
+        2 => &TWO,
+        3 => &THREE,
+        4 => &FOUR,
+        5 => &FIVE,
+        6 => &SIX,
         7 => &[],
-        8 => &[
-            Word::Segments,
-            Word::Detector,
-            Word::Randomly,
-            Word::Rollback,
-        ],
-        9 => &[Word::Isolation, Word::Committed, Word::Exclusive],
-        10 => &[Word::Repeatable],
-        11 => &[Word::Distributed],
+        8 => &EIGHT,
+        9 => &NINE,
+        10 => &TEN,
+        11 => &ELEVEN,
         _ => &WORDS,
     }
 }

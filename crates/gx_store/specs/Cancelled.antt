@@ -18,7 +18,6 @@ use Rattle.gx_store.specs.declared.event.Event.{Event}
 use Rattle.gx_store.specs.declared.mark.Mark.{Mark}
 use Rattle.gx_store.specs.declared.mark.Mark.TheVariants as mark
 use Rattle.gx_store.specs.declared.run.Step.{Step}
-use Rattle.gx_store.specs.Marks.{is_aborted}
 use Rattle.gx_store.specs.Points.{Point, before, marks_in}
 use Rattle.gx_store.specs.Refusals.{the_coordinator}
 use Rattle.gx_store.specs.Rounds.{AreReportsOf, IsBlocked, StandsAt}
@@ -76,15 +75,3 @@ EachRecheckIn P steps event earlier (m ∷ ms) = EachRecheckIn P steps event (ea
 abbrev pub EachRecheck : (Point → ℕ → LocalGraph → Verdict → Type 0) → List Step → List Step → Type 0
 EachRecheck P steps [] = Unit {0}
 EachRecheck P steps (s ∷ ss) = EachRecheckIn P steps s.event [] s.marks × EachRecheck P (steps ++ s ∷ []) ss
-
--- BLOCKED STAYS BLOCKED
--- none of those that the edges name has an Abort mark among these
-abbrev pub IsNobodyAborted : List PlacedEdge → List Mark → Type 0
-IsNobodyAborted edges marks = (g : Gxid) → IsNamed edges g → is_aborted marks g ≡ false
-
--- What becomes of a set that was blocked behind some steps, in a run that goes on so: it is blocked at the end of each step up to which
--- none of its members has aborted, and a member commits only behind an abort of one.
-pub record StaysBlocked (steps later : List Step) (edges : List PlacedEdge) : Type 0 where
-  pub blocked : (k : ℕ) → IsNobodyAborted edges (marks_in (take k later)) → IsBlocked (marks_in (steps ++ take k later)) edges
-  pub commits : (g : Gxid) (place : ℕ) → IsNamed edges g → slice_get (marks_in later) place ≡ Some (mark.Commit g)
-      → (h : Gxid) × IsNamed edges h × (is_aborted (take place (marks_in later)) h ≡ true)

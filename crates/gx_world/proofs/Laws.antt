@@ -13,6 +13,8 @@ use Rattle.gx_law_commit.proofs.Always.{world-holds}
 use Rattle.gx_law_commit.proofs.Whole.{world-follows}
 use Rattle.gx_store.specs.Whole.{AreInsertsWhole}
 use Rattle.gx_law_answers.proofs.Join.{legal}
+use Rattle.gx_law_blocked.specs.Blocked.{DoStayBlocked}
+use Rattle.gx_law_blocked.proofs.Lawful.{run-stays-blocked}
 use Rattle.gx_law_locks.specs.Legal.{AreLocksLegal}
 use Rattle.gx_law_locks.proofs.Legal.{locks-legal}
 use Rattle.gx_law_answers.proofs.Snaps.{snapshots-one}
@@ -50,6 +52,9 @@ module _ (script : Script) (network : Network) (is : IsNetwork network) (of : ne
 
   pub run-locks : AreLocksLegal script network.run.steps
   run-locks = by-events script network.run.steps reached (AreLocksLegal script) (locks-legal script language.some_segments language.numbers)
+
+  pub run-blocked : DoStayBlocked (marks_in network.run.steps)
+  run-blocked = by-events script network.run.steps reached (λ ss. DoStayBlocked (marks_in ss)) (run-stays-blocked script language.some_segments)
 
   pub run-system : IsSystemRun script network.run
   run-system = by-events script network.run.steps reached (λ ss. IsSystemRun script (record { steps = ss })) (world_follows script language.some_segments)

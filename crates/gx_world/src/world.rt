@@ -1,6 +1,7 @@
 ghost use Rattle.std.specs.Prelude.{◌≡◌, ◌<◌, ◌^◌, true, false, [], IfOk, IsErr, OnOk, OnErr, length, map, option_copied, option_map};
 ghost use Rattle.std.specs.Option.{option_to_list};
 ghost use Rattle.gx_store.specs.Whole.{AreInsertsWhole};
+ghost use Rattle.gx_law_blocked.specs.Blocked.{DoStayBlocked};
 ghost use Rattle.gx_law_locks.specs.Legal.{AreLocksLegal};
 ghost use Rattle.gx_law_commit.specs.Told.{DoStepsTell};
 ghost use Rattle.gx_law_runs.specs.Reached.{IsReached};
@@ -154,6 +155,7 @@ impl World {
         ensures protocol { OnOk result (DoStepsFollow self.old.script [] self.new.run.steps) }
         ensures tells { OnOk result (DoStepsTell [] self.new.run.steps) }
         ensures locks { OnOk result (AreLocksLegal self.old.script self.new.run.steps) }
+        ensures blocked { OnOk result (DoStayBlocked (marks_in self.new.run.steps)) }
         ensures ordered { OnOk result (AreOrdered self.old.script [] self.new.run.steps) }
         ensures system { OnOk result (IsSystemRun self.old.script self.new.run) }
         ensures unspent { OnOk result (self.new.spent ≡ false) }
