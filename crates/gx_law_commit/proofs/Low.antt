@@ -1,6 +1,5 @@
 -- Over every run of the machine, no horizon that was used is above what somebody still needs.
-use Rattle.std.proofs.Common.{◌≡◌, ◌≤◌, inl, inr, ℕ, List, [], ◌∷◌, Option, Some, None, Bool, true, false, refl, sym, subst, ◌∙◌, if◌then◌else◌, arith, eqb}
-use Rattle.std.proofs.lemmas.Bool.Decides.{nat_tests}
+use Rattle.std.proofs.Common.{◌≡◌, ◌≤◌, ℕ, List, [], ◌∷◌, Bool, true, false, sym, subst, if◌then◌else◌, arith, eqb}
 use Rattle.gx_ids.specs.declared.ids.Node.{Node}
 use Rattle.gx_dtx.specs.Table.{Table}
 use Rattle.gx_locks.specs.Locks.{wait_of}
@@ -10,13 +9,11 @@ use Rattle.gx_msg.specs.declared.message.Message.TheVariants as message
 use Rattle.gx_msg.specs.declared.message.Out.{Out}
 use Rattle.gx_script.specs.declared.Script.{Script}
 use Rattle.gx_store.specs.declared.event.Event.{Event}
-use Rattle.gx_store.specs.declared.event.Event.TheVariants as event
 use Rattle.gx_store.specs.declared.mark.Mark.{Mark}
 use Rattle.gx_store.specs.declared.mark.Mark.TheVariants as mark
 use Rattle.gx_store.specs.declared.node.NodeEvent.{NodeEvent}
 use Rattle.gx_store.specs.declared.node.NodeEvent.TheVariants as here
-use Rattle.gx_store.specs.Journals.{is_same_node}
-use Rattle.gx_store.specs.Ordered.{IsLink, IsSegment}
+use Rattle.gx_store.specs.Ordered.{IsSegment}
 use Rattle.gx_store.specs.Points.{marks_in}
 use Rattle.gx_store.specs.Refusals.{the_coordinator}
 use Rattle.gx_rules.specs.AtCoordinator.{cancels, coord_turn, on_event}
@@ -28,9 +25,8 @@ use Rattle.gx_rules.specs.Segments.{SegTurn, local_of}
 use Rattle.gx_rules.specs.Sending.{clock_after}
 use Rattle.gx_law_order.proofs.AtCoordinators.{cancel_stays, coord_stays}
 use Rattle.gx_law_order.proofs.AtSegments.{PlainAt, seg_stays}
-use Rattle.gx_law_order.proofs.Letters.{IsFound, IsLetter, found_is}
+use Rattle.gx_law_order.proofs.Letters.{found_is}
 use Rattle.gx_law_order.proofs.Lists.{Each, each_weaker}
-use Rattle.gx_law_order.proofs.Ordered.{resumes_there}
 use Rattle.gx_law_order.proofs.Induction.{IsThere, after_turn, at-events}
 use Rattle.gx_law_order.proofs.Sent.{at}
 use Rattle.gx_law_order.proofs.Stages.{IsWhole}
@@ -38,13 +34,11 @@ use Rattle.gx_law_order.proofs.World.{Knows, moves_knows}
 use Rattle.gx_store.specs.declared.run.Step.{Step}
 use Rattle.gx_law_commit.specs.Horizons.{AreHorizonsLow, AreLowIn, IsLow, IsLowIn}
 use Rattle.gx_law_commit.specs.Said.{is_answer}
-use Rattle.gx_law_commit.proofs.Always.{each-zip}
 use Rattle.gx_law_commit.proofs.Counts.{NoSent}
 use Rattle.gx_law_commit.proofs.Everywhere.{posted-each}
 use Rattle.gx_law_commit.proofs.Lowered.{Lowered, OrdersLow, cancel-low, event-low, message-goes}
 use Rattle.gx_law_commit.proofs.Lows.{past-dense}
 use Rattle.gx_law_commit.proofs.Raised.{OfHorizon, SegKeeps, message_keeps, resume_keeps}
-use Rattle.gx_ids.specs.declared.ids.Gxid.{Gxid}
 
 abbrev IsLowLetter : Table → Letter → Type 0
 IsLowLetter d l = IsLowIn d l.envelope.message
