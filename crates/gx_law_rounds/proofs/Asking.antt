@@ -48,7 +48,7 @@ use Rattle.gx_law_rounds.proofs.Heard.{Brings, fits, not-taken, same-count, take
 use Rattle.gx_law_rounds.proofs.Places.{all-is, lacks-within}
 use Rattle.gx_law_rounds.proofs.Rounded.{AreFirst, AreSame, Rounded, first_now, still-first}
 use Rattle.gx_law_rounds.proofs.Silent.{AreOfOne, OfOne, Silent}
-use Rattle.gx_law_rounds.proofs.Walks.{at-each, each-step-last}
+use Rattle.gx_law_rounds.proofs.Walks.{at-steps, coord_step, seg_step}
 use Rattle.gx_law_rounds.proofs.Steps.{received-is}
 use Rattle.gx_law_rounds.proofs.World.{awaited-is, brings-it, running-is, same-steps, silent-again, silent-event, silent-here, turn-rounded}
 
@@ -103,7 +103,7 @@ quiet-collects ms f outs e o =
 all-asked : (f : ℕ → ℕ) (round k n : ℕ)
     → collects_in (numbered f (map (λ i. record { node = record { 0 = i }; message = message.Collect round }) (range_with_len k n))) ≡ map (λ segment. (segment, round)) (nodes_from k n)
 all-asked f round k zero = refl
-all-asked f round k (suc n) = ap (λ q. (at k, round) ∷ q) (all-asked _ round (k + 1) n)
+all-asked f round k (suc n) = ap (λ q. (at k, round) ∷ q) (all-asked (counted f (record { node = at k; message = message.Collect round })) round (k + 1) n)
 
 -- WHICH ROUNDS MARKS END
 pub rechecks-append : (xs ys : List Mark) → rechecks_in (xs ++ ys) ≡ rechecks_in xs ++ rechecks_in ys
@@ -252,7 +252,7 @@ module _ (script : Script) (some : 1 ≤ script.segments) (w : World) (good : We
         coord-ways w.coord script (λ turn. EndsWith s (rechecks_in (coord_sends clock turn).marks)) x fails r.coord.works
         (λ turn h q. subst (EndsWith s) (sym (with-sent turn.marks turn.coord.sent turn.outs ∙ silent-rechecks turn.marks q.marks)) (silent-ends s (same-steps script some w good r e s is (silent-event script some w good r e x t h))))
         (λ from envelope round graph there told.
-        subst (EndsWith s) (sym (with-sent (on_graph w.coord from round graph).marks _ (on_graph w.coord from round graph).outs))
+        subst (EndsWith s) (sym (with-sent (on_graph w.coord from round graph).marks (on_graph w.coord from round graph).coord.sent (on_graph w.coord from round graph).outs))
         (graph-ends s from round graph (brings-it script some w good r e x fails t ok from envelope round graph there told) is))
         (λ i there.
         subst (EndsWith s) (sym (resent i))
@@ -276,8 +276,8 @@ module _ (script : Script) (some : 1 ≤ script.segments) (w : World) (good : We
         victims-all (asked_at script w.coord x) (rechecks_in (coord_turn script w.coord x fails).marks) (victims_at w.coord x) (coord_turn script w.coord x fails)
         (record { asks = asks-turn; ends = refl; works = works-turn })
 
-    pub coord-ends : Ends script w.steps (record { stamp = record { clock = (coord_rule script w.coord x fails).coord.clock; node = the_coordinator }; event = e; marks = (coord_rule script w.coord x fails).marks })
-    coord-ends = all-of-it.ends ∙ ends-turn (record { stamp = record { clock = (coord_rule script w.coord x fails).coord.clock; node = the_coordinator }; event = e; marks = (coord_rule script w.coord x fails).marks }) refl
+    pub coord-ends : Ends script w.steps (coord_step script w e x fails)
+    coord-ends = all-of-it.ends ∙ ends-turn (coord_step script w e x fails) refl
 
     segment-of : (i : Node) → awaits_graph w.coord i ≡ true → IsSegment script i
     segment-of i = by_reports w.coord.reports r.coord.reports
@@ -344,22 +344,19 @@ module _ (script : Script) (some : 1 ≤ script.segments) (w : World) (good : We
         by_event (here.Resend j g) t ok a = absurd (cc)
         by_event here.Round t ok a = absurd (cc)
 
-    abbrev seg_step : Step
-    seg_step = record { stamp = record { clock = seg_clock; node = at i }; event = e; marks = (seg_rule script (w.segs i) x fails).marks }
-
-    pub seg-ends : Ends script w.steps seg_step
-    seg-ends = seg-says.1 ∙ silent-ends seg_step (same-steps script some w good r e seg_step refl (silent-here script some w good r e x fails i place t ok))
+    pub seg-ends : Ends script w.steps (seg_step script w e x fails i)
+    seg-ends =
+        seg-says.1
+        ∙ silent-ends (seg_step script w e x fails i) (same-steps script some w good r e (seg_step script w e x fails i) refl (silent-here script some w good r e x fails i place t ok))
 
 -- ALL STEPS
 module _ (script : Script) (some : 1 ≤ script.segments) where
   pub world-asks : (es : List (Event × Bool)) → EachStep (StepAsks script) [] (world_of script es).steps
   world-asks =
-      at-each script some (λ w. EachStep (StepAsks script) [] w.steps) tt
-      (λ w good r q e x fails t ok. each-step-last (StepAsks script) [] w.steps _ q (coord-asks script some w good r e x fails t ok))
-      (λ w good r q e x fails i place t ok. each-step-last (StepAsks script) [] w.steps _ q (seg-asks script some w good r e x fails i place t ok))
+      at-steps script some (λ w. Unit {0}) (λ es. tt) (StepAsks script) (λ w good r k e x fails t ok. coord-asks script some w good r e x fails t ok)
+      (λ w good r k e x fails i place t ok. seg-asks script some w good r e x fails i place t ok)
 
   pub world-ends : (es : List (Event × Bool)) → EachStep (Ends script) [] (world_of script es).steps
   world-ends =
-      at-each script some (λ w. EachStep (Ends script) [] w.steps) tt
-      (λ w good r q e x fails t ok. each-step-last (Ends script) [] w.steps _ q (coord-ends script some w good r e x fails t ok))
-      (λ w good r q e x fails i place t ok. each-step-last (Ends script) [] w.steps _ q (seg-ends script some w good r e x fails i place t ok))
+      at-steps script some (λ w. Unit {0}) (λ es. tt) (Ends script) (λ w good r k e x fails t ok. coord-ends script some w good r e x fails t ok)
+      (λ w good r k e x fails i place t ok. seg-ends script some w good r e x fails i place t ok)

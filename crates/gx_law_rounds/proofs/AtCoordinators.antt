@@ -33,6 +33,7 @@ use Rattle.gx_script.specs.declared.line_step.LineStep.TheVariants as step
 use Rattle.gx_script.specs.declared.state.Block.{Block}
 use Rattle.gx_script.specs.declared.state.Block.TheVariants as block
 use Rattle.gx_store.specs.declared.answer.Refused.{Refused}
+use Rattle.gx_store.specs.declared.answer.Refused.TheVariants.{Victim}
 use Rattle.gx_store.specs.declared.answer.StmtAnswer.{StmtAnswer}
 use Rattle.gx_store.specs.declared.answer.StmtAnswer.TheVariants as told
 use Rattle.gx_store.specs.declared.mark.Mark.{Mark}
@@ -154,7 +155,7 @@ module _ (c : Coord) where
   follow d g turn outcome.Ended e o = same-table d turn [] e o tt
 
   commit : (d : Coord) (g : Gxid) → Like d → Quiet (commits d g)
-  commit d g e = follow d g (on_commit d.table g (work_of d g).writers) _ e (commit-own d.table g (work_of d g).writers)
+  commit d g e = follow d g (on_commit d.table g (work_of d g).writers) (on_commit d.table g (work_of d g).writers).out.outcome e (commit-own d.table g (work_of d g).writers)
 
   -- COMMANDS
   record IsRead (r : Reading) : Type 0 where
@@ -200,7 +201,9 @@ module _ (c : Coord) where
 
   module _ (script : Script) where
     go_locked : (d : Coord) (g : Gxid) (line : Stmt) → Like d → Quiet (goes_on_locked script d g line)
-    go_locked d g line e = go g (next_cid (work_of d g)) line _ _ (read_for d g (next_cid (work_of d g)) (work_of d g) line e (e.works g.0))
+    go_locked d g line e =
+        let cid : Cid = next_cid (work_of d g) in
+        go g cid line (reads_for d g cid (work_of d g) line) (plan_of script.segments (dist_of script.tables (table_of line)) g cid line) (read_for d g cid (work_of d g) line e (e.works g.0))
 
     go_held : (d : Coord) (g : Gxid) (line : Stmt) (locks : Locks) (wanted : Claim) → Like d → locks.node ≡ c.locks.node
         → Quiet (behind (hold_mark the_coordinator wanted ∷ []) (goes_on_locked script (record d { locks = locks }) g line))
@@ -241,7 +244,7 @@ module _ (c : Coord) where
     line_done d s line (step.BeginBlock level) e = record { coord = begin d s level e; marks = (tt, (tt, tt)); outs = tt }
     line_done d s line step.CommitBlock e = commit d (session_of d s).transaction e
     line_done d s line step.RollbackBlock e =
-        rolled d (session_of d s).transaction (answer_mark d s told.Rollback ∷ []) _ e (abort-own d.table (session_of d s).transaction) (tt, tt)
+        rolled d (session_of d s).transaction (answer_mark d s told.Rollback ∷ []) (on_abort d.table (session_of d s).transaction) e (abort-own d.table (session_of d s).transaction) (tt, tt)
     line_done d s line (step.Command true) e =
         let x = dispatch (begins d s ReadCommitted) d.table.next line (begin d s ReadCommitted e) in
         record { coord = x.coord; marks = (tt, x.marks); outs = x.outs }
@@ -255,7 +258,7 @@ module _ (c : Coord) where
 
     end : (d : Coord) (s : SessionId) (b : Block) → Like d → Quiet (ends_in d s b)
     end d s (block.Open level) e =
-        rolled (with_state d s idle_outside) (session_of d s).transaction [] _ (record { rounds = e.rounds; reports = e.reports; place = e.place; works = e.works })
+        rolled (with_state d s idle_outside) (session_of d s).transaction [] (on_abort d.table (session_of d s).transaction) (record { rounds = e.rounds; reports = e.reports; place = e.place; works = e.works })
         (abort-own d.table (session_of d s).transaction) tt
     end d s block.Failed e = record { coord = record { rounds = e.rounds; reports = e.reports; place = e.place; works = e.works }; marks = tt; outs = tt }
     end d s block.Outside e = rest d e
@@ -286,7 +289,7 @@ module _ (c : Coord) where
     failed d g i cid cause (Some k) e = by_test (is_awaited k i cid)
       where
         by_test : (b : Bool) → Quiet (if b then is_refused d g (on_abort d.table g) [] (reason_of cause) else rests d)
-        by_test true = refused d g _ [] _ e (abort-own d.table g) tt
+        by_test true = refused d g (on_abort d.table g) [] (reason_of cause) e (abort-own d.table g) tt
         by_test false = rest d e
 
     status : (d : Coord) (g : Gxid) (i : Node) (r : Reply) (fails : Bool) → Like d → Quiet (on_status d g i r fails)
@@ -370,4 +373,4 @@ module _ (c : Coord) where
   pub cancel-quiet : (g : Gxid) → AreWorksOfOne c.works → IsQuiet c (cancels c g)
   cancel-quiet g works =
       let same : IsLike c c = record { rounds = refl; reports = refl; place = refl; works = works } in
-      cancel-ways Quiet c g (rest c same) (λ live busy. refused c g _ [] _ same (abort-own c.table g) tt)
+      cancel-ways Quiet c g (rest c same) (λ live busy. refused c g (on_abort c.table g) [] (Victim c.rounds) same (abort-own c.table g) tt)

@@ -10,6 +10,7 @@ use Rattle.gx_dtx.specs.declared.phase.Phase.{Phase}
 use Rattle.gx_dtx.specs.declared.phase.Phase.TheVariants.{Active, Preparing, CommittingOne, CommittingTwo, Ended, Aborting}
 use Rattle.gx_dtx.specs.declared.txn.Txn.{Txn}
 use Rattle.gx_msg.specs.declared.message.Message.{Message}
+use Rattle.gx_msg.specs.declared.message.Message.TheVariants as message
 use Rattle.gx_msg.specs.declared.reply.Reply.{Reply}
 use Rattle.gx_msg.specs.declared.reply.Reply.TheVariants as reply
 use Rattle.gx_law_order.proofs.Lists.{each_map}
@@ -25,23 +26,23 @@ to-all m e (i ∷ is) = (e, to-all m e is)
 module _ (g : Gxid) where
   end : (nodes : List Node) → Own (ends_committed g nodes)
   end [] = tt
-  end (i ∷ is) = to-all _ tt (i ∷ is)
+  end (i ∷ is) = to-all (message.Forget g) tt (i ∷ is)
 
   refuse : (nodes : List Node) (i : Node) → Own (refuses g nodes i)
-  refuse nodes i = to-all _ tt nodes
+  refuse nodes i = to-all (message.Abort g) tt nodes
 
   commit : (writers : List Node) (t : Txn) → Own (commits g writers t)
   commit [] t = end t.participants
-  commit (i ∷ []) t = to-all _ tt (i ∷ [])
-  commit (i ∷ j ∷ is) t = to-all _ tt (i ∷ j ∷ is)
+  commit (i ∷ []) t = to-all (message.Commit g) tt (i ∷ [])
+  commit (i ∷ j ∷ is) t = to-all (message.Prepare g) tt (i ∷ j ∷ is)
 
   abort : (nodes : List Node) → Own (aborts g nodes)
   abort [] = tt
-  abort (i ∷ is) = to-all _ tt (i ∷ is)
+  abort (i ∷ is) = to-all (message.Abort g) tt (i ∷ is)
 
   prepare : (writers nodes awaited : List Node) (refused : Bool) → Own (prepares g writers nodes awaited refused)
-  prepare writers nodes [] false = to-all _ tt writers
-  prepare writers nodes [] true = refuse nodes _
+  prepare writers nodes [] false = to-all (message.CommitPrepared g) tt writers
+  prepare writers nodes [] true = refuse nodes (record { 0 = 0 })
   prepare writers nodes (i ∷ is) refused = tt
 
   finish : (nodes awaited : List Node) → Own (finishes g nodes awaited)

@@ -8,3 +8,7 @@ pub mod Places
 pub mod Rounded
 pub mod Heard
 pub mod World
+pub mod Walks
+pub mod Asking
+pub mod Reporting
+pub mod Reports

@@ -233,7 +233,7 @@ module _ (script : Script) (some : 1 ≤ script.segments) (w : World) (good : We
         graph-made script w r e from round graph (brings-it from envelope round graph is told) (step (on_graph w.coord from round graph)) refl (clock_after w.coord.clock x)
         (λ turn same. more-marks (on_graph w.coord from round graph) ∙ ap (λ q. marks_in w.steps ++ (coord_sends (clock_after w.coord.clock x) q).marks) same)
 
-    made-turn : CoordMade script w (more (on_event script w.coord x fails)) (on_event script w.coord x fails)
+    pub made-turn : CoordMade script w (more (on_event script w.coord x fails)) (on_event script w.coord x fails)
     made-turn = coord-ways w.coord script (λ turn. CoordMade script w (more turn) turn) x fails r.coord.works quiet-turn heard-turn asked-turn begun-turn
 
     pub turn-rounded : Rounded script (coord_did w e (coord_turn script w.coord x fails))
