@@ -58,7 +58,7 @@ use Rattle.gx_store.specs.Language.{AreLinesNumbered}
 use Rattle.gx_law_sessions.proofs.Outs.{order-more}
 use Rattle.gx_law_commit.specs.Pairs.{IsVote}
 use Rattle.gx_law_commit.specs.Standings.{at, gx}
-use Rattle.gx_law_reads.proofs.Seeing.{world-hold}
+use Rattle.gx_law_order.proofs.Journals.{world-hold}
 use Rattle.gx_law_holds.specs.Late.{AreReleasesLate}
 use Rattle.gx_law_holds.proofs.Lasting.{granted-held}
 use Rattle.gx_law_holds.proofs.Marks.{quiet-late}

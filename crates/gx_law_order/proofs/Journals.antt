@@ -17,23 +17,25 @@ use Rattle.gx_store.specs.Journals.{is_prepared, is_same_node, items_from, items
 use Rattle.gx_store.specs.Ordered.{IsAtNode, IsSegment}
 use Rattle.gx_store.specs.Points.{marks_in}
 use Rattle.gx_store.specs.Refusals.{the_coordinator}
-use Rattle.gx_rules.specs.AtCoordinator.{and_cancels, cancel_turn, cancels, coord_can, coord_rule, coord_turn, on_event}
+use Rattle.gx_rules.specs.AtCoordinator.{and_cancels, cancel_turn, cancels, coord_can, coord_rule, coord_sends, coord_turn, on_event}
 use Rattle.gx_rules.specs.AtSegment.{seg_rule}
 use Rattle.gx_rules.specs.AtSegment as segment
 use Rattle.gx_rules.specs.Coordinators.{Coord, CoordTurn}
 use Rattle.gx_rules.specs.Rounds.{victims_at}
 use Rattle.gx_rules.proofs.Turns.{cancels_all-each}
-use Rattle.gx_rules.specs.Machine.{World, after, at_node, can, coord_did, does, happens, kept_item, new_world, node_of, seg_did, world_of, can_here, seg_can}
+use Rattle.gx_rules.specs.Machine.{World, after, and_cancelled, at_node, can, coord_did, does, happens, kept_item, new_world, node_of, seg_did, world_of, can_here, seg_can}
 use Rattle.gx_rules.specs.Segments.{Seg, SegTurn}
 use Rattle.gx_rules.specs.Sending.{clock_after, counted, numbered}
+use Rattle.gx_law_order.specs.Moves.{Move, world_by}
 use Rattle.gx_law_order.specs.Journals.{item_at, journal_after, journal_from, takes}
 use Rattle.gx_law_order.proofs.CoordItems.{Stands, cancel-dull, event-stands}
 use Rattle.gx_law_order.proofs.Letters.{same_node}
-use Rattle.gx_law_order.proofs.Induction.{place-of}
+use Rattle.gx_law_order.proofs.AtCoordinators.{CoordStays, cancel_stays, coord_stays}
+use Rattle.gx_law_order.proofs.Induction.{after_turn, at-moves, marks-by-event, marks-by-victim, place-of}
 use Rattle.gx_law_order.proofs.Lists.{Each, each_append}
-use Rattle.gx_law_order.proofs.Moves.{comes}
+use Rattle.gx_law_order.proofs.Moves.{comes, moves_after, world-moves}
 use Rattle.gx_law_order.proofs.More.{marks-last}
-use Rattle.gx_law_order.proofs.Ordered.{Well, at-both, happens_well, new_well, rule-at, seg_marks}
+use Rattle.gx_law_order.proofs.Ordered.{Well, at-both, happens_well, moves_well, new_well, rule-at, seg_marks, sends-at}
 use Rattle.gx_law_order.proofs.SegItems.{Bound, Dull, Holds, Items, dull-items, dull-prepared, event_items, items-append, prepared-append, writes-append, writes_at}
 use Rattle.gx_law_order.proofs.Sent.{at}
 use Rattle.gx_law_order.proofs.Stages.{gx}
@@ -229,3 +231,24 @@ module _ (script : Script) (some : 1 ≤ script.segments) (i : ℕ) where
 
   pub journal-holds : (es : List (Event × Bool)) → journal_after script (at i) es ≡ items_of (at i) (marks_in (world_of script es).steps)
   journal-holds es = journal-is es new_world [] (new_well script some) new-hold refl
+
+-- ALL WORLDS
+module _ (script : Script) (some : 1 ≤ script.segments) where
+  -- a single turn of the coordinator leaves the segments
+  turn-hold : (w : World) → Hold w → (turn : CoordTurn) (clock : ℕ) (steps : List Step) → marks_in steps ≡ marks_in w.steps ++ (coord_sends clock turn).marks → CoordStays script w.coord.sent turn → Hold (after_turn w clock turn steps)
+  turn-hold w hold turn clock steps marks stays j one =
+      subst (λ m. Holds (at j) (w.segs j) m) (sym marks) (holds-other script the_coordinator j (w.segs j) (marks_in w.steps) (coord_sends clock turn).marks (apart j one) (sends-at script w.coord.sent turn clock stays) (hold j one))
+    where
+      apart : (j : ℕ) → 1 ≤ j → is_same_node the_coordinator (at j) ≡ false
+      apart j one = grind (arith, nat_tests)
+
+  pub moves-hold : (ms : List Move) → Hold (world_by script ms)
+  moves-hold =
+      at-moves script some (Well script) Hold (moves_well script some) (new-hold script some 0)
+      (λ w good hold e x fails t ok next.
+      turn-hold w hold (on_event script w.coord x fails) (clock_after w.coord.clock x) (coord_did w e (coord_turn script w.coord x fails)).steps (marks-by-event script w e x fails) (coord_stays script some w.coord x fails good.coordinator))
+      (λ w good hold g h next. turn-hold w hold (cancels w.coord g) w.coord.clock (and_cancelled w g).steps (marks-by-victim w g h) (cancel_stays script some w.coord g good.coordinator))
+      (λ w good hold e x fails i place t ok next. (seg-after script some w good hold e x fails 0 i place).hold)
+
+  pub world-hold : (es : List (Event × Bool)) → Hold (world_of script es)
+  world-hold es = subst Hold (sym (world-moves script es)) (moves-hold (moves_after script new_world es))

@@ -46,7 +46,7 @@ use Rattle.gx_law_commit.specs.Standings.{at}
 use Rattle.gx_law_commit.proofs.Whole.{world-both}
 use Rattle.gx_law_holds.proofs.World.{world-locked}
 use Rattle.gx_law_reads.proofs.Ends.{world-facts}
-use Rattle.gx_law_reads.proofs.Seeing.{world-hold}
+use Rattle.gx_law_order.proofs.Journals.{world-hold}
 use Rattle.gx_law_writes.specs.Changes.{AreLaterTurnsTrue, AreNewTurnsTrue, DoCountsStay, FaultLegal, IsTrueTurn}
 use Rattle.gx_law_writes.proofs.Told.{sending-told}
 use Rattle.gx_law_writes.proofs.Turns.{Changed, Continues, NoRow, resumption-turns}

@@ -65,13 +65,13 @@ use Rattle.gx_law_order.proofs.Letters.{IsFound, IsLetter, found_is}
 use Rattle.gx_law_order.proofs.Lists.{Each, each_append, each_weaker}
 use Rattle.gx_law_order.proofs.Ordered.{Well, at_coordinator, resumes_there}
 use Rattle.gx_law_order.proofs.Changing.{IsChangeOf, change-parts}
-use Rattle.gx_law_order.proofs.Journals.{Hold}
+use Rattle.gx_law_order.proofs.Journals.{Hold, world-hold}
 use Rattle.gx_law_order.proofs.Waiting.{GoesOn, each-among, freed, going-on, is_open_phase}
 use Rattle.gx_law_reads.specs.Horizons.{IsNobodyDropped, IsSeenBelow, IsToRun}
 use Rattle.gx_law_reads.specs.Sights.{AreShownViews, DoViewsStay, IsOnlyAt, IsShownView}
 use Rattle.gx_law_reads.proofs.Below.{nobody-dropped}
 use Rattle.gx_law_reads.proofs.Ends.{Facts, world-facts}
-use Rattle.gx_law_reads.proofs.Seeing.{shown-views, world-hold}
+use Rattle.gx_law_reads.proofs.Seeing.{shown-views}
 use Rattle.gx_law_reads.proofs.Staying.{views-stay}
 use Rattle.gx_law_reads.proofs.Waiting.{new-to-run, waits-to-run}
 use Rattle.gx_law_holds.proofs.World.{Locked, world-locked}
