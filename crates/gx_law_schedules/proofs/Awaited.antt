@@ -21,6 +21,7 @@ use Rattle.gx_msg.specs.declared.message.Message.TheVariants as message
 use Rattle.gx_msg.specs.declared.reply.Reply.TheVariants as reply
 use Rattle.gx_script.specs.declared.Script.{Script}
 use Rattle.gx_store.specs.declared.answer.Refused.TheVariants.{Victim}
+use Rattle.gx_store.specs.declared.answer.StmtAnswer.TheVariants as told
 use Rattle.gx_store.specs.declared.event.Event.{Event}
 use Rattle.gx_store.specs.declared.mark.Mark.{Mark}
 use Rattle.gx_store.specs.declared.node.NodeEvent.{NodeEvent}
@@ -32,9 +33,10 @@ use Rattle.gx_store.specs.Ordered.{IsSegment}
 use Rattle.gx_store.specs.Points.{marks_in}
 use Rattle.gx_store.specs.Refusals.{the_coordinator}
 use Rattle.gx_store.specs.Schedule.{asked, asked_by, asked_from, is_answer_to, unless_answered}
-use Rattle.gx_rules.specs.AtCoordinator.{awaited, cancel_turn, cancels, coord_can, coord_sends, coord_turn, is_refused, on_event}
+use Rattle.gx_rules.specs.AtCoordinator.{answer_mark, awaited, cancel_turn, cancels, coord_can, coord_sends, coord_turn, is_refused, on_event}
 use Rattle.gx_rules.specs.AtSegment.{seg_rule}
-use Rattle.gx_rules.specs.Coordinators.{Coord, CoordTurn}
+use Rattle.gx_rules.specs.Coordinators.{Coord, CoordTurn, work_of}
+use Rattle.gx_rules.specs.Locks.{release_marks}
 use Rattle.gx_rules.specs.Machine.{World, and_cancelled, coord_did, new_world, seg_did, with_more, world_of}
 use Rattle.gx_rules.specs.Rounds.{is_active, is_live}
 use Rattle.gx_rules.specs.Sending.{clock_after, counted_all, numbered}
@@ -145,7 +147,7 @@ live-stands b (Some t) i e q = by_phase t.phase e q
 
 -- IN EVERY WORLD
 -- A turn sends one message at most to a segment; a victim's has no step of its own, and an Abort mark.
-abbrev SendsFew : List Step → (ℕ → ℕ) → Type 0
+abbrev pub SendsFew : List Step → (ℕ → ℕ) → Type 0
 SendsFew steps sent = (i : ℕ) → sent i ≤ length steps + aborts_in (marks_in steps) (length steps)
 
 pub record DoAsk (w : World) : Type 0 where
@@ -258,10 +260,13 @@ module _ (script : Script) (some : 1 ≤ script.segments) (w : World) (k : IsKno
     refused-few : is_live (find_txn w.coord.table g) ≡ true → Few (is_refused w.coord g (on_abort w.coord.table g) [] (Victim w.coord.rounds))
     refused-few live i =
         lets (w.coord.sent i) (length w.steps) _ _ _ (one-sent turn i refl ((victim-asks script w.coord k.knows.kept q.neat g).sends_one (at i))) (q.sent i)
-        (aborts-new (marks_in w.steps) (coord_sends w.coord.clock turn).marks g.0 (length w.steps) drawn.0 (within g.0 w.coord.table.next.0 (length w.steps) drawn.1 k.stays.room.next) old (abort-first g.0 _))
+        (aborts-new (marks_in w.steps) (coord_sends w.coord.clock turn).marks g.0 (length w.steps) drawn.0 (within g.0 w.coord.table.next.0 (length w.steps) drawn.1 k.stays.room.next) old (abort-first g.0 later))
       where
         turn : CoordTurn
         turn = is_refused w.coord g (on_abort w.coord.table g) [] (Victim w.coord.rounds)
+
+        later : List Mark
+        later = answer_mark w.coord (work_of w.coord g).session (told.Refused (Victim w.coord.rounds)) ∷ (release_marks the_coordinator w.coord.locks g ++ numbered turn.coord.sent turn.outs)
 
         drawn : (1 ≤ g.0) × (g.0 < w.coord.table.next.0)
         drawn = running-drawn w.coord g.0 k.knows.kept.whole (live-runs (find_txn w.coord.table g) live)

@@ -117,7 +117,7 @@ sends-each i m (x ∷ xs) e = by_test (eqb x.0 i.0) refl (sends-each i m xs e.1)
     by_test false q r = r
 
 -- A ROUND ASKS EACH SEGMENT ONCE
-asks : ℕ → ℕ → Out
+abbrev asks : ℕ → ℕ → Out
 asks round k = record { node = record { 0 = k }; message = message.Collect round }
 
 none-asked : (i : Node) (round k n : ℕ) → i.0 < k → sends i (map (asks round) (range_with_len k n)) ≡ 0
