@@ -24,7 +24,8 @@ use Rattle.gx_dtx.specs.declared.phase.Phase.{Phase}
 use Rattle.gx_dtx.specs.declared.phase.Phase.TheVariants.{Active, Preparing, CommittingOne, CommittingTwo, Ended, Aborting}
 use Rattle.gx_dtx.specs.declared.txn.Txn.{Txn}
 use Rattle.gx_detect.proofs.Places.{length-noted_from}
-use Rattle.gx_detect.specs.Rounds.{AreOfSegments}
+use Rattle.gx_detect.specs.Reports.{lacks_from}
+use Rattle.gx_detect.specs.Rounds.{AreOfSegments, lacks}
 use Rattle.gx_meaning.specs.declared.fault.ArithFault.{ArithFault}
 use Rattle.gx_msg.specs.declared.message.Message.{Message}
 use Rattle.gx_msg.specs.declared.message.Message.TheVariants as message
@@ -58,7 +59,7 @@ use Rattle.gx_rules.specs.Locks.{hold_mark, release_marks, with_hold}
 use Rattle.gx_locks.specs.Locks.{Locks, is_free, resumed, wait_of}
 use Rattle.gx_waits.specs.declared.claim.Claim.{Claim}
 use Rattle.gx_waits.specs.declared.graph.LocalGraph.{LocalGraph}
-use Rattle.gx_rules.specs.Rounds.{begins_round, lacks, lacks_from, noted_in, on_graph, with_report}
+use Rattle.gx_rules.specs.Rounds.{begins_round, noted_in, on_graph, with_report}
 use Rattle.gx_rules.proofs.Rounds.{cancel-ways, graph-ways}
 use Rattle.gx_law_order.proofs.Releases.{each-released}
 

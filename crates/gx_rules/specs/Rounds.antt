@@ -8,7 +8,7 @@ use Rattle.gx_dtx.specs.declared.txn.Txn.{Txn}
 use Rattle.gx_dtx.specs.declared.phase.Phase.{Phase}
 use Rattle.gx_dtx.specs.declared.phase.Phase.TheVariants.{Active}
 use Rattle.gx_detect.specs.Reports.{noted}
-use Rattle.gx_detect.specs.Rounds.{are_all, collects, graphs_in}
+use Rattle.gx_detect.specs.Rounds.{are_all, collects, graphs_in, lacks}
 use Rattle.gx_detect.specs.Verdicts.{verdict_of}
 use Rattle.gx_locks.specs.Graphs.{graph_at}
 use Rattle.gx_msg.specs.declared.message.Message.{Message}
@@ -39,15 +39,6 @@ begins_round script c =
     }
 
 -- REPORTS
--- the segment has a place among these, whose first is of the segment of this number, and hasn't reported
-abbrev pub lacks_from : ℕ → List (Option LocalGraph) → Node → Bool
-lacks_from number [] i = false
-lacks_from number (report ∷ reports) i = if i.0 == number then is_none report else lacks_from (number + 1) reports i
-
-abbrev pub lacks : Option (List (Option LocalGraph)) → Node → Bool
-lacks None i = false
-lacks (Some reports) i = lacks_from 1 reports i
-
 -- a round runs, and the segment's graph for it hasn't come
 abbrev pub awaits_graph : Coord → Node → Bool
 awaits_graph c i = lacks c.reports i
