@@ -1,5 +1,5 @@
 -- The core of what is stuck, as a list: it is closed, and each of its waiters is waited for in it.
-use Rattle.std.proofs.Common.{◌≡◌, ◌⊎◌, inl, inr, ⊎_elim, List, ◌∷◌, refl, sym, subst, ap, ◌∙◌}
+use Rattle.std.proofs.Common.{◌≡◌, inl, inr, List, ◌∷◌, refl, sym, subst, ap, ◌∙◌}
 use Rattle.std.specs.Prelude.{◌↔◌, IsTrue, Any, Contains, All}
 use Rattle.gx_waits.proofs.Members.{Has, all_from_each, any_from_has, contains_from_has, each_from_all, has_from_any, has_from_contains}
 use Rattle.gx_waits.specs.Closed.{IsClosed, IsStuck, IsWithin, Waits, WaitsAt}

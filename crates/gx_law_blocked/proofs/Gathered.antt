@@ -1,6 +1,6 @@
 -- What is stuck in the graphs by which a round is decided stands when it is decided, if whoever is stuck may still be cancelled then.
-use Rattle.std.proofs.Common.{◌≡◌, ◌⊎◌, inl, inr, ℕ, zero, suc, ◌+◌, List, [], ◌∷◌, ◌++◌, Some, true, refl, sym, subst, ap, ◌∙◌, append-nil, arith}
-use Rattle.std.specs.Prelude.{All, Contains, slice_get}
+use Rattle.std.proofs.Common.{◌≡◌, ◌<◌, inl, inr, ℕ, zero, suc, ◌+◌, List, [], ◌∷◌, Some, true, sym, subst, ap, ◌∙◌, append-nil, arith, length}
+use Rattle.std.specs.Prelude.{slice_get}
 use Rattle.gx_lemmas.proofs.Options.{some-same}
 use Rattle.gx_ids.specs.declared.ids.Gxid.{Gxid}
 use Rattle.gx_ids.specs.declared.ids.Node.{Node}
@@ -20,6 +20,11 @@ pub has-place : {A : Type 0} (x : A) (xs : List A) → Has x xs → (i : ℕ) ×
 has-place x [] h = absurd h
 has-place x (y ∷ ys) (inl e) = (0, ap Some e)
 has-place x (y ∷ ys) (inr h) = let p = has-place x ys h in (suc p.0, p.1)
+
+pub place-short : {A : Type 0} (xs : List A) (i : ℕ) (x : A) → slice_get xs i ≡ Some x → i < length xs
+place-short [] i x e = absurd (cc)
+place-short (y ∷ ys) zero x e = omega arith
+place-short (y ∷ ys) (suc i) x e = let s = place-short ys i x e in omega arith
 
 module _ (marks : List Mark) (own : LocalGraph) (reports : List LocalGraph) (are : AreGathered marks own reports) where
   at-own : own.node ≡ the_coordinator

@@ -10,3 +10,6 @@ pub mod Graphs
 pub mod Noted
 pub mod Gathered
 pub mod Cores
+pub mod Named
+pub mod FirstReports
+pub mod Rechecks

@@ -12,7 +12,7 @@ use Rattle.gx_store.specs.declared.event.Event.{Event}
 use Rattle.gx_store.specs.declared.mark.Mark.{Mark}
 use Rattle.gx_store.specs.declared.mark.Mark.TheVariants as mark
 use Rattle.gx_store.specs.declared.run.Step.{Step}
-use Rattle.gx_store.specs.Messages.{IsSending, IsSent}
+use Rattle.gx_store.specs.Messages.{IsSent}
 use Rattle.gx_store.specs.Points.{marks_in}
 use Rattle.gx_store.specs.Rounds.{AreReports, IsGraphAt, SendNoted, last_report}
 use Rattle.gx_law_order.proofs.More.{marks-last}
