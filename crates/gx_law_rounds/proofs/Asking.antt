@@ -70,18 +70,18 @@ AsksNone _ = Unit {0}
 
 sent-none : (f : ℕ → ℕ) (outs : List Out) → Each (λ o. AsksNone o.message) outs → collects_in (numbered f outs) ≡ []
 sent-none f [] e = refl
-sent-none f (o ∷ outs) e = by_message o.message e.0
+sent-none f (o ∷ outs) e = by_message o.message e.0 (sent-none (counted f o) outs e.1)
   where
-    by_message : (m : Message) → AsksNone m → collects_in (mark.Sent o.node (f o.node.0 + 1) m ∷ numbered (counted f o) outs) ≡ []
-    by_message (message.Collect round) h = absurd h
-    by_message (message.Exec g c level x k y) h = sent-none (counted f o) outs e.1
-    by_message (message.Prepare g) h = sent-none (counted f o) outs e.1
-    by_message (message.Commit g) h = sent-none (counted f o) outs e.1
-    by_message (message.CommitPrepared g) h = sent-none (counted f o) outs e.1
-    by_message (message.Abort g) h = sent-none (counted f o) outs e.1
-    by_message (message.Forget g) h = sent-none (counted f o) outs e.1
-    by_message (message.Answer g r) h = sent-none (counted f o) outs e.1
-    by_message (message.Graph round graph) h = sent-none (counted f o) outs e.1
+    by_message : (m : Message) → AsksNone m → collects_in (numbered (counted f o) outs) ≡ [] → collects_in (mark.Sent o.node (f o.node.0 + 1) m ∷ numbered (counted f o) outs) ≡ []
+    by_message (message.Collect round) h later = absurd h
+    by_message (message.Exec g c level x k y) h later = later
+    by_message (message.Prepare g) h later = later
+    by_message (message.Commit g) h later = later
+    by_message (message.CommitPrepared g) h later = later
+    by_message (message.Abort g) h later = later
+    by_message (message.Forget g) h later = later
+    by_message (message.Answer g r) h later = later
+    by_message (message.Graph round graph) h later = later
 
 of-one-asks-none : (m : Message) → OfOne m → AsksNone m
 of-one-asks-none (message.Collect round) e = absurd e
