@@ -12,3 +12,4 @@ pub mod Walks
 pub mod Asking
 pub mod Reporting
 pub mod Reports
+pub mod Firsts
