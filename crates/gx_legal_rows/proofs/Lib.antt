@@ -1,0 +1,6 @@
+pub mod Decided
+pub mod Equal
+pub mod Views
+pub mod Snapshots
+pub mod Selections
+pub mod Skipping
