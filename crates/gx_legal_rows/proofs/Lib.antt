@@ -4,3 +4,5 @@ pub mod Views
 pub mod Snapshots
 pub mod Selections
 pub mod Skipping
+pub mod Overtaking
+pub mod Lateness

@@ -21,9 +21,7 @@ use Rattle.gx_legal_rows.specs.Places.{snapshots}
 use Rattle.gx_legal_rows.specs.Viewed.{view_rows}
 use Rattle.gx_legal_rows.proofs.Snapshots.{any-snapshot, snapshot-any}
 use Rattle.gx_legal_rows.proofs.Views.{view-is}
-
-no_more : (P : Type 0) → false ≡ true → P
-no_more P e = absurd (cc)
+use Rattle.gx_legal_rows.proofs.Decided.{no_more}
 
 pub met-is : (o : Result Bool ArithFault) → is_met o ≡ true → o ≡ Ok true
 met-is (Ok truth) e = ap Ok e

@@ -20,9 +20,7 @@ use Rattle.gx_legal_rows.specs.Changed.{is_left, is_left_write, is_read_committe
 use Rattle.gx_legal_rows.specs.Selected.{free_write, is_chosen_at, is_selected}
 use Rattle.gx_legal_rows.proofs.Snapshots.{any-snapshot, snapshot-any}
 use Rattle.gx_legal_rows.proofs.Selections.{chosen-of, free-of, is-missed, missed-is, selected-by, selected-chosen, selected-free}
-
-no_more : (P : Type 0) → false ≡ true → P
-no_more P e = absurd (cc)
+use Rattle.gx_legal_rows.proofs.Decided.{no_more}
 
 pub read-committed-is : (level : Level) → is_read_committed level ≡ true → level ≡ ReadCommitted
 read-committed-is ReadCommitted e = refl

@@ -14,15 +14,13 @@ use Rattle.gx_store.specs.declared.mark.Mark.TheVariants.{Snap}
 use Rattle.gx_store.specs.Commands.{IsSnapshotAt, Serves}
 use Rattle.gx_store.specs.Marks.{is_same_gxid}
 use Rattle.gx_legal_rows.specs.Places.{is_snapshot, places_from, serves, snapshots}
+use Rattle.gx_legal_rows.proofs.Decided.{no_more}
 
 -- one of the marks passes the test, at this place
 pub record Passes (test : Mark → Bool) (marks : List Mark) (place : ℕ) : Type 0 where
   pub mark : Mark
   pub there : slice_get marks place ≡ Some mark
   pub passed : test mark ≡ true
-
-no_more : (P : Type 0) → false ≡ true → P
-no_more P e = absurd (cc)
 
 or-either : (a b : Bool) (P : Type 0) → (a || b) ≡ true → (a ≡ true → P) → (b ≡ true → P) → P
 or-either true b P e first later = first refl
@@ -83,10 +81,10 @@ module _ (q : ℕ → Bool) (test : Mark → Bool) where
       behind false h = h
 
 -- SNAPSHOTS
-gxid-same : (g h : Gxid) → is_same_gxid g h ≡ true → g ≡ h
+pub gxid-same : (g h : Gxid) → is_same_gxid g h ≡ true → g ≡ h
 gxid-same g h e = ap (λ (n : ℕ). let x : Gxid = record { 0 = n } in x) (same-of g.0 h.0 e)
 
-cid-same : (c d : Cid) → (c.0 == d.0) ≡ true → c ≡ d
+pub cid-same : (c d : Cid) → (c.0 == d.0) ≡ true → c ≡ d
 cid-same c d e = ap (λ (n : ℕ). let x : Cid = record { 0 = n } in x) (same-of c.0 d.0 e)
 
 serves-from : (level : Level) (d c : Cid) → serves level d c ≡ true → Serves level d c

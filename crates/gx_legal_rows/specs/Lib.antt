@@ -5,3 +5,4 @@ pub mod Viewed
 pub mod Written
 pub mod Selected
 pub mod Changed
+pub mod Late

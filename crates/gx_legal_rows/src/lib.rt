@@ -6,7 +6,9 @@ mod arithmetic;
 pub mod command;
 mod evaluation;
 mod images;
+pub mod late;
 pub mod marks;
+pub mod overtaken;
 mod places;
 mod selecting;
 mod setting;
@@ -15,6 +17,8 @@ pub mod viewing;
 mod writing;
 
 pub use command::{Command, RowAt};
+pub use late::is_late_write_of;
 pub use marks::{has_own_snapshot, is_aborted, is_committed, is_ended};
+pub use overtaken::is_overtaken_row;
 pub use skips::is_skip_of;
 pub use viewing::view;

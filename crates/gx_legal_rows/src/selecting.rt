@@ -1,7 +1,8 @@
 // Whether a command has selected a row, by some snapshot of its own, and whether it may change it.
-ghost use Rattle.std.specs.Prelude.{◌≡◌, IfOk};
+ghost use Rattle.std.specs.Prelude.{◌≡◌, IfOk, take};
 ghost use Rattle.std.specs.Option.{option_copied, option_map};
 ghost use Rattle.gx_store.specs.Commands.{condition_on};
+ghost use Rattle.gx_store.specs.Writes.{shown_write};
 ghost use Rattle.gx_legal_rows.specs.Selected.{is_changeable as may_change, is_chosen as would_choose, is_chosen_at as has_chosen, is_current_at as stands, is_met as meets, is_missed as misses, is_selected as has_selected, is_unseen as was_unseen, is_unseen_at as was_unseen_at, is_write as is_that};
 ghost use Rattle.gx_legal_rows.specs.Written.{written_of};
 
@@ -91,11 +92,16 @@ fn is_current_at(alloc: Global, marks: &[Mark], choice: Choice<'_>, write: Writi
 {
     match choice.command.level {
         Level::ReadCommitted => Ok(is_met(condition(alloc, choice.cond, old)?)),
-        Level::RepeatableRead => {
-            let reader = Some((choice.command.gxid, choice.command.cid));
-            Ok(is_write(last_write(marks, before(marks, place), reader, choice.rid), write))
-        }
+        Level::RepeatableRead => Ok(is_shown_write(marks, choice, write, place)),
     }
+}
+
+// Whether the command is shown this very write, by the snapshot at the place.
+fn is_shown_write(marks: &[Mark], choice: Choice<'_>, write: Writing<'_>, place: usize) -> bool
+    ensures { result ≡ is_that (shown_write marks.now (take place marks.now) choice.entry.command.gxid choice.entry.command.cid choice.entry.rid) (written_of write.entry) }
+{
+    let reader = Some((choice.command.gxid, choice.command.cid));
+    is_write(last_write(marks, before(marks, place), reader, choice.rid), write)
 }
 
 fn is_write(shown: Option<Writing<'_>>, write: Writing<'_>) -> bool
