@@ -28,10 +28,10 @@ table-same t u e = ap (λ (k : ℕ). let x : Table = record { 0 = k } in x) (sam
 pub same-table : (t u : Table) → u ≡ t → (t.0 == u.0) ≡ true
 same-table t u e = eqb-of t.0 u.0 (ap (λ (x : Table). x.0) (sym e))
 
-at-least : (m n : ℕ) → nat_le m n ≡ true → m ≤ n
+pub at-least : (m n : ℕ) → nat_le m n ≡ true → m ≤ n
 at-least m n e = grind (arith, nat_tests)
 
-is-at-least : (m n : ℕ) → m ≤ n → nat_le m n ≡ true
+pub is-at-least : (m n : ℕ) → m ≤ n → nat_le m n ≡ true
 is-at-least m n e = grind (arith, nat_tests)
 
 home-is : (first : Option Node) (node : Node) → is_at_home first node ≡ true → IsAtHome first node

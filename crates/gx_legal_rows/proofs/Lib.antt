@@ -6,3 +6,5 @@ pub mod Selections
 pub mod Skipping
 pub mod Overtaking
 pub mod Lateness
+pub mod Changes
+pub mod Insertions

@@ -6,3 +6,5 @@ pub mod Written
 pub mod Selected
 pub mod Changed
 pub mod Late
+pub mod Inserted
+pub mod Writes

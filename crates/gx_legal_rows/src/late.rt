@@ -44,7 +44,7 @@ fn is_at_home(first: Option<Node>, node: Node) -> bool
     }
 }
 
-fn is_written_at(first: Option<Node>, node: Node) -> bool
+pub(crate) fn is_written_at(first: Option<Node>, node: Node) -> bool
     ensures { result ≡ stands_at first node }
 {
     match first {

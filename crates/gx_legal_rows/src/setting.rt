@@ -1,11 +1,12 @@
 // Rows that are computed: of a SET list, and of constants.
 ghost use Rattle.std.specs.Prelude.{◌≡◌, IfOk, slice_set};
 ghost use Rattle.gx_meaning.specs.Constants.{values_of};
+ghost use Rattle.gx_store.specs.Writes.{set_row as set_row_of};
 
 use crate::evaluation::value;
 use gx_ids::{Mem, copies};
 use gx_meaning::ArithFault;
-use gx_tree::{Expr, Row, Value};
+use gx_tree::{Assign, Expr, Row, Value};
 use std::alloc::Global;
 
 fn put(values: &mut Vec<Value>, column: u8, value: Value)
@@ -28,4 +29,18 @@ pub fn constants(alloc: Global, tuple: &[Expr]) -> Mem<Result<Row, ArithFault>>
         }
     }
     Ok(Ok(Row::from_vec(values)))
+}
+
+/// The row that a SET list makes of an old one, or its first fault.
+pub(crate) fn set_row(alloc: Global, assigns: &[Assign], old: &[Value]) -> Mem<Result<Row, ArithFault>>
+    ensures { IfOk result (λ outcome. outcome ≡ set_row_of assigns.now old.now) }
+{
+    let mut new = copies(alloc, old)?;
+    for assign in assigns {
+        match value(alloc, &assign.expr, old)? {
+            Ok(value) => put(&mut new, assign.col, value),
+            Err(fault) => return Ok(Err(fault)),
+        }
+    }
+    Ok(Ok(Row::from_vec(new)))
 }

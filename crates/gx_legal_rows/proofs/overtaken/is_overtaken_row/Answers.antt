@@ -8,5 +8,5 @@ pub returns : goal.returns
 returns c =
     let a = c.args in
     let k = a.command in
-    let same : c.in_ok-holds.holds ≡ is_overtaken a.marks.now k.level k.gxid k.cid a.table a.cond.now a.rid a.writer = cc (c.in_ok-holds.ensures, c.choice_of.ensures.command, c.choice_of.ensures.table, c.choice_of.ensures.cond, c.choice_of.ensures.rid) in
+    let same : c.in_ok-holds.holds ≡ is_overtaken a.marks.now k.level k.gxid k.cid a.table a.cond.now a.rid a.writer = cc (c.in_ok-holds.ensures, c.choice_of-choice.ensures.command, c.choice_of-choice.ensures.table, c.choice_of-choice.ensures.cond, c.choice_of-choice.ensures.rid) in
     decided c.in_ok-holds.holds _ _ same (overtaken-is a.marks.now k.level k.gxid k.cid a.table a.cond.now a.rid a.writer) (is-overtaken a.marks.now k.level k.gxid k.cid a.table a.cond.now a.rid a.writer)

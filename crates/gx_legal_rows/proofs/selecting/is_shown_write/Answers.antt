@@ -10,4 +10,4 @@ returns c =
     let k = c.args.choice in
     c.is_write.ensures
     ∙ ap (λ (o : Option Written). is_write o (written_of c.args.write))
-    (c.last_write.ensures ∙ ap (λ (bs : List Mark). last_write (counts_for (Some (k.command.gxid, k.command.cid)) bs) k.rid 0 None c.args.marks.now) c.before.ensures)
+    (c.last_write.ensures ∙ ap (λ (bs : List Mark). last_write (counts_for (Some (k.command.gxid, k.command.cid)) bs) k.rid 0 None c.args.marks.now) c.before-2.ensures)
