@@ -8,3 +8,4 @@ pub mod Overtaking
 pub mod Lateness
 pub mod Changes
 pub mod Insertions
+pub mod Faulting

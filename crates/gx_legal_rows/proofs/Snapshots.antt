@@ -22,15 +22,15 @@ pub record Passes (test : Mark → Bool) (marks : List Mark) (place : ℕ) : Typ
   pub there : slice_get marks place ≡ Some mark
   pub passed : test mark ≡ true
 
-or-either : (a b : Bool) (P : Type 0) → (a || b) ≡ true → (a ≡ true → P) → (b ≡ true → P) → P
+pub or-either : (a b : Bool) (P : Type 0) → (a || b) ≡ true → (a ≡ true → P) → (b ≡ true → P) → P
 or-either true b P e first later = first refl
 or-either false b P e first later = later e
 
-or-second : (a b : Bool) → b ≡ true → (a || b) ≡ true
+pub or-second : (a b : Bool) → b ≡ true → (a || b) ≡ true
 or-second true b e = refl
 or-second false b e = e
 
-or-first : (a b : Bool) → a ≡ true → (a || b) ≡ true
+pub or-first : (a b : Bool) → a ≡ true → (a || b) ≡ true
 or-first true b e = refl
 or-first false b e = no_more _ e
 

@@ -8,3 +8,4 @@ pub mod Changed
 pub mod Late
 pub mod Inserted
 pub mod Writes
+pub mod Faulted

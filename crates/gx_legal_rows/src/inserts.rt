@@ -6,7 +6,7 @@ ghost use Rattle.gx_store.specs.Writes.{dist_of as distribution};
 ghost use Rattle.gx_legal_rows.specs.Inserted.{dist_in as distribution_in, is_inserted as was_inserted, is_own as is_of, is_row_of as may_be_row, is_tuple_row as may_be_tuple};
 
 use crate::command::{Command, RowAt};
-use crate::images::is_same_image;
+use crate::images::is_image;
 use crate::marks::is_written;
 use crate::setting::constants;
 use gx_ids::{Mem, Node, Rid, Seq, Table};
@@ -30,13 +30,13 @@ pub(crate) fn is_inserted(alloc: Global, script: &Script, marks: &[Mark], comman
     is_tuple_row(alloc, script.segments, dist, row, image, tuple_at(tuples, row.rid))
 }
 
-fn is_own(command: Command, rid: Rid) -> bool
+pub(crate) fn is_own(command: Command, rid: Rid) -> bool
     ensures { result ≡ is_of command.gxid command.cid rid }
 {
     rid.gxid == command.gxid && rid.cid == command.cid && 1 <= rid.ordinal
 }
 
-fn tuple_at(tuples: &[Seq<Expr>], rid: Rid) -> Option<&Seq<Expr>>
+pub(crate) fn tuple_at(tuples: &[Seq<Expr>], rid: Rid) -> Option<&Seq<Expr>>
     ensures { option_copied result ≡ slice_get tuples.now (rid.ordinal - 1) }
 {
     tuples.get(rid.ordinal.saturating_sub(1) as usize)
@@ -59,7 +59,7 @@ fn is_row_of(segments: u8, dist: Dist, row: RowAt, image: &Option<Row>, values: 
     ensures { result ≡ may_be_row segments dist row.node row.rid image.now values }
 {
     match values {
-        Ok(values) => row.node == place_of(segments, dist, &values, row.rid) && is_same_image(image, &Some(values)),
+        Ok(values) => row.node == place_of(segments, dist, &values, row.rid) && is_image(image, &values),
         Err(_) => false,
     }
 }

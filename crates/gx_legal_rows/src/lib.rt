@@ -4,7 +4,9 @@
 
 mod arithmetic;
 pub mod command;
+mod constants;
 mod evaluation;
+pub mod faults;
 mod images;
 mod inserts;
 pub mod late;
@@ -19,6 +21,7 @@ pub mod writes;
 mod writing;
 
 pub use command::{Command, RowAt};
+pub use faults::is_fault_of;
 pub use late::is_late_write_of;
 pub use marks::{has_own_snapshot, is_aborted, is_committed, is_ended};
 pub use overtaken::is_overtaken_row;

@@ -3,7 +3,7 @@ ghost use Rattle.std.specs.Prelude.{◌≡◌, IfOk, take};
 ghost use Rattle.std.specs.Option.{option_copied, option_map};
 ghost use Rattle.gx_store.specs.Commands.{condition_on};
 ghost use Rattle.gx_store.specs.Writes.{shown_write};
-ghost use Rattle.gx_legal_rows.specs.Selected.{is_changeable as may_change, is_chosen as would_choose, is_chosen_at as has_chosen, is_current_at as stands, is_met as meets, is_missed as misses, is_selected as has_selected, is_unseen as was_unseen, is_unseen_at as was_unseen_at, is_write as is_that};
+ghost use Rattle.gx_legal_rows.specs.Selected.{image_at as seen_at, is_changeable as may_change, is_chosen as would_choose, is_chosen_at as has_chosen, is_current_at as stands, is_met as meets, is_missed as misses, is_selected as has_selected, is_unseen as was_unseen, is_unseen_at as was_unseen_at, is_write as is_that};
 ghost use Rattle.gx_legal_rows.specs.Written.{written_of};
 
 use crate::command::Choice;
@@ -57,8 +57,15 @@ fn is_chosen(alloc: Global, cond: &Option<Cond>, row: Option<&Row>) -> Mem<bool>
 fn is_chosen_at(alloc: Global, marks: &[Mark], choice: Choice<'_>, place: usize) -> Mem<bool>
     ensures { IfOk result (λ holds. holds ≡ has_chosen marks.now choice.entry.command.gxid choice.entry.command.cid choice.entry.table choice.entry.cond.now choice.entry.rid place) }
 {
+    is_chosen(alloc, choice.cond, image_at(marks, choice, place))
+}
+
+/// The row's image for the command, by a snapshot at the place.
+pub(crate) fn image_at<'a>(marks: &'a [Mark], choice: Choice<'_>, place: usize) -> Option<&'a Row>
+    ensures { option_copied result ≡ seen_at marks.now choice.entry.command.gxid choice.entry.command.cid choice.entry.table choice.entry.rid place }
+{
     let reader = Some((choice.command.gxid, choice.command.cid));
-    is_chosen(alloc, choice.cond, image(marks, before(marks, place), reader, choice.table, choice.rid))
+    image(marks, before(marks, place), reader, choice.table, choice.rid)
 }
 
 /// Whether the command has selected the row by one of its snapshots.

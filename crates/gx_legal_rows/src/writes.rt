@@ -4,7 +4,7 @@ ghost use Rattle.gx_legal_rows.specs.Changed.{is_changed as was_changed, is_gone
 ghost use Rattle.gx_legal_rows.specs.Writes.{is_next as may_be_next, is_write as may_write};
 
 use crate::command::{Choice, Command, RowAt};
-use crate::images::is_same_image;
+use crate::images::is_image;
 use crate::inserts::is_inserted;
 use crate::late::is_written_at;
 use crate::marks::{is_processed, node_of};
@@ -90,7 +90,7 @@ fn is_set_to(set: Result<Row, ArithFault>, image: &Option<Row>) -> bool
     ensures { result ≡ was_set_to set image.now }
 {
     match set {
-        Ok(new) => is_same_image(image, &Some(new)),
+        Ok(new) => is_image(image, &new),
         Err(_) => false,
     }
 }
