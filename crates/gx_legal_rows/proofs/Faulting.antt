@@ -208,7 +208,7 @@ module _ (g : Gxid) (c : Cid) (tuples : List (List Expr)) (rid : Rid) (meant : O
   is-constant : FaultsInConstants g c tuples rid meant fault → is_constant_fault g c tuples rid meant fault ≡ true
   is-constant f =
       let own = and_from (is_same_gxid rid.gxid g) _ (eqb-of rid.gxid.0 g.0 (ap (λ (x : Gxid). x.0) f.own.0))
-        (and_from (rid.cid.0 == c.0) _ (eqb-of rid.cid.0 c.0 (ap (λ (x : Cid). x.0) f.own.1)) (is-at-least 1 rid.ordinal f.counted)) in
+      (and_from (rid.cid.0 == c.0) _ (eqb-of rid.cid.0 c.0 (ap (λ (x : Cid). x.0) f.own.1)) (is-at-least 1 rid.ordinal f.counted)) in
       let tuple = ap (is_tuple_fault fault) f.among ∙ is-fault (values_of f.tuple) fault f.faults in
       and_from (is_own g c rid) _ own
       (and_from (is_gone meant []) _ (ap (λ i. is_gone i []) f.meant) (and_from (is_tuple_fault fault (slice_get tuples (rid.ordinal - 1))) _ tuple (before-all (rid.ordinal - 1) tuples f.first)))
@@ -221,8 +221,8 @@ module _ (marks : List Mark) (level : Level) (g : Gxid) (c : Cid) where
       or-either (is_seen_fault marks level g c table cond rid meant fault) _ _ e
       (λ h. inl (seen-is marks level g c table cond rid meant fault h))
       (λ h. inr (or-either (is_current_fault marks level g c table cond rid meant fault) _ _ h
-        (λ i. inl (current-is marks level g c table cond rid meant fault i))
-        (λ i. inr (set-is marks level g c table cond rid meant fault assigns i))))
+      (λ i. inl (current-is marks level g c table cond rid meant fault i))
+      (λ i. inr (set-is marks level g c table cond rid meant fault assigns i))))
   stmt-fault (Delete table cond) rid meant fault e =
       or-either (is_seen_fault marks level g c table cond rid meant fault) _ _ e
       (λ h. inl (seen-is marks level g c table cond rid meant fault h))

@@ -98,7 +98,7 @@ module _ (script : Script) (marks : List Mark) (g : Gxid) (c : Cid) (table : Tab
   is-inserted i =
       let row : RowOf script.segments dist node rid image tuple-there = record { tuple = i.tuple; among = i.among; values = i.values; constants = i.constants; written = i.written; place = i.place } in
       let own = and_from (is_same_gxid rid.gxid g) _ (eqb-of rid.gxid.0 g.0 (ap (λ (x : Gxid). x.0) i.own.0))
-        (and_from (rid.cid.0 == c.0) _ (eqb-of rid.cid.0 c.0 (ap (λ (x : Cid). x.0) i.own.1)) (is-at-least 1 rid.ordinal i.counted)) in
+      (and_from (rid.cid.0 == c.0) _ (eqb-of rid.cid.0 c.0 (ap (λ (x : Cid). x.0) i.own.1)) (is-at-least 1 rid.ordinal i.counted)) in
       and_from (is_own g c rid) _ own (and_from (not (is_written marks rid)) _ (not_from_false _ i.once) (of-row script.segments dist node rid image tuple-there row))
 
 module _ (marks : List Mark) (g : Gxid) (c : Cid) (table t : Table) (node : Node) (rid : Rid) where

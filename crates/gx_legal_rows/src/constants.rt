@@ -13,13 +13,23 @@ use gx_tree::{Expr, Row};
 use std::alloc::Global;
 
 /// Whether the first constant that faults is one of the tuple that the row's identity names.
-pub(crate) fn is_constant_fault(alloc: Global, command: Command, tuples: &[Seq<Expr>], rid: Rid, image: &Option<Row>, fault: ArithFault) -> Mem<bool>
+pub(crate) fn is_constant_fault(
+    alloc: Global,
+    command: Command,
+    tuples: &[Seq<Expr>],
+    rid: Rid,
+    image: &Option<Row>,
+    fault: ArithFault,
+) -> Mem<bool>
     ensures { IfOk result (λ holds. holds ≡ may_be_constant command.gxid command.cid tuples.now rid image.now fault) }
 {
     if !is_own(command, rid) || image.is_some() {
         return Ok(false);
     }
-    Ok(is_tuple_fault(alloc, fault, tuple_at(tuples, rid))? && are_whole(alloc, earlier(tuples, rid))?)
+    Ok(
+        is_tuple_fault(alloc, fault, tuple_at(tuples, rid))?
+            && are_whole(alloc, earlier(tuples, rid))?,
+    )
 }
 
 fn is_tuple_fault(alloc: Global, fault: ArithFault, tuple: Option<&Seq<Expr>>) -> Mem<bool>
@@ -36,7 +46,11 @@ fn earlier(tuples: &[Seq<Expr>], rid: Rid) -> &[Seq<Expr>]
     ensures { result.now ≡ take (rid.ordinal - 1) tuples.now }
 {
     let place = rid.ordinal.saturating_sub(1) as usize;
-    if place < tuples.len() { &tuples[..place] } else { tuples }
+    if place < tuples.len() {
+        &tuples[..place]
+    } else {
+        tuples
+    }
 }
 
 /// Whether no constant of the tuples faults.

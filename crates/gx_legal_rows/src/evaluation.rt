@@ -70,7 +70,12 @@ pub fn truth(alloc: Global, cond: &Cond, row: &[Value]) -> Mem<Result<bool, Arit
     }
 }
 
-fn order(alloc: Global, left: &Expr, right: &Expr, row: &[Value]) -> Mem<Result<Ordering, ArithFault>>
+fn order(
+    alloc: Global,
+    left: &Expr,
+    right: &Expr,
+    row: &[Value],
+) -> Mem<Result<Ordering, ArithFault>>
     ensures { IfOk result (λ outcome. outcome ≡ order_of row.now left.now right.now) }
 {
     match value(alloc, left, row)? {
@@ -104,7 +109,11 @@ fn meets(op: CmpOp, order: Ordering) -> bool
     }
 }
 
-fn computed_with(op: ArithOp, left: i64, right: Result<Value, ArithFault>) -> Result<Value, ArithFault>
+fn computed_with(
+    op: ArithOp,
+    left: i64,
+    right: Result<Value, ArithFault>,
+) -> Result<Value, ArithFault>
     ensures { result ≡ and_then right (λ b. arithmetic op left (number_in b)) }
 {
     computed(op, left, number_of(right?))

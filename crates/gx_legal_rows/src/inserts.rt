@@ -18,7 +18,16 @@ use gx_tree::{Dist, Expr, Row, Schema, Value};
 use std::alloc::Global;
 
 /// Whether the image is the row of the tuple that the row's identity names, at its place, and for the first time.
-pub(crate) fn is_inserted(alloc: Global, script: &Script, marks: &[Mark], command: Command, table: Table, tuples: &[Seq<Expr>], row: RowAt, image: &Option<Row>) -> Mem<bool>
+pub(crate) fn is_inserted(
+    alloc: Global,
+    script: &Script,
+    marks: &[Mark],
+    command: Command,
+    table: Table,
+    tuples: &[Seq<Expr>],
+    row: RowAt,
+    image: &Option<Row>,
+) -> Mem<bool>
     requires some { 1 ≤ script.now.segments }
     requires few { script.now.segments ≤ 16 }
     ensures { IfOk result (λ holds. holds ≡ was_inserted script.now marks.now command.gxid command.cid table tuples.now row.node row.rid image.now) }
@@ -27,7 +36,14 @@ pub(crate) fn is_inserted(alloc: Global, script: &Script, marks: &[Mark], comman
         return Ok(false);
     }
     let dist = dist_of(script.tables.as_slice(), table);
-    is_tuple_row(alloc, script.segments, dist, row, image, tuple_at(tuples, row.rid))
+    is_tuple_row(
+        alloc,
+        script.segments,
+        dist,
+        row,
+        image,
+        tuple_at(tuples, row.rid),
+    )
 }
 
 pub(crate) fn is_own(command: Command, rid: Rid) -> bool
@@ -42,24 +58,44 @@ pub(crate) fn tuple_at(tuples: &[Seq<Expr>], rid: Rid) -> Option<&Seq<Expr>>
     tuples.get(rid.ordinal.saturating_sub(1) as usize)
 }
 
-fn is_tuple_row(alloc: Global, segments: u8, dist: Dist, row: RowAt, image: &Option<Row>, tuple: Option<&Seq<Expr>>) -> Mem<bool>
+fn is_tuple_row(
+    alloc: Global,
+    segments: u8,
+    dist: Dist,
+    row: RowAt,
+    image: &Option<Row>,
+    tuple: Option<&Seq<Expr>>,
+) -> Mem<bool>
     requires some { 1 ≤ segments }
     requires few { segments ≤ 16 }
     ensures { IfOk result (λ holds. holds ≡ may_be_tuple segments dist row.node row.rid image.now (option_copied tuple.entry)) }
 {
     match tuple {
         None => Ok(false),
-        Some(tuple) => Ok(is_row_of(segments, dist, row, image, constants(alloc, tuple.as_slice())?)),
+        Some(tuple) => Ok(is_row_of(
+            segments,
+            dist,
+            row,
+            image,
+            constants(alloc, tuple.as_slice())?,
+        )),
     }
 }
 
-fn is_row_of(segments: u8, dist: Dist, row: RowAt, image: &Option<Row>, values: Result<Row, ArithFault>) -> bool
+fn is_row_of(
+    segments: u8,
+    dist: Dist,
+    row: RowAt,
+    image: &Option<Row>,
+    values: Result<Row, ArithFault>,
+) -> bool
     requires some { 1 ≤ segments }
     requires few { segments ≤ 16 }
     ensures { result ≡ may_be_row segments dist row.node row.rid image.now values }
 {
     match values {
-        Ok(values) => row.node == place_of(segments, dist, &values, row.rid) && is_image(image, &values),
+        Ok(values) => row.node == place_of(segments, dist, &values, row.rid)
+            && is_image(image, &values),
         Err(_) => false,
     }
 }
@@ -68,7 +104,13 @@ fn is_row_of(segments: u8, dist: Dist, row: RowAt, image: &Option<Row>, values: 
 fn dist_of(tables: &[Schema], table: Table) -> Dist
     ensures { result ≡ distribution tables.now table.0 }
 {
-    dist_in(tables.get(table.0 as usize))
+    dist_in(schema_at(tables, table))
+}
+
+fn schema_at(tables: &[Schema], table: Table) -> Option<&Schema>
+    ensures { option_copied result ≡ slice_get tables.now table.0 }
+{
+    tables.get(table.0 as usize)
 }
 
 fn dist_in(schema: Option<&Schema>) -> Dist

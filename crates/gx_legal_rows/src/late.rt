@@ -20,9 +20,13 @@ fn is_late(marks: &[Mark], command: Command, stmt: &Stmt, row: RowAt) -> bool
     ensures { result ≡ may_be_late marks.now command.gxid command.cid stmt.now row.node row.table row.rid }
 {
     match stmt {
-        Stmt::Insert(table, tuples) => *table == row.table && is_own_row(command, tuples.len(), row.rid) && is_at_home(node_of(marks, row.rid), row.node),
-        Stmt::Update(table, _, _) => *table == row.table && is_written_at(node_of(marks, row.rid), row.node),
-        Stmt::Delete(table, _) => *table == row.table && is_written_at(node_of(marks, row.rid), row.node),
+        Stmt::Insert(table, tuples) => *table == row.table
+            && is_own_row(command, tuples.len(), row.rid)
+            && is_at_home(node_of(marks, row.rid), row.node),
+        Stmt::Update(table, _, _) => *table == row.table
+            && is_written_at(node_of(marks, row.rid), row.node),
+        Stmt::Delete(table, _) => *table == row.table
+            && is_written_at(node_of(marks, row.rid), row.node),
         _ => false,
     }
 }
@@ -31,7 +35,10 @@ fn is_late(marks: &[Mark], command: Command, stmt: &Stmt, row: RowAt) -> bool
 fn is_own_row(command: Command, count: usize, rid: Rid) -> bool
     ensures { result ≡ is_one_of command.gxid command.cid count rid }
 {
-    rid.gxid == command.gxid && rid.cid == command.cid && 1 <= rid.ordinal && rid.ordinal as usize <= count
+    rid.gxid == command.gxid
+        && rid.cid == command.cid
+        && 1 <= rid.ordinal
+        && rid.ordinal as usize <= count
 }
 
 // Whether the row's first write is at the node, or it has none.

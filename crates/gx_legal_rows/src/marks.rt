@@ -64,7 +64,12 @@ fn is_snapped(marks: &[Mark], gxid: Gxid, cid: Cid) -> bool
     ensures { result ≡ was_snapped marks.now gxid cid }
 {
     for mark in marks {
-        if let Mark::Snap { gxid: g, cid: c, .. } = mark {
+        if let Mark::Snap {
+            gxid: g,
+            cid: c,
+            ..
+        } = mark
+        {
             if *g == gxid && *c == cid {
                 return true;
             }
@@ -137,7 +142,12 @@ pub(crate) fn write_count(marks: &[Mark], gxid: Gxid, cid: Cid) -> usize
 {
     let mut count = 0usize;
     for mark in marks {
-        if let Mark::Write { gxid: g, cid: c, .. } = mark {
+        if let Mark::Write {
+            gxid: g,
+            cid: c,
+            ..
+        } = mark
+        {
             if *g == gxid && *c == cid {
                 count += 1;
             }

@@ -13,7 +13,15 @@ use gx_tree::Cond;
 use std::alloc::Global;
 
 /// Whether the command has selected the row, whose current write is one of `writer`, which committed after the command's snapshot.
-pub fn is_overtaken_row(alloc: Global, marks: &[Mark], command: Command, table: Table, cond: &Option<Cond>, rid: Rid, writer: Gxid) -> Mem<bool>
+pub fn is_overtaken_row(
+    alloc: Global,
+    marks: &[Mark],
+    command: Command,
+    table: Table,
+    cond: &Option<Cond>,
+    rid: Rid,
+    writer: Gxid,
+) -> Mem<bool>
     ensures { IfOk result (λ holds. IsTrue holds ↔ IsOvertakenRow marks.now command.level command.gxid command.cid table cond.now rid writer) }
 {
     let choice = choice_of(command, table, cond, rid);
@@ -26,6 +34,10 @@ fn is_overtaken(alloc: Global, marks: &[Mark], choice: Choice<'_>, writer: Gxid)
 {
     match free_write(marks, choice.command.gxid, choice.rid) {
         None => Ok(false),
-        Some(write) => Ok(write.gxid == writer && is_committed(marks, writer) && is_unseen(alloc, marks, choice, writer)?),
+        Some(write) => Ok(
+            write.gxid == writer
+                && is_committed(marks, writer)
+                && is_unseen(alloc, marks, choice, writer)?,
+        ),
     }
 }

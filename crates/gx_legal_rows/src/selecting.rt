@@ -18,7 +18,11 @@ use gx_tree::{Cond, Level, Row};
 use std::alloc::Global;
 
 /// What the condition says of a row; without one all rows are meant.
-pub(crate) fn condition(alloc: Global, cond: &Option<Cond>, row: &Row) -> Mem<Result<bool, ArithFault>>
+pub(crate) fn condition(
+    alloc: Global,
+    cond: &Option<Cond>,
+    row: &Row,
+) -> Mem<Result<bool, ArithFault>>
     ensures { IfOk result (λ outcome. outcome ≡ condition_on cond.now row.now) }
 {
     match cond {
@@ -65,7 +69,13 @@ pub(crate) fn image_at<'a>(marks: &'a [Mark], choice: Choice<'_>, place: usize) 
     ensures { option_copied result ≡ seen_at marks.now choice.entry.command.gxid choice.entry.command.cid choice.entry.table choice.entry.rid place }
 {
     let reader = Some((choice.command.gxid, choice.command.cid));
-    image(marks, before(marks, place), reader, choice.table, choice.rid)
+    image(
+        marks,
+        before(marks, place),
+        reader,
+        choice.table,
+        choice.rid,
+    )
 }
 
 /// Whether the command has selected the row by one of its snapshots.
@@ -82,19 +92,34 @@ pub(crate) fn is_selected(alloc: Global, marks: &[Mark], choice: Choice<'_>) -> 
 }
 
 /// Whether the command has selected the row by a snapshot by which it may change it from this current write and its image.
-pub(crate) fn is_changeable(alloc: Global, marks: &[Mark], choice: Choice<'_>, write: Writing<'_>, old: &Row) -> Mem<bool>
+pub(crate) fn is_changeable(
+    alloc: Global,
+    marks: &[Mark],
+    choice: Choice<'_>,
+    write: Writing<'_>,
+    old: &Row,
+) -> Mem<bool>
     ensures { IfOk result (λ holds. holds ≡ may_change marks.now choice.entry.command.level choice.entry.command.gxid choice.entry.command.cid choice.entry.table choice.entry.cond.now choice.entry.rid (written_of write.entry) old.now) }
 {
     let places = snapshots(alloc, marks, choice.command)?;
     for place in &places {
-        if is_chosen_at(alloc, marks, choice, *place)? && is_current_at(alloc, marks, choice, write, old, *place)? {
+        if is_chosen_at(alloc, marks, choice, *place)?
+            && is_current_at(alloc, marks, choice, write, old, *place)?
+        {
             return Ok(true);
         }
     }
     Ok(false)
 }
 
-fn is_current_at(alloc: Global, marks: &[Mark], choice: Choice<'_>, write: Writing<'_>, old: &Row, place: usize) -> Mem<bool>
+fn is_current_at(
+    alloc: Global,
+    marks: &[Mark],
+    choice: Choice<'_>,
+    write: Writing<'_>,
+    old: &Row,
+    place: usize,
+) -> Mem<bool>
     ensures { IfOk result (λ holds. holds ≡ stands marks.now choice.entry.command.level choice.entry.command.gxid choice.entry.command.cid choice.entry.cond.now choice.entry.rid (written_of write.entry) old.now place) }
 {
     match choice.command.level {
@@ -108,7 +133,10 @@ fn is_shown_write(marks: &[Mark], choice: Choice<'_>, write: Writing<'_>, place:
     ensures { result ≡ is_that (shown_write marks.now (take place marks.now) choice.entry.command.gxid choice.entry.command.cid choice.entry.rid) (written_of write.entry) }
 {
     let reader = Some((choice.command.gxid, choice.command.cid));
-    is_write(last_write(marks, before(marks, place), reader, choice.rid), write)
+    is_write(
+        last_write(marks, before(marks, place), reader, choice.rid),
+        write,
+    )
 }
 
 fn is_write(shown: Option<Writing<'_>>, write: Writing<'_>) -> bool
@@ -121,7 +149,12 @@ fn is_write(shown: Option<Writing<'_>>, write: Writing<'_>) -> bool
 }
 
 /// Whether the command has selected the row by a snapshot that doesn't see that the transaction has committed.
-pub(crate) fn is_unseen(alloc: Global, marks: &[Mark], choice: Choice<'_>, writer: Gxid) -> Mem<bool>
+pub(crate) fn is_unseen(
+    alloc: Global,
+    marks: &[Mark],
+    choice: Choice<'_>,
+    writer: Gxid,
+) -> Mem<bool>
     ensures { IfOk result (λ holds. holds ≡ was_unseen marks.now choice.entry.command.level choice.entry.command.gxid choice.entry.command.cid choice.entry.table choice.entry.cond.now choice.entry.rid writer) }
 {
     let places = snapshots(alloc, marks, choice.command)?;
@@ -133,7 +166,13 @@ pub(crate) fn is_unseen(alloc: Global, marks: &[Mark], choice: Choice<'_>, write
     Ok(false)
 }
 
-fn is_unseen_at(alloc: Global, marks: &[Mark], choice: Choice<'_>, writer: Gxid, place: usize) -> Mem<bool>
+fn is_unseen_at(
+    alloc: Global,
+    marks: &[Mark],
+    choice: Choice<'_>,
+    writer: Gxid,
+    place: usize,
+) -> Mem<bool>
     ensures { IfOk result (λ holds. holds ≡ was_unseen_at marks.now choice.entry.command.gxid choice.entry.command.cid choice.entry.table choice.entry.cond.now choice.entry.rid writer place) }
 {
     Ok(is_chosen_at(alloc, marks, choice, place)? && !is_committed(before(marks, place), writer))

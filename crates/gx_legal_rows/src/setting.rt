@@ -32,7 +32,11 @@ pub fn constants(alloc: Global, tuple: &[Expr]) -> Mem<Result<Row, ArithFault>>
 }
 
 /// The row that a SET list makes of an old one, or its first fault.
-pub(crate) fn set_row(alloc: Global, assigns: &[Assign], old: &[Value]) -> Mem<Result<Row, ArithFault>>
+pub(crate) fn set_row(
+    alloc: Global,
+    assigns: &[Assign],
+    old: &[Value],
+) -> Mem<Result<Row, ArithFault>>
     ensures { IfOk result (λ outcome. outcome ≡ set_row_of assigns.now old.now) }
 {
     let mut new = copies(alloc, old)?;

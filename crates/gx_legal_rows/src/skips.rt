@@ -13,7 +13,13 @@ use gx_tree::{Cond, Level, Row, Stmt};
 use std::alloc::Global;
 
 /// Whether the command's statement may leave the row as it is behind these marks.
-pub fn is_skip_of(alloc: Global, marks: &[Mark], command: Command, stmt: &Stmt, rid: Rid) -> Mem<bool>
+pub fn is_skip_of(
+    alloc: Global,
+    marks: &[Mark],
+    command: Command,
+    stmt: &Stmt,
+    rid: Rid,
+) -> Mem<bool>
     ensures { IfOk result (λ holds. IsTrue holds ↔ IsSkipOf marks.now command.level command.gxid command.cid stmt.now rid) }
 {
     let holds = is_skip(alloc, marks, command, stmt, rid)?;
@@ -24,8 +30,16 @@ fn is_skip(alloc: Global, marks: &[Mark], command: Command, stmt: &Stmt, rid: Ri
     ensures { IfOk result (λ holds. holds ≡ may_skip marks.now command.level command.gxid command.cid stmt.now rid) }
 {
     match stmt {
-        Stmt::Update(table, _, cond) => is_first_skip(alloc, marks, choice_of(command, *table, cond, rid)),
-        Stmt::Delete(table, cond) => is_first_skip(alloc, marks, choice_of(command, *table, cond, rid)),
+        Stmt::Update(table, _, cond) => is_first_skip(
+            alloc,
+            marks,
+            choice_of(command, *table, cond, rid),
+        ),
+        Stmt::Delete(table, cond) => is_first_skip(
+            alloc,
+            marks,
+            choice_of(command, *table, cond, rid),
+        ),
         _ => Ok(false),
     }
 }
@@ -62,7 +76,9 @@ fn is_skipped(alloc: Global, marks: &[Mark], choice: Choice<'_>) -> Mem<bool>
     }
     match free_write(marks, choice.command.gxid, choice.rid) {
         None => Ok(false),
-        Some(write) => Ok(is_left(alloc, choice.cond, write.image)? && is_selected(alloc, marks, choice)?),
+        Some(write) => Ok(
+            is_left(alloc, choice.cond, write.image)? && is_selected(alloc, marks, choice)?,
+        ),
     }
 }
 

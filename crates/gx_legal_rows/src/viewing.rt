@@ -12,7 +12,13 @@ use std::collections::BTreeMap;
 
 /// The rows of a table for a reader whose point has the marks `before`, in the order of their identities. The reader is a command of a
 /// transaction, or nobody's.
-pub fn view(alloc: Global, marks: &[Mark], before: &[Mark], reader: Option<(Gxid, Cid)>, table: Table) -> Mem<Vec<KeyedRow>>
+pub fn view(
+    alloc: Global,
+    marks: &[Mark],
+    before: &[Mark],
+    reader: Option<(Gxid, Cid)>,
+    table: Table,
+) -> Mem<Vec<KeyedRow>>
     ensures rows { IfOk result (λ rows. rows.items ≡ view_rows marks.now before.now reader table) }
     ensures view { IfOk result (λ rows. IsView marks.now before.now reader table rows.items) }
 {
@@ -21,7 +27,13 @@ pub fn view(alloc: Global, marks: &[Mark], before: &[Mark], reader: Option<(Gxid
     Ok(rows)
 }
 
-fn last_images(alloc: Global, marks: &[Mark], before: &[Mark], reader: Option<(Gxid, Cid)>, table: Table) -> Mem<BTreeMap<Rid, Option<Row>>>
+fn last_images(
+    alloc: Global,
+    marks: &[Mark],
+    before: &[Mark],
+    reader: Option<(Gxid, Cid)>,
+    table: Table,
+) -> Mem<BTreeMap<Rid, Option<Row>>>
     ensures { IfOk result (λ images. images.entries ≡ images_from (is_shown_to reader before.now) table [] marks.now) }
 {
     let mut images = BTreeMap::new(alloc);

@@ -20,7 +20,15 @@ use gx_tree::{Assign, Row, Stmt};
 use std::alloc::Global;
 
 /// Whether the command's statement may write this image of the row behind these marks.
-pub fn is_write_of(alloc: Global, script: &Script, marks: &[Mark], command: Command, stmt: &Stmt, row: RowAt, image: &Option<Row>) -> Mem<bool>
+pub fn is_write_of(
+    alloc: Global,
+    script: &Script,
+    marks: &[Mark],
+    command: Command,
+    stmt: &Stmt,
+    row: RowAt,
+    image: &Option<Row>,
+) -> Mem<bool>
     requires some { 1 ≤ script.now.segments }
     requires few { script.now.segments ≤ 16 }
     ensures { IfOk result (λ holds. IsTrue holds ↔ IsWriteOf script.now marks.now command.level command.gxid command.cid stmt.now row.node row.table row.rid image.now) }
@@ -29,16 +37,39 @@ pub fn is_write_of(alloc: Global, script: &Script, marks: &[Mark], command: Comm
     Ok(holds)
 }
 
-fn is_write(alloc: Global, script: &Script, marks: &[Mark], command: Command, stmt: &Stmt, row: RowAt, image: &Option<Row>) -> Mem<bool>
+fn is_write(
+    alloc: Global,
+    script: &Script,
+    marks: &[Mark],
+    command: Command,
+    stmt: &Stmt,
+    row: RowAt,
+    image: &Option<Row>,
+) -> Mem<bool>
     requires some { 1 ≤ script.now.segments }
     requires few { script.now.segments ≤ 16 }
     ensures { IfOk result (λ holds. holds ≡ may_write script.now marks.now command.level command.gxid command.cid stmt.now row.node row.table row.rid image.now) }
 {
     match stmt {
-        Stmt::Insert(table, tuples) => Ok(*table == row.table && is_inserted(alloc, script, marks, command, *table, tuples.as_slice(), row, image)?),
+        Stmt::Insert(table, tuples) => Ok(
+            *table == row.table
+                && is_inserted(
+                    alloc,
+                    script,
+                    marks,
+                    command,
+                    *table,
+                    tuples.as_slice(),
+                    row,
+                    image,
+                )?,
+        ),
         Stmt::Update(table, assigns, cond) => {
             let choice = choice_of(command, *table, cond, row.rid);
-            Ok(is_next(marks, command, *table, row) && is_updated(alloc, marks, choice, assigns.as_slice(), image)?)
+            Ok(
+                is_next(marks, command, *table, row)
+                    && is_updated(alloc, marks, choice, assigns.as_slice(), image)?,
+            )
         }
         Stmt::Delete(table, cond) => {
             let choice = choice_of(command, *table, cond, row.rid);
@@ -52,10 +83,18 @@ fn is_write(alloc: Global, script: &Script, marks: &[Mark], command: Command, st
 fn is_next(marks: &[Mark], command: Command, table: Table, row: RowAt) -> bool
     ensures { result ≡ may_be_next marks.now command.gxid command.cid table row.node row.table row.rid }
 {
-    table == row.table && is_written_at(node_of(marks, row.rid), row.node) && !is_processed(marks, command.gxid, command.cid, row.rid)
+    table == row.table
+        && is_written_at(node_of(marks, row.rid), row.node)
+        && !is_processed(marks, command.gxid, command.cid, row.rid)
 }
 
-fn is_updated(alloc: Global, marks: &[Mark], choice: Choice<'_>, assigns: &[Assign], image: &Option<Row>) -> Mem<bool>
+fn is_updated(
+    alloc: Global,
+    marks: &[Mark],
+    choice: Choice<'_>,
+    assigns: &[Assign],
+    image: &Option<Row>,
+) -> Mem<bool>
     ensures { IfOk result (λ holds. holds ≡ was_changed marks.now choice.entry.command.level choice.entry.command.gxid choice.entry.command.cid choice.entry.table choice.entry.cond.now choice.entry.rid (was_set assigns.now image.now)) }
 {
     let Some(write) = free_write(marks, choice.command.gxid, choice.rid) else {
@@ -63,7 +102,9 @@ fn is_updated(alloc: Global, marks: &[Mark], choice: Choice<'_>, assigns: &[Assi
     };
     match write.image {
         None => Ok(false),
-        Some(old) => Ok(is_set(alloc, assigns, image, old)? && is_changeable(alloc, marks, choice, write, old)?),
+        Some(old) => Ok(
+            is_set(alloc, assigns, image, old)? && is_changeable(alloc, marks, choice, write, old)?,
+        ),
     }
 }
 

@@ -25,7 +25,11 @@ pub(crate) struct Writing<'a> {
 pub(crate) fn before(marks: &[Mark], place: usize) -> &[Mark]
     ensures { result.now ≡ take place marks.now }
 {
-    if place < marks.len() { &marks[..place] } else { marks }
+    if place < marks.len() {
+        &marks[..place]
+    } else {
+        marks
+    }
 }
 
 /// Whether a reader whose point has the marks `before` is shown the writes of a command.
@@ -39,7 +43,13 @@ pub(crate) fn is_shown(before: &[Mark], reader: Option<(Gxid, Cid)>, gxid: Gxid,
 }
 
 /// The row's image for a reader whose point has the marks `before`.
-pub(crate) fn image<'a>(marks: &'a [Mark], before: &[Mark], reader: Option<(Gxid, Cid)>, table: Table, rid: Rid) -> Option<&'a Row>
+pub(crate) fn image<'a>(
+    marks: &'a [Mark],
+    before: &[Mark],
+    reader: Option<(Gxid, Cid)>,
+    table: Table,
+    rid: Rid,
+) -> Option<&'a Row>
     ensures { option_copied result ≡ image_of marks.now before.now reader table rid }
 {
     let mut image = None;
@@ -69,7 +79,12 @@ pub(crate) fn current(marks: &[Mark], rid: Rid) -> Option<Writing<'_>>
 }
 
 /// The last of the writes to the row that the reader is shown; with no reader, of those whose transactions haven't aborted.
-pub(crate) fn last_write<'a>(marks: &'a [Mark], before: &[Mark], reader: Option<(Gxid, Cid)>, rid: Rid) -> Option<Writing<'a>>
+pub(crate) fn last_write<'a>(
+    marks: &'a [Mark],
+    before: &[Mark],
+    reader: Option<(Gxid, Cid)>,
+    rid: Rid,
+) -> Option<Writing<'a>>
     ensures { option_map written_of result ≡ last_of (counts_for reader before.now) rid 0 None marks.now }
 {
     let mut last = None;
