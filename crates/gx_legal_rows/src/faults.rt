@@ -2,7 +2,8 @@ ghost use Rattle.std.specs.Prelude.{◌≡◌, ◌↔◌, ◌||◌, IfOk, IsTrue
 ghost use Rattle.std.specs.Option.{option_copied};
 ghost use Rattle.gx_store.specs.Faults.{IsFaultOf};
 ghost use Rattle.gx_legal_rows.specs.Changed.{is_changed as was_changed};
-ghost use Rattle.gx_legal_rows.specs.Faulted.{is_current_fault as may_be_current, is_fault as is_that_fault, is_image_fault as may_be_image, is_same_fault as same_faults, is_seen_fault as may_be_seen, is_set_fault as may_be_set, is_stmt_fault as may_be_fault};
+ghost use Rattle.gx_legal_rows.specs.Faulted.{is_current_fault as may_be_current, is_fault as is_that_fault, is_image_fault as may_be_image, is_same_fault as same_faults};
+ghost use Rattle.gx_legal_rows.specs.Faulted.{is_seen_fault as may_be_seen, is_set_fault as may_be_set, is_stmt_fault as may_be_fault};
 
 use crate::command::{Choice, Command};
 use crate::constants::is_constant_fault;
@@ -91,9 +92,12 @@ fn is_update_fault(
     image: &Option<Row>,
     fault: ArithFault,
 ) -> Mem<bool>
-    ensures { IfOk result (λ holds. holds ≡ (may_be_seen marks.now choice.entry.command.level choice.entry.command.gxid choice.entry.command.cid choice.entry.table choice.entry.cond.now choice.entry.rid image.now fault
-        || (may_be_current marks.now choice.entry.command.level choice.entry.command.gxid choice.entry.command.cid choice.entry.table choice.entry.cond.now choice.entry.rid image.now fault
-        || was_changed marks.now choice.entry.command.level choice.entry.command.gxid choice.entry.command.cid choice.entry.table choice.entry.cond.now choice.entry.rid (may_be_set assigns.now image.now fault)))) }
+    ensures { IfOk result (λ holds. holds ≡ (may_be_seen marks.now choice.entry.command.level choice.entry.command.gxid choice.entry.command.cid
+        choice.entry.table choice.entry.cond.now choice.entry.rid image.now fault
+        || (may_be_current marks.now choice.entry.command.level choice.entry.command.gxid choice.entry.command.cid
+        choice.entry.table choice.entry.cond.now choice.entry.rid image.now fault
+        || was_changed marks.now choice.entry.command.level choice.entry.command.gxid choice.entry.command.cid
+        choice.entry.table choice.entry.cond.now choice.entry.rid (may_be_set assigns.now image.now fault)))) }
 {
     Ok(
         is_seen_fault(alloc, marks, choice, image, fault)?
@@ -109,8 +113,10 @@ fn is_condition_fault(
     image: &Option<Row>,
     fault: ArithFault,
 ) -> Mem<bool>
-    ensures { IfOk result (λ holds. holds ≡ (may_be_seen marks.now choice.entry.command.level choice.entry.command.gxid choice.entry.command.cid choice.entry.table choice.entry.cond.now choice.entry.rid image.now fault
-        || may_be_current marks.now choice.entry.command.level choice.entry.command.gxid choice.entry.command.cid choice.entry.table choice.entry.cond.now choice.entry.rid image.now fault)) }
+    ensures { IfOk result (λ holds. holds ≡ (may_be_seen marks.now choice.entry.command.level choice.entry.command.gxid choice.entry.command.cid
+        choice.entry.table choice.entry.cond.now choice.entry.rid image.now fault
+        || may_be_current marks.now choice.entry.command.level choice.entry.command.gxid choice.entry.command.cid
+        choice.entry.table choice.entry.cond.now choice.entry.rid image.now fault)) }
 {
     Ok(
         is_seen_fault(alloc, marks, choice, image, fault)?
@@ -126,7 +132,8 @@ fn is_seen_fault(
     image: &Option<Row>,
     fault: ArithFault,
 ) -> Mem<bool>
-    ensures { IfOk result (λ holds. holds ≡ may_be_seen marks.now choice.entry.command.level choice.entry.command.gxid choice.entry.command.cid choice.entry.table choice.entry.cond.now choice.entry.rid image.now fault) }
+    ensures { IfOk result (λ holds. holds ≡ may_be_seen marks.now choice.entry.command.level choice.entry.command.gxid choice.entry.command.cid
+        choice.entry.table choice.entry.cond.now choice.entry.rid image.now fault) }
 {
     let places = snapshots(alloc, marks, choice.command)?;
     for place in &places {
@@ -196,7 +203,8 @@ fn is_current_fault(
     image: &Option<Row>,
     fault: ArithFault,
 ) -> Mem<bool>
-    ensures { IfOk result (λ holds. holds ≡ may_be_current marks.now choice.entry.command.level choice.entry.command.gxid choice.entry.command.cid choice.entry.table choice.entry.cond.now choice.entry.rid image.now fault) }
+    ensures { IfOk result (λ holds. holds ≡ may_be_current marks.now choice.entry.command.level choice.entry.command.gxid choice.entry.command.cid
+        choice.entry.table choice.entry.cond.now choice.entry.rid image.now fault) }
 {
     if choice.command.level == Level::RepeatableRead {
         return Ok(false);
@@ -219,7 +227,8 @@ fn is_set_fault(
     image: &Option<Row>,
     fault: ArithFault,
 ) -> Mem<bool>
-    ensures { IfOk result (λ holds. holds ≡ was_changed marks.now choice.entry.command.level choice.entry.command.gxid choice.entry.command.cid choice.entry.table choice.entry.cond.now choice.entry.rid (may_be_set assigns.now image.now fault)) }
+    ensures { IfOk result (λ holds. holds ≡ was_changed marks.now choice.entry.command.level choice.entry.command.gxid choice.entry.command.cid
+        choice.entry.table choice.entry.cond.now choice.entry.rid (may_be_set assigns.now image.now fault)) }
 {
     let Some(write) = free_write(marks, choice.command.gxid, choice.rid) else {
         return Ok(false);

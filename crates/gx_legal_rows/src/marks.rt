@@ -1,7 +1,8 @@
 // What is looked up in a list of marks.
 ghost use Rattle.std.specs.Prelude.{◌≡◌, ◌∷◌, []};
 ghost use Rattle.gx_store.specs.Commands.{has_own_snapshot as is_served};
-ghost use Rattle.gx_store.specs.Marks.{has_snapshot as is_read_by, is_aborted as has_aborted, is_committed as has_committed, is_ended as has_ended, is_processed as was_processed, is_snapped as was_snapped, is_written as was_written, node_of as home_of, write_count as count_of};
+ghost use Rattle.gx_store.specs.Marks.{has_snapshot as is_read_by, is_aborted as has_aborted, is_committed as has_committed, is_ended as has_ended, is_processed as was_processed};
+ghost use Rattle.gx_store.specs.Marks.{is_snapped as was_snapped, is_written as was_written, node_of as home_of, write_count as count_of};
 
 use crate::command::Command;
 use gx_ids::{Cid, Gxid, Node, Rid};

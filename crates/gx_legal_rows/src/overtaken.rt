@@ -30,7 +30,8 @@ pub fn is_overtaken_row(
 }
 
 fn is_overtaken(alloc: Global, marks: &[Mark], choice: Choice<'_>, writer: Gxid) -> Mem<bool>
-    ensures { IfOk result (λ holds. holds ≡ was_overtaken marks.now choice.entry.command.level choice.entry.command.gxid choice.entry.command.cid choice.entry.table choice.entry.cond.now choice.entry.rid writer) }
+    ensures { IfOk result (λ holds. holds ≡ was_overtaken marks.now choice.entry.command.level choice.entry.command.gxid choice.entry.command.cid
+        choice.entry.table choice.entry.cond.now choice.entry.rid writer) }
 {
     match free_write(marks, choice.command.gxid, choice.rid) {
         None => Ok(false),

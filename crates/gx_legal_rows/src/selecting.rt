@@ -3,7 +3,8 @@ ghost use Rattle.std.specs.Prelude.{◌≡◌, IfOk, take};
 ghost use Rattle.std.specs.Option.{option_copied, option_map};
 ghost use Rattle.gx_store.specs.Commands.{condition_on};
 ghost use Rattle.gx_store.specs.Writes.{shown_write};
-ghost use Rattle.gx_legal_rows.specs.Selected.{image_at as seen_at, is_changeable as may_change, is_chosen as would_choose, is_chosen_at as has_chosen, is_current_at as stands, is_met as meets, is_missed as misses, is_selected as has_selected, is_unseen as was_unseen, is_unseen_at as was_unseen_at, is_write as is_that};
+ghost use Rattle.gx_legal_rows.specs.Selected.{image_at as seen_at, is_changeable as may_change, is_chosen as would_choose, is_chosen_at as has_chosen, is_current_at as stands, is_met as meets};
+ghost use Rattle.gx_legal_rows.specs.Selected.{is_missed as misses, is_selected as has_selected, is_unseen as was_unseen, is_unseen_at as was_unseen_at, is_write as is_that};
 ghost use Rattle.gx_legal_rows.specs.Written.{written_of};
 
 use crate::command::Choice;
@@ -59,7 +60,8 @@ fn is_chosen(alloc: Global, cond: &Option<Cond>, row: Option<&Row>) -> Mem<bool>
 }
 
 fn is_chosen_at(alloc: Global, marks: &[Mark], choice: Choice<'_>, place: usize) -> Mem<bool>
-    ensures { IfOk result (λ holds. holds ≡ has_chosen marks.now choice.entry.command.gxid choice.entry.command.cid choice.entry.table choice.entry.cond.now choice.entry.rid place) }
+    ensures { IfOk result (λ holds. holds ≡ has_chosen marks.now choice.entry.command.gxid choice.entry.command.cid
+        choice.entry.table choice.entry.cond.now choice.entry.rid place) }
 {
     is_chosen(alloc, choice.cond, image_at(marks, choice, place))
 }
@@ -80,7 +82,8 @@ pub(crate) fn image_at<'a>(marks: &'a [Mark], choice: Choice<'_>, place: usize) 
 
 /// Whether the command has selected the row by one of its snapshots.
 pub(crate) fn is_selected(alloc: Global, marks: &[Mark], choice: Choice<'_>) -> Mem<bool>
-    ensures { IfOk result (λ holds. holds ≡ has_selected marks.now choice.entry.command.level choice.entry.command.gxid choice.entry.command.cid choice.entry.table choice.entry.cond.now choice.entry.rid) }
+    ensures { IfOk result (λ holds. holds ≡ has_selected marks.now choice.entry.command.level choice.entry.command.gxid choice.entry.command.cid
+        choice.entry.table choice.entry.cond.now choice.entry.rid) }
 {
     let places = snapshots(alloc, marks, choice.command)?;
     for place in &places {
@@ -99,7 +102,8 @@ pub(crate) fn is_changeable(
     write: Writing<'_>,
     old: &Row,
 ) -> Mem<bool>
-    ensures { IfOk result (λ holds. holds ≡ may_change marks.now choice.entry.command.level choice.entry.command.gxid choice.entry.command.cid choice.entry.table choice.entry.cond.now choice.entry.rid (written_of write.entry) old.now) }
+    ensures { IfOk result (λ holds. holds ≡ may_change marks.now choice.entry.command.level choice.entry.command.gxid choice.entry.command.cid
+        choice.entry.table choice.entry.cond.now choice.entry.rid (written_of write.entry) old.now) }
 {
     let places = snapshots(alloc, marks, choice.command)?;
     for place in &places {
@@ -120,7 +124,8 @@ fn is_current_at(
     old: &Row,
     place: usize,
 ) -> Mem<bool>
-    ensures { IfOk result (λ holds. holds ≡ stands marks.now choice.entry.command.level choice.entry.command.gxid choice.entry.command.cid choice.entry.cond.now choice.entry.rid (written_of write.entry) old.now place) }
+    ensures { IfOk result (λ holds. holds ≡ stands marks.now choice.entry.command.level choice.entry.command.gxid choice.entry.command.cid
+        choice.entry.cond.now choice.entry.rid (written_of write.entry) old.now place) }
 {
     match choice.command.level {
         Level::ReadCommitted => Ok(is_met(condition(alloc, choice.cond, old)?)),
@@ -155,7 +160,8 @@ pub(crate) fn is_unseen(
     choice: Choice<'_>,
     writer: Gxid,
 ) -> Mem<bool>
-    ensures { IfOk result (λ holds. holds ≡ was_unseen marks.now choice.entry.command.level choice.entry.command.gxid choice.entry.command.cid choice.entry.table choice.entry.cond.now choice.entry.rid writer) }
+    ensures { IfOk result (λ holds. holds ≡ was_unseen marks.now choice.entry.command.level choice.entry.command.gxid choice.entry.command.cid
+        choice.entry.table choice.entry.cond.now choice.entry.rid writer) }
 {
     let places = snapshots(alloc, marks, choice.command)?;
     for place in &places {
@@ -173,7 +179,8 @@ fn is_unseen_at(
     writer: Gxid,
     place: usize,
 ) -> Mem<bool>
-    ensures { IfOk result (λ holds. holds ≡ was_unseen_at marks.now choice.entry.command.gxid choice.entry.command.cid choice.entry.table choice.entry.cond.now choice.entry.rid writer place) }
+    ensures { IfOk result (λ holds. holds ≡ was_unseen_at marks.now choice.entry.command.gxid choice.entry.command.cid
+        choice.entry.table choice.entry.cond.now choice.entry.rid writer place) }
 {
     Ok(is_chosen_at(alloc, marks, choice, place)? && !is_committed(before(marks, place), writer))
 }

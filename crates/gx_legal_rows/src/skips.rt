@@ -69,7 +69,8 @@ fn is_first_skip(alloc: Global, marks: &[Mark], choice: Choice<'_>) -> Mem<bool>
 }
 
 fn is_skipped(alloc: Global, marks: &[Mark], choice: Choice<'_>) -> Mem<bool>
-    ensures { IfOk result (λ holds. holds ≡ was_skipped marks.now choice.entry.command.level choice.entry.command.gxid choice.entry.command.cid choice.entry.table choice.entry.cond.now choice.entry.rid) }
+    ensures { IfOk result (λ holds. holds ≡ was_skipped marks.now choice.entry.command.level choice.entry.command.gxid choice.entry.command.cid
+        choice.entry.table choice.entry.cond.now choice.entry.rid) }
 {
     if choice.command.level == Level::RepeatableRead {
         return Ok(false);

@@ -95,7 +95,8 @@ fn is_updated(
     assigns: &[Assign],
     image: &Option<Row>,
 ) -> Mem<bool>
-    ensures { IfOk result (λ holds. holds ≡ was_changed marks.now choice.entry.command.level choice.entry.command.gxid choice.entry.command.cid choice.entry.table choice.entry.cond.now choice.entry.rid (was_set assigns.now image.now)) }
+    ensures { IfOk result (λ holds. holds ≡ was_changed marks.now choice.entry.command.level choice.entry.command.gxid choice.entry.command.cid
+        choice.entry.table choice.entry.cond.now choice.entry.rid (was_set assigns.now image.now)) }
 {
     let Some(write) = free_write(marks, choice.command.gxid, choice.rid) else {
         return Ok(false);
@@ -109,7 +110,8 @@ fn is_updated(
 }
 
 fn is_deleted(alloc: Global, marks: &[Mark], choice: Choice<'_>, image: &Option<Row>) -> Mem<bool>
-    ensures { IfOk result (λ holds. holds ≡ was_changed marks.now choice.entry.command.level choice.entry.command.gxid choice.entry.command.cid choice.entry.table choice.entry.cond.now choice.entry.rid (was_gone image.now)) }
+    ensures { IfOk result (λ holds. holds ≡ was_changed marks.now choice.entry.command.level choice.entry.command.gxid choice.entry.command.cid
+        choice.entry.table choice.entry.cond.now choice.entry.rid (was_gone image.now)) }
 {
     let Some(write) = free_write(marks, choice.command.gxid, choice.rid) else {
         return Ok(false);
