@@ -1,5 +1,5 @@
 -- The tests of writes decide the definitions: UPDATE and DELETE.
-use Rattle.std.proofs.Common.{◌≡◌, ◌∙◌, ℕ, ◌==◌, ◌&&◌, Bool, true, false, not, take, List, Option, Some, None, Result, Ok, Err, refl, sym, ap, subst}
+use Rattle.std.proofs.Common.{◌≡◌, ◌∙◌, ℕ, ◌==◌, ◌&&◌, Bool, true, take, List, Option, Some, None, Result, Ok, Err, refl, ap}
 use Rattle.std.proofs.lemmas.Bool.{and_from}
 use Rattle.gx_ids.specs.declared.ids.Gxid.{Gxid}
 use Rattle.gx_ids.specs.declared.ids.Cid.{Cid}
@@ -14,11 +14,10 @@ use Rattle.gx_tree.specs.declared.stmt.Level.TheVariants.{ReadCommitted, Repeata
 use Rattle.gx_tree.specs.declared.value.Value.{Value}
 use Rattle.gx_meaning.specs.declared.fault.ArithFault.{ArithFault}
 use Rattle.gx_store.specs.declared.mark.Mark.{Mark}
-use Rattle.gx_store.specs.Commands.{IsSnapshotAt, condition_on}
+use Rattle.gx_store.specs.Commands.{condition_on}
 use Rattle.gx_store.specs.Marks.{is_same_gxid}
 use Rattle.gx_store.specs.Writes.{IsCurrentFor, IsDeleted, IsSelectedAndFree, IsUpdated, Written, set_row, shown_write}
 use Rattle.gx_legal_rows.specs.Changed.{is_changed, is_changed_image, is_changed_write, is_gone, is_set, is_set_to}
-use Rattle.gx_legal_rows.specs.Images.{is_same_image}
 use Rattle.gx_legal_rows.specs.Selected.{free_write, is_chosen_at, is_current_at, is_same_write, is_write}
 use Rattle.gx_legal_rows.proofs.Decided.{no_more}
 use Rattle.gx_legal_rows.proofs.Equal.{images-decided}

@@ -1,5 +1,5 @@
 -- What a test decides.
-use Rattle.std.proofs.Common.{◌≡◌, ◌∙◌, ◌↔◌, Bool, true, false, IsTrue, refl, sym}
+use Rattle.std.proofs.Common.{◌≡◌, ◌∙◌, ◌↔◌, Bool, true, false, IsTrue, sym}
 
 pub no_more : (P : Type 0) → false ≡ true → P
 no_more P e = absurd (cc)

@@ -1,5 +1,5 @@
 -- The tests of faults decide the definitions.
-use Rattle.std.proofs.Common.{◌≡◌, ◌∙◌, ◌⊎◌, inl, inr, ℕ, zero, suc, ◌==◌, ◌-◌, ◌<◌, ◌≤◌, ◌&&◌, ◌||◌, nat_le, Bool, true, false, take, List, [], ◌∷◌, slice_get, Option, Some, None, Result, Ok, Err, refl, sym, ap, subst, arith}
+use Rattle.std.proofs.Common.{◌≡◌, ◌∙◌, inl, inr, ℕ, zero, suc, ◌==◌, ◌-◌, ◌<◌, true, take, List, [], ◌∷◌, slice_get, Option, Some, None, Result, Ok, Err, refl, sym, ap, subst, arith}
 use Rattle.std.proofs.lemmas.Bool.{and_from}
 use Rattle.gx_ids.specs.declared.ids.Gxid.{Gxid}
 use Rattle.gx_ids.specs.declared.ids.Cid.{Cid}
@@ -18,15 +18,15 @@ use Rattle.gx_meaning.specs.Constants.{values_of}
 use Rattle.gx_meaning.specs.declared.fault.ArithFault.{ArithFault}
 use Rattle.gx_meaning.specs.declared.fault.ArithFault.TheVariants.{Overflow, DivisionByZero}
 use Rattle.gx_store.specs.declared.mark.Mark.{Mark}
-use Rattle.gx_store.specs.Commands.{IsSnapshotAt, condition_on}
+use Rattle.gx_store.specs.Commands.{condition_on}
 use Rattle.gx_store.specs.Faults.{FaultsInConstants, FaultsInSet, FaultsOnCurrent, FaultsOnSeen, IsFaultOf}
 use Rattle.gx_store.specs.Marks.{is_same_gxid}
-use Rattle.gx_store.specs.Writes.{IsSelectedAndFree, Written, set_row}
+use Rattle.gx_store.specs.Writes.{Written, set_row}
 use Rattle.gx_legal_rows.specs.Changed.{is_changed, is_gone, is_read_committed}
 use Rattle.gx_legal_rows.specs.Faulted.{are_whole, is_constant_fault, is_current_fault, is_fault, is_image_fault, is_same_fault, is_seen_fault, is_set_fault, is_stmt_fault, is_tuple_fault, is_whole, is_write_fault}
 use Rattle.gx_legal_rows.specs.Images.{is_same_image}
 use Rattle.gx_legal_rows.specs.Inserted.{is_own}
-use Rattle.gx_legal_rows.specs.Selected.{free_write, image_at, is_chosen_at, is_selected}
+use Rattle.gx_legal_rows.specs.Selected.{free_write, image_at, is_chosen_at}
 use Rattle.gx_legal_rows.specs.Viewed.{view_rows}
 use Rattle.gx_legal_rows.proofs.Changes.{changed-is, is-changed}
 use Rattle.gx_legal_rows.proofs.Decided.{no_more}

@@ -1,5 +1,5 @@
 -- The tests of writes decide the definitions: INSERT, and all statements.
-use Rattle.std.proofs.Common.{◌≡◌, ◌∙◌, ℕ, zero, suc, ◌==◌, ◌-◌, ◌≤◌, ◌&&◌, nat_le, Bool, true, false, not, List, [], ◌∷◌, slice_get, Option, Some, None, Result, Ok, Err, refl, sym, ap, subst}
+use Rattle.std.proofs.Common.{◌≡◌, ◌∙◌, ℕ, zero, suc, ◌==◌, ◌-◌, true, false, not, List, [], ◌∷◌, slice_get, Option, Some, None, Result, Ok, Err, refl, sym, ap}
 use Rattle.std.proofs.lemmas.Bool.{and_from, not-true, not_from_false}
 use Rattle.gx_ids.specs.declared.ids.Gxid.{Gxid}
 use Rattle.gx_ids.specs.declared.ids.Cid.{Cid}
@@ -22,10 +22,8 @@ use Rattle.gx_script.specs.declared.Script.{Script}
 use Rattle.gx_store.specs.declared.mark.Mark.{Mark}
 use Rattle.gx_store.specs.Marks.{is_processed, is_same_gxid, is_written, node_of}
 use Rattle.gx_store.specs.Writes.{IsInserted, IsWriteOf, dist_of}
-use Rattle.gx_legal_rows.specs.Images.{is_same_image}
 use Rattle.gx_legal_rows.specs.Inserted.{dist_in, is_inserted, is_own, is_row_of, is_tuple_row}
 use Rattle.gx_legal_rows.specs.Late.{is_written_at}
-use Rattle.gx_legal_rows.specs.Changed.{is_changed, is_gone, is_set}
 use Rattle.gx_legal_rows.specs.Writes.{is_next, is_write}
 use Rattle.gx_legal_rows.proofs.Changes.{deleted-is, is-deleted, is-updated, updated-is}
 use Rattle.gx_legal_rows.proofs.Decided.{no_more}

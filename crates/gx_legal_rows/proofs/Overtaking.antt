@@ -1,5 +1,5 @@
 -- The test of an overtaken row decides the definition.
-use Rattle.std.proofs.Common.{◌≡◌, ◌∙◌, ℕ, ◌&&◌, Bool, true, false, not, take, List, Option, Some, None, refl, sym, ap, subst}
+use Rattle.std.proofs.Common.{◌≡◌, ◌∙◌, true, List, Option, Some, None, refl, ap}
 use Rattle.std.proofs.lemmas.Bool.{and_from, not-true, not_from_false}
 use Rattle.gx_ids.specs.declared.ids.Gxid.{Gxid}
 use Rattle.gx_ids.specs.declared.ids.Cid.{Cid}
@@ -14,7 +14,7 @@ use Rattle.gx_store.specs.Marks.{is_committed, is_same_gxid}
 use Rattle.gx_store.specs.Refusals.{IsOvertakenRow}
 use Rattle.gx_store.specs.Writes.{Written}
 use Rattle.gx_legal_rows.specs.Changed.{is_overtaken, is_overtaken_by}
-use Rattle.gx_legal_rows.specs.Selected.{free_write, is_chosen_at, is_unseen, is_unseen_at}
+use Rattle.gx_legal_rows.specs.Selected.{free_write, is_chosen_at, is_unseen_at}
 use Rattle.gx_legal_rows.proofs.Snapshots.{any-snapshot, gxid-same, snapshot-any}
 use Rattle.gx_legal_rows.proofs.Selections.{chosen-of, free-of, selected-by, selected-chosen, selected-free}
 use Rattle.gx_legal_rows.proofs.Decided.{no_more}

@@ -1,25 +1,18 @@
 -- The tests of selected rows decide the definitions.
-use Rattle.std.proofs.Common.{◌≡◌, ◌∙◌, ◌↔◌, ℕ, ◌==◌, ◌&&◌, Bool, true, false, not, if◌then◌else◌, List, take, Option, Some, None, Result, Ok, Err, refl, sym, ap, subst, arith}
-use Rattle.std.proofs.lemmas.Bool.{and_from}
-use Rattle.std.specs.List.{list_any}
+use Rattle.std.proofs.Common.{◌≡◌, ◌∙◌, ℕ, Bool, true, false, if◌then◌else◌, List, take, Option, Some, None, Result, Ok, Err, refl, sym, ap}
 use Rattle.gx_ids.specs.declared.ids.Gxid.{Gxid}
 use Rattle.gx_ids.specs.declared.ids.Cid.{Cid}
 use Rattle.gx_ids.specs.declared.ids.Table.{Table}
 use Rattle.gx_ids.specs.declared.rid.Rid.{Rid}
-use Rattle.gx_lemmas.proofs.Tests.{and-first, and-second}
 use Rattle.gx_tree.specs.declared.cond.Cond.{Cond}
 use Rattle.gx_tree.specs.declared.stmt.Level.{Level}
 use Rattle.gx_tree.specs.declared.value.Value.{Value}
 use Rattle.gx_meaning.specs.declared.fault.ArithFault.{ArithFault}
 use Rattle.gx_store.specs.declared.mark.Mark.{Mark}
 use Rattle.gx_store.specs.Commands.{IsSnapshotAt, condition_on}
-use Rattle.gx_store.specs.Rows.{row_at}
-use Rattle.gx_store.specs.View.{IsView}
 use Rattle.gx_store.specs.Writes.{IsSelectedAndFree, Written, current, is_free_for}
 use Rattle.gx_legal_rows.specs.Selected.{free_write, if_free, image_at, is_chosen, is_chosen_at, is_met, is_missed}
-use Rattle.gx_legal_rows.specs.Places.{snapshots}
 use Rattle.gx_legal_rows.specs.Viewed.{view_rows}
-use Rattle.gx_legal_rows.proofs.Snapshots.{any-snapshot, snapshot-any}
 use Rattle.gx_legal_rows.proofs.Views.{view-is}
 use Rattle.gx_legal_rows.proofs.Decided.{no_more}
 

@@ -1,5 +1,5 @@
 -- The test of a skip decides the definition.
-use Rattle.std.proofs.Common.{◌≡◌, ◌∙◌, ◌↔◌, ◌⊎◌, inl, inr, ℕ, ◌&&◌, Bool, true, false, not, IsTrue, List, Option, Some, None, Ok, refl, sym, ap, subst}
+use Rattle.std.proofs.Common.{◌≡◌, ◌∙◌, ◌⊎◌, inl, inr, ◌&&◌, true, false, not, List, Option, Some, None, Ok, refl, ap}
 use Rattle.std.proofs.lemmas.Bool.{and_from, not-true, not_from_false}
 use Rattle.gx_ids.specs.declared.ids.Gxid.{Gxid}
 use Rattle.gx_ids.specs.declared.ids.Cid.{Cid}
@@ -17,7 +17,7 @@ use Rattle.gx_store.specs.Commands.{condition_on}
 use Rattle.gx_store.specs.Marks.{is_processed}
 use Rattle.gx_store.specs.Writes.{IsSkipOf, IsSkipped, Written}
 use Rattle.gx_legal_rows.specs.Changed.{is_left, is_left_write, is_read_committed, is_skip, is_skipped}
-use Rattle.gx_legal_rows.specs.Selected.{free_write, is_chosen_at, is_selected}
+use Rattle.gx_legal_rows.specs.Selected.{free_write, is_chosen_at}
 use Rattle.gx_legal_rows.proofs.Snapshots.{any-snapshot, snapshot-any}
 use Rattle.gx_legal_rows.proofs.Selections.{chosen-of, free-of, is-missed, missed-is, selected-by, selected-chosen, selected-free}
 use Rattle.gx_legal_rows.proofs.Decided.{no_more}

@@ -1,5 +1,5 @@
 -- Whether two values, rows or images are one, as tests.
-use Rattle.std.specs.Prelude.{◌==◌, nat_eq, Bool, true, false, ◌&&◌, List, Some, None}
+use Rattle.std.specs.Prelude.{nat_eq, Bool, true, false, List, Some, None}
 use Rattle.std.specs.Cmp.Lexicographic.{pointwise}
 use Rattle.std.specs.Ordering.{int_eq}
 use Rattle.std.specs.declared.option.Option.{Option}

@@ -1,4 +1,4 @@
-use Rattle.std.proofs.Common.{◌≡◌, Bool}
+use Rattle.std.proofs.Common.{◌≡◌}
 use Rattle.gx_legal_rows.specs.Changed.{is_overtaken}
 use Rattle.gx_legal_rows.proofs.Decided.{decided}
 use Rattle.gx_legal_rows.proofs.Overtaking.{is-overtaken, overtaken-is}

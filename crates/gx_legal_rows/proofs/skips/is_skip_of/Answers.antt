@@ -1,5 +1,3 @@
-use Rattle.std.proofs.Common.{◌↔◌, Bool, IsTrue, subst, sym}
-use Rattle.gx_store.specs.Writes.{IsSkipOf}
 use Rattle.gx_legal_rows.proofs.Decided.{decided}
 use Rattle.gx_legal_rows.proofs.Skipping.{is-skip, skip-is}
 use Rattle.gx_legal_rows.proofs.skips.is_skip_of.Goals as goal

@@ -2,7 +2,6 @@ use Rattle.std.proofs.Common.{List, subst, sym}
 use Rattle.gx_tree.specs.declared.row.KeyedRow.{KeyedRow}
 use Rattle.gx_store.specs.View.{IsView}
 use Rattle.gx_legal_rows.proofs.Views.{view-is}
-use Rattle.gx_legal_rows.specs.Viewed.{listed, view_rows}
 use Rattle.gx_legal_rows.proofs.viewing.view.Goals as goal
 
 pub returns-clause-view : goal.returns-clause-view
