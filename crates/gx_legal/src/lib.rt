@@ -2,6 +2,7 @@
 //! to the next.
 #![tactic(auto)]
 
+pub mod lines;
 pub mod moment;
 pub mod standing;
 
