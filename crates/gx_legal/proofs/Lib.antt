@@ -1,1 +1,7 @@
+pub mod Doings
+pub mod Earlier
+pub mod Oks
+pub mod Places
+pub mod Sessions
 pub mod Standings
+pub mod UnderWay
