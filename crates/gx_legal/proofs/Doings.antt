@@ -1,5 +1,5 @@
 -- What a legal write, skip or fault is, by the command that did it.
-use Rattle.std.proofs.Common.{◌≡◌, ◌↔◌, ◌⊎◌, true, Option, List, inl, inr}
+use Rattle.std.proofs.Common.{◌≡◌, ◌↔◌, ◌⊎◌, Bool, IsTrue, Option, List, inl, inr, sym, subst}
 use Rattle.std.specs.Borrow.{Bor}
 use Rattle.gx_ids.specs.declared.ids.Cid.{Cid}
 use Rattle.gx_ids.specs.declared.ids.Gxid.{Gxid}
@@ -9,10 +9,10 @@ use Rattle.gx_legal.specs.declared.deed.Act.{Act}
 use Rattle.gx_legal.specs.declared.deed.Act.TheVariants as act
 use Rattle.gx_legal_rows.specs.declared.command.RowAt.{RowAt}
 use Rattle.gx_script.specs.declared.Script.{Script}
-use Rattle.gx_store.specs.Lines.{is_on_rows}
+use Rattle.gx_store.specs.declared.mark.Mark.{Mark}
 use Rattle.gx_store.specs.Points.{IsNoLater, Point, before}
-use Rattle.gx_store.specs.Writes.{IsLate, IsLateSkip, IsLateWrite, IsLateWriteOf, IsLiveSkip, IsLiveWrite, LegalSkip, LegalWrite, may_skip}
-use Rattle.gx_store.specs.Faults.{IsLateFault, IsLiveFault, LegalFault}
+use Rattle.gx_store.specs.Writes.{IsLate, LegalSkip, LegalWrite}
+use Rattle.gx_store.specs.Faults.{LegalFault}
 use Rattle.gx_tree.specs.declared.stmt.Level.{Level}
 use Rattle.gx_tree.specs.declared.stmt.Stmt.{Stmt}
 use Rattle.gx_tree.specs.declared.value.Value.{Value}
@@ -32,6 +32,20 @@ module _ (script : Script) (point : Point) (g : Gxid) (c : Cid) where
       side : IsNoLater late.early point → IsByEarlierStep script point (doing a) ⊎ IsByEarlierInStep script point (doing a)
       side (inl is) = inl (late.early, is, (late.session, (stmt, late.level, late.ran, may)))
       side (inr is) = inr (late.early, is, (late.session, (stmt, late.level, late.ran, may)))
+
+  -- where no command under way does it
+  pub either-late : (live late : Act) (marks : List Mark) (b : Bool) → marks ≡ before point → (IsByCommand script point (record { marks = marks; g = g; c = c; act = live }) → ⊥)
+      → IsTrue b ↔ IsLateDoing script point (record { marks = marks; g = g; c = c; act = late }) → IsTrue b ↔ IsByEither script point g c live late
+  either-late live late marks b e none is = subst P (sym e) at none is
+    where
+      P : List Mark → Type 0
+      P ms = (IsByCommand script point (record { marks = ms; g = g; c = c; act = live }) → ⊥) → IsTrue b ↔ IsLateDoing script point (record { marks = ms; g = g; c = c; act = late }) → IsTrue b ↔ IsByEither script point g c live late
+      at : P (before point)
+      at n h = (λ t. inr (h.0 t), back)
+        where
+          back : IsByEither script point g c live late → IsTrue b
+          back (inl by) = absurd (n by)
+          back (inr by) = h.1 by
 
   pub write-either : (row : RowAt) (image : Bor (Option (List Value))) → IsByEither script point g c (act.Write row image) (act.LateWrite row) ↔ LegalWrite script point g c row.node row.table row.rid image.now
   write-either row image = (to, back)

@@ -1,5 +1,6 @@
 pub mod Doings
 pub mod Earlier
+pub mod Hearing
 pub mod Oks
 pub mod Places
 pub mod Sessions

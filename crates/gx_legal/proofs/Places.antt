@@ -1,9 +1,13 @@
 -- Marks of steps as one list, and places in lists one by one.
-use Rattle.std.proofs.Common.{◌≡◌, ◌↔◌, ◌≤◌, ◌<◌, ◌+◌, ◌-◌, ℕ, Bool, true, false, IsTrue, List, [], ◌∷◌, ◌++◌, Some, length, take, drop, slice_get, refl, sym, subst, ap, ◌∙◌, zero, suc, eqb, arith, append_assoc, length-append}
+use Rattle.std.proofs.Common.{◌≡◌, ◌≤◌, ◌<◌, ◌+◌, ◌-◌, ℕ, Bool, true, false, List, [], ◌∷◌, ◌++◌, Some, length, take, drop, slice_get, get_or, refl, sym, subst, ap, ◌∙◌, zero, suc, eqb, arith, append_assoc, length-append}
 use Rattle.std.proofs.lemmas.Bool.{eqb-true}
 use Rattle.std.proofs.lemmas.List.Concat.{flat_map-append}
+use Rattle.std.proofs.lemmas.List.{take_more}
+use Rattle.std.proofs.lemmas.Option.{get_or_from_slice_get}
 use Rattle.std.proofs.Math.Seq.{take-append-add, take-append_seam}
+use Rattle.gx_lemmas.proofs.Lists.{place-below}
 use Rattle.gx_lemmas.proofs.Numbers.{lt-next}
+use Rattle.gx_store.proofs.Runs.{marks_in-push}
 use Rattle.gx_store.specs.declared.mark.Mark.{Mark}
 use Rattle.gx_store.specs.declared.run.Step.{Step}
 use Rattle.gx_store.specs.Points.{marks_in}
@@ -18,7 +22,18 @@ none-below P k below here i inside p = by_test (eqb i k) refl
 pub split-at : {A : Type 0} (xs : List A) (k : ℕ) (x : A) → slice_get xs k ≡ Some x → xs ≡ take k xs ++ x ∷ drop (k + 1) xs
 split-at [] k x e = absurd (cc)
 split-at (y ∷ ys) zero x e = let f : y ≡ x = cc in ap (λ z. z ∷ ys) f
-split-at (y ∷ ys) (suc k) x e = ap (λ zs. y ∷ zs) (split-at ys k x e)
+split-at (y ∷ ys) (suc k) x e = ap (λ zs. y ∷ zs) (split-at ys k x e) ∙ ap (λ n. y ∷ (take k ys ++ x ∷ drop n (y ∷ ys))) (next k)
+  where
+    next : (n : ℕ) → suc (n + 1) ≡ suc n + 1
+    next n = omega arith
+
+pub length-taken : {A : Type 0} (xs : List A) (n : ℕ) → n ≤ length xs → n ≡ length (take n xs)
+length-taken xs zero l = refl
+length-taken [] (suc n) l = absurd (omega arith)
+length-taken (x ∷ xs) (suc n) l = ap suc (length-taken xs n (omega arith))
+
+pub take-next : {A : Type 0} (xs : List A) (k : ℕ) (x : A) → k < length xs → x ≡ get_or xs k x → take k xs ++ x ∷ [] ≡ take (k + 1) xs
+take-next xs k x inside is = ap (λ y. take k xs ++ y ∷ []) is ∙ sym (take_more xs k x inside)
 
 pub take-through : {A : Type 0} (before xs ys zs ws : List A) (n : ℕ) → before ≡ (xs ++ (ys ++ zs)) ++ ws → n ≡ length xs + length ys → take n before ≡ xs ++ ys
 take-through before xs ys zs ws n e k =
@@ -51,3 +66,7 @@ part-whole all earlier before count e =
   where
     left : (a b d : ℕ) → d ≡ a + b → d - b ≡ a
     left a b d f = omega arith
+
+pub marks-through : (steps : List Step) (k : ℕ) (step : Step) → slice_get steps k ≡ Some step → length (marks_in (take k steps)) + length step.marks ≡ length (marks_in (take (k + 1) steps))
+marks-through steps k step at =
+    sym (ap (λ ss. length (marks_in ss)) (sym (take-next steps k step (place-below steps k step at) (sym (get_or_from_slice_get steps k step step at)))) ∙ ap length (marks_in-push (take k steps) step) ∙ length-append (marks_in (take k steps)) step.marks)

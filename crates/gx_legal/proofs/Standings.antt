@@ -1,6 +1,6 @@
 -- Where a session stands behind one more mark.
 use Rattle.std.proofs.Common.{◌≡◌, ℕ, ◌+◌, ◌<◌, List, [], ◌∷◌, ◌++◌, get_or, length, take, subst, sym, ap, ◌∙◌, arith}
-use Rattle.std.proofs.lemmas.List.{take_more}
+use Rattle.gx_legal.proofs.Places.{take-next}
 use Rattle.gx_ids.specs.declared.ids.SessionId.{SessionId}
 use Rattle.gx_script.specs.declared.Script.{Script}
 use Rattle.gx_store.specs.declared.mark.Mark.{Mark}
@@ -18,9 +18,6 @@ moved-append script session old mid new xs ys m n = record {
   started = n.started ∙ ap (λ g. started_after session g ys) m.started ∙ sym (started_after-append session old.started xs ys);
   answered = omega (arith, m.answered, n.answered, answer_count-append session xs ys);
 }
-
-pub take-next : {A : Type 0} (xs : List A) (k : ℕ) (x : A) → k < length xs → x ≡ get_or xs k x → take k xs ++ x ∷ [] ≡ take (k + 1) xs
-take-next xs k x inside is = ap (λ y. take k xs ++ y ∷ []) is ∙ sym (take_more xs k x inside)
 
 pub moved-next : (script : Script) (session : SessionId) (old mid new : Standing) (xs : List Mark) (k : ℕ) (m : Mark) → k < length xs → m ≡ get_or xs k m
     → IsMoved script session old (take k xs) mid → IsMoved script session mid (m ∷ []) new → IsMoved script session old (take (k + 1) xs) new

@@ -1,6 +1,5 @@
 -- A moment as a point, and earlier points.
-use Rattle.std.specs.Prelude.{ℕ, List, [], take, slice_get, Some, None}
-use Rattle.std.specs.declared.option.Option.{Option}
+use Rattle.std.specs.Prelude.{ℕ, [], take}
 use Rattle.gx_store.specs.declared.run.Step.{Step}
 use Rattle.gx_store.specs.Points.{Point}
 use Rattle.gx_legal.specs.declared.moment.Moment.{Moment}

@@ -64,7 +64,7 @@ pub fn may(alloc: Global, script: &Script, deed: &Deed<'_>, stmt: &Stmt, level: 
         Act::Write { row, image } => may_write(alloc, script, marks, command, stmt, *row, image),
         Act::Skip(rid) => is_skip_of(alloc, marks, command, stmt, *rid),
         Act::Fault { rid, image } => may_fault(alloc, marks, command, stmt, *rid, image),
-        Act::LateWrite(row) => is_late_write_of(marks, command, stmt, *row),
+        Act::LateWrite(row) => Ok(is_late_write_of(marks, command, stmt, *row)),
         Act::LateSkip => Ok(may_skip(stmt)),
         Act::LateFault => Ok(is_on_rows(stmt)),
     }

@@ -14,10 +14,8 @@ pub mod heard;
 pub mod late;
 pub mod lines;
 pub mod moment;
-pub mod snaps;
 pub mod standing;
 pub mod starts;
-pub mod verdicts;
 pub mod word;
 pub mod working;
 
