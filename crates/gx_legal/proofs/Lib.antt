@@ -3,6 +3,8 @@ pub mod Earlier
 pub mod Hearing
 pub mod Oks
 pub mod Places
+pub mod Refusing
+pub mod Seeing
 pub mod Sessions
 pub mod Standings
 pub mod UnderWay

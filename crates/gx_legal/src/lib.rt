@@ -14,8 +14,10 @@ pub mod heard;
 pub mod late;
 pub mod lines;
 pub mod moment;
+pub mod snaps;
 pub mod standing;
 pub mod starts;
+pub mod verdicts;
 pub mod word;
 pub mod working;
 
