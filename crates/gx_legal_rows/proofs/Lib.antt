@@ -9,3 +9,4 @@ pub mod Lateness
 pub mod Changes
 pub mod Insertions
 pub mod Faulting
+pub mod Doing

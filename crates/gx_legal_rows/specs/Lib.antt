@@ -9,3 +9,4 @@ pub mod Late
 pub mod Inserted
 pub mod Writes
 pub mod Faulted
+pub mod Done

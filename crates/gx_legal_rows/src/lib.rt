@@ -3,6 +3,7 @@
 #![tactic(auto)]
 
 mod arithmetic;
+pub mod changed;
 pub mod command;
 mod constants;
 mod evaluation;
@@ -16,6 +17,7 @@ mod places;
 mod selecting;
 mod setting;
 pub mod skips;
+pub mod told;
 pub mod viewing;
 pub mod writes;
 mod writing;
@@ -26,5 +28,6 @@ pub use late::is_late_write_of;
 pub use marks::{has_own_snapshot, is_aborted, is_committed, is_ended};
 pub use overtaken::is_overtaken_row;
 pub use skips::is_skip_of;
+pub use told::tells;
 pub use viewing::view;
 pub use writes::is_write_of;
