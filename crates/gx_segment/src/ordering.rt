@@ -1,5 +1,6 @@
 // PREPARE, COMMIT, COMMIT PREPARED, ABORT and FORGET.
 ghost use Rattle.std.specs.Prelude.{◌≡◌, ◌≤◌, ◌==◌, ◌&&◌, Bool, false, ◌++◌, if◌then◌else◌, IfOk, OnOk};
+ghost use Rattle.std.specs.BTreeMap.{get};
 ghost use Rattle.std.specs.BTreeSet.{contains};
 ghost use Rattle.gx_ids.specs.declared.ids.Gxid.{Gxid};
 ghost use Rattle.gx_dsnap.specs.Gxids.{gxid_cmp};
@@ -12,10 +13,10 @@ ghost use Rattle.gx_rules.specs.Segments as rule;
 ghost use Rattle.gx_slices.specs.Agrees.{IsHeld, entry_at, local_in, rows_in};
 ghost use Rattle.gx_segment.specs.Before.{Before};
 ghost use Rattle.gx_segment.specs.Done.{HasDone, answer_of};
-ghost use Rattle.gx_segment.specs.Moves.{HasMoved, order_turn, status_in};
+ghost use Rattle.gx_segment.specs.Moves.{HasMoved, HasTaken, order_turn, status_in};
 
 use crate::done::{Done, answer, nothing};
-use crate::entries::{put_in, take_out};
+use crate::entries::{Entries, new_entry, put_in};
 use gx_dtx::order::Order;
 use gx_ids::{Gxid, Mem, Node, Seq};
 use gx_locks::LockTable;
@@ -110,13 +111,40 @@ fn obey<J: Journal>(
         (change_of order node gxid (rows_in (entry_at held.old gxid)) taken.fails (local_in (entry_at held.old gxid))).item) }
     ensures later { IsLater (J.shelf journal.old) (J.shelf journal.new) }
 {
-    let mut entry = take_out(alloc, &mut held.entries, gxid);
-    let taken = take_at(alloc, node, gxid, order, &mut entry, journal)?;
-    let phase = entry.local.phase;
-    put_in(&mut held.entries, gxid, entry)?;
+    let (taken, phase) = take_in(alloc, node, &mut held.entries, gxid, order, journal)?;
     held.store.set_status(gxid, status(phase));
     leave_ended(&mut held.holders, gxid, phase);
     Ok(taken)
+}
+
+// Takes the order at the transaction's entry, and gives the phase in which that is then. An entry is made where nothing has come here.
+fn take_in<J: Journal>(
+    alloc: Global,
+    node: Node,
+    entries: &mut Entries,
+    gxid: Gxid,
+    order: Order,
+    journal: &mut J,
+) -> Mem<(Taken, Phase)>
+    ensures taken { IfOk result (λ done. HasTaken entries.old entries.new gxid
+        (change_of order node gxid (rows_in (get gxid_cmp entries.old gxid)) done.0.fails (local_in (get gxid_cmp entries.old gxid))) done.0 (phase_of done.1)) }
+    ensures took { IfOk result (λ done. Took (J.shelf journal.old) (J.shelf journal.new) done.0.fails
+        (change_of order node gxid (rows_in (get gxid_cmp entries.old gxid)) done.0.fails (local_in (get gxid_cmp entries.old gxid))).item) }
+    ensures later { IsLater (J.shelf journal.old) (J.shelf journal.new) }
+{
+    match entries.get_mut(&gxid) {
+        Some(entry) => {
+            let taken = take_at(alloc, node, gxid, order, entry, journal)?;
+            Ok((taken, entry.local.phase))
+        }
+        None => {
+            let mut entry = new_entry(alloc);
+            let taken = take_at(alloc, node, gxid, order, &mut entry, journal)?;
+            let phase = entry.local.phase;
+            put_in(entries, gxid, entry)?;
+            Ok((taken, phase))
+        }
+    }
 }
 
 fn take_at<J: Journal>(
