@@ -1,6 +1,6 @@
 pub mod Aside
 pub mod Below
-pub mod Collecting
+pub mod Told
 pub mod Doing
 pub mod Final
 pub mod Following

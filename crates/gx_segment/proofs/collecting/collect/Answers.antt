@@ -1,4 +1,4 @@
-use Rattle.gx_segment.proofs.Collecting.{collects}
+use Rattle.gx_segment.proofs.Told.{collects}
 use Rattle.gx_segment.proofs.collecting.collect.Goals as goal
 
 pub returns-clause-done : goal.returns-clause-done
