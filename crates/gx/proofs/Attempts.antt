@@ -1,23 +1,53 @@
--- What the work came to, once a script or no script was read.
-use Rattle.std.proofs.Common.{◌≡◌, inl, inr, ℕ, List, Option, true, Ok}
+-- What the work came to, once bytes were there.
+use Rattle.std.proofs.Common.{◌≡◌, ◌≤◌, inl, inr, ℕ, List, Option, Result, Ok, Err, length, refl}
 use Rattle.std.specs.declared.alloc.Global.{Global}
 use Rattle.std.specs.declared.string.String.{String}
 use Rattle.gx_words.specs.declared.options.Options.{Options}
-use Rattle.gx.specs.Form.{is_of_form}
 use Rattle.gx_script.specs.declared.Script.{Script}
+use Rattle.gx_sql.specs.Answering.{Answers}
+use Rattle.gx_sql.specs.Script.{Reads}
+use Rattle.gx_sql.specs.declared.refusal.Refusal.{Refusal}
 use Rattle.gx_told.specs.declared.attempt.Attempt.{Attempt}
-use Rattle.gx_told.specs.declared.attempt.Attempt.TheVariants.{Done, Stopped, Stuck, Usage, Refused, ReadFault, TooLarge, NotBuilt, OutOfMemory}
-use Rattle.gx.specs.Top.{AreAsked, IsAttempt, IsRan, IsRead}
+use Rattle.gx_told.specs.declared.attempt.Attempt.TheVariants.{Done, Stopped, Stuck, Usage, Refused, ReadFault, TooLarge, OutOfMemory}
+use Rattle.gx.specs.Top.{AreAsked, AreGiven, HasScript, IsAttempt, IsOfBytes, IsRan, IsRefusedFor, IsScriptWith, limit}
+use Rattle.gx.proofs.Refusals.{read_as}
 
-module _ (words : List (String Global)) (left after : Option (List ℕ)) (before now : ℕ) (options : Options) (asked : AreAsked words options) where
-  pub ran : (script : Script) → IsRead left after (Ok script) → is_of_form script ≡ true → (a : Attempt) → IsRan script options a → IsAttempt words left after before now a
-  ran script read built (Done run text) is = record { options = options; asked = asked; script = script; read = read; built = built; is = is }
-  ran script read built (Stopped run text) is = record { options = options; asked = asked; script = script; read = read; built = built; is = is }
-  ran script read built (Stuck run) is = record { options = options; asked = asked; script = script; read = read; built = built; is = is }
-  ran script read built (OutOfMemory run) (inl e) = inl e
-  ran script read built (OutOfMemory run) (inr is) = inr (record { options = options; asked = asked; script = script; read = read; built = built; is = is })
-  ran script read built Usage is = absurd is
-  ran script read built (Refused text) is = absurd is
-  ran script read built ReadFault is = absurd is
-  ran script read built TooLarge is = absurd is
-  ran script read built NotBuilt is = absurd is
+-- BYTES
+module _ (bytes : List ℕ) (options : Options) where
+  pub ran : (script : Script) → Reads bytes (Ok script) → (a : Attempt) → IsRan script options a → IsOfBytes bytes options a
+  ran script read (Done run text) is = (script, read, is)
+  ran script read (Stopped run text) is = (script, read, is)
+  ran script read (Stuck run) is = (script, read, is)
+  ran script read (OutOfMemory run) (inl none) = inl none
+  ran script read (OutOfMemory run) (inr is) = inr (script, read, is)
+  ran script read Usage is = absurd is
+  ran script read (Refused text) is = absurd is
+  ran script read ReadFault is = absurd is
+  ran script read TooLarge is = absurd is
+
+  pub refused : (refusal : Refusal) → Answers (Reads bytes) (Err refusal) → (a : Attempt) → IsRefusedFor refusal a → IsOfBytes bytes options a
+  refused refusal read (Refused text) is = (refusal, read_as (Reads bytes) refusal text.items read is, is)
+  refused refusal read (OutOfMemory run) is = inl is
+  refused refusal read (Done run text) is = absurd is
+  refused refusal read (Stopped run text) is = absurd is
+  refused refusal read (Stuck run) is = absurd is
+  refused refusal read Usage is = absurd is
+  refused refusal read ReadFault is = absurd is
+  refused refusal read TooLarge is = absurd is
+
+-- WORDS
+module _ (words : List (String Global)) (left after : Option (List ℕ)) (before now : ℕ) (options : Options) (asked : AreAsked words options) (bytes : List ℕ)
+    (given : AreGiven options.work left after bytes) (few : length bytes ≤ limit) where
+  with_script : (Is : Script → Options → Type 0) → IsScriptWith bytes (λ (script : Script). Is script options) → HasScript words left after Is
+  with_script Is (script, read, is) = record { options = options; asked = asked; script = script; read = record { bytes = bytes; given = given; few = few; is = read }; is = is }
+
+  pub attempt : (a : Attempt) → IsOfBytes bytes options a → IsAttempt words left after before now a
+  attempt (Done run text) is = with_script _ is
+  attempt (Stopped run text) is = with_script _ is
+  attempt (Stuck run) is = with_script _ is
+  attempt (OutOfMemory run) (inl none) = inl none
+  attempt (OutOfMemory run) (inr is) = inr (with_script _ is)
+  attempt (Refused text) (refusal, read, told) = record { options = options; asked = asked; refusal = refusal; read = record { bytes = bytes; given = given; few = few; is = read }; empty = refl; told = told }
+  attempt Usage is = absurd is
+  attempt ReadFault is = absurd is
+  attempt TooLarge is = absurd is

@@ -9,7 +9,7 @@ use Rattle.gx_drive.proofs.Journals.{none-failed, none-held}
 use Rattle.gx_sql.specs.declared.refusal.Refusal.{Refusal}
 use Rattle.gx_store.specs.declared.run.Run.{Run}
 use Rattle.gx_told.specs.declared.attempt.Attempt.{Attempt}
-use Rattle.gx_told.specs.declared.attempt.Attempt.TheVariants.{Done, Stopped, Stuck, Usage, Refused, ReadFault, TooLarge, NotBuilt, OutOfMemory}
+use Rattle.gx_told.specs.declared.attempt.Attempt.TheVariants.{Done, Stopped, Stuck, Usage, Refused, ReadFault, TooLarge, OutOfMemory}
 use Rattle.gx_told.specs.Told.{no_run, run_in}
 use Rattle.gx.specs.Top.{AreKept, IsRefusedFor}
 
@@ -26,7 +26,6 @@ refused-run refusal (Stuck run) is = absurd is
 refused-run refusal Usage is = absurd is
 refused-run refusal ReadFault is = absurd is
 refused-run refusal TooLarge is = absurd is
-refused-run refusal NotBuilt is = absurd is
 
 pub refused-kept : (shelves : List Shelf) (refusal : Refusal) (a : Attempt) (over : Bool) → IsRefusedFor refusal a → AreEmpty shelves → AreKept (run_in a).steps over shelves shelves
 refused-kept shelves refusal a over is empty = subst (λ (r : Run). AreKept r.steps over shelves shelves) (sym (refused-run refusal a is)) (none-kept shelves over empty)

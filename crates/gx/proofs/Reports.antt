@@ -6,10 +6,10 @@ use Rattle.gx_store.specs.declared.run.Run.{Run}
 use Rattle.gx_outside.specs.Shelves.{Shelf}
 use Rattle.gx_drive.specs.Ordered.{AreFailuresFew, AreHeld}
 use Rattle.gx_told.specs.declared.attempt.Attempt.{Attempt}
-use Rattle.gx_told.specs.declared.attempt.Attempt.TheVariants.{Done, Stopped, Stuck, Usage, Refused, ReadFault, TooLarge, NotBuilt, OutOfMemory}
+use Rattle.gx_told.specs.declared.attempt.Attempt.TheVariants.{Done, Stopped, Stuck, Usage, Refused, ReadFault, TooLarge, OutOfMemory}
 use Rattle.gx_told.specs.declared.report.Report.{Report}
 use Rattle.gx_told.specs.Told.{IsTold, IsToldOf, is_over, run_in, status_in, text_in}
-use Rattle.gx.specs.Top.{AreKept, IsAttempt, IsCutShort, IsDone, IsDue, IsPartRun, IsReadFault, IsRefused, IsStatus, IsStopped, IsTooLarge, IsUnbuilt, IsUsage, IsWritten}
+use Rattle.gx.specs.Top.{AreKept, IsAttempt, IsCutShort, IsDone, IsDue, IsHalted, IsPartRun, IsReadFault, IsRefused, IsStatus, IsStopped, IsTooLarge, IsUsage, IsWritten}
 
 abbrev pub pick : Bool → Type 0 → Type 0 → Type 0
 pick true A B = A
@@ -26,7 +26,6 @@ module _ (written shown : Option (List ℕ)) (faults more : ℕ) (report : Repor
   told (Refused text) is = inl (refl, is)
   told ReadFault is = inl (refl, is)
   told TooLarge is = inl (refl, is)
-  told NotBuilt is = inl (refl, is)
   told (OutOfMemory run) is = inr (refl, is.0, is.1, is.2)
 
   status : (a : Attempt) → IsStatus (status_in a)
@@ -37,7 +36,6 @@ module _ (written shown : Option (List ℕ)) (faults more : ℕ) (report : Repor
   status (OutOfMemory run) = inl (inl (inl (inr refl)))
   status (Stopped run text) = inl (inl (inr refl))
   status TooLarge = inl (inr refl)
-  status NotBuilt = inr refl
   status (Stuck run) = inr refl
 
   pub known : (a : Attempt) → IsToldOf a written shown faults more report → IsStatus report.status
@@ -64,7 +62,6 @@ module _ (written shown : Option (List ℕ)) (faults more : ℕ) (report : Repor
   ended (Refused text) over = (λ e. cc, λ e. cc)
   ended ReadFault over = (λ e. cc, λ e. cc)
   ended TooLarge over = (λ e. cc, λ e. cc)
-  ended NotBuilt over = (λ e. cc, λ e. cc)
   ended (OutOfMemory run) over = absurd (cc)
 
   pub over : (a : Attempt) → IsToldOf a written shown faults more report → (report.status ≡ 6 → ⊥) → is_over a ≡ true
@@ -90,17 +87,16 @@ module _ (words : List (String Global)) (left after : Option (List ℕ)) (before
       (pick (nat_eq n 4) (IsReadFault words before now run text)
       (pick (nat_eq n 7) (IsStopped words left after run text)
       (pick (nat_eq n 9) (IsTooLarge words left after run text)
-      (pick (nat_eq n 10) (IsUnbuilt words left after run text) ⊥))))))
+      (pick (nat_eq n 10) (IsHalted words left after run text) ⊥))))))
 
   due : (a : Attempt) → IsAttempt words left after before now a → is_over a ≡ true → IsDueAt (status_in a) (run_in a) (text_in a)
   due (Done run text) is over = is
   due (Stopped run text) is over = is
-  due (Stuck run) is over = inr (record { is = is; told = refl })
+  due (Stuck run) is over = record { is = is; told = refl }
   due Usage is over = record { unknown = is; empty = refl; told = refl }
   due (Refused text) is over = is
   due ReadFault is over = record { asked = is.0; rose = is.1; empty = refl; told = refl }
   due TooLarge is over = record { asked = is.0; much = is.1; empty = refl; told = refl }
-  due NotBuilt is over = inl (record { cause = is; empty = refl; told = refl })
   due (OutOfMemory run) is over = absurd (cc)
 
   -- so it's one of those that may be cut short
@@ -111,7 +107,6 @@ module _ (words : List (String Global)) (left after : Option (List ℕ)) (before
   at-any (Refused text) is over = inl (inl (inl (inr is)))
   at-any ReadFault is over = inl (inl (inr (due ReadFault is over)))
   at-any TooLarge is over = inl (inr (due TooLarge is over))
-  at-any NotBuilt is over = inr (due NotBuilt is over)
   at-any (Stuck run) is over = inr (due (Stuck run) is over)
   at-any (OutOfMemory run) is over = absurd (cc)
 
@@ -124,7 +119,6 @@ module _ (words : List (String Global)) (left after : Option (List ℕ)) (before
   part (Refused text) of out = absurd (cc)
   part ReadFault of out = absurd (cc)
   part TooLarge of out = absurd (cc)
-  part NotBuilt of out = absurd (cc)
 
   -- a status other than a write fault and want of memory has its text
   pub at_status : (n : ℕ) (a : Attempt) → IsAttempt words left after before now a → IsToldOf a written shown faults more report → report.status ≡ n → (n ≡ 5 → ⊥) → (n ≡ 6 → ⊥)

@@ -1,5 +1,5 @@
 -- What the top call answers, and when.
-use Rattle.std.specs.Prelude.{◌≡◌, ℕ, ◌<◌, ◌≤◌, Bool, true, false, List, [], length, ◌++◌, if◌then◌else◌, is_none, map, string_bytes, None, Some, Result, Ok, Err, ◌⊎◌, codes}
+use Rattle.std.specs.Prelude.{◌≡◌, ℕ, ◌<◌, ◌≤◌, Bool, true, false, List, [], length, ◌++◌, if◌then◌else◌, map, string_bytes, None, Some, Result, Ok, Err, ◌⊎◌, codes}
 use Rattle.std.specs.declared.option.Option.{Option}
 use Rattle.std.specs.declared.string.String.{String}
 use Rattle.std.specs.declared.alloc.Global.{Global}
@@ -9,10 +9,10 @@ use Rattle.gx_outside.specs.Causes.{Rose, WritesPrefix}
 use Rattle.gx_outside.specs.Shelves.{Shelf}
 use Rattle.gx_tree.specs.declared.row.KeyedRow.{KeyedRow}
 use Rattle.gx_words.specs.Words.{IsCommand}
+use Rattle.gx_words.specs.Work.{work_text}
 use Rattle.gx_words.specs.declared.options.Options.{Options}
 use Rattle.gx_report.specs.TraceText.{trace_of}
 use Rattle.gx_script.specs.declared.Script.{Script}
-use Rattle.gx.specs.Form.{is_of_form}
 use Rattle.gx_sql.specs.declared.refusal.Refusal.{Refusal}
 use Rattle.gx_sql.specs.Script.{Reads}
 use Rattle.gx_store.specs.declared.run.Run.{Run}
@@ -28,6 +28,7 @@ use Rattle.gx_rules.specs.System.{IsSystemRun}
 use Rattle.gx_law_blocked.specs.Blocked.{DoStayBlocked}
 use Rattle.gx_law_locks.specs.Legal.{AreLocksLegal}
 use Rattle.gx_law_runs.specs.Endings.{IsFinished}
+use Rattle.gx_law_scripts.specs.Tuples.{HaveTuplesTo}
 use Rattle.gx_law_commit.specs.Told.{DoStepsTell}
 use Rattle.gx_drive.specs.Ends.{IsEnd}
 use Rattle.gx_drive.specs.Ordered.{AreFailuresFew, AreFirst, AreHeld}
@@ -35,31 +36,48 @@ use Rattle.gx_drive.specs.Seeded.{AreDrawn}
 use Rattle.gx_drive.specs.declared.end.End.TheVariants as end
 use Rattle.gx_told.specs.Told.{no_run, usage}
 use Rattle.gx_told.specs.declared.attempt.Attempt.{Attempt}
-use Rattle.gx_told.specs.declared.attempt.Attempt.TheVariants.{Done, Stopped, Stuck, Usage, Refused, ReadFault, TooLarge, NotBuilt, OutOfMemory}
-use Rattle.gx.specs.Refused.{refusal_text}
+use Rattle.gx_told.specs.declared.attempt.Attempt.TheVariants.{Done, Stopped, Stuck, Usage, Refused, ReadFault, TooLarge, OutOfMemory}
+use Rattle.gx_report.specs.Summary.{stopped_summary_of, summary_of}
 use Rattle.gx_report.specs.Text.{stopped_text, text_of}
+use Rattle.gx.specs.Refused.{refusal_text}
+use Rattle.gx.specs.declared.bytes.NoBytes.{NoBytes}
+use Rattle.gx.specs.declared.bytes.NoBytes.TheVariants as unread
 
 -- the most bytes of a script
 abbrev pub limit : ℕ
 limit = 16777216
 
--- the words ask for what is built: a script that is read
-abbrev pub is_plain : Options → Bool
-is_plain options = is_none options.work
-
-pub record AreAsked (words : List (String Global)) (options : Options) : Type 0 where
-  pub command : IsCommand (map string_bytes words) options
-  pub plain : is_plain options ≡ true
+-- the words ask for this
+abbrev pub AreAsked : List (String Global) → Options → Type 0
+AreAsked words options = IsCommand (map string_bytes words) options
 
 -- the words are not in the language of the command line
 abbrev pub AreUnknown : List (String Global) → Type 0
-AreUnknown words = (options : Options) → IsCommand (map string_bytes words) options → ⊥
+AreUnknown words = (options : Options) → AreAsked words options → ⊥
 
--- the words ask for what isn't built
-pub record AreOther (words : List (String Global)) : Type 0 where
+-- the words ask for a script that is read, and for no generated work
+pub record IsForSource (words : List (String Global)) : Type 0 where
   pub options : Options
-  pub command : IsCommand (map string_bytes words) options
-  pub other : is_plain options ≡ false
+  pub asked : AreAsked words options
+  pub plain : options.work ≡ None
+
+-- the bytes of the script: those of the source, which was read to its end; or those that are generated from a number, and nothing was read
+abbrev pub AreGiven : Option ℕ → Option (List ℕ) → Option (List ℕ) → List ℕ → Type 0
+AreGiven None left after bytes = Consumes left after bytes × IsAtEnd after
+AreGiven (Some number) left after bytes = (bytes ≡ work_text number) × (after ≡ left)
+
+-- more bytes came than a script may have
+pub record IsTooMuch (left after : Option (List ℕ)) : Type 0 where
+  pub bytes : List ℕ
+  pub taken : Consumes left after bytes
+  pub more : limit < length bytes
+
+-- the bytes of a script are there; or they were to be read, and the source failed or had too many
+abbrev pub HasBytes : Option ℕ → Option (List ℕ) → Option (List ℕ) → ℕ → ℕ → Result (Vec ℕ Global) NoBytes → Type 0
+HasBytes work left after before now (Ok bytes) = AreGiven work left after bytes.items × (length bytes.items ≤ limit)
+HasBytes work left after before now (Err unread.ReadFault) = (work ≡ None) × Rose before now
+HasBytes work left after before now (Err unread.TooLarge) = (work ≡ None) × IsTooMuch left after
+HasBytes work left after before now (Err unread.OutOfMemory) = Unit {0}
 
 -- the run's text, where it is asked for
 abbrev pub traced : Bool → Script → Run → List ℕ
@@ -83,38 +101,57 @@ pub record IsRunOf (script : Script) (seed : Option ℕ) (run : Run) : Type 0 wh
   pub blocked : DoStayBlocked (marks_of run)
   pub driven : AreDriven seed script run.steps
 
--- No session is unfinished: every line was answered in it, every block is closed, every transaction has ended. These are the tables at its
--- end, and the text is that of both, and the run's own behind it where that is asked for.
+-- the tables of a script as they are behind a run
+pub record AreTables (script : Script) (run : Run) (tables : List (Vec KeyedRow Global)) : Type 0 where
+  pub all : length tables ≡ length script.tables
+  pub final : AreFinalFrom 0 (marks_of run) tables
+
+-- what is told of a run that ended with these tables: its answers and the tables, or the line on generated work
+abbrev pub ended_text : Option ℕ → Script → Run → List (Vec KeyedRow Global) → List ℕ
+ended_text None script run tables = text_of script run tables
+ended_text (Some number) script run tables = summary_of number script run tables
+
+-- what is told of a run that stopped: its answers, or the line on generated work, of the tables as they are by then
+abbrev pub SaysStopped : Option ℕ → Script → Run → List ℕ → Type 0
+SaysStopped None script run said = said ≡ stopped_text script run
+SaysStopped (Some number) script run said = (tables : List (Vec KeyedRow Global)) × AreTables script run tables × (said ≡ stopped_summary_of number script run tables)
+
+-- the text of a run that ended, and the run's own behind it where that is asked for
+pub record IsEndedText (script : Script) (options : Options) (run : Run) (text : List ℕ) : Type 0 where
+  pub tables : List (Vec KeyedRow Global)
+  pub final : AreTables script run tables
+  pub told : text ≡ ended_text options.work script run tables ++ traced options.trace script run
+
+-- the text of one that stopped
+pub record IsStoppedText (script : Script) (options : Options) (run : Run) (text : List ℕ) : Type 0 where
+  pub front : List ℕ
+  pub says : SaysStopped options.work script run front
+  pub told : text ≡ front ++ traced options.trace script run
+
+-- no session is unfinished: every line was answered in it, every block is closed, every transaction has ended; and this is its text
 pub record IsWholeRunOf (script : Script) (options : Options) (run : Run) (text : List ℕ) : Type 0 where
   pub is : IsRunOf script options.seed run
   pub ended : IsEnd script run.steps options.turns end.Done
   pub over : IsFinished script run
-  pub tables : List (Vec KeyedRow Global)
-  pub all : length tables ≡ length script.tables
-  pub final : AreFinalFrom 0 (marks_of run) tables
-  pub told : text ≡ text_of script run tables ++ traced options.trace script run
+  pub told : IsEndedText script options run text
 
--- all turns were taken, a session is unfinished, and the text is that of the answers so far, and the run's own where that is asked for
+-- all turns were taken, a session is unfinished, and this is the text that says so
 pub record IsStoppedRunOf (script : Script) (options : Options) (run : Run) (text : List ℕ) : Type 0 where
   pub is : IsRunOf script options.seed run
   pub ended : IsEnd script run.steps options.turns end.Turns
-  pub told : text ≡ stopped_text script run ++ traced options.trace script run
+  pub told : IsStoppedText script options run text
 
 -- turns are left, a session is unfinished, and nothing may happen (but a round of the detector, which isn't built yet)
 pub record IsStuckRunOf (script : Script) (options : Options) (run : Run) : Type 0 where
   pub is : IsRunOf script options.seed run
   pub ended : IsEnd script run.steps options.turns end.Stuck
 
--- nothing was run, or a part of a run of the script
-abbrev pub IsPartOf : Script → Option ℕ → Run → Type 0
-IsPartOf script seed run = (run ≡ no_run) ⊎ IsRunOf script seed run
-
 -- what became of a script that was run
 abbrev pub IsRan : Script → Options → Attempt → Type 0
 IsRan script options (Done run text) = IsWholeRunOf script options run text.items
 IsRan script options (Stopped run text) = IsStoppedRunOf script options run text.items
 IsRan script options (Stuck run) = IsStuckRunOf script options run
-IsRan script options (OutOfMemory run) = IsPartOf script options.seed run
+IsRan script options (OutOfMemory run) = (run ≡ no_run) ⊎ IsRunOf script options.seed run
 IsRan script options _ = ⊥
 
 -- what is said of bytes that are no script for this reason
@@ -123,68 +160,60 @@ IsRefusedFor refusal (Refused text) = refusal_text refusal ≡ Some text.items
 IsRefusedFor refusal (OutOfMemory run) = run ≡ no_run
 IsRefusedFor refusal _ = ⊥
 
--- the source was read to its end, and its bytes are this script, or no script for this reason
-pub record IsRead (left after : Option (List ℕ)) (said : Result Script Refusal) : Type 0 where
+-- these bytes are a script, of which this holds
+abbrev pub IsScriptWith : List ℕ → (Script → Type 0) → Type 0
+IsScriptWith bytes Is = (script : Script) × Reads bytes (Ok script) × Is script
+
+-- what became of bytes
+abbrev pub IsOfBytes : List ℕ → Options → Attempt → Type 0
+IsOfBytes bytes options (Done run text) = IsScriptWith bytes (λ script. IsWholeRunOf script options run text.items)
+IsOfBytes bytes options (Stopped run text) = IsScriptWith bytes (λ script. IsStoppedRunOf script options run text.items)
+IsOfBytes bytes options (Stuck run) = IsScriptWith bytes (λ script. IsStuckRunOf script options run)
+IsOfBytes bytes options (Refused text) = (refusal : Refusal) × Reads bytes (Err refusal) × (refusal_text refusal ≡ Some text.items)
+IsOfBytes bytes options (OutOfMemory run) = (run ≡ no_run) ⊎ IsScriptWith bytes (λ script. IsRunOf script options.seed run)
+IsOfBytes bytes options _ = ⊥
+
+-- the bytes that were given are this script, or no script for this reason
+pub record IsRead (work : Option ℕ) (left after : Option (List ℕ)) (said : Result Script Refusal) : Type 0 where
   pub bytes : List ℕ
-  pub taken : Consumes left after bytes
-  pub ended : IsAtEnd after
+  pub given : AreGiven work left after bytes
   pub few : length bytes ≤ limit
   pub is : Reads bytes said
 
--- The script keeps the rules and the limits of the language, each of its INSERTs has a tuple, and each tuple a value for the distribution
--- column.
+-- The script keeps the rules and the limits of the language, each of its INSERTs has a tuple, and no more than the limit of bytes, and each tuple
+-- a value for the distribution column.
 pub record KeepsLanguage (script : Script) : Type 0 where
   pub language : IsScript script
   pub inserts : AreInsertsWhole script.tables script.lines
+  pub tuples : HaveTuplesTo limit script.lines
 
 -- so does whatever script was read
 abbrev pub IsOfLanguage : Option (List ℕ) → Option (List ℕ) → Type 0
-IsOfLanguage left after = (script : Script) → IsRead left after (Ok script) → KeepsLanguage script
+IsOfLanguage left after = (work : Option ℕ) (script : Script) → IsRead work left after (Ok script) → KeepsLanguage script
 
--- a script of the form that is built was read, and this is a run of it, up to some step
-pub record IsBegun (words : List (String Global)) (left after : Option (List ℕ)) (run : Run) : Type 0 where
+-- the words ask for this, and the bytes that were given are a script of which this holds
+pub record HasScript (words : List (String Global)) (left after : Option (List ℕ)) (Is : Script → Options → Type 0) : Type 0 where
   pub options : Options
   pub asked : AreAsked words options
   pub script : Script
-  pub read : IsRead left after (Ok script)
-  pub built : is_of_form script ≡ true
-  pub is : IsRunOf script options.seed run
+  pub read : IsRead options.work left after (Ok script)
+  pub is : Is script options
 
--- nothing was run, or a part of the script that was read
+-- nothing was run, or a run of the script that was read, up to some step
 abbrev pub IsPartRun : List (String Global) → Option (List ℕ) → Option (List ℕ) → Run → Type 0
-IsPartRun words left after run = (run ≡ no_run) ⊎ IsBegun words left after run
+IsPartRun words left after run = (run ≡ no_run) ⊎ HasScript words left after (λ script options. IsRunOf script options.seed run)
 
--- a script of the form that is built was read, and this is its run and the text of that
-pub record IsDone (words : List (String Global)) (left after : Option (List ℕ)) (run : Run) (text : List ℕ) : Type 0 where
-  pub options : Options
-  pub asked : AreAsked words options
-  pub script : Script
-  pub read : IsRead left after (Ok script)
-  pub built : is_of_form script ≡ true
-  pub is : IsWholeRunOf script options run text
+-- a script was read, and this is its run and the text of that
+abbrev pub IsDone : List (String Global) → Option (List ℕ) → Option (List ℕ) → Run → List ℕ → Type 0
+IsDone words left after run text = HasScript words left after (λ script options. IsWholeRunOf script options run text)
 
--- a script of the form that is built was read, and its run stopped once all turns were taken
-pub record IsStopped (words : List (String Global)) (left after : Option (List ℕ)) (run : Run) (text : List ℕ) : Type 0 where
-  pub options : Options
-  pub asked : AreAsked words options
-  pub script : Script
-  pub read : IsRead left after (Ok script)
-  pub built : is_of_form script ≡ true
-  pub is : IsStoppedRunOf script options run text
+-- a script was read, and its run stopped once all turns were taken
+abbrev pub IsStopped : List (String Global) → Option (List ℕ) → Option (List ℕ) → Run → List ℕ → Type 0
+IsStopped words left after run text = HasScript words left after (λ script options. IsStoppedRunOf script options run text)
 
--- a script of the form that is built was read, and its run is stuck
-pub record IsStuck (words : List (String Global)) (left after : Option (List ℕ)) (run : Run) : Type 0 where
-  pub options : Options
-  pub asked : AreAsked words options
-  pub script : Script
-  pub read : IsRead left after (Ok script)
-  pub built : is_of_form script ≡ true
-  pub is : IsStuckRunOf script options run
-
--- a script was asked for and read
-pub record IsForScript (words : List (String Global)) : Type 0 where
-  pub options : Options
-  pub asked : AreAsked words options
+-- a script was read, and its run is stuck
+abbrev pub IsStuck : List (String Global) → Option (List ℕ) → Option (List ℕ) → Run → Type 0
+IsStuck words left after run = HasScript words left after (λ script options. IsStuckRunOf script options run)
 
 -- the words are not in the language, nothing was run, and the text says what is
 pub record IsUsage (words : List (String Global)) (run : Run) (text : List ℕ) : Type 0 where
@@ -192,55 +221,33 @@ pub record IsUsage (words : List (String Global)) (run : Run) (text : List ℕ) 
   pub empty : run ≡ no_run
   pub told : text ≡ usage
 
--- the bytes that were read are no script, nothing was run, and the text says why
+-- the bytes that were given are no script, nothing was run, and the text says why
 pub record IsRefused (words : List (String Global)) (left after : Option (List ℕ)) (run : Run) (text : List ℕ) : Type 0 where
-  pub asked : IsForScript words
+  pub options : Options
+  pub asked : AreAsked words options
   pub refusal : Refusal
-  pub read : IsRead left after (Err refusal)
+  pub read : IsRead options.work left after (Err refusal)
   pub empty : run ≡ no_run
   pub told : refusal_text refusal ≡ Some text
 
 -- the source failed, nothing was run, and the text says so
 pub record IsReadFault (words : List (String Global)) (before now : ℕ) (run : Run) (text : List ℕ) : Type 0 where
-  pub asked : IsForScript words
+  pub asked : IsForSource words
   pub rose : Rose before now
   pub empty : run ≡ no_run
   pub told : text ≡ codes "read fault\n"
 
--- more bytes came than a script may have
-pub record IsTooMuch (left after : Option (List ℕ)) : Type 0 where
-  pub bytes : List ℕ
-  pub taken : Consumes left after bytes
-  pub more : limit < length bytes
-
 -- more bytes came than a script may have, nothing was run, and the text says so
 pub record IsTooLarge (words : List (String Global)) (left after : Option (List ℕ)) (run : Run) (text : List ℕ) : Type 0 where
-  pub asked : IsForScript words
+  pub asked : IsForSource words
   pub much : IsTooMuch left after
   pub empty : run ≡ no_run
   pub told : text ≡ codes "too large\n"
-
--- the bytes that were read are a script of another form than the one that is built
-pub record IsOther (words : List (String Global)) (left after : Option (List ℕ)) : Type 0 where
-  pub asked : IsForScript words
-  pub script : Script
-  pub read : IsRead left after (Ok script)
-  pub other : is_of_form script ≡ false
-
--- the words ask for what isn't built, or the script is of another form, nothing was run, and the text says so
-pub record IsNotBuilt (words : List (String Global)) (left after : Option (List ℕ)) (run : Run) (text : List ℕ) : Type 0 where
-  pub cause : AreOther words ⊎ IsOther words left after
-  pub empty : run ≡ no_run
-  pub told : text ≡ codes "not built\n"
 
 -- the run is stuck, and the text says that what it would need isn't built
 pub record IsHalted (words : List (String Global)) (left after : Option (List ℕ)) (run : Run) (text : List ℕ) : Type 0 where
   pub is : IsStuck words left after run
   pub told : text ≡ codes "not built\n"
-
--- what isn't built was asked for or read, or is what the run would need
-abbrev pub IsUnbuilt : List (String Global) → Option (List ℕ) → Option (List ℕ) → Run → List ℕ → Type 0
-IsUnbuilt words left after run text = IsNotBuilt words left after run text ⊎ IsHalted words left after run text
 
 -- what the work before the writing came to
 abbrev pub IsAttempt : List (String Global) → Option (List ℕ) → Option (List ℕ) → ℕ → ℕ → Attempt → Type 0
@@ -249,9 +256,8 @@ IsAttempt words left after before now (Stopped run text) = IsStopped words left 
 IsAttempt words left after before now (Stuck run) = IsStuck words left after run
 IsAttempt words left after before now Usage = AreUnknown words
 IsAttempt words left after before now (Refused text) = IsRefused words left after no_run text.items
-IsAttempt words left after before now ReadFault = IsForScript words × Rose before now
-IsAttempt words left after before now TooLarge = IsForScript words × IsTooMuch left after
-IsAttempt words left after before now NotBuilt = AreOther words ⊎ IsOther words left after
+IsAttempt words left after before now ReadFault = IsForSource words × Rose before now
+IsAttempt words left after before now TooLarge = IsForSource words × IsTooMuch left after
 IsAttempt words left after before now (OutOfMemory run) = IsPartRun words left after run
 
 -- what became of the journals: no node has more JournalFailed marks than its journal's count has risen, and where the work came to its end each journal
@@ -273,7 +279,7 @@ IsStatus n = ((((((((n ≡ 0) ⊎ (n ≡ 2)) ⊎ (n ≡ 3)) ⊎ (n ≡ 4)) ⊎ (
 abbrev pub IsDue : List (String Global) → Option (List ℕ) → Option (List ℕ) → ℕ → ℕ → Run → List ℕ → Type 0
 IsDue words left after before now run text =
     (((((IsDone words left after run text ⊎ IsStopped words left after run text) ⊎ IsUsage words run text) ⊎ IsRefused words left after run text)
-    ⊎ IsReadFault words before now run text) ⊎ IsTooLarge words left after run text) ⊎ IsUnbuilt words left after run text
+    ⊎ IsReadFault words before now run text) ⊎ IsTooLarge words left after run text) ⊎ IsHalted words left after run text
 
 -- the sink failed, and a part of the text that was due stands there, from its front
 pub record IsCutShort (IsText : List ℕ → Type 0) (written after : Option (List ℕ)) (before now : ℕ) : Type 0 where

@@ -7,10 +7,11 @@ ghost use Rattle.gx_outside.specs.Memory.{shelf_of};
 ghost use Rattle.gx_outside.specs.Shelves.{AreEmpty};
 
 mod attempt;
+mod bytes;
 mod driving;
-mod form;
 mod refused;
 mod running;
+mod telling;
 mod top;
 
 use gx_ids::Mem;

@@ -1,19 +1,17 @@
 // Running a script that was read, and telling its run.
-ghost use Rattle.std.specs.Prelude.{◌≡◌, ◌≤◌, ◌++◌, false, IfOk, length, map};
+ghost use Rattle.std.specs.Prelude.{◌≡◌, ◌≤◌, false, IfOk, length, map};
 ghost use Rattle.gx_store.specs.Whole.{AreInsertsWhole};
 ghost use Rattle.gx_drive.specs.Ends.{IsEnd};
 ghost use Rattle.gx_drive.specs.declared.end.End.TheVariants.{Done, Stuck, Turns};
 ghost use Rattle.gx_outside.specs.Shelves.{AreEmpty};
 ghost use Rattle.gx_store.specs.Language.{IsScript};
-ghost use Rattle.gx_report.specs.Text.{stopped_text as of_stopped};
-ghost use Rattle.gx.specs.Top.{AreDriven, AreKept, IsRan, IsWholeRunOf, traced};
+ghost use Rattle.gx.specs.Top.{AreDriven, AreKept, IsRan};
 ghost use Rattle.gx_told.specs.Told.{is_over, run_in};
 
 use crate::driving::drive;
+use crate::telling::{ended_text, stopped_text};
 use gx_drive::End;
-use gx_ids::Mem;
 use gx_outside::{Gate, Journal};
-use gx_report::{push_trace, text, text_of_stopped};
 use gx_script::Script;
 use gx_store::Run;
 use gx_told::Attempt;
@@ -75,34 +73,10 @@ fn finished(alloc: Global, world: World, options: Options) -> Attempt
     ensures ran { IsRan world.script options result }
     ensures run { run_in result ≡ world.run }
 {
-    match finished_text(alloc, &world, options) {
+    match ended_text(alloc, &world, options) {
         Ok(text) => Attempt::Done(world.into_run(), text),
         Err(_) => Attempt::OutOfMemory(world.into_run()),
     }
-}
-
-fn finished_text(alloc: Global, world: &World, options: Options) -> Mem<Vec<u8>>
-    requires usable { world.now.spent ≡ false }
-    requires language { IsScript world.now.script }
-    requires inserts { AreInsertsWhole world.now.script.tables world.now.script.lines }
-    requires driven { AreDriven options.seed world.now.script world.now.run.steps }
-    requires ended { IsEnd world.now.script world.now.run.steps options.turns Done }
-    ensures { IfOk result (λ text. IsWholeRunOf world.now.script options world.now.run text.items) }
-{
-    let tables = world.final_tables()?;
-    let told = text(alloc, world.script(), world.run(), tables.as_slice())?;
-    with_trace(alloc, told, world, options.trace)
-}
-
-// The run's own text behind another, where it is asked for.
-fn with_trace(alloc: Global, text: Vec<u8>, world: &World, trace: bool) -> Mem<Vec<u8>>
-    ensures { IfOk result (λ all. all.items ≡ text.items ++ traced trace world.now.script world.now.run) }
-{
-    let mut text = text;
-    if trace {
-        push_trace(alloc, &mut text, world.script(), world.run())?;
-    }
-    Ok(text)
 }
 
 fn stopped(alloc: Global, world: World, options: Options) -> Attempt
@@ -113,7 +87,7 @@ fn stopped(alloc: Global, world: World, options: Options) -> Attempt
     ensures ran { IsRan world.script options result }
     ensures run { run_in result ≡ world.run }
 {
-    match stopped_text(alloc, &world, options.trace) {
+    match stopped_text(alloc, &world, options) {
         Ok(text) => Attempt::Stopped(world.into_run(), text),
         Err(_) => Attempt::OutOfMemory(world.into_run()),
     }
@@ -129,11 +103,4 @@ fn stuck(world: World, _options: Options) -> Attempt
     ensures run { run_in result ≡ world.run }
 {
     Attempt::Stuck(world.into_run())
-}
-
-fn stopped_text(alloc: Global, world: &World, trace: bool) -> Mem<Vec<u8>>
-    ensures { IfOk result (λ text. text.items ≡ of_stopped world.now.script world.now.run ++ traced trace world.now.script world.now.run) }
-{
-    let told = text_of_stopped(alloc, world.script(), world.run())?;
-    with_trace(alloc, told, world, trace)
 }

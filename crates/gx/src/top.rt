@@ -2,16 +2,15 @@
 ghost use Rattle.std.specs.Prelude.{◌≡◌, ◌≢◌, length, map};
 ghost use Rattle.gx_drive.specs.Ordered.{AreFailuresFew, AreHeld};
 ghost use Rattle.gx_outside.specs.Shelves.{AreEmpty};
-ghost use Rattle.gx_words.specs.declared.options.Options.{Options as Asked};
-ghost use Rattle.gx.specs.Top.{AreAsked, IsCutShort, IsDone, IsDue, IsOfLanguage, IsPartRun, IsReadFault, IsRefused, IsStatus, IsStopped, IsTooLarge, IsUnbuilt, IsUsage, IsWritten};
+ghost use Rattle.gx.specs.Top.{IsCutShort, IsDone, IsDue, IsForSource, IsHalted, IsOfLanguage, IsPartRun, IsReadFault, IsRefused, IsStatus, IsStopped, IsTooLarge, IsUsage, IsWritten};
 
 use crate::attempt::make_attempt;
 use gx_outside::{Gate, Journal, Sink, Source};
 use gx_told::{Report, told_of};
 use std::alloc::Global;
 
-/// Reads a script from the source, runs it, and writes the text of its run to the sink, which is built whole before the
-/// first write. The words are those of the command line behind the program's name. The journals are those of the coordinator and of 16
+/// Reads a script from the source, or generates the one of the number that the words give, runs it, and writes the text of its run to
+/// the sink, which is built whole before the first write. The words are those of the command line behind the program's name. The journals are those of the coordinator and of 16
 /// segments, by their numbers, and hold nothing. The gate is entered by each slice.
 pub fn run_gx<S: Source, K: Sink, J: Journal, G: Gate>(
     alloc: Global,
@@ -25,8 +24,9 @@ pub fn run_gx<S: Source, K: Sink, J: Journal, G: Gate>(
     requires empty { AreEmpty (map J.shelf journals.old.items) }
     ensures known { IsStatus result.status }
 
-    // The source was read to its end and its bytes are a script of the form that is built; the run is a legal history of one store in which each line
-    // of it has its answer, made by the system of nodes in the fixed order or by the seed; and the text of that run and of the tables at its end was written.
+    // The source was read to its end and its bytes are a script, or those that were generated are; the run is a legal history of one store in which
+    // each line of it has its answer, made by the system of nodes in the fixed order or by the seed; and the text of that run and of the tables at its
+    // end was written, which for generated work is one line.
     ensures done { result.status ≡ 0 → IsWritten (IsDone words.now (S.left source.old) (S.left source.new) result.run) (K.written sink.old) (K.written sink.new) }
 
     // The words are not in the language, and the text says what is.
@@ -44,19 +44,20 @@ pub fn run_gx<S: Source, K: Sink, J: Journal, G: Gate>(
     // Nothing was written, and what was run is a part of a legal history of the script.
     ensures memory { result.status ≡ 6 → (K.written sink.new ≡ K.written sink.old) × IsPartRun words.now (S.left source.old) (S.left source.new) result.run }
 
-    // The run has as many steps as turns were asked for and a session is unfinished; the text of the answers so far was written, and that it stopped.
+    // The run has as many steps as turns were asked for and a session is unfinished; the text of the answers so far was written, or the line on
+    // generated work, and that it stopped.
     ensures stopped { result.status ≡ 7 → IsWritten (IsStopped words.now (S.left source.old) (S.left source.new) result.run) (K.written sink.old) (K.written sink.new) }
 
     ensures too_large { result.status ≡ 9 → IsWritten (IsTooLarge words.now (S.left source.old) (S.left source.new) result.run) (K.written sink.old) (K.written sink.new) }
 
-    // The words or the script ask for what isn't built, and nothing was run; or turns are left, a session is unfinished, and nothing may happen (but a
-    // round of the detector).
-    ensures not_built { result.status ≡ 10 → IsWritten (IsUnbuilt words.now (S.left source.old) (S.left source.new) result.run) (K.written sink.old) (K.written sink.new) }
+    // Turns are left, a session is unfinished, and nothing may happen (but a round of the detector).
+    ensures not_built { result.status ≡ 10 → IsWritten (IsHalted words.now (S.left source.old) (S.left source.new) result.run) (K.written sink.old) (K.written sink.new) }
 
     // Nothing is read unless the words ask for a script that is read.
-    ensures unread { ((options : Asked) → AreAsked words.now options → ⊥) → source.new ≡ source.old }
+    ensures unread { (IsForSource words.now → ⊥) → source.new ≡ source.old }
 
-    // The script that was read keeps the rules and the limits of the language, and its INSERTs have tuples with keys.
+    // The script that was read keeps the rules and the limits of the language, and its INSERTs have tuples with keys, and no more of them than
+    // the limit of bytes.
     ensures language { IsOfLanguage (S.left source.old) (S.left source.new) }
 
     // All journals come back.

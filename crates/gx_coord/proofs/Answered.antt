@@ -21,6 +21,7 @@ use Rattle.gx_msg.specs.declared.reply.Reply.TheVariants as reply
 use Rattle.gx_rules.specs.AtCoordinator.{goes_on, is_awaited, on_answer, on_done, on_failed, on_message, reason_of, takes_done, with_done, writers_with}
 use Rattle.gx_rules.specs.Coordinators.{Command, Coord, Work, rests, with_work}
 use Rattle.gx_rules.specs.Fits.{fits_part}
+use Rattle.gx_rules.proofs.Rounds.{graph-ways}
 use Rattle.gx_law_order.proofs.Stages.{IsWhole, gx}
 use Rattle.gx_law_order.proofs.Statuses.{stage}
 use Rattle.gx_coord.specs.Sound.{AreSound, AreSoundIn, IsSmallMessage, IsSmallReply, IsSoundCommand, IsSoundWork}
@@ -120,4 +121,4 @@ message-sound c whole e from fails (message.CommitPrepared g) s = e
 message-sound c whole e from fails (message.Abort g) s = e
 message-sound c whole e from fails (message.Forget g) s = e
 message-sound c whole e from fails (message.Collect round) s = e
-message-sound c whole e from fails (message.Graph round graph) s = e
+message-sound c whole e from fails (message.Graph round graph) s = graph-ways (λ turn. AreSound turn.coord) c from round graph e (λ r. e) (λ r a. e)

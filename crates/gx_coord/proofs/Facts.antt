@@ -2,7 +2,7 @@
 use Rattle.std.proofs.Common.{◌≡◌, ℕ, List, [], ◌∷◌, Option, Some, None, Bool, true, refl, ap, ◌||◌, arith, eqb, All, IsTrue}
 use Rattle.std.proofs.lemmas.Bool.Decides.{nat_tests}
 use Rattle.std.proofs.lemmas.List.Elements.{All-nil, All-cons}
-use Rattle.std.specs.Prelude.{option_map}
+use Rattle.std.specs.Prelude.{is_some, option_map}
 use Rattle.std.proofs.lemmas.Bool.{and_parts, or_right}
 use Rattle.gx_ids.specs.declared.ids.Cid.{Cid}
 use Rattle.gx_ids.specs.declared.ids.Node.{Node}
@@ -16,17 +16,20 @@ use Rattle.gx_dtx.specs.declared.phase.Phase.TheVariants.{Active, Preparing, Com
 use Rattle.gx_dtx.specs.declared.status.Status.TheVariants as status
 use Rattle.gx_dtx.specs.declared.txn.Txn.{Txn}
 use Rattle.gx_msg.specs.declared.reply.Reply.{Reply}
+use Rattle.gx_tree.specs.declared.stmt.Stmt.{Stmt}
 use Rattle.gx_script.specs.declared.Script.{Script}
 use Rattle.gx_script.specs.declared.state.Block.{Block}
 use Rattle.gx_script.specs.declared.state.Pending.{Pending}
 use Rattle.gx_script.specs.declared.state.Pending.TheVariants as pending
+use Rattle.gx_rules.specs.AtCoordinator.{is_under_way}
 use Rattle.gx_rules.specs.Coordinators.{Command, Coord, Work}
+use Rattle.gx_rules.specs.Rounds.{is_active as is_active_phase, is_live}
 use Rattle.gx_law_order.proofs.Sessions.{Kept, is_closing_in, is_working_in, stage_of}
 use Rattle.gx_law_order.proofs.Stages.{gx}
 use Rattle.gx_law_order.proofs.Statuses.{Moves, Stage, reply-turns, stage, stage_in}
 use Rattle.gx_law_order.proofs.Statuses.Stage.{Live, Closing}
 use Rattle.gx_coord.specs.Sound.{AreSoundIn, IsSoundWork}
-use Rattle.gx_coord.specs.Turns.{IsBusy, IsFit, answers_line, asks}
+use Rattle.gx_coord.specs.Turns.{IsBusy, IsFit, answers_line, asks, is_active}
 
 -- a transaction whose commands run
 phase-active : (p : Phase) → stage_in p ≡ Live → status_in p ≡ status.Active
@@ -43,6 +46,31 @@ found-active (Some t) e = ap Some (phase-active t.phase e)
 
 pub live-active : (c : Coord) (g : ℕ) → stage_of c g ≡ Live → IsActive c.table (gx g)
 live-active c g e = found-active (find_txn c.table (gx g)) e
+
+-- its phase and its status say the same
+pub live-status : (t : Option Txn) → is_active (option_map (λ (u : Txn). status_in u.phase) t) ≡ is_live t
+live-status None = refl
+live-status (Some t) = by_phase t.phase
+  where
+    by_phase : (p : Phase) → is_active (Some (status_in p)) ≡ is_active_phase p
+    by_phase Active = refl
+    by_phase (Preparing a b) = refl
+    by_phase (CommittingOne a) = refl
+    by_phase (CommittingTwo a) = refl
+    by_phase (Ended a) = refl
+    by_phase (Aborting a) = refl
+
+pub live-is-active : (t : Option Txn) → is_live t ≡ true → option_map (λ (u : Txn). status_in u.phase) t ≡ Some status.Active
+live-is-active None e = absurd (cc)
+live-is-active (Some t) e = ap Some (by_phase t.phase e)
+  where
+    by_phase : (p : Phase) → is_active_phase p ≡ true → status_in p ≡ status.Active
+    by_phase Active e = refl
+    by_phase (Preparing a b) e = absurd (cc)
+    by_phase (CommittingOne a) e = absurd (cc)
+    by_phase (CommittingTwo a) e = absurd (cc)
+    by_phase (Ended a) e = absurd (cc)
+    by_phase (Aborting a) e = absurd (cc)
 
 -- a session that waits
 pub working-busy : (p : Pending) → is_working_in p ≡ true → p ≡ pending.Nothing → ⊥
@@ -69,6 +97,15 @@ module _ {script : Script} (c : Coord) (kept : Kept script c) (g : ℕ) where
 
   pub asked-busy : (i : Node) (cid : Cid) → asks (c.works g).command i cid ≡ true → IsBusy c g
   asked-busy i cid e idle = working-busy _ (asked i cid _ refl e).1 idle
+
+  -- a statement of it is under way, or waits
+  working : (k : Option Command) (line : Option Stmt) → (c.works g).command ≡ k → (c.works g).waiting ≡ line → (is_some k || is_some line) ≡ true → is_working_in (c.sessions (c.works g).session.0).state.pending ≡ true
+  working (Some k) line q w e = ((kept.tied g).busy k q).1
+  working None (Some line) q w e = ((kept.tied g).waits line w).2
+  working None None q w e = absurd (cc)
+
+  pub under_way-busy : is_under_way (c.works g) ≡ true → IsBusy c g
+  under_way-busy e idle = working-busy _ (working (c.works g).command (c.works g).waiting refl refl e) idle
 
   -- an answer for its status comes to an end of its line
   closing : (o : Outcome) (b : Stage) → Moves (stage_of c g) b o → answers_line o ≡ true → stage_of c g ≡ Closing

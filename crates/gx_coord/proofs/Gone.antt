@@ -1,15 +1,16 @@
 -- A step of the coordinator's parts is a step of its rule.
 use Rattle.std.proofs.Common.{◌≡◌, ◌<◌, ◌≤◌, ◌+◌, ◌∙◌, ℕ, List, [], ◌∷◌, Bool, true, false, All, refl, sym, subst, ap, arith, length}
 use Rattle.std.proofs.lemmas.List.Elements.{All-nil, All-cons}
+use Rattle.gx_ids.specs.declared.ids.Gxid.{Gxid}
 use Rattle.gx_msg.specs.declared.message.Out.{Out}
 use Rattle.gx_outside.specs.Shelves.{Shelf}
 use Rattle.gx_script.specs.declared.Script.{Script}
 use Rattle.gx_store.specs.Language.{IsScript}
 use Rattle.gx_store.specs.declared.node.NodeEvent.{NodeEvent}
 use Rattle.gx_store.specs.declared.node.NodeOut.{NodeOut}
-use Rattle.gx_rules.specs.AtCoordinator.{coord_can, coord_rule, on_event}
+use Rattle.gx_rules.specs.AtCoordinator.{cancels, coord_can, coord_rule, on_event}
 use Rattle.gx_rules.specs.Coordinators as rule
-use Rattle.gx_law_order.proofs.AtCoordinators.{coord_stays}
+use Rattle.gx_law_order.proofs.AtCoordinators.{cancel_stays, coord_stays}
 use Rattle.gx_law_order.proofs.Lists.{Each}
 use Rattle.gx_law_order.proofs.Tables.{OutIn}
 use Rattle.gx_coord.specs.Books.{coord_of}
@@ -33,21 +34,25 @@ links-sent p q k x fails outs m e h some o l =
     links-of q.segments m outs l
     (subst (λ (xs : List Out). Each (OutIn q.segments) xs) (sym (o ∙ ap (λ (s : Script). (on_event s k x fails).outs) e)) (coord_stays q some k x fails h.inside).outs)
 
+pub links-cancelled : (script : Script) (k : rule.Coord) (g : Gxid) (outs : List Out) (m : ℕ) → IsSound script k → 1 ≤ script.segments → outs ≡ (cancels k g).outs → m ≡ script.segments + 1 → All (λ (out : Out). out.node.0 < m) outs
+links-cancelled script k g outs m h some o l = links-of script.segments m outs l (subst (λ (xs : List Out). Each (OutIn script.segments) xs) (sym o) (cancel_stays script some k g h.inside).outs)
+
 -- the step keeps all that is asked of a coordinator
 module _ (old mid : Coord) (x : NodeEvent) (before after : Shelf) (out : NodeOut) where
   pub is-after : IsCoord old (coord_of old) → coord_can old.script.value (coord_of old) x ≡ true → (h : HasGone old mid x before after out) → IsCoord (record mid { spent = false }) (coord_rule old.script.value (coord_of old) x h.fails).coord
   is-after k ok h =
-      let same : mid.script.value ≡ old.script.value = ap (λ a. a.value) h.script in
+      let same : mid.script.value ≡ old.script.value = ap (λ a. a.value) h.stayed.script in
       is-coord (record mid { spent = false }) (coord_rule old.script.value (coord_of old) x h.fails).coord
       h.coord
-      (h.count ∙ k.count ∙ ap (λ (s : Script). length s.sessions) (sym same))
+      (h.stayed.count ∙ k.count ∙ ap (λ (s : Script). length s.sessions) (sym same))
       (subst (λ (s : Script). IsScript s) (sym same) k.language)
-      (subst (λ (ps : List (List ℕ)). AreIndexed mid.script.value.lines (length mid.script.value.sessions) ps) (sym (ap (λ v. v.items) h.places)) (subst (λ (s : Script). AreIndexed s.lines (length s.sessions) old.places.items) (sym same) k.places))
-      (h.links ∙ k.sent ∙ ap (λ (s : Script). s.segments + 1) (sym same))
+      (subst (λ (ps : List (List ℕ)). AreIndexed mid.script.value.lines (length mid.script.value.sessions) ps) (sym (ap (λ v. v.items) h.stayed.places)) (subst (λ (s : Script). AreIndexed s.lines (length s.sessions) old.places.items) (sym same) k.places))
+      (h.stayed.links ∙ k.sent ∙ ap (λ (s : Script). s.segments + 1) (sym same))
+      (h.stayed.segments ∙ k.segments ∙ ap (λ (s : Script). s.segments) (sym same))
       (subst (λ (s : Script). IsSound s (coord_rule old.script.value (coord_of old) x h.fails).coord) (sym same) (sound-stays old.script.value (coord_of old) k.language.some_segments k.sound x h.fails h.small ok))
 
   stepped-own : IsCoord old (coord_of old) → coord_can old.script.value (coord_of old) x ≡ true → HasGone old mid x before after out → HasStepped old (record mid { spent = false }) (coord_of old) x before after out
-  stepped-own k ok h = record { fails = h.fails; is = is-after k ok h; script = h.script; usable = refl; marks = h.marks; outs = h.outs; clock = h.clock; took = h.took }
+  stepped-own k ok h = record { fails = h.fails; is = is-after k ok h; script = h.stayed.script; usable = refl; marks = h.marks; outs = h.outs; clock = h.clock; took = h.took }
 
   pub has-stepped : (c : rule.Coord) → IsCoord old c → coord_can old.script.value c x ≡ true → HasGone old mid x before after out → HasStepped old (record mid { spent = false }) c x before after out
   has-stepped c k ok h =

@@ -30,3 +30,6 @@ pub mod Resumed
 pub mod Started
 pub mod Unfinished
 pub mod Sent
+pub mod Graphs
+pub mod Cancelled
+pub mod Stepped

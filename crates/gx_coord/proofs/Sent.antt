@@ -16,6 +16,7 @@ use Rattle.gx_script.proofs.Sent.{script_send, script_sync}
 use Rattle.gx_tree.proofs.part.Part.TheSendSync as part
 use Rattle.gx_tree.proofs.stmt.Level.TheSendSync as level
 use Rattle.gx_msg.proofs.Sent.{out_send}
+use Rattle.gx_detect.proofs.detector.Detector.TheSendSync as detector
 use Rattle.gx_dtx.proofs.dtx.Dtx.TheSendSync as dtx
 use Rattle.gx_locks.proofs.table.LockTable.TheSendSync as locks
 use Rattle.gx_coord.proofs.work.Session.TheSendSync as session
@@ -30,7 +31,7 @@ pub work_field_send : IsSend Work.the_field.row
 work_field_send = search (sendable, session_id.the_field_send, level.the_field_send, option.the_field_send, snapshot.the_field_send, seq.the_send, node.the_field_send, command_field_send) depth 20
 
 pub coord_field_send : IsSend Coord.the_field.row
-coord_field_send = search (sendable, arc.the_send, vec.the_send, map.the_send, heap.the_field_send, heap.the_field_sync, frees, script_send, script_sync, seq.the_send, dtx.the_send, locks.the_send, gxid.the_field_send, work_field_send, session.the_field_send) depth 20
+coord_field_send = search (sendable, arc.the_send, vec.the_send, map.the_send, heap.the_field_send, heap.the_field_sync, frees, script_send, script_sync, seq.the_send, dtx.the_send, locks.the_send, detector.the_send, gxid.the_field_send, work_field_send, session.the_field_send) depth 20
 
 pub coord_send : IsSend Coord.the_row
 coord_send = search (sendable, coord_field_send)

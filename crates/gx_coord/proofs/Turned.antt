@@ -13,7 +13,7 @@ use Rattle.gx_coord.specs.declared.coord.Coord.{Coord}
 use Rattle.gx_coord.proofs.Outcomes.{follows-from}
 
 pub framed-trans : (old mid new : Coord) → IsFramed old mid → IsFramed mid new → IsFramed old new
-framed-trans old mid new a b = record { script = b.script ∙ a.script; places = b.places ∙ a.places; sent = b.sent ∙ a.sent; clock = b.clock ∙ a.clock; count = b.count ∙ a.count }
+framed-trans old mid new a b = record { script = b.script ∙ a.script; places = b.places ∙ a.places; sent = b.sent ∙ a.sent; clock = b.clock ∙ a.clock; segments = b.segments ∙ a.segments; count = b.count ∙ a.count }
 
 pub turn-from : (old mid new : Coord) (before after : List Mark) (t u : rule.CoordTurn) → IsFramed old mid → t ≡ u → IsTurn mid new before after t → IsTurn old new before after u
 turn-from old mid new before after t u f e h = record { framed = framed-trans old mid new f h.framed; coord = h.coord ∙ ap (λ (x : rule.CoordTurn). x.coord) e; marks = h.marks ∙ ap (λ (x : rule.CoordTurn). before ++ x.marks) e }
@@ -29,7 +29,7 @@ commits-from c k g turn out e h =
     ∙ follows-from c g turn turn.out.outcome
 
 pub framed-refl : (k : Coord) → IsFramed k k
-framed-refl k = record { script = refl; places = refl; sent = refl; clock = refl; count = refl }
+framed-refl k = record { script = refl; places = refl; sent = refl; clock = refl; segments = refl; count = refl }
 
 pub script-same : (old mid : Coord) → IsFramed old mid → mid.script.value ≡ old.script.value
 script-same old mid f = ap (λ a. a.value) f.script

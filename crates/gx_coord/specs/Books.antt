@@ -57,7 +57,7 @@ session_in (Some s) = session_of s
 abbrev pub session_at : List Session → ℕ → rule.Session
 session_at sessions s = session_in (slice_get sessions s)
 
--- what the coordinator holds, as the data of its rule; no round was begun
+-- what the coordinator holds, as the data of its rule
 abbrev pub coord_of : Coord → rule.Coord
 coord_of k =
     record {
@@ -65,8 +65,8 @@ coord_of k =
       works = found k.script.value.lines k.works.entries;
       sessions = session_at k.sessions.items;
       locks = k.locks;
-      rounds = 0;
-      reports = None;
+      rounds = k.detector.begun;
+      reports = k.detector.reports;
       sent = slice_index k.sent.items;
       clock = k.clock;
     }
@@ -77,6 +77,7 @@ pub record IsFramed (old new : Coord) : Type 0 where
   pub places : new.places ≡ old.places
   pub sent : new.sent ≡ old.sent
   pub clock : new.clock ≡ old.clock
+  pub segments : new.detector.segments ≡ old.detector.segments
   pub count : length new.sessions.items ≡ length old.sessions.items
 
 -- the answer of a node to a command

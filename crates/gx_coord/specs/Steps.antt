@@ -13,7 +13,7 @@ use Rattle.gx_coord.specs.Places.{AreIndexed}
 use Rattle.gx_coord.specs.Sound.{IsSmall, IsSound}
 
 -- The coordinator holds what the rule's data says, which is sound, for a script that keeps the rules of the language, whose lines
--- are found by their places; and it counts what it has sent to each node.
+-- are found by their places; it counts what it has sent to each node, and its detector awaits the script's segments.
 pub record IsCoord (coord : Coord) (c : rule.Coord) : Type 0 where
   pub table : coord.dtx ≡ c.table
   pub works : (g : ℕ) → found coord.script.value.lines coord.works.entries g ≡ c.works g
@@ -24,6 +24,7 @@ pub record IsCoord (coord : Coord) (c : rule.Coord) : Type 0 where
   pub language : IsScript coord.script.value
   pub places : AreIndexed coord.script.value.lines (length coord.script.value.sessions) coord.places.items
   pub sent : length coord.sent.items ≡ coord.script.value.segments + 1
+  pub segments : coord.detector.segments ≡ coord.script.value.segments
   pub sound : IsSound coord.script.value c
 
 -- The step is the rule's, for an append that fails or not: the data, the marks, the messages, the clock and what the journal
@@ -38,23 +39,21 @@ pub record HasStepped (old new : Coord) (c : rule.Coord) (event : NodeEvent) (be
   pub clock : out.clock ≡ new.clock
   pub took : Took before after fails (coord_rule old.script.value c event fails).item
 
+-- what doesn't change in a step
+pub record HasStayed (old new : Coord) : Type 0 where
+  pub script : new.script ≡ old.script
+  pub places : new.places ≡ old.places
+  pub count : length new.sessions.items ≡ length old.sessions.items
+  pub links : length new.sent.items ≡ length old.sent.items
+  pub segments : new.detector.segments ≡ old.detector.segments
+
 -- The same of the coordinator's fields, before it is known that they are sound.
 pub record HasGone (old new : Coord) (event : NodeEvent) (before after : Shelf) (out : NodeOut) : Type 0 where
   pub fails : Bool
   pub small : IsSmall event
   pub coord : coord_of new ≡ (coord_rule old.script.value (coord_of old) event fails).coord
-  pub script : new.script ≡ old.script
-  pub places : new.places ≡ old.places
-  pub count : length new.sessions.items ≡ length old.sessions.items
-  pub links : length new.sent.items ≡ length old.sent.items
+  pub stayed : HasStayed old new
   pub marks : out.marks ≡ (coord_rule old.script.value (coord_of old) event fails).marks
   pub outs : out.outs ≡ (coord_rule old.script.value (coord_of old) event fails).outs
   pub clock : out.clock ≡ new.clock
   pub took : Took before after fails (coord_rule old.script.value (coord_of old) event fails).item
-
--- what doesn't change when messages are sent
-pub record IsSent (old new : Coord) : Type 0 where
-  pub script : new.script ≡ old.script
-  pub places : new.places ≡ old.places
-  pub count : length new.sessions.items ≡ length old.sessions.items
-  pub links : length new.sent.items ≡ length old.sent.items

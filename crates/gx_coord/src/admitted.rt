@@ -9,6 +9,7 @@ use crate::again::awaited;
 use crate::books::find_session;
 use crate::coord::Coord;
 use crate::locking::can_take;
+use crate::rounds::{awaits_graph, can_begin};
 use crate::starting::next_place;
 use crate::work::Session;
 use gx_ids::{Gxid, Mem, Node, SessionId};
@@ -86,9 +87,9 @@ pub(crate) fn can(alloc: Global, coord: &Coord, event: &NodeEvent) -> Mem<bool>
         NodeEvent::End(id) => Ok(can_end(coord, *id)),
         NodeEvent::Resend(node, of) => match of {
             Some(gxid) => can_resend(alloc, coord, *node, *gxid),
-            None => Ok(false),
+            None => Ok(awaits_graph(coord, *node)),
         },
         NodeEvent::Resume(gxid) => Ok(can_take(coord, *gxid)),
-        NodeEvent::Round => Ok(false),
+        NodeEvent::Round => Ok(can_begin(coord)),
     }
 }

@@ -1,8 +1,10 @@
 ghost use Rattle.std.specs.Prelude.{◌≡◌, ◌==◌, ◌<◌, ◌^◌, All, length, not, true, false, None, IfOk, OnErr, IsErr};
+ghost use Rattle.gx_locks.specs.Graphs.{graph_at};
 ghost use Rattle.gx_locks.specs.Locks.{least_with, ready_ones};
 ghost use Rattle.gx_outside.specs.Shelves.{IsLater};
 ghost use Rattle.gx_rules.specs.AtCoordinator.{awaited, coord_can, is_unfinished_there};
 ghost use Rattle.gx_rules.specs.Coordinators.{Coord as RuleCoord, new_coordinator};
+ghost use Rattle.gx_rules.specs.Rounds as rounds_of;
 ghost use Rattle.gx_rules.specs.Sending.{heard_in};
 ghost use Rattle.gx_ids.specs.declared.ids.SessionId.{SessionId as Id};
 ghost use Rattle.gx_store.specs.Language.{IsScript};
@@ -15,7 +17,8 @@ use crate::places::places_of;
 use crate::snapshots::snapshot_of;
 use crate::stepping::step_on;
 use crate::work::{Session, Work};
-use crate::{admitted, again, finished};
+use crate::{admitted, again, finished, rounds};
+use gx_detect::Detector;
 use gx_dsnap::Snapshot;
 use gx_dtx::Dtx;
 use gx_ids::{Gxid, Mem, Node, OutOfMemory, Seq};
@@ -23,12 +26,13 @@ use gx_locks::LockTable;
 use gx_outside::Journal;
 use gx_script::Script;
 use gx_store::{NodeEvent, NodeOut};
+use gx_waits::LocalGraph;
 use std::alloc::Global;
 use std::collections::BTreeMap;
 use std::sync::Arc;
 
-/// The coordinator of a script: its transactions, its sessions, its locks, and how many messages it has sent to each segment. Once memory
-/// has run out in a step it is spent, and answers the same from then on.
+/// The coordinator of a script: its transactions, its sessions, its locks, the detector's rounds, and how many messages it has sent to each
+/// segment. Once memory has run out in a step it is spent, and answers the same from then on.
 #[derive(Drop)]
 pub struct Coord {
     pub(crate) alloc: Global,
@@ -38,6 +42,7 @@ pub struct Coord {
     pub works: BTreeMap<Gxid, Work>,
     pub sessions: Vec<Session>,
     pub locks: LockTable,
+    pub detector: Detector,
     pub sent: Vec<u64>,
     pub clock: u64,
     pub spent: bool,
@@ -56,6 +61,7 @@ impl Coord {
         let sent = nothing_sent(alloc, script.segments)?;
         let dtx = Dtx::new(alloc)?;
         let locks = LockTable::new(alloc, Node(0))?;
+        let detector = Detector::new(alloc, script.segments)?;
         Ok(Coord {
             alloc,
             script,
@@ -64,6 +70,7 @@ impl Coord {
             works: BTreeMap::new(alloc),
             sessions,
             locks,
+            detector,
             sent,
             clock: 0,
             spent: false,
@@ -80,6 +87,7 @@ impl Coord {
         requires heard { heard_in event < 2 ^ 62 }
         requires numbers { All (λ sent. sent < 2 ^ 62) self.old.sent.items }
         requires drawn { self.old.dtx.next.0 < 2 ^ 62 }
+        requires rounds { self.old.detector.begun < 2 ^ 62 }
         ensures stepped { IfOk result (λ out. HasStepped self.old self.new c event (J.shelf journal.old) (J.shelf journal.new) out) }
         ensures later { IsLater (J.shelf journal.old) (J.shelf journal.new) }
         ensures spent { OnErr result (self.new.spent ≡ true) }
@@ -135,6 +143,24 @@ impl Coord {
         ensures { result ≡ is_exec (awaited c gxid segment) }
     {
         again::awaits_exec(self, gxid, segment)
+    }
+
+    /// Whether a round runs in which the segment hasn't reported yet.
+    pub fn awaits_graph(&self, segment: Node) -> bool
+        ghost c: { RuleCoord }
+        requires { IsCoord self.now c }
+        ensures { result ≡ rounds_of.awaits_graph c segment }
+    {
+        rounds::awaits_graph(self, segment)
+    }
+
+    /// Who waits for whom here now.
+    pub fn graph(&self) -> Mem<LocalGraph>
+        ghost c: { RuleCoord }
+        requires { IsCoord self.now c }
+        ensures { IfOk result (λ graph. graph ≡ graph_at c.locks) }
+    {
+        self.locks.graph()
     }
 
     /// Whether some session has a line without an answer, an open or failed block, or a line left.

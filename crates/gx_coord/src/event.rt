@@ -1,9 +1,10 @@
 // One event, before its messages are numbered.
-ghost use Rattle.std.specs.Prelude.{◌≡◌, ◌≤◌, ◌∷◌, ◌^◌, [], length, true, IfOk, OnOk};
+ghost use Rattle.std.specs.Prelude.{◌≡◌, ◌≤◌, ◌<◌, ◌∷◌, ◌^◌, [], length, true, IfOk, OnOk};
 ghost use Rattle.gx_store.specs.Language.{IsScript};
 ghost use Rattle.gx_outside.specs.Shelves.{IsLater};
 ghost use Rattle.gx_node.specs.Orders.{Took};
 ghost use Rattle.gx_rules.specs.AtCoordinator as turns;
+ghost use Rattle.gx_rules.specs.Rounds.{victims_at};
 ghost use Rattle.gx_coord.specs.Books.{coord_of};
 ghost use Rattle.gx_coord.specs.Places.{AreIndexed};
 ghost use Rattle.gx_coord.specs.Sound.{IsSmall, IsSound};
@@ -13,8 +14,9 @@ use crate::again::awaited;
 use crate::books::{find_session, set_state};
 use crate::coord::Coord;
 use crate::lines::roll_back;
-use crate::messages::{take_message, unfailing};
+use crate::messages::{plain, take_message};
 use crate::resuming::resume;
+use crate::rounds::{begin_round, collect_again};
 use crate::starting::start;
 use crate::statuses::Turned;
 use gx_ids::{Gxid, Mem, Node, Seq, SessionId};
@@ -25,7 +27,7 @@ use gx_script::{Script, SessionState};
 use gx_store::{Mark, NodeEvent};
 use std::alloc::Global;
 
-fn one_out(alloc: Global, node: Node, message: Message) -> Mem<Seq<Out>>
+pub(crate) fn one_out(alloc: Global, node: Node, message: Message) -> Mem<Seq<Out>>
     ensures { IfOk result (λ outs. outs ≡ record { node = node; message = message } ∷ []) }
 {
     let mut outs = Seq::new(alloc);
@@ -83,11 +85,14 @@ pub(crate) fn take_event<J: Journal>(
     requires sound { IsSound script.now (coord_of coord.old) }
     requires drawn { coord.old.dtx.next.0 ≤ 2 ^ 62 }
     requires sessions { length coord.old.sessions.items ≡ length script.now.sessions }
+    requires segments { coord.old.detector.segments ≡ script.now.segments }
+    requires rounds { coord.old.detector.begun < 2 ^ 62 }
     requires admitted { turns.coord_can script.now (coord_of coord.old) event ≡ true }
     ensures turn { IfOk result (λ turned. IsTurn coord.old coord.new marks.old.items marks.new.items (turns.on_event script.now (coord_of coord.old) event turned.fails)) }
     ensures outs { IfOk result (λ turned. turned.outs ≡ (turns.on_event script.now (coord_of coord.old) event turned.fails).outs) }
     ensures took { IfOk result (λ turned. Took (J.shelf journal.old) (J.shelf journal.new) turned.fails (turns.on_event script.now (coord_of coord.old) event turned.fails).item) }
     ensures later { IsLater (J.shelf journal.old) (J.shelf journal.new) }
+    ensures victims { IfOk result (λ turned. turned.victims ≡ victims_at (coord_of coord.old) event) }
     ensures small { IsSmall event }
 {
     match event {
@@ -97,23 +102,29 @@ pub(crate) fn take_event<J: Journal>(
         }
         NodeEvent::Start(id) => {
             let outs = start(alloc, script, coord, id, marks)?;
-            Ok(unfailing(outs))
+            Ok(plain(alloc, outs))
         }
         NodeEvent::End(id) => {
             let outs = end(alloc, coord, id, marks)?;
-            Ok(unfailing(outs))
+            Ok(plain(alloc, outs))
         }
         NodeEvent::Resend(node, of) => match of {
             Some(gxid) => {
                 let outs = resend(alloc, coord, node, gxid)?;
-                Ok(unfailing(outs))
+                Ok(plain(alloc, outs))
             }
-            None => Ok(unfailing(Seq::new(alloc))),
+            None => {
+                let outs = collect_again(alloc, coord, node)?;
+                Ok(plain(alloc, outs))
+            }
         },
         NodeEvent::Resume(gxid) => {
             let outs = resume(alloc, script, coord, gxid, marks)?;
-            Ok(unfailing(outs))
+            Ok(plain(alloc, outs))
         }
-        NodeEvent::Round => Ok(unfailing(Seq::new(alloc))),
+        NodeEvent::Round => {
+            let outs = begin_round(script, coord)?;
+            Ok(plain(alloc, outs))
+        }
     }
 }

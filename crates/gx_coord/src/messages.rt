@@ -1,15 +1,18 @@
 // What segments tell.
-ghost use Rattle.std.specs.Prelude.{◌≡◌, ◌<◌, ◌^◌, true, false, IfOk, OnOk};
+ghost use Rattle.std.specs.Prelude.{◌≡◌, ◌<◌, ◌^◌, [], None, true, false, IfOk, OnOk};
+ghost use Rattle.gx_detect.specs.Reports.{IsSegment};
 ghost use Rattle.gx_dtx.specs.Table.{IsActive};
 ghost use Rattle.gx_outside.specs.Shelves.{IsLater};
 ghost use Rattle.gx_node.specs.Orders.{Took};
 ghost use Rattle.gx_rules.specs.AtCoordinator as turns;
+ghost use Rattle.gx_rules.specs.Rounds as rounds;
 ghost use Rattle.gx_coord.specs.Books.{coord_of};
 ghost use Rattle.gx_coord.specs.Sound.{IsSmallMessage, IsSmallReply, IsSound};
-ghost use Rattle.gx_coord.specs.Turns.{IsBusy, IsReady, IsTurn, answer_in, asks, is_over, left_in};
+ghost use Rattle.gx_coord.specs.Turns.{IsBusy, IsReady, IsTurn, asks, is_over, left_in, news_in};
 
 use crate::completing::complete;
 use crate::coord::Coord;
+use crate::rechecking::hear;
 use crate::replies::{Done, is_asked, is_done, is_taken, note_done, refuse};
 use crate::statuses::{Turned, take_status};
 use gx_ids::{Cid, Gxid, Mem, Node, Seq};
@@ -18,6 +21,7 @@ use gx_outside::Journal;
 use gx_script::Script;
 use gx_store::{Mark, Refused};
 use gx_tree::Part;
+use gx_waits::LocalGraph;
 use std::alloc::Global;
 
 // A command goes on, or is complete.
@@ -98,10 +102,15 @@ fn take_failure(
     }
 }
 
-pub(crate) fn unfailing(outs: Seq<Out>) -> Turned
-    ensures { result ≡ record { outs = outs; fails = false } }
+// A turn that leaves the journal alone and names nobody.
+pub(crate) fn plain(alloc: Global, outs: Seq<Out>) -> Turned
+    ensures { result ≡ record { outs = outs; fails = false; victims = [] } }
 {
-    Turned { outs, fails: false }
+    Turned {
+        outs,
+        fails: false,
+        victims: Seq::new(alloc),
+    }
 }
 
 // An answer is for a command, or for the transaction's status.
@@ -122,6 +131,7 @@ fn take_reply<J: Journal>(
     ensures outs { IfOk result (λ turned. turned.outs ≡ (turns.on_answer (coord_of coord.old) gxid node turned.fails reply).outs) }
     ensures took { IfOk result (λ turned. Took (J.shelf journal.old) (J.shelf journal.new) turned.fails (turns.on_answer (coord_of coord.old) gxid node turned.fails reply).item) }
     ensures later { IsLater (J.shelf journal.old) (J.shelf journal.new) }
+    ensures nobody { IfOk result (λ turned. turned.victims ≡ []) }
     ensures small { IsSmallReply reply }
 {
     match reply {
@@ -133,23 +143,56 @@ fn take_reply<J: Journal>(
         } => {
             let done = Done { cid, wrote, count };
             let outs = take_done(alloc, script, coord, gxid, node, done, part, marks)?;
-            Ok(unfailing(outs))
+            Ok(plain(alloc, outs))
         }
         Reply::Failed { cid, cause } => {
             let outs = take_failure(alloc, coord, gxid, node, cid, cause, marks)?;
-            Ok(unfailing(outs))
+            Ok(plain(alloc, outs))
         }
         status => take_status(alloc, script, coord, gxid, node, status, journal, marks),
     }
 }
 
-fn into_answer(message: Message) -> Option<(Gxid, Reply)>
-    ensures { result ≡ answer_in message }
+// What a segment tells.
+#[derive(Drop)]
+pub enum News {
+    Answer(Gxid, Reply),
+    Graph(u64, LocalGraph),
+    Other,
+}
+
+fn news_of(message: Message) -> News
+    ensures { result ≡ news_in message }
 {
     match message {
-        Message::Answer(gxid, reply) => Some((gxid, reply)),
-        _ => None,
+        Message::Answer(gxid, reply) => News::Answer(gxid, reply),
+        Message::Graph(round, graph) => News::Graph(round, graph),
+        _ => News::Other,
     }
+}
+
+// A graph is for the detector's round.
+fn take_graph(
+    alloc: Global,
+    coord: &mut Coord,
+    from: Node,
+    round: u64,
+    graph: LocalGraph,
+    marks: &mut Vec<Mark>,
+) -> Mem<Turned>
+    requires segment { IsSegment coord.old.detector.segments from }
+    ensures turn { OnOk result (IsTurn coord.old coord.new marks.old.items marks.new.items (rounds.on_graph (coord_of coord.old) from round graph)) }
+    ensures outs { IfOk result (λ turned. turned.outs ≡ (rounds.on_graph (coord_of coord.old) from round graph).outs) }
+    ensures unfailing { IfOk result (λ turned. turned.fails ≡ false) }
+    ensures item { OnOk result ((rounds.on_graph (coord_of coord.old) from round graph).item ≡ None) }
+    ensures victims { IfOk result (λ turned. turned.victims ≡ rounds.victims_on_graph (coord_of coord.old) from round graph) }
+{
+    let victims = hear(alloc, coord, from, round, graph, marks)?;
+    Ok(Turned {
+        outs: Seq::new(alloc),
+        fails: false,
+        victims,
+    })
 }
 
 pub(crate) fn take_message<J: Journal>(
@@ -163,17 +206,19 @@ pub(crate) fn take_message<J: Journal>(
 ) -> Mem<Turned>
     requires same { coord.old.script.value ≡ script.now }
     requires sound { IsSound script.now (coord_of coord.old) }
-    requires segment { 0 < from.0 }
+    requires segment { IsSegment coord.old.detector.segments from }
     ensures turn { IfOk result (λ turned. IsTurn coord.old coord.new marks.old.items marks.new.items (turns.on_message (coord_of coord.old) from turned.fails message)) }
     ensures outs { IfOk result (λ turned. turned.outs ≡ (turns.on_message (coord_of coord.old) from turned.fails message).outs) }
     ensures took { IfOk result (λ turned. Took (J.shelf journal.old) (J.shelf journal.new) turned.fails (turns.on_message (coord_of coord.old) from turned.fails message).item) }
     ensures later { IsLater (J.shelf journal.old) (J.shelf journal.new) }
+    ensures victims { IfOk result (λ turned. turned.victims ≡ rounds.victims_on_message (coord_of coord.old) from message) }
     ensures small { IsSmallMessage message }
 {
-    match into_answer(message) {
-        Some((gxid, reply)) => {
+    match news_of(message) {
+        News::Answer(gxid, reply) => {
             take_reply(alloc, script, coord, gxid, from, reply, journal, marks)
         }
-        None => Ok(unfailing(Seq::new(alloc))),
+        News::Graph(round, graph) => take_graph(alloc, coord, from, round, graph, marks),
+        News::Other => Ok(plain(alloc, Seq::new(alloc))),
     }
 }

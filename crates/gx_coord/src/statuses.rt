@@ -1,5 +1,5 @@
 // Answers of segments for a transaction's status.
-ghost use Rattle.std.specs.Prelude.{◌≡◌, ◌<◌, Bool, true, IfOk};
+ghost use Rattle.std.specs.Prelude.{◌≡◌, ◌<◌, [], Bool, true, IfOk};
 ghost use Rattle.gx_dtx.specs.Rules.{on_reply};
 ghost use Rattle.gx_outside.specs.Shelves.{IsLater};
 ghost use Rattle.gx_node.specs.Orders.{Took};
@@ -17,11 +17,12 @@ use gx_script::Script;
 use gx_store::Mark;
 use std::alloc::Global;
 
-// What a turn sends, and whether the coordinator's journal failed to take its item.
+// What a turn sends, whether the coordinator's journal failed to take its item, and whom a recheck has named.
 #[derive(Drop)]
 pub struct Turned {
     pub outs: Seq<Out>,
     pub fails: bool,
+    pub victims: Seq<Gxid>,
 }
 
 fn is_own(outcome: Outcome) -> bool
@@ -52,9 +53,14 @@ pub(crate) fn take_status<J: Journal>(
     ensures outs { IfOk result (λ turned. turned.outs ≡ (turns.on_status (coord_of coord.old) gxid node reply turned.fails).outs) }
     ensures took { IfOk result (λ turned. Took (J.shelf journal.old) (J.shelf journal.new) turned.fails (turns.on_status (coord_of coord.old) gxid node reply turned.fails).item) }
     ensures later { IsLater (J.shelf journal.old) (J.shelf journal.new) }
+    ensures nobody { IfOk result (λ turned. turned.victims ≡ []) }
 {
     let out = coord.dtx.reply(gxid, node, reply, journal)?;
     let fails = is_own(out.outcome);
     let outs = follow(alloc, script, coord, gxid, out, marks)?;
-    Ok(Turned { outs, fails })
+    Ok(Turned {
+        outs,
+        fails,
+        victims: Seq::new(alloc),
+    })
 }

@@ -1,17 +1,20 @@
 // One step on the coordinator's parts.
-ghost use Rattle.std.specs.Prelude.{◌≡◌, ◌+◌, ◌<◌, ◌++◌, ◌^◌, All, length, slice_index, true, IfOk, OnOk};
+ghost use Rattle.std.specs.Prelude.{◌≡◌, ◌+◌, ◌<◌, ◌≤◌, ◌++◌, ◌^◌, All, length, slice_index, true, IfOk, OnOk};
 ghost use Rattle.gx_store.specs.Language.{IsScript};
 ghost use Rattle.gx_outside.specs.Shelves.{IsLater};
-ghost use Rattle.gx_rules.specs.AtCoordinator.{coord_can};
+ghost use Rattle.gx_rules.specs.AtCoordinator.{and_cancels_all, coord_can, coord_sends};
 ghost use Rattle.gx_rules.specs.Sending.{counted_all, heard_in, numbered};
 ghost use Rattle.gx_coord.specs.Books.{coord_of};
 ghost use Rattle.gx_coord.specs.Places.{AreIndexed};
 ghost use Rattle.gx_coord.specs.Sound.{IsSound};
-ghost use Rattle.gx_coord.specs.Steps.{HasGone, IsSent};
+ghost use Rattle.gx_coord.specs.Steps.{HasGone, HasStayed};
+ghost use Rattle.gx_coord.specs.Turns.{so_far};
 
+use crate::cancelling::cancel_all;
 use crate::coord::Coord;
 use crate::event::take_event;
 use crate::sending::{clock_after, number};
+use crate::statuses::Turned;
 use gx_ids::{Mem, Seq};
 use gx_msg::Out;
 use gx_outside::Journal;
@@ -23,30 +26,53 @@ use std::sync::Arc;
 fn send(
     alloc: Global,
     coord: &mut Coord,
-    outs: Seq<Out>,
+    outs: &[Out],
+    clock: u64,
+    marks: &mut Vec<Mark>,
+) -> Mem<()>
+    requires few { length outs.now < 2 ^ 63 }
+    requires numbers { All (λ sent. sent < 2 ^ 62) coord.old.sent.items }
+    requires links { All (λ out. out.node.0 < length coord.old.sent.items) outs.now }
+    ensures coord { OnOk result (coord_of coord.new ≡ record (coord_of coord.old) { sent = counted_all (slice_index coord.old.sent.items) outs.now; clock = clock }) }
+    ensures stayed { OnOk result (HasStayed coord.old coord.new) }
+    ensures marks { OnOk result (marks.new.items ≡ marks.old.items ++ numbered (slice_index coord.old.sent.items) outs.now) }
+    ensures room { OnOk result (All (λ n. n < 2 ^ 62 + length outs.now) coord.new.sent.items) }
+{
+    number(alloc, &mut coord.sent, outs, marks)?;
+    coord.clock = clock;
+    Ok(())
+}
+
+// The messages of a turn are sent, and whom it has named is cancelled.
+fn send_and_cancel(
+    alloc: Global,
+    coord: &mut Coord,
+    turned: Turned,
     clock: u64,
     marks: Vec<Mark>,
 ) -> Mem<NodeOut>
+    requires some { 1 ≤ coord.old.script.value.segments }
+    requires sound { IsSound coord.old.script.value (coord_of coord.old) }
+    requires sent { length coord.old.sent.items ≡ coord.old.script.value.segments + 1 }
     requires numbers { All (λ sent. sent < 2 ^ 62) coord.old.sent.items }
-    requires links { All (λ out. out.node.0 < length coord.old.sent.items) outs }
-    ensures coord { OnOk result (coord_of coord.new ≡ record (coord_of coord.old) { sent = counted_all (slice_index coord.old.sent.items) outs; clock = clock }) }
-    ensures sent { OnOk result (IsSent coord.old coord.new) }
-    ensures marks { IfOk result (λ out. out.marks ≡ marks.items ++ numbered (slice_index coord.old.sent.items) outs) }
-    ensures outs { IfOk result (λ out. out.outs ≡ outs) }
+    requires links { All (λ out. out.node.0 < length coord.old.sent.items) turned.outs }
+    ensures stayed { OnOk result (HasStayed coord.old coord.new) }
+    ensures turn { IfOk result (λ out. so_far (coord_of coord.new) out.marks out.outs ≡ and_cancels_all turned.victims (coord_sends clock (so_far (coord_of coord.old) marks.items turned.outs))) }
     ensures clock { IfOk result (λ out. out.clock ≡ coord.new.clock) }
 {
     let mut marks = marks;
-    let outs = outs.into_vec();
-    number(alloc, &mut coord.sent, outs.as_slice(), &mut marks)?;
-    coord.clock = clock;
+    let Turned { outs, victims, .. } = turned;
+    let mut outs = outs.into_vec();
+    send(alloc, coord, outs.as_slice(), clock, &mut marks)?;
+    cancel_all(alloc, coord, victims.as_slice(), &mut marks, &mut outs)?;
     Ok(NodeOut {
         marks: Seq::from_vec(marks),
         outs: Seq::from_vec(outs),
-        clock,
+        clock: coord.clock,
     })
 }
 
-// Takes the event, and sends what it gives.
+// Takes the event, sends what it gives, and cancels whom it has named.
 pub(crate) fn step_on<J: Journal>(
     coord: &mut Coord,
     event: NodeEvent,
@@ -56,12 +82,14 @@ pub(crate) fn step_on<J: Journal>(
     requires places { AreIndexed coord.old.script.value.lines (length coord.old.script.value.sessions) coord.old.places.items }
     requires sessions { length coord.old.sessions.items ≡ length coord.old.script.value.sessions }
     requires links { length coord.old.sent.items ≡ coord.old.script.value.segments + 1 }
+    requires segments { coord.old.detector.segments ≡ coord.old.script.value.segments }
     requires sound { IsSound coord.old.script.value (coord_of coord.old) }
     requires admitted { coord_can coord.old.script.value (coord_of coord.old) event ≡ true }
     requires clock { coord.old.clock < 2 ^ 62 }
     requires heard { heard_in event < 2 ^ 62 }
     requires numbers { All (λ sent. sent < 2 ^ 62) coord.old.sent.items }
     requires drawn { coord.old.dtx.next.0 < 2 ^ 62 }
+    requires rounds { coord.old.detector.begun < 2 ^ 62 }
     ensures gone { IfOk result (λ out. HasGone coord.old coord.new event (J.shelf journal.old) (J.shelf journal.new) out) }
     ensures later { IsLater (J.shelf journal.old) (J.shelf journal.new) }
 {
@@ -70,6 +98,6 @@ pub(crate) fn step_on<J: Journal>(
     let clock = clock_after(coord.clock, &event);
     let mut marks = Vec::new(alloc);
     let turned = take_event(alloc, &script, coord, event, journal, &mut marks)?;
-    let out = send(alloc, coord, turned.outs, clock, marks)?;
+    let out = send_and_cancel(alloc, coord, turned, clock, marks)?;
     Ok(out)
 }

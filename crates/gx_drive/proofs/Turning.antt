@@ -19,7 +19,7 @@ use Rattle.gx_world.specs.Worlds.{AreLater, HasStepped}
 use Rattle.gx_law_runs.specs.Reached.{IsReached}
 use Rattle.gx_law_runs.specs.Replays.{world_behind}
 use Rattle.gx_law_runs.proofs.Reaching.{event-reached}
-use Rattle.gx_law_order.proofs.World.{marks-last}
+use Rattle.gx_law_order.proofs.More.{marks-last}
 use Rattle.gx_law_runs.specs.Failures.{failures_in}
 use Rattle.gx_law_runs.proofs.Steps.{behind-few}
 use Rattle.gx_drive.specs.Agrees.{IsNextStep}

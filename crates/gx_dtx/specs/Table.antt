@@ -64,6 +64,11 @@ abbrev pub runs : Option Txn → Bool
 runs None = false
 runs (Some t) = is_running t.phase
 
+-- a transaction is active while its commands run
+abbrev pub is_active : Phase → Bool
+is_active Active = true
+is_active _ = false
+
 -- whether a transaction was drawn and isn't running any more
 abbrev pub has_ended : Table → Gxid → Bool
 has_ended d g = (nat_lt 0 g.0 && is_below d.next g) && not (runs (find_txn d g))
@@ -71,6 +76,10 @@ has_ended d g = (nat_lt 0 g.0 && is_below d.next g) && not (runs (find_txn d g))
 -- the running gxids, rising
 abbrev pub running_of : Table → List Gxid
 running_of d = map (λ e. e.0) (filter (λ e. is_running e.1.phase) d.txns)
+
+-- the active gxids, rising
+abbrev pub active_of : Table → List Gxid
+active_of d = map (λ e. e.0) (filter (λ e. is_active e.1.phase) d.txns)
 
 -- a snapshot taken now: one more than the greatest gxid that has ended, or 1 where none has
 abbrev pub xmax_of : Table → Gxid

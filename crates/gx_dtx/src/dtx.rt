@@ -37,7 +37,7 @@ impl Model for Dtx {
 }
 
 impl Dtx {
-    ghost use Rattle.gx_dtx.specs.Table.{new_table, status_of, IsActive, participants_of, xmax_of, listed_of, xmin_of, has_ended, holds_back, horizon_of};
+    ghost use Rattle.gx_dtx.specs.Table.{new_table, active_of, status_of, IsActive, participants_of, xmax_of, listed_of, xmin_of, has_ended, holds_back, horizon_of};
     ghost use Rattle.gx_dtx.specs.Rules.{begun, with_live, enlisted, on_commit, on_abort, on_reply, awaits, is_deciding, awaited_order, AreWriters, is_refused, ended_alone, silently};
     ghost use Rattle.gx_dtx.specs.Deciding.{HasDecided};
     ghost use Rattle.gx_dtx.specs.Laws.{HasCause};
@@ -76,6 +76,13 @@ impl Dtx {
     {
         let txn = self.txns.find(gxid)?;
         Some(txn.phase.status())
+    }
+
+    /// The transactions whose commands run, rising.
+    pub fn active(&self) -> Mem<Vec<Gxid>>
+        ensures { IfOk result (λ active. active.items ≡ active_of self.now) }
+    {
+        self.txns.active()
     }
 
     /// Takes a snapshot for a statement or a block of the transaction (Lyu et al., SIGMOD 2021; PostgreSQL manual

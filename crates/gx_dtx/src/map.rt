@@ -4,7 +4,7 @@ ghost use Rattle.std.specs.Option.{ForSome};
 ghost use Rattle.std.specs.Map.{lookup};
 ghost use Rattle.std.specs.BTreeMap.{IsUnchanged, IsOrdered, Updates, get, keys, is_at, insert_entry};
 ghost use Rattle.gx_dsnap.specs.Gxids.{gxid_cmp, after_ended, is_below, first_or};
-ghost use Rattle.gx_dtx.specs.Table.{is_running, new_txn};
+ghost use Rattle.gx_dtx.specs.Table.{is_active, is_running, new_txn};
 ghost use Rattle.gx_dtx.specs.Lives.{live_of as live_found};
 ghost use Rattle.gx_dtx.specs.Rules.{with_txn, with_step, moved};
 ghost use Rattle.gx_dtx.specs.Nodes.{with_node as all_with};
@@ -33,6 +33,19 @@ fn running(alloc: Global, txns: &Map) -> Mem<Vec<Gxid>>
         }
     }
     Ok(running)
+}
+
+// The active gxids, in the order of the keys.
+pub(crate) fn active(alloc: Global, txns: &Map) -> Mem<Vec<Gxid>>
+    ensures { IfOk result (λ active. active.items ≡ map (λ e. e.0) (filter (λ e. is_active e.1.phase) txns.now.entries)) }
+{
+    let mut active = Vec::new(alloc);
+    for (gxid, txn) in txns {
+        if txn.phase.is_active() {
+            active.push(*gxid)?;
+        }
+    }
+    Ok(active)
 }
 
 // A snapshot of these transactions.

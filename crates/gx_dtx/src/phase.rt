@@ -24,7 +24,7 @@ pub enum Phase {
 }
 
 impl Phase {
-    ghost use Rattle.gx_dtx.specs.Table.{status_in, is_running as runs_in};
+    ghost use Rattle.gx_dtx.specs.Table.{status_in, is_active as acts_in, is_running as runs_in};
 
     /// The status, without those whose answers are awaited.
     pub fn status(&self) -> Status
@@ -44,5 +44,12 @@ impl Phase {
         ensures { result ≡ runs_in self.now }
     {
         !matches!(self, Phase::Ended(_))
+    }
+
+    /// Whether its commands run.
+    pub fn is_active(&self) -> bool
+        ensures { result ≡ acts_in self.now }
+    {
+        matches!(self, Phase::Active)
     }
 }

@@ -40,7 +40,7 @@ impl Model for Txns {
 }
 
 impl Txns {
-    ghost use Rattle.gx_dtx.specs.Table.{is_running, holds_back, new_txn};
+    ghost use Rattle.gx_dtx.specs.Table.{is_active, is_running, holds_back, new_txn};
     ghost use Rattle.gx_dtx.specs.Rules.{with_txn, with_step, moved};
     ghost use Rattle.gx_dtx.specs.Whole.{AreRisen};
     ghost use Rattle.gx_dtx.specs.Nodes.{with_node as all_with};
@@ -81,6 +81,13 @@ impl Txns {
         ensures xmin { IfOk result (λ snap. snap.xmin ≡ first_or snap.running snap.xmax) }
     {
         map::snapshot_of(self.alloc, &self.map, latest_ended)
+    }
+
+    /// The active gxids.
+    pub fn active(&self) -> Mem<Vec<Gxid>>
+        ensures { IfOk result (λ active. active.items ≡ map (λ e. e.0) (filter (λ e. is_active e.1.phase) self.now)) }
+    {
+        map::active(self.alloc, &self.map)
     }
 
     /// A transaction has a live snapshot of this `xmin`.

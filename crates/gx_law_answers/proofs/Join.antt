@@ -24,7 +24,9 @@ use Rattle.gx_law_sessions.specs.Finish.{AreCommandsTold, IsRestShown, point_at}
 use Rattle.gx_law_sessions.specs.Gathering.{IsGathered}
 use Rattle.gx_store.specs.Language.{AreLinesNumbered}
 use Rattle.gx_law_sessions.proofs.Said.{CalmFor}
-use Rattle.gx_law_sessions.proofs.World.{all-legal, sessions-stand}
+use Rattle.gx_law_sessions.proofs.Remaining.{all-legal}
+use Rattle.gx_law_sessions.proofs.World.{sessions-stand}
+use Rattle.gx_law_answers.specs.Cancelled.{AreVictimsCancelled}
 use Rattle.gx_law_answers.specs.Earned.{Events}
 use Rattle.gx_law_answers.specs.Keyed.{AreInsertsFilled, AreRowsKeyed}
 use Rattle.gx_law_answers.specs.Once.{AreSnapshotsOne}
@@ -36,7 +38,7 @@ use Rattle.gx_law_answers.proofs.Snaps.{one-snapshot}
 use Rattle.gx_law_answers.proofs.Caused.{caused}
 use Rattle.gx_law_answers.proofs.Told.{tells-by}
 
-module _ (script : Script) (some : 1 ≤ script.segments) (numbered : AreLinesNumbered [] script.lines) (keyed : AreRowsKeyed script) (once : AreSnapshotsOne script) (filled : AreInsertsFilled script) where
+module _ (script : Script) (some : 1 ≤ script.segments) (numbered : AreLinesNumbered [] script.lines) (keyed : AreRowsKeyed script) (once : AreSnapshotsOne script) (filled : AreInsertsFilled script) (cancelled : AreVictimsCancelled script) where
   module _ (es : Events) where
     abbrev steps : List Step
     steps = (world_of script es).steps
@@ -62,7 +64,7 @@ module _ (script : Script) (some : 1 ≤ script.segments) (numbered : AreLinesNu
     }
 
   rest-shown : IsRestShown script
-  rest-shown = record { commands = λ es. told es; segments = λ es. segments-legal script some numbered es }
+  rest-shown = record { commands = λ es. told es; segments = λ es. segments-legal script some numbered es; verdicts = cancelled }
 
   pub legal : (es : Events) → IsLegalHistory script (run_of (world_of script es))
   legal es = all-legal script some rest-shown es

@@ -30,9 +30,9 @@ use Rattle.gx_rules.specs.Sending.{numbered}
 use Rattle.gx_rules.specs.Slices.{Moved}
 use Rattle.gx_law_order.proofs.Changing.{change-parts}
 use Rattle.gx_law_order.proofs.Lists.{Each, each_append, each_weaker}
-use Rattle.gx_law_order.proofs.Ordered.{at_coordinator, world_well}
+use Rattle.gx_law_order.proofs.Ordered.{rule-at, world_well}
 use Rattle.gx_law_order.proofs.Waiting.{freed}
-use Rattle.gx_law_order.proofs.World.{marks-last}
+use Rattle.gx_law_order.proofs.More.{marks-last}
 use Rattle.gx_law_sessions.specs.Orders.{IsOrder}
 use Rattle.gx_law_sessions.proofs.Outs.{order-more}
 use Rattle.gx_law_changes.proofs.Frames.{IsWork}
@@ -101,7 +101,7 @@ module _ (script : Script) (some : 1 ≤ script.segments) (numbered_lines : AreL
   coord-so : (es : Events) (e : Event) (fails : Bool) (x : NodeEvent) → world_of script (es ++ (e, fails) ∷ []) ≡ coord_did (world_of script es) e (coord_rule script (world_of script es).coord x fails) → IsSo es → IsSo (es ++ (e, fails) ∷ [])
   coord-so es e fails x is old =
       step-so es (world_of script (es ++ (e, fails) ∷ [])) _ (ap (λ (v : World). v.steps) is)
-      (no-write-ordered script _ (coord_rule script (world_of script es).coord x fails).marks (here-no-write script (coord_rule script (world_of script es).coord x fails).marks (at_coordinator script some (world_of script es) (world_well script some es) e x fails))) old
+      (no-write-ordered script _ (coord_rule script (world_of script es).coord x fails).marks (here-no-write script (coord_rule script (world_of script es).coord x fails).marks (rule-at script some (world_of script es).coord x fails (world_well script some es).coordinator))) old
 
   -- A SEGMENT'S STEP
   module _ (es : Events) (to : Node) (e : Event) (fails : Bool) (x : NodeEvent) (place : IsSegment script to) (late : IsLate script es to e fails x) where

@@ -52,13 +52,13 @@ use Rattle.gx_law_order.proofs.AtSegments.{PlainAt, seg_stays}
 use Rattle.gx_law_order.proofs.Changing.{change-parts}
 use Rattle.gx_law_order.proofs.Ordered.{world_well}
 use Rattle.gx_law_order.proofs.Waiting.{freed}
-use Rattle.gx_law_order.proofs.World.{marks-last}
+use Rattle.gx_law_order.proofs.More.{marks-last}
 use Rattle.gx_law_sessions.specs.Orders.{IsOrder, IsReadBy, IsServed}
 use Rattle.gx_store.specs.Language.{AreLinesNumbered}
 use Rattle.gx_law_sessions.proofs.Outs.{order-more}
 use Rattle.gx_law_commit.specs.Pairs.{IsVote}
 use Rattle.gx_law_commit.specs.Standings.{at, gx}
-use Rattle.gx_law_reads.proofs.Seeing.{world-hold}
+use Rattle.gx_law_order.proofs.Journals.{world-hold}
 use Rattle.gx_law_holds.specs.Late.{AreReleasesLate}
 use Rattle.gx_law_holds.proofs.Lasting.{granted-held}
 use Rattle.gx_law_holds.proofs.Marks.{quiet-late}

@@ -1,9 +1,9 @@
 -- A repeatable-read transaction takes one snapshot.
 use Rattle.std.proofs.Common.{◌≡◌, ◌≤◌, ◌<◌, ◌⊎◌, inl, inr, ℕ, zero, suc, ◌+◌, List, [], ◌∷◌, ◌++◌, Option, Some, None, Result, Ok, Err, Bool, true, false, refl, sym, subst, ap, ◌∙◌, ◌||◌, ◌&&◌, if◌then◌else◌, arith, eqb, length}
 use Rattle.std.proofs.lemmas.Bool.Decides.{nat_tests}
-use Rattle.std.specs.Prelude.{All, ◌==◌, slice_get, map}
+use Rattle.std.specs.Prelude.{◌==◌, slice_get, map}
 use Rattle.std.proofs.lemmas.Bool.{or_right}
-use Rattle.gx_lemmas.proofs.Numbers.{eqb-self}
+use Rattle.gx_lemmas.proofs.Numbers.{eqb-self, one-le-zero}
 use Rattle.gx_lemmas.proofs.Tests.{true-false}
 use Rattle.gx_lemmas.proofs.Options.{some-same}
 use Rattle.gx_ids.specs.declared.ids.Cid.{Cid}
@@ -32,33 +32,38 @@ use Rattle.gx_script.specs.declared.line_step.LineStep.{LineStep}
 use Rattle.gx_script.specs.declared.line_step.LineStep.TheVariants as step
 use Rattle.gx_script.specs.declared.state.Block.{Block}
 use Rattle.gx_script.specs.declared.state.Block.TheVariants as block
+use Rattle.gx_store.specs.declared.answer.Refused.TheVariants.{Victim}
 use Rattle.gx_store.specs.declared.event.Event.{Event}
 use Rattle.gx_store.specs.declared.mark.Mark.{Mark}
 use Rattle.gx_store.specs.declared.mark.Mark.TheVariants as mark
 use Rattle.gx_store.specs.declared.node.NodeEvent.{NodeEvent}
 use Rattle.gx_store.specs.declared.node.NodeEvent.TheVariants as here
 use Rattle.gx_store.specs.declared.run.Step.{Step}
-use Rattle.gx_store.specs.Journals.{is_same_node}
 use Rattle.gx_store.specs.Lines.{stmt_of}
 use Rattle.gx_store.specs.Marks.{has_snapshot, is_same_gxid}
-use Rattle.gx_store.specs.Ordered.{AreOrdered, IsAtNode, IsOrderedStep}
+use Rattle.gx_store.specs.Ordered.{IsAtNode}
 use Rattle.gx_store.specs.Points.{marks_in}
 use Rattle.gx_store.specs.Writes.{dist_of}
 use Rattle.gx_store.specs.Refusals.{the_coordinator}
-use Rattle.gx_rules.specs.AtCoordinator.{Reading, awaited, begins, commits, completes, coord_can, coord_rule, dispatches, ends_in, fault_mark, follows, goes, goes_on, is_refused, next_cid, next_line, on_answer, on_event, on_failed, on_done, on_line, on_message, on_status, reads_by, reads_for, resends, starts, starts_line, table_of, takes_done, with_done, writers_with, goes_on_locked, if_granted, lock_for, requests, resumes}
-use Rattle.gx_rules.specs.Coordinators.{Command, Coord, Work, rests, session_of, with_work, work_of}
+use Rattle.gx_rules.specs.AtCoordinator.{Reading, awaited, awaited_collect, begins, cancel_turn, commits, completes, coord_can, coord_turn, dispatches, ends_in, fault_mark, follows, goes, goes_on, is_refused, next_cid, next_line, on_answer, on_event, on_failed, on_done, on_line, on_message, on_status, reads_by, reads_for, resends, starts, starts_line, table_of, takes_done, with_done, writers_with, goes_on_locked, if_granted, lock_for, requests, resumes}
+use Rattle.gx_rules.specs.Coordinators.{Command, Coord, CoordTurn, Work, rests, session_of, with_work, work_of}
 use Rattle.gx_rules.specs.AtSegment.{seg_rule}
-use Rattle.gx_rules.specs.Machine.{World, after, at_node, can, can_here, coord_did, does, happens, new_world, node_of, seg_can, seg_did, world_of}
+use Rattle.gx_rules.specs.Machine.{World, and_cancelled, coord_did, new_world, seg_did, world_of}
+use Rattle.gx_rules.proofs.Rounds.{cancel-ways, graph-ways}
 use Rattle.gx_rules.specs.Sending.{counted, numbered}
-use Rattle.gx_law_order.proofs.Ordered.{Well, happens_well}
-use Rattle.gx_law_order.proofs.World.{Knows, marks-last, world_knows}
+use Rattle.gx_law_order.proofs.Induction.{at-events, marks-by-event, marks-by-victim}
+use Rattle.gx_law_order.proofs.Lists.{Each}
+use Rattle.gx_law_order.proofs.Ordered.{seg_marks}
+use Rattle.gx_law_order.proofs.Sent.{at}
+use Rattle.gx_law_order.proofs.More.{marks-last}
+use Rattle.gx_law_order.proofs.World.{Knows, moves_knows}
 use Rattle.gx_law_sessions.specs.Scanned.{began_from}
 use Rattle.gx_law_sessions.specs.Orders.{level_by}
 use Rattle.gx_law_sessions.specs.Standing.{HasSnapshot, IsStanding, Owns, Roots, Stands}
 use Rattle.gx_law_sessions.proofs.Ends.{began-kept}
 use Rattle.gx_law_sessions.proofs.Stepping.{Holds}
 use Rattle.gx_law_sessions.proofs.Waiting.{Began, going-began}
-use Rattle.gx_law_sessions.proofs.World.{after-last, world-holds}
+use Rattle.gx_law_sessions.proofs.World.{moves-holds}
 use Rattle.gx_law_answers.specs.Earned.{Events}
 use Rattle.gx_rules.specs.Locks.{has_there, release_mark, release_marks, with_hold}
 use Rattle.gx_waits.specs.declared.claim.Claim.{Claim}
@@ -195,7 +200,15 @@ module _ (P : Gxid → Type 0) where
 
   message-none : (c : Coord) (from : Node) (fails : Bool) (m : Message) → NoSnaps (on_message c from fails m).marks
   message-none c from fails (message.Answer g r) = answer-none c g from fails r
+  message-none c from fails (message.Graph round graph) = graph-ways (λ (t : CoordTurn). NoSnaps t.marks) c from round graph tt (λ noted. tt) (λ noted all. tt)
   message-none c from fails m = tt
+
+  cancel-none : (c : Coord) (g : Gxid) → NoSnaps (cancel_turn c g).marks
+  cancel-none c g =
+      cancel-ways (λ (t : CoordTurn). NoSnaps (t.marks ++ numbered t.coord.sent t.outs)) c g tt
+      (λ live busy.
+      let turn : CoordTurn = is_refused c g (on_abort c.table g) [] (Victim c.rounds) in
+      none-append turn.marks (numbered turn.coord.sent turn.outs) (back-none c.locks g) (numbered-none turn.coord.sent turn.outs))
 
   resends-none : (c : Coord) (i : Node) (o : Option Message) → NoSnaps (resends c i o).marks
   resends-none c i None = tt
@@ -304,13 +317,13 @@ module _ (script : Script) (w : World) (h : Holds script w) where
   event-one n (here.Deliver from envelope) fails ok = none-one May (on_message w.coord from fails envelope.message).marks (message-none May w.coord from fails envelope.message)
   event-one n (here.Start s) fails ok = start-one s (next_line script w.coord s)
   event-one n (here.End s) fails ok = none-one May (ends_in w.coord s (session_of w.coord s).state.block).marks (ends-none May w.coord s (session_of w.coord s).state.block)
-  event-one n (here.Resend i None) fails ok = tt
+  event-one n (here.Resend i None) fails ok = none-one May (resends w.coord i (awaited_collect w.coord i)).marks (resends-none May w.coord i (awaited_collect w.coord i))
   event-one n (here.Resend i (Some g)) fails ok = none-one May (resends w.coord i (awaited w.coord g i)).marks (resends-none May w.coord i (awaited w.coord g i))
   event-one n (here.Resume g) fails ok = resume-one g (going-began script w n h g ok) (wait_of w.coord.locks g) (work_of w.coord g).waiting
   event-one n here.Round fails ok = tt
 
-  rule-one : Knows script w → (x : NodeEvent) (fails : Bool) → coord_can script w.coord x ≡ true → OneSnap May (coord_rule script w.coord x fails).marks
-  rule-one n x fails ok =
+  turn-one : Knows script w → (x : NodeEvent) (fails : Bool) → coord_can script w.coord x ≡ true → OneSnap May (coord_turn script w.coord x fails).marks
+  turn-one n x fails ok =
       one-append May (on_event script w.coord x fails).marks (numbered (on_event script w.coord x fails).coord.sent (on_event script w.coord x fails).outs) (event-one n x fails ok)
       (numbered-none (on_event script w.coord x fails).coord.sent (on_event script w.coord x fails).outs)
 
@@ -376,57 +389,34 @@ readers-more script ms ns u o g p q d e x y l a b = by (get-split ms ns p (mark.
     by (inr s) (inl t) = absurd (omega (arith, l, s.2, t.1))
     by (inr s) (inr t) = absurd (no-two (MayTake script ms) g d e x y ns s.0 t.0 o (omega (arith, l, s.2, t.2)) s.1 t.1)
 
--- A STEP MORE
-last-ordered : (script : Script) (before ss : List Step) (s : Step) → AreOrdered script before (ss ++ s ∷ []) → IsOrderedStep script (before ++ ss) s
-last-ordered script before [] s e = subst (λ b. IsOrderedStep script b s) (sym (Rattle.std.proofs.Common.append-nil before)) e.0
-last-ordered script before (x ∷ ss) s e = subst (λ b. IsOrderedStep script b s) (Rattle.std.proofs.Common.append_assoc before (x ∷ []) ss) (last-ordered script (before ++ x ∷ []) ss s e.1)
-
-away-none : (script : Script) (n : Node) → is_same_node n the_coordinator ≡ false → (ms : List Mark) → All (IsAtNode script n) ms → NoSnaps ms
-away-none script n away [] e = tt
-away-none script n away (mark.Snap g d x ∷ ms) e = not-here n (e 0 (mark.Snap g d x) (omega arith)) away
-  where
-    not-here : (n : Node) → n ≡ the_coordinator → is_same_node n the_coordinator ≡ false → ⊥
-    not-here n same away = grind (arith, nat_tests)
-away-none script n away (m ∷ ms) e = away-none script n away ms (λ k d l. e (suc k) d (omega (arith, l)))
+-- ALL EVENTS
+away-none : (script : Script) (i : ℕ) → 1 ≤ i → (ms : List Mark) → Each (IsAtNode script (at i)) ms → NoSnaps ms
+away-none script i one [] e = tt
+away-none script i one (mark.Snap g d x ∷ ms) e = absurd (one-le-zero i one (ap (λ (n : Node). n.0) e.0))
+away-none script i one (m ∷ ms) e = away-none script i one ms e.1
 
 module _ (script : Script) (some : 1 ≤ script.segments) where
+  abbrev Known : World → Type 0
+  Known w = Knows script w × Holds script w
+
   abbrev U : World → Type 0
   U w = AreReaders script (marks_in w.steps)
 
-  pushed : (w : World) (s : Step) → U w → OneSnap (MayTake script (marks_in w.steps)) s.marks → AreReaders script (marks_in (w.steps ++ s ∷ []))
-  pushed w s u o = subst (AreReaders script) (sym (marks-last w.steps s)) (readers-more script (marks_in w.steps) s.marks u o)
+  more : (w : World) (steps : List Step) (ns : List Mark) → U w → marks_in steps ≡ marks_in w.steps ++ ns → OneSnap (MayTake script (marks_in w.steps)) ns → AreReaders script (marks_in steps)
+  more w steps ns u same o = subst (AreReaders script) (sym same) (readers-more script (marks_in w.steps) ns u o)
 
-  abbrev coord-step : World → Event → NodeEvent → Bool → Step
-  coord-step w e x fails = record { stamp = record { clock = (coord_rule script w.coord x fails).coord.clock; node = the_coordinator }; event = e; marks = (coord_rule script w.coord x fails).marks }
-
-  abbrev seg-step : World → Node → Event → NodeEvent → Bool → Step
-  seg-step w n e x fails = record { stamp = record { clock = (seg_rule script (w.segs n.0) x fails).seg.clock; node = n }; event = e; marks = (seg_rule script (w.segs n.0) x fails).marks }
-
-  does-keeps : (w : World) (n : Knows script w) (h : Holds script w) (e : Event) (fails : Bool) (at : Node) (o : Option NodeEvent) → can_here script w at o ≡ true → Well script (does script w e at fails o) → U w → U (does script w e at fails o)
-  does-keeps w n h e fails at None ok well u = u
-  does-keeps w n h e fails at (Some x) ok well u = by_test (is_same_node at the_coordinator) refl ok well
-    where
-      by_test : (b : Bool) → is_same_node at the_coordinator ≡ b → (if b then coord_can script w.coord x else seg_can script (w.segs at.0) x) ≡ true
-          → Well script (if b then coord_did w e (coord_rule script w.coord x fails) else seg_did w at e (seg_rule script (w.segs at.0) x fails))
-          → U (if b then coord_did w e (coord_rule script w.coord x fails) else seg_did w at e (seg_rule script (w.segs at.0) x fails))
-      by_test true is ok v = pushed w (coord-step w e x fails) u (rule-one script w h n x fails ok)
-      by_test false is ok v = pushed w (seg-step w at e x fails) u (none-one (MayTake script (marks_in w.steps)) (seg_rule script (w.segs at.0) x fails).marks (away-none script at is (seg_rule script (w.segs at.0) x fails).marks (last-ordered script [] w.steps (seg-step w at e x fails) v.steps).marks))
-
-  happens-keeps : (w : World) (n : Knows script w) (h : Holds script w) (e : Event) (fails : Bool) → U w → U (happens script w e fails)
-  happens-keeps w n h e fails u = by_can (can script w e) refl (happens_well script some w e fails n.well)
-    where
-      by_can : (b : Bool) → can script w e ≡ b → Well script (if b then does script w e (node_of e) fails (at_node w e) else w) → U (if b then does script w e (node_of e) fails (at_node w e) else w)
-      by_can true ok v = does-keeps w n h e fails (node_of e) (at_node w e) ok v u
-      by_can false ok v = u
-
-  after-keeps : (done es : Events) → U (world_of script done) → U (after script (world_of script done) es)
-  after-keeps done [] u = u
-  after-keeps done (x ∷ es) u =
-      subst (λ w. U (after script w es)) (after-last script some new_world done x)
-      (after-keeps (done ++ x ∷ []) es (subst U (sym (after-last script some new_world done x)) (happens-keeps (world_of script done) (world_knows script some done) (world-holds script some done) x.0 x.1 u)))
-
-  pub are-readers : (es : Events) → AreReaders script (marks_in (world_of script es).steps)
-  are-readers es = after-keeps [] es (λ g p q d e x y l a b. absurd (nothing p g d x a))
+  none : U new_world
+  none g p q d e x y l a b = absurd (nothing p g d x a)
     where
       nothing : (p : ℕ) (g : Gxid) (d : Cid) (x : Snapshot) → slice_get [] p ≡ Some (mark.Snap g d x) → ⊥
       nothing p g d x a = cc
+
+  pub are-readers : (es : Events) → AreReaders script (marks_in (world_of script es).steps)
+  are-readers =
+      at-events script some Known U (λ ms. (moves_knows script some ms, moves-holds script some ms)) none
+      (λ w k u e x fails t ok next. more w (coord_did w e (coord_turn script w.coord x fails)).steps (coord_turn script w.coord x fails).marks u (marks-by-event script w e x fails) (turn-one script w k.1 k.0 x fails ok))
+      (λ w k u g h next.
+      more w (and_cancelled w g).steps (cancel_turn w.coord g).marks u (marks-by-victim w g h) (none-one (MayTake script (marks_in w.steps)) (cancel_turn w.coord g).marks (cancel-none (MayTake script (marks_in w.steps)) w.coord g)))
+      (λ w k u e x fails i place t ok next.
+      more w (seg_did w (at i) e (seg_rule script (w.segs i) x fails)).steps (seg_rule script (w.segs i) x fails).marks u (marks-last w.steps _)
+      (none-one (MayTake script (marks_in w.steps)) (seg_rule script (w.segs i) x fails).marks (away-none script i place.0 (seg_rule script (w.segs i) x fails).marks (seg_marks script w k.0.well e x fails i place))))

@@ -20,7 +20,7 @@ use Rattle.gx_store.specs.Legal.{LegalSnap}
 use Rattle.gx_store.specs.Marks.{has_snapshot, is_same_gxid, is_snapped}
 use Rattle.gx_store.specs.Points.{marks_in}
 use Rattle.gx_rules.specs.Machine.{world_of}
-use Rattle.gx_law_order.proofs.World.{marks-last}
+use Rattle.gx_law_order.proofs.More.{marks-last}
 use Rattle.gx_law_sessions.specs.Scanned.{began_from}
 use Rattle.gx_law_sessions.specs.Rest.{EachMark}
 use Rattle.gx_law_sessions.proofs.Given.{Given}
@@ -58,7 +58,7 @@ module _ (script : Script) (g : Gxid) (d : Cid) (x : Snapshot) where
   snap-once before (s ∷ ss) q h f = by_split (split s.marks (marks_in ss) q f) (λ j k. snap-once (before ++ s ∷ []) ss j h.1 k)
     where
       by_split : ((slice_get s.marks q ≡ Some (mark.Snap g d x)) × (take q (s.marks ++ marks_in ss) ≡ take q s.marks)) ⊎ ((j : ℕ) × (slice_get (marks_in ss) j ≡ Some (mark.Snap g d x)) × (take q (s.marks ++ marks_in ss) ≡ s.marks ++ take j (marks_in ss))) → ((j : ℕ) → slice_get (marks_in ss) j ≡ Some (mark.Snap g d x) → Once (marks_in (before ++ s ∷ []) ++ take j (marks_in ss)) g d) → Once (marks_in before ++ take q (s.marks ++ marks_in ss)) g d
-      by_split (inl a) more = subst (λ z. Once z g d) (ap (λ z. z ++ take q s.marks) (append-nil (marks_in before)) ∙ ap (λ z. marks_in before ++ z) (sym a.1)) (in-step before s.event [] s.marks [] q h.0.2 a.0)
+      by_split (inl a) more = subst (λ z. Once z g d) (ap (λ z. z ++ take q s.marks) (append-nil (marks_in before)) ∙ ap (λ z. marks_in before ++ z) (sym a.1)) (in-step before s.event [] s.marks [] q (h.0.2 []) a.0)
       by_split (inr a) more = subst (λ z. Once z g d) (ap (λ z. z ++ take a.0 (marks_in ss)) (marks-last before s) ∙ append_assoc (marks_in before) s.marks (take a.0 (marks_in ss)) ∙ ap (λ z. marks_in before ++ z) (sym a.2)) (more a.0 a.1)
 
 self : (g : Gxid) (c : Cid) → (is_same_gxid g g && eqb c.0 c.0) ≡ true

@@ -3,3 +3,4 @@ pub mod Parts
 pub mod Truth
 pub mod Earned
 pub mod Once
+pub mod Cancelled

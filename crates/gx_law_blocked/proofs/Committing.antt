@@ -31,43 +31,49 @@ use Rattle.gx_store.specs.Ordered.{IsAtNode, IsSegment}
 use Rattle.gx_store.specs.Points.{marks_in}
 use Rattle.gx_store.specs.Refusals.{the_coordinator}
 use Rattle.gx_store.specs.Waits.{waits_at, waits_from}
-use Rattle.gx_rules.specs.AtCoordinator.{coord_can, coord_rule, on_event}
+use Rattle.gx_rules.specs.AtCoordinator.{cancels, coord_can, coord_sends, coord_turn, on_event}
 use Rattle.gx_rules.specs.AtSegment.{seg_rule}
 use Rattle.gx_rules.specs.AtSegment as segment
 use Rattle.gx_rules.specs.Coordinators.{Coord, CoordTurn}
-use Rattle.gx_rules.specs.Machine.{World, coord_did, seg_did, world_of}
+use Rattle.gx_rules.specs.Machine.{World, and_cancelled, coord_did, new_world, seg_did, world_of}
 use Rattle.gx_rules.specs.Segments.{SegTurn, Suspended, local_of}
 use Rattle.gx_rules.specs.Sending.{clock_after, counted, numbered}
-use Rattle.gx_law_order.proofs.AtCoordinators.{coord_stays}
+use Rattle.gx_law_order.specs.Moves.{Move, world_by}
+use Rattle.gx_law_order.proofs.AtCoordinators.{CoordStays, cancel_stays, coord_stays}
 use Rattle.gx_law_order.proofs.AtSegments.{PlainAt, seg_stays}
+use Rattle.gx_law_order.proofs.Induction.{after_turn, marks-by-event, marks-by-victim}
 use Rattle.gx_law_order.proofs.Lists.{Each}
-use Rattle.gx_law_order.proofs.Ordered.{at_coordinator}
+use Rattle.gx_law_order.proofs.More.{marks-last}
+use Rattle.gx_law_order.proofs.Moves.{HasNamed}
+use Rattle.gx_law_order.proofs.Ordered.{sends-at}
 use Rattle.gx_law_order.proofs.Past.{aborted-append, committed-append}
-use Rattle.gx_law_order.proofs.Replies.{event-good}
+use Rattle.gx_law_order.proofs.Replies.{cancel-good, event-good}
 use Rattle.gx_law_order.proofs.Sent.{at}
 use Rattle.gx_law_order.proofs.Sessions.{Kept, stage_of}
 use Rattle.gx_law_order.proofs.Stages.{gx}
 use Rattle.gx_law_order.proofs.Statuses.{stage, stage_in}
 use Rattle.gx_law_order.proofs.Statuses.Stage.{Live as LiveStage}
+use Rattle.gx_law_order.proofs.Turns.{Good}
 use Rattle.gx_law_order.proofs.Waiting.{statement-of}
-use Rattle.gx_law_order.proofs.World.{Knows, marks-last}
+use Rattle.gx_law_order.proofs.World.{Knows}
 use Rattle.gx_law_commit.specs.Pairs.{Pair}
 use Rattle.gx_law_commit.specs.Said.{Said, gxid_in, is_answer}
 use Rattle.gx_law_commit.specs.Standings.{Known, Part, known_at, standing, standing_in}
 use Rattle.gx_law_commit.specs.Standings.Standing.{Live, One, Over, Preparing}
+use Rattle.gx_law_commit.proofs.Always.{HeardAt, SaidTo}
 use Rattle.gx_law_commit.proofs.Dispatching.{live-at-all}
 use Rattle.gx_law_commit.proofs.Events.{live-stage}
 use Rattle.gx_law_commit.proofs.Everywhere.{Holds, parts_in}
 use Rattle.gx_law_commit.proofs.Raised.{OfHorizon, SegKeeps, message_keeps, resume_keeps}
-use Rattle.gx_law_commit.proofs.Steps.{HeardAt, SaidTo, event-leads, world-keeps}
+use Rattle.gx_law_commit.proofs.Steps.{cancel-leads, event-leads, moves-keep, world-keeps}
 use Rattle.gx_law_commit.proofs.Ways.{Led, SaidOut, Stands}
 use Rattle.gx_law_holds.specs.Waiting.{EachBehind, is_waiting}
 use Rattle.gx_law_holds.proofs.Legal.{none-listed}
 use Rattle.gx_law_holds.proofs.Lets.{LetsWait, behind-append, behind-front, behind-rest}
 use Rattle.gx_law_holds.proofs.Marks.{other-waits, waits_from-append}
-use Rattle.gx_law_holds.proofs.AtCoordinators.{event-holds}
+use Rattle.gx_law_holds.proofs.AtCoordinators.{Holding, cancel-locks, event-holds}
 use Rattle.gx_law_holds.proofs.Single.{single-here, single-there}
-use Rattle.gx_law_holds.proofs.World.{Locked, coord-keeps, new-locked, seg-keeps}
+use Rattle.gx_law_holds.proofs.World.{Locked, cancel-keeps, coord-keeps, new-locked, seg-keeps}
 use Rattle.gx_law_blocked.specs.Committing.{CommitsUnlessWaiting, WaitsNowhere}
 
 -- WHO ISN'T LIVE
@@ -166,18 +172,18 @@ module _ (script : Script) (w : World) (n : Knows script w) (q : Locked script w
       by_node false e = subst (λ waits. list_any (is_of g) waits ≡ false) (sym (there node e)) (none-listed g (w.segs node.0).locks.waits ((single-there script w n node.0).none g (none node.0)))
 
   -- its Commit marks
-  turn-frees : (before ms : List Mark) → Elsewhere before → Each (PlainAt script the_coordinator) ms → Each (IsAtNode script the_coordinator) ms → EachBehind LetsWait before ms
+  commits-free : (before ms : List Mark) → Elsewhere before → Each (PlainAt script the_coordinator) ms → Each (IsAtNode script the_coordinator) ms → EachBehind LetsWait before ms
       → ((g : Gxid) → is_committed ms g ≡ true → (i : ℕ) → (local_of (w.segs i) g).suspended ≡ None) → EachBehind CommitsUnlessWaiting before ms
-  turn-frees before [] there plain at_here lets f = tt
-  turn-frees before (mark.Commit g ∷ ms) there plain at_here lets f = (
+  commits-free before [] there plain at_here lets f = tt
+  commits-free before (mark.Commit g ∷ ms) there plain at_here lets f = (
     nowhere before there g lets.0 (f g (or_left (is_same_gxid g g) (is_committed ms g) (itself g))),
-    turn-frees (before ++ mark.Commit g ∷ []) ms (elsewhere-on before (mark.Commit g ∷ []) (at_here.0, tt) there) plain.1 at_here.1 lets.1 (λ h e. f h (or_right (is_same_gxid g h) (is_committed ms h) e)),
+    commits-free (before ++ mark.Commit g ∷ []) ms (elsewhere-on before (mark.Commit g ∷ []) (at_here.0, tt) there) plain.1 at_here.1 lets.1 (λ h e. f h (or_right (is_same_gxid g h) (is_committed ms h) e)),
   )
     where
       itself : (g : Gxid) → is_same_gxid g g ≡ true
       itself g = grind (arith, nat_tests)
-  turn-frees before (mark.Sent to number told ∷ ms) there plain at_here lets f = absurd plain.0
-  turn-frees before (m ∷ ms) there plain at_here lets f = (tt, turn-frees (before ++ m ∷ []) ms (elsewhere-on before (m ∷ []) (at_here.0, tt) there) plain.1 at_here.1 lets.1 f)
+  commits-free before (mark.Sent to number told ∷ ms) there plain at_here lets f = absurd plain.0
+  commits-free before (m ∷ ms) there plain at_here lets f = (tt, commits-free (before ++ m ∷ []) ms (elsewhere-on before (m ∷ []) (at_here.0, tt) there) plain.1 at_here.1 lets.1 f)
 
   -- What it sends, where it stands at d behind these marks.
   module _ (v : Holds script w) (d : Coord) (marks : List Mark) (k : Kept script d) (st : Stands script (parts_in w) d marks) where
@@ -254,40 +260,31 @@ module _ (script : Script) (some : 1 ≤ script.segments) where
   pushed : (w : World) (s : Step) → EachBehind CommitsUnlessWaiting [] (marks_in w.steps) → EachBehind CommitsUnlessWaiting (marks_in w.steps) s.marks → EachBehind CommitsUnlessWaiting [] (marks_in (w.steps ++ s ∷ []))
   pushed w s old now = subst (EachBehind CommitsUnlessWaiting []) (sym (marks-last w.steps s)) (behind-append CommitsUnlessWaiting [] (marks_in w.steps) s.marks old now)
 
-  coord-frees : (w : World) → Knows script w → Holds script w → Free script w → (e : Event) (x : NodeEvent) (fails : Bool) → coord_can script w.coord x ≡ true → SaidTo w x
-      → Free script (coord_did w e (coord_rule script w.coord x fails))
-  coord-frees w n v q e x fails ok said =
+  -- a single turn of the coordinator, with what it sends
+  turn-frees : (w : World) → Knows script w → Holds script w → Free script w → (turn : CoordTurn) (clock : ℕ) (steps : List Step) → marks_in steps ≡ marks_in w.steps ++ (coord_sends clock turn).marks
+      → CoordStays script w.coord.sent turn → Good script (marks_in w.steps) turn → Led script (parts_in w) w.coord (marks_in w.steps) turn → Holding (marks_in w.steps) w.coord turn
+      → Locked script (after_turn w clock turn steps) → Free script (after_turn w clock turn steps)
+  turn-frees w n v q turn clock steps same stays good led holding locked =
       record {
         locked = locked;
-        commits = pushed w step q.commits (behind-append CommitsUnlessWaiting marks turn.marks sent
-            (turn-frees script w n q.locked marks turn.marks first plain at_turn (behind-front LetsWait marks turn.marks sent lets)
-            (λ g c. committed-rests script w n q.locked v turn.coord (marks ++ turn.marks) kept led.way.stands g (committed-append marks turn.marks g ∙ or_right (is_committed marks g) (is_committed turn.marks g) c)))
-            (sent-frees script w n q.locked v turn.coord (marks ++ turn.marks) kept led.way.stands (marks ++ turn.marks) (elsewhere-on script w n q.locked marks turn.marks at_turn first) waits (λ g runs. runs) turn.coord.sent turn.outs at_sent led.outs));
+        commits = subst (EachBehind CommitsUnlessWaiting []) (sym same) (behind-append CommitsUnlessWaiting [] marks (turn.marks ++ sent) q.commits (behind-append CommitsUnlessWaiting marks turn.marks sent
+            (commits-free script w n q.locked marks turn.marks first stays.marks at_turn (behind-front LetsWait marks turn.marks sent lets)
+            (λ g c. committed-rests script w n q.locked v turn.coord (marks ++ turn.marks) good.kept led.way.stands g (committed-append marks turn.marks g ∙ or_right (is_committed marks g) (is_committed turn.marks g) c)))
+            (sent-frees script w n q.locked v turn.coord (marks ++ turn.marks) good.kept led.way.stands (marks ++ turn.marks) (elsewhere-on script w n q.locked marks turn.marks at_turn first) waits (λ g runs. runs) turn.coord.sent turn.outs
+            at_sent led.outs)));
       }
     where
-      turn : CoordTurn
-      turn = on_event script w.coord x fails
-
       marks : List Mark
       marks = marks_in w.steps
 
       sent : List Mark
       sent = numbered turn.coord.sent turn.outs
 
-      step : Step
-      step = record { stamp = record { clock = clock_after w.coord.clock x; node = the_coordinator }; event = e; marks = turn.marks ++ sent }
-
-      locked : Locked script (coord_did w e (coord_rule script w.coord x fails))
-      locked = coord-keeps script some w n v q.locked e x fails ok said
-
       first : Elsewhere script w n q.locked marks
       first = elsewhere-first script w n q.locked
 
-      plain : Each (PlainAt script the_coordinator) turn.marks
-      plain = (coord_stays script some w.coord x fails n.well.coordinator).marks
-
       there : Each (IsAtNode script the_coordinator) (turn.marks ++ sent)
-      there = at_coordinator script some w n.well e x fails
+      there = sends-at script w.coord.sent turn clock stays
 
       at_turn : Each (IsAtNode script the_coordinator) turn.marks
       at_turn = each-front (IsAtNode script the_coordinator) turn.marks sent there
@@ -296,18 +293,22 @@ module _ (script : Script) (some : 1 ≤ script.segments) where
       at_sent = each-rest (IsAtNode script the_coordinator) turn.marks sent there
 
       lets : EachBehind LetsWait marks (turn.marks ++ sent)
-      lets = behind-rest LetsWait [] marks (turn.marks ++ sent) (subst (EachBehind LetsWait []) (marks-last w.steps step) locked.lets)
-
-      led : Led script (parts_in w) w.coord marks turn
-      led = event-leads script w n v x fails ok said
-
-      kept : Kept script turn.coord
-      kept = (event-good script w.coord marks n.kept n.past x fails ok).kept
+      lets = behind-rest LetsWait [] marks (turn.marks ++ sent) (subst (EachBehind LetsWait []) same locked.lets)
 
       waits : waits_at (marks ++ turn.marks) the_coordinator ≡ turn.coord.locks.waits
-      waits =
-          waits_from-append the_coordinator [] marks turn.marks ∙ ap (λ ws. waits_from the_coordinator ws turn.marks) (sym q.locked.marked.coordinator.waits)
-          ∙ (event-holds script marks w.coord (single-here script w n) x fails ok).waits
+      waits = waits_from-append the_coordinator [] marks turn.marks ∙ ap (λ ws. waits_from the_coordinator ws turn.marks) (sym q.locked.marked.coordinator.waits) ∙ holding.waits
+
+  coord-frees : (w : World) → Knows script w → Holds script w → Free script w → (e : Event) (x : NodeEvent) (fails : Bool) → coord_can script w.coord x ≡ true → SaidTo w x
+      → Free script (coord_did w e (coord_turn script w.coord x fails))
+  coord-frees w n v q e x fails ok said =
+      turn-frees w n v q (on_event script w.coord x fails) (clock_after w.coord.clock x) (coord_did w e (coord_turn script w.coord x fails)).steps (marks-by-event script w e x fails)
+      (coord_stays script some w.coord x fails n.well.coordinator) (event-good script w.coord (marks_in w.steps) n.kept n.past x fails ok) (event-leads script w n v x fails ok said)
+      (event-holds script (marks_in w.steps) w.coord (single-here script w n) x fails ok) (coord-keeps script some w n v q.locked e x fails ok said)
+
+  cancel-frees : (w : World) → Knows script w → Holds script w → Free script w → (g : Gxid) → HasNamed w.steps w.coord.clock w.coord.rounds g → Free script (and_cancelled w g)
+  cancel-frees w n v q g h =
+      turn-frees w n v q (cancels w.coord g) w.coord.clock (and_cancelled w g).steps (marks-by-victim w g h) (cancel_stays script some w.coord g n.well.coordinator)
+      (cancel-good w.coord (marks_in w.steps) n.kept n.past g.0) (cancel-leads script w n v g) (cancel-locks (marks_in w.steps) w.coord g) (cancel-keeps script some w n v q.locked g h)
 
   seg-frees : (w : World) → Knows script w → Holds script w → Free script w → (e : Event) (x : NodeEvent) (fails : Bool) (i : ℕ) → IsSegment script (at i) → HeardAt script w e i x
       → Free script (seg_did w (at i) e (seg_rule script (w.segs i) x fails))
@@ -328,5 +329,11 @@ module _ (script : Script) (some : 1 ≤ script.segments) where
       plain : Each (PlainAt script (at i)) turn.marks
       plain = subst (λ node. Each (PlainAt script node) turn.marks) (n.well.names i) (seg_stays script (w.segs i) (subst (IsSegment script) (sym (n.well.names i)) place) x fails).marks
 
+  new-free : Free script new_world
+  new-free = record { locked = new-locked script some; commits = tt }
+
+  pub moves-free : (ms : List Move) → Free script (world_by script ms)
+  moves-free = moves-keep script some (Free script) coord-frees cancel-frees seg-frees new-free
+
   pub world-free : (es : List (Event × Bool)) → Free script (world_of script es)
-  world-free = world-keeps script some (Free script) coord-frees seg-frees (record { locked = new-locked script some; commits = tt })
+  world-free = world-keeps script some (Free script) coord-frees cancel-frees seg-frees new-free

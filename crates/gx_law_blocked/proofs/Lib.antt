@@ -6,3 +6,10 @@ pub mod Staying
 pub mod Persisting
 pub mod Committing
 pub mod Lawful
+pub mod Graphs
+pub mod Noted
+pub mod Gathered
+pub mod Cores
+pub mod Named
+pub mod FirstReports
+pub mod Rechecks

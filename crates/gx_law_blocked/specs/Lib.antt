@@ -1,3 +1,4 @@
 pub mod Committing
 pub mod Blocked
 pub mod Reports
+pub mod Gathered

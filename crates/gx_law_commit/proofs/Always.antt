@@ -1,125 +1,121 @@
 -- Every run of the machine keeps what holds.
-use Rattle.std.proofs.Common.{◌≡◌, ◌≤◌, inl, inr, ℕ, List, [], ◌∷◌, Option, Some, None, Bool, true, false, refl, sym, subst, ap, ◌∙◌, if◌then◌else◌, arith}
-use Rattle.std.proofs.lemmas.Bool.Decides.{nat_tests}
+use Rattle.std.proofs.Common.{◌≡◌, ◌≤◌, ℕ, List, [], ◌∷◌, Some, Bool, true, false, refl, sym, subst, if◌then◌else◌}
 use Rattle.std.specs.Prelude.{nat_le}
+use Rattle.gx_ids.specs.declared.ids.Gxid.{Gxid}
 use Rattle.gx_ids.specs.declared.ids.Node.{Node}
 use Rattle.gx_msg.specs.declared.message.Envelope.{Envelope}
+use Rattle.gx_msg.specs.declared.message.Message.{Message}
 use Rattle.gx_msg.specs.declared.message.Message.TheVariants as message
 use Rattle.gx_script.specs.declared.Script.{Script}
 use Rattle.gx_store.specs.declared.event.Event.{Event}
-use Rattle.gx_store.specs.declared.event.Event.TheVariants as event
 use Rattle.gx_store.specs.declared.node.NodeEvent.{NodeEvent}
 use Rattle.gx_store.specs.declared.node.NodeEvent.TheVariants as here
-use Rattle.gx_store.specs.Journals.{is_same_node}
-use Rattle.gx_store.specs.Messages.{IsSending, IsSent}
-use Rattle.gx_store.specs.Ordered.{IsLink, IsSegment}
+use Rattle.gx_store.specs.Messages.{Receives}
 use Rattle.gx_store.specs.Points.{marks_in}
 use Rattle.gx_store.specs.Refusals.{the_coordinator}
-use Rattle.gx_rules.specs.AtCoordinator.{coord_can, coord_rule}
 use Rattle.gx_rules.specs.AtSegment.{seg_rule}
-use Rattle.gx_rules.specs.Machine.{Letter, World, after, at_node, can, can_here, coord_did, delivered, does, found, happens, new_world, node_of, seg_can, seg_did, world_of}
-use Rattle.gx_law_order.proofs.Letters.{IsFound, IsLetter, found_is}
+use Rattle.gx_rules.specs.Machine.{Letter, World, found, new_world, seg_can, seg_did, world_of}
+use Rattle.gx_law_order.specs.Moves.{Move, world_by}
+use Rattle.gx_law_order.proofs.Induction.{IsThere, at-moves, from-coordinator}
+use Rattle.gx_law_order.proofs.Letters.{found_is}
 use Rattle.gx_law_order.proofs.Lists.{Each}
-use Rattle.gx_law_order.proofs.World.{Knows, happens_knows, new_knows}
+use Rattle.gx_law_order.proofs.Moves.{moves_after, world-moves}
+use Rattle.gx_law_order.proofs.World.{Knows, moves_knows}
 use Rattle.gx_law_commit.specs.Pairs.{Pair}
-use Rattle.gx_law_commit.specs.Said.{AreMeant, Said, SaidAt, SaidIn, gxid_in, is_answer}
-use Rattle.gx_law_commit.specs.Standings.{known_at}
+use Rattle.gx_law_commit.specs.Said.{AreMeant, Said, SaidIn, gxid_in, is_answer}
+use Rattle.gx_law_commit.specs.Standings.{at, known_at}
 use Rattle.gx_law_commit.specs.Standings.Standing.{Unborn, Over}
-use Rattle.gx_law_commit.proofs.Everywhere.{Holds, coord-holds, holds-then, parts_in, resumed-does, seg-holds}
-use Rattle.gx_ids.specs.declared.ids.Gxid.{Gxid}
-
-abbrev pub IsPosted : Script → World → Letter → Type 0
-IsPosted script w l = IsLetter script w.steps l × SaidIn w l
+use Rattle.gx_law_commit.proofs.Events.{IsSaidIn}
+use Rattle.gx_law_commit.proofs.Everywhere.{Holds, coord-holds, holds-then, parts_in, resumed-does, seg-holds, victim-holds}
 
 pub each-zip : {A : Type 0} (P Q : A → Type 0) (xs : List A) → Each P xs → Each Q xs → Each (λ x. P x × Q x) xs
 each-zip P Q [] e f = tt
 each-zip P Q (x ∷ xs) e f = ((e.0, f.0), each-zip P Q xs e.1 f.1)
 
--- a letter's message, by who sends it
-pub answer-of : (w : World) (l : Letter) (b : Bool) → is_answer l.envelope.message ≡ b → SaidIn w l → SaidAt w.coord w.segs (marks_in w.steps) (if b then l.from.0 else l.to.0) l.envelope.message
-answer-of w l b e s = subst (λ q. SaidAt w.coord w.segs (marks_in w.steps) (if q then l.from.0 else l.to.0) l.envelope.message) e s
+-- WHAT IS DELIVERED WAS SAID
+-- to the coordinator by a segment, or to a segment
+abbrev pub IsSaid : World → ℕ → Message → Type 0
+IsSaid w i m = Said (known_at w.coord (marks_in w.steps) i (gxid_in m)) (parts_in w i (gxid_in m)) m
+
+pub was-said : (script : Script) (w : World) → Holds script w → (from to : Node) (number : ℕ) (envelope : Envelope) → found from to number w.sent ≡ Some envelope → (b : Bool) → is_answer envelope.message ≡ b → IsSaid w (if b then from.0 else to.0) envelope.message
+was-said script w v from to number envelope f b e =
+    let d = found_is (SaidIn w) from to number w.sent envelope v.said f in
+    subst (λ q. IsSaid w (if q then from.0 else to.0) envelope.message) e
+    (subst (λ (n : Node). IsSaid w (if is_answer envelope.message then n.0 else to.0) envelope.message) d.source
+    (subst (λ (n : Node). IsSaid w (if is_answer envelope.message then d.letter.from.0 else n.0) envelope.message) d.target
+    (subst (λ (q : Envelope). IsSaid w (if is_answer q.message then d.letter.from.0 else d.letter.to.0) q.message) d.told d.is)))
+
+-- what the coordinator hears
+abbrev pub SaidTo : World → NodeEvent → Type 0
+SaidTo w (here.Deliver from envelope) = is_answer envelope.message ≡ true → IsSaid w from.0 envelope.message
+SaidTo w _ = Unit {0}
+
+pub said-to : (script : Script) (w : World) → Holds script w → (e : Event) (x : NodeEvent) → IsThere script w e the_coordinator x → SaidTo w x
+said-to script w v e (here.Deliver from envelope) t = was-said script w v from the_coordinator t.number envelope t.found true
+said-to script w v e (here.Resume g) t = tt
+said-to script w v e (here.Start s) t = tt
+said-to script w v e (here.End s) t = tt
+said-to script w v e (here.Resend i g) t = tt
+said-to script w v e here.Round t = tt
+
+pub said-in : (script : Script) (w : World) (k : Knows script w) (v : Holds script w) (x : NodeEvent) → SaidTo w x → IsSaidIn script (parts_in w) w.coord (marks_in w.steps) v.stands k.kept k.past (λ g. (k.well.coordinator.works g).writers) x
+said-in script w k v (here.Deliver from envelope) d = d
+said-in script w k v (here.Start s) d = tt
+said-in script w k v (here.End s) d = tt
+said-in script w k v (here.Resend i g) d = tt
+said-in script w k v (here.Resume g) d = tt
+said-in script w k v here.Round d = tt
+
+-- a message that was sent to a segment, and means what it says
+pub record IsGiven (w : World) (e : Event) (i : ℕ) (from : Node) (envelope : Envelope) : Type 0 where
+  pub number : ℕ
+  pub posted : found from (at i) number w.sent ≡ Some envelope
+  pub received : Receives w.steps e the_coordinator (at i) envelope.message
+  pub said : is_answer envelope.message ≡ false → IsSaid w i envelope.message
+
+-- what a segment hears in an event that is admitted there: a message, or that a slice may go on
+abbrev pub HeardAt : Script → World → Event → ℕ → NodeEvent → Type 0
+HeardAt script w e i (here.Deliver from envelope) = IsGiven w e i from envelope
+HeardAt script w e i (here.Resume g) = seg_can script (w.segs i) (here.Resume g) ≡ true
+HeardAt script w e i _ = ⊥
+
+pub heard-at : (script : Script) (w : World) → Holds script w → (e : Event) (x : NodeEvent) (i : ℕ) → 1 ≤ i → IsThere script w e (at i) x → seg_can script (w.segs i) x ≡ true → HeardAt script w e i x
+heard-at script w v e (here.Deliver from envelope) i one t ok =
+    record {
+      number = t.number;
+      posted = t.found;
+      received = subst (λ n. Receives w.steps e n (at i) envelope.message) (from-coordinator script i from one t.link) t.received;
+      said = was-said script w v from (at i) t.number envelope t.found false;
+    }
+heard-at script w v e (here.Resume g) i one t ok = ok
+heard-at script w v e (here.Start s) i one t ok = absurd (cc)
+heard-at script w v e (here.End s) i one t ok = absurd (cc)
+heard-at script w v e (here.Resend j g) i one t ok = absurd (cc)
+heard-at script w v e here.Round i one t ok = absurd (cc)
+
+-- what holds of both holds of all that it hears
+pub by-heard : (script : Script) (w : World) (e : Event) (i : ℕ) → (P : NodeEvent → Type 0) → ((from : Node) (envelope : Envelope) → IsGiven w e i from envelope → P (here.Deliver from envelope)) → ((g : Gxid) → seg_can script (w.segs i) (here.Resume g) ≡ true → P (here.Resume g)) → (x : NodeEvent) → HeardAt script w e i x → P x
+by-heard script w e i P f r (here.Deliver from envelope) h = f from envelope h
+by-heard script w e i P f r (here.Resume g) h = r g h
+by-heard script w e i P f r (here.Start s) h = absurd h
+by-heard script w e i P f r (here.End s) h = absurd h
+by-heard script w e i P f r (here.Resend j g) h = absurd h
+by-heard script w e i P f r here.Round h = absurd h
+
+pub record Sound (script : Script) (w : World) : Type 0 where
+  pub knows : Knows script w
+  pub holds : Holds script w
+
+-- A STEP OF A SEGMENT
+pub heard-holds : (script : Script) (w : World) → Knows script w → Holds script w → (e : Event) (x : NodeEvent) (fails : Bool) (i : ℕ) → HeardAt script w e i x → Holds script (seg_did w (at i) e (seg_rule script (w.segs i) x fails))
+heard-holds script w k v e x fails i h =
+    by-heard script w e i (λ y. Holds script (seg_did w (at i) e (seg_rule script (w.segs i) y fails)))
+    (λ from envelope d. seg-holds script w k v e fails i from envelope d.received d.said)
+    (λ g ok. let o = resumed-does script w k v e i g fails ok in
+    holds-then script w k v e (here.Resume g) fails i (message.Exec g o.slice.cid o.slice.level o.slice.snapshot o.waits.horizon o.slice.slice) o.reached o.does)
+    x h
 
 module _ (script : Script) (some : 1 ≤ script.segments) where
-  received : (w : World) (from to : Node) (number : ℕ) (envelope : Envelope) (fails : Bool) → Knows script w → Holds script w → IsFound (IsPosted script w) from to number envelope → can_here script w to (Some (here.Deliver from envelope)) ≡ true → Holds script (does script w (event.Receive from to number) to fails (Some (here.Deliver from envelope)))
-  received w from to number envelope fails k v d ok = by_test (is_same_node to the_coordinator) refl ok
-    where
-      e : Event
-      e = event.Receive from to number
-
-      x : NodeEvent
-      x = here.Deliver from envelope
-
-      not-here : (n : Node) → n ≡ the_coordinator → is_same_node n the_coordinator ≡ false → ⊥
-      not-here n same away = grind (arith, nat_tests)
-
-      place : is_same_node to the_coordinator ≡ false → IsLink script d.letter.from d.letter.to → IsSegment script to × (from ≡ the_coordinator)
-      place away (inl l) = (subst (IsSegment script) d.target l.1, sym d.source ∙ l.0)
-      place away (inr l) = absurd (not-here to (sym d.target ∙ l.1) away)
-
-      sent : from ≡ the_coordinator → IsSent w.steps the_coordinator to number envelope.message
-      sent home =
-          record {
-            step = d.is.0.step;
-            mark = d.is.0.mark;
-            sending =
-                subst (λ a. IsSending w.steps d.is.0.step d.is.0.mark a to number envelope.message) (d.source ∙ home)
-                (subst (λ a. IsSending w.steps d.is.0.step d.is.0.mark d.letter.from a number envelope.message) d.target
-                (subst (λ a. IsSending w.steps d.is.0.step d.is.0.mark d.letter.from d.letter.to a envelope.message) d.counted
-                (subst (λ (a : Envelope). IsSending w.steps d.is.0.step d.is.0.mark d.letter.from d.letter.to d.letter.envelope.number a.message) d.told d.is.0.sending)));
-          }
-
-      at-coordinator : is_answer envelope.message ≡ true → Said (known_at w.coord (marks_in w.steps) from.0 (gxid_in envelope.message)) (parts_in w from.0 (gxid_in envelope.message)) envelope.message
-      at-coordinator a =
-          subst (λ (n : Node). SaidAt w.coord w.segs (marks_in w.steps) n.0 envelope.message) d.source
-          (subst (λ (q : Envelope). SaidAt w.coord w.segs (marks_in w.steps) d.letter.from.0 q.message) d.told (answer-of w d.letter true (ap (λ (q : Envelope). is_answer q.message) d.told ∙ a) d.is.1))
-
-      at-segment : is_answer envelope.message ≡ false → Said (known_at w.coord (marks_in w.steps) to.0 (gxid_in envelope.message)) (parts_in w to.0 (gxid_in envelope.message)) envelope.message
-      at-segment a =
-          subst (λ (n : Node). SaidAt w.coord w.segs (marks_in w.steps) n.0 envelope.message) d.target
-          (subst (λ (q : Envelope). SaidAt w.coord w.segs (marks_in w.steps) d.letter.to.0 q.message) d.told (answer-of w d.letter false (ap (λ (q : Envelope). is_answer q.message) d.told ∙ a) d.is.1))
-
-      by_test : (b : Bool) → is_same_node to the_coordinator ≡ b → (if b then coord_can script w.coord x else seg_can script (w.segs to.0) x) ≡ true → Holds script (if b then coord_did w e (coord_rule script w.coord x fails) else seg_did w to e (seg_rule script (w.segs to.0) x fails))
-      by_test true is ok = coord-holds script w k v e x fails ok at-coordinator
-      by_test false is ok =
-          let p = place is d.is.0.link in
-          seg-holds script w k v e fails to.0 from envelope (record { number = number; is = ap (λ (n : Node). event.Receive n to number) p.1; sent = sent p.1 }) at-segment
-
-  arrives : (w : World) (from to : Node) (number : ℕ) (fails : Bool) (o : Option Envelope) → found from to number w.sent ≡ o → Knows script w → Holds script w → can_here script w to (delivered from o) ≡ true → Holds script (does script w (event.Receive from to number) to fails (delivered from o))
-  arrives w from to number fails None e k v ok = v
-  arrives w from to number fails (Some envelope) e k v ok = received w from to number envelope fails k v (found_is (IsPosted script w) from to number w.sent envelope (each-zip (IsLetter script w.steps) (SaidIn w) w.sent k.well.letters v.said) e) ok
-
-  resumed : (w : World) (n : Node) (g : Gxid) (fails : Bool) → Knows script w → Holds script w → can_here script w n (Some (here.Resume g)) ≡ true → Holds script (does script w (event.Resume n g) n fails (Some (here.Resume g)))
-  resumed w n g fails k v ok = by_test (is_same_node n the_coordinator) refl ok
-    where
-      e : Event
-      e = event.Resume n g
-
-      x : NodeEvent
-      x = here.Resume g
-
-      by_test : (b : Bool) → is_same_node n the_coordinator ≡ b → (if b then coord_can script w.coord x else seg_can script (w.segs n.0) x) ≡ true → Holds script (if b then coord_did w e (coord_rule script w.coord x fails) else seg_did w n e (seg_rule script (w.segs n.0) x fails))
-      by_test true is ok = coord-holds script w k v e x fails ok tt
-      by_test false is ok = let o = resumed-does script w k v e n.0 g fails ok in holds-then script w k v e x fails n.0 (message.Exec g o.slice.cid o.slice.level o.slice.snapshot o.waits.horizon o.slice.slice) o.reached o.does
-
-  event-holds : (w : World) (e : Event) (fails : Bool) → Knows script w → Holds script w → can script w e ≡ true → Holds script (does script w e (node_of e) fails (at_node w e))
-  event-holds w (event.Receive from to number) fails k v ok = arrives w from to number fails (found from to number w.sent) refl k v ok
-  event-holds w (event.Resume n g) fails k v ok = resumed w n g fails k v ok
-  event-holds w (event.Start x) fails k v ok = coord-holds script w k v (event.Start x) (here.Start x) fails ok tt
-  event-holds w (event.End x) fails k v ok = coord-holds script w k v (event.End x) (here.End x) fails ok tt
-  event-holds w (event.Resend j g) fails k v ok = coord-holds script w k v (event.Resend j g) (here.Resend j g) fails ok tt
-  event-holds w event.Round fails k v ok = coord-holds script w k v event.Round here.Round fails ok tt
-
-  pub happens-holds : (w : World) (e : Event) (fails : Bool) → Knows script w → Holds script w → Holds script (happens script w e fails)
-  happens-holds w e fails k v = by_can (can script w e) refl
-    where
-      by_can : (b : Bool) → can script w e ≡ b → Holds script (if b then does script w e (node_of e) fails (at_node w e) else w)
-      by_can true ok = event-holds w e fails k v ok
-      by_can false ok = v
-
-  after-holds : (es : List (Event × Bool)) (w : World) → Knows script w → Holds script w → Holds script (after script w es)
-  after-holds [] w k v = v
-  after-holds (e ∷ es) w k v = after-holds es (happens script w e.0 e.1) (happens_knows script some w e.0 e.1 k) (happens-holds w e.0 e.1 k v)
-
   new-pair : (i g : ℕ) → Pair (known_at new_world.coord [] i g) (parts_in new_world i g)
   new-pair i g = by_test (nat_le 1 g)
     where
@@ -185,8 +181,18 @@ module _ (script : Script) (some : 1 ≤ script.segments) where
         tells = tt;
       }
 
+  pub moves-holds : (ms : List Move) → Holds script (world_by script ms)
+  moves-holds =
+      at-moves script some (Knows script) (Holds script) (moves_knows script some) new-holds
+      (λ w k v e x fails t ok next. coord-holds script w k v e x fails ok (said-in script w k v x (said-to script w v e x t))) (λ w k v g h next. victim-holds script w k v g h)
+      (λ w k v e x fails i place t ok next. heard-holds script w k v e x fails i (heard-at script w v e x i place.0 t ok))
+
   pub world-holds : (es : List (Event × Bool)) → Holds script (world_of script es)
-  world-holds es = after-holds es new_world (new_knows script some) new-holds
+  world-holds es = subst (Holds script) (sym (world-moves script es)) (moves-holds (moves_after script new_world es))
+
+  -- what is known of each world, and holds in it
+  pub moves-sound : (ms : List Move) → Sound script (world_by script ms)
+  moves-sound ms = record { knows = moves_knows script some ms; holds = moves-holds ms }
 
   each-meant : (w : World) (ls : List Letter) → Each (SaidIn w) ls → AreMeant w ls
   each-meant w [] e = tt

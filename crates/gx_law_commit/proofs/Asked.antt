@@ -39,7 +39,7 @@ use Rattle.gx_store.specs.declared.node.NodeEvent.TheVariants as event
 use Rattle.gx_store.specs.Lines.{BlockState, is_command}
 use Rattle.gx_store.specs.Marks.{started_after}
 use Rattle.gx_store.specs.Writes.{dist_of}
-use Rattle.gx_rules.specs.AtCoordinator.{Reading, kept_at, nodes_in, orders_of, answer_mark, answers_at_once, awaited, begins, behind, commits, coord_can, dispatches, ends_in, fault_mark, follows, goes, goes_out, next_cid, next_line, on_event, on_line, plain_answer_of, reads_by, reads_for, refusal_of, resumes, rolls_back, starts, starts_line, table_of, takes_snapshot, goes_on_locked, if_granted, lock_for, requests, waits_for}
+use Rattle.gx_rules.specs.AtCoordinator.{Reading, kept_at, nodes_in, orders_of, answer_mark, answers_at_once, awaited, awaited_collect, begins, behind, cancels, commits, coord_can, dispatches, ends_in, fault_mark, follows, goes, goes_out, next_cid, next_line, on_event, on_line, plain_answer_of, reads_by, reads_for, refusal_of, resumes, rolls_back, starts, starts_line, table_of, takes_snapshot, goes_on_locked, if_granted, lock_for, requests, waits_for}
 use Rattle.gx_rules.specs.Coordinators.{Coord, CoordTurn, Session, new_work, rests, session_of, with_state, with_work, work_of}
 use Rattle.gx_rules.specs.Snapshots.{snapshot_of}
 use Rattle.gx_law_order.proofs.Lines.{Asks, asks, undrawn}
@@ -52,7 +52,7 @@ use Rattle.gx_law_order.proofs.Tables.{AreIn}
 use Rattle.gx_store.proofs.Marks.{started_after-append}
 use Rattle.gx_law_commit.specs.Standings.{Part, gx, standing, waits_in}
 use Rattle.gx_law_commit.proofs.Answering.{IsPlain, MayAll, MayAnswer, NoAnswer, Settles, Tidy, WorksGo, closed-tidy, none-may, one-go, refused-tidy, rests-tidy, rolled-tidy}
-use Rattle.gx_law_commit.proofs.Completing.{GetsBy, again-tidy, calm-started, home-settles, live-alive, message-tidy, rest-tidy}
+use Rattle.gx_law_commit.proofs.Completing.{GetsBy, again-tidy, begins-tidy, calm-started, cancel-tidy, home-settles, live-alive, message-tidy, rest-tidy}
 use Rattle.gx_law_commit.proofs.Events.{idle-first, live-stage, own-idle}
 use Rattle.gx_law_commit.proofs.Ways.{Stands}
 use Rattle.gx_law_order.proofs.Waiting.{GoesOut}
@@ -405,7 +405,7 @@ module _ (script : Script) (P : ℕ → ℕ → Part) (c : Coord) (ms : List Mar
   event-told out (event.Start s) fails e d = start-any s (idle-first script P c ms st k p ins s _ e) d (next_line script c s) refl (and-second _ _ e)
   event-told out (event.End s) fails e d = end-told s (idle-first script P c ms st k p ins s _ e) (session_of c s).state.block
   event-told out (event.Resend i (Some g)) fails e d = quiet-told _ (again-tidy script P c ms st k Gets starting last_is i (awaited c g i))
-  event-told out (event.Resend i None) fails e d = quiet-told (rests c) (rest-tidy script P c ms st k Gets starting last_is)
+  event-told out (event.Resend i None) fails e d = quiet-told _ (again-tidy script P c ms st k Gets starting last_is i (awaited_collect c i))
   event-told out (event.Resume g) fails e d = resumed-told (out g e)
     where
       free : Coord
@@ -415,4 +415,8 @@ module _ (script : Script) (P : ℕ → ℕ → Part) (c : Coord) (ms : List Mar
       resumed-told o =
           subst (Told (λ t. 0)) (goes-out-is script c g o.wanted o.line o.claims o.is)
           (quiet-told _ (held-tidy free g.0 (λ h q. ap (λ b. if b then record (work_of c g) { waiting = None } else c.works h) q) [] (λ i. ap (λ q. waits_in q i) o.idle) o.line (resumed c.locks g (Some o.wanted)) o.wanted))
-  event-told out event.Round fails e d = quiet-told (rests c) (rest-tidy script P c ms st k Gets starting last_is)
+  event-told out event.Round fails e d = quiet-told _ (begins-tidy script P c ms st k Gets starting last_is)
+
+  -- a victim
+  pub cancel-told : (g : Gxid) → Told (λ t. 0) (cancels c g)
+  cancel-told g = quiet-told _ (cancel-tidy script P c ms st k Gets starting last_is g)

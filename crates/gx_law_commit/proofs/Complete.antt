@@ -1,11 +1,11 @@
 -- Over every run of the machine: a command is answered only when every segment that it was sent to is done.
 use Rattle.std.proofs.Common.{◌≡◌, ◌⊎◌, inl, inr, ℕ, zero, suc, ◌+◌, List, [], ◌∷◌, ◌++◌, Option, Some, None, Bool, true, false, refl, sym, subst, ap, ◌∙◌, if◌then◌else◌, arith, append-nil}
 use Rattle.std.proofs.lemmas.List.{append_assoc}
-use Rattle.std.specs.Prelude.{◌<◌, Contains, length, slice_get, slice_index_or, take}
+use Rattle.std.specs.Prelude.{length, slice_get, take}
 use Rattle.std.proofs.lemmas.Bool.{or_left, or_right}
 use Rattle.gx_lemmas.proofs.Lists.{get-append}
 use Rattle.gx_lemmas.proofs.Tests.{true-false}
-use Rattle.gx_lemmas.proofs.Numbers.{lt-none}
+use Rattle.gx_lemmas.proofs.Numbers.{same-plus-none}
 use Rattle.gx_lemmas.proofs.Options.{some-same}
 use Rattle.gx_ids.specs.declared.ids.Cid.{Cid}
 use Rattle.gx_ids.specs.declared.ids.Gxid.{Gxid}
@@ -35,24 +35,31 @@ use Rattle.gx_store.specs.Points.{Point, before, marks_in, starts_by, starts_in}
 use Rattle.gx_store.specs.Protocol.{IsDispatched, IsReturned, IsSentBy}
 use Rattle.gx_store.specs.Refusals.{the_coordinator}
 use Rattle.gx_store.proofs.Marks.{started_after-append}
-use Rattle.gx_rules.specs.AtCoordinator.{coord_can, coord_rule, on_event}
+use Rattle.gx_dtx.specs.Table.{find_txn}
+use Rattle.gx_rules.specs.AtCoordinator.{cancel_turn, cancels, coord_sends, coord_turn, on_event}
 use Rattle.gx_rules.specs.Coordinators.{Coord, CoordTurn, session_of}
-use Rattle.gx_rules.specs.Machine.{World, coord_did}
+use Rattle.gx_rules.specs.Machine.{World, and_cancelled, coord_did, with_more}
 use Rattle.gx_rules.specs.Sending.{clock_after, counted, numbered}
+use Rattle.gx_rules.proofs.Rounds.{cancel-ways}
+use Rattle.gx_law_order.proofs.Induction.{after_turn, marks-by-event, marks-by-victim}
 use Rattle.gx_law_order.proofs.Lists.{Each, each_append, each_weaker, get_last}
 use Rattle.gx_law_order.proofs.Past.{aborted-append}
-use Rattle.gx_law_order.proofs.Waiting.{going-out}
-use Rattle.gx_law_order.proofs.World.{Knows, marks-last}
+use Rattle.gx_law_order.proofs.More.{get-more, take-more}
+use Rattle.gx_law_order.proofs.Moves.{HasNamed}
+use Rattle.gx_law_order.proofs.Releases.{each-released}
+use Rattle.gx_law_order.proofs.World.{Knows}
 use Rattle.gx_law_order.proofs.Numbers.{NoStart}
 use Rattle.gx_law_commit.specs.Followed.{AnswersAt, DoMarksAnswer, DoStepsAnswer}
 use Rattle.gx_law_commit.specs.Standings.{at, gx, waits_in}
-use Rattle.gx_law_commit.proofs.Answering.{IsPlain, IsRested, MayAll, MayAt, NoAnswer, Settles}
-use Rattle.gx_law_commit.proofs.Asked.{IsGot, Told, counted as counted_by, event-told}
+use Rattle.gx_law_commit.proofs.Answering.{IsPlain, IsRested, MayAll, MayAt, Settles}
+use Rattle.gx_law_commit.proofs.Asked.{Told, cancel-told}
 use Rattle.gx_law_commit.proofs.Commits.{take-kept}
 use Rattle.gx_law_commit.proofs.Completing.{calm-started}
-use Rattle.gx_law_commit.proofs.Events.{IsSaidIn, event-led}
+use Rattle.gx_law_commit.proofs.Events.{cancel-led}
 use Rattle.gx_law_commit.proofs.Counts.{NoSent}
-use Rattle.gx_law_commit.proofs.Everywhere.{Holds, does-it, parts_in}
+use Rattle.gx_law_commit.proofs.Everywhere.{Holds, fol-no-sent, parts_in}
+use Rattle.gx_law_commit.proofs.Later.{answer-more, each-contained, more-now, no-orders}
+use Rattle.gx_law_commit.proofs.Lowered.{NoExec, abort-none}
 use Rattle.gx_law_commit.proofs.Replying.{take-length}
 use Rattle.gx_law_commit.proofs.Ways.{AsksFor, Led, SaidOut}
 
@@ -83,6 +90,20 @@ came-append steps ss i g n c =
       count = c.count;
       part = c.part;
       received = subst (λ x. Receives x c.step.event (at i) the_coordinator (message.Answer (gx g) (reply.Done (record { 0 = n }) c.wrote c.count c.part))) (sym (take-kept steps ss c.place c.step c.there)) c.received;
+    }
+
+came-more : (steps : List Step) (ms : List Mark) (i g n : ℕ) → Came steps i g n → Came (with_more steps ms) i g n
+came-more steps ms i g n c =
+    let x = get-more steps ms c.place c.step c.there in
+    let told : Message = message.Answer (gx g) (reply.Done (record { 0 = n }) c.wrote c.count c.part) in
+    record {
+      place = c.place;
+      step = x.step;
+      there = x.at;
+      wrote = c.wrote;
+      count = c.count;
+      part = c.part;
+      received = subst (λ q. Receives q x.step.event (at i) the_coordinator told) (sym (take-more steps ms c.place c.step c.there)) (subst (λ q. Receives (take c.place steps) q (at i) the_coordinator told) (sym x.is.event) c.received);
     }
 
 came-now : (steps : List Step) (s : Step) (i g n : ℕ) → Comes steps s.event i g n → Came (steps ++ s ∷ []) i g n
@@ -124,17 +145,6 @@ each-get P [] k x e f = absurd (cc)
 each-get P (y ∷ ys) zero x e f = subst P (some-same y x f) e.0
 each-get P (y ∷ ys) (suc k) x e f = each-get P ys k x e.1 f
 
-below : (k n : ℕ) → suc k < suc n → k < n
-below k n l = omega arith
-
-each-at : {A : Type 0} (P : A → Type 0) (xs : List A) (k : ℕ) (x : A) → Each P xs → k < length xs → slice_index_or xs k x ≡ x → P x
-each-at P [] k x e l q = absurd (lt-none k l)
-each-at P (y ∷ ys) zero x e l q = subst P q e.0
-each-at P (y ∷ ys) (suc k) x e l q = each-at P ys k x e.1 (below k (length ys) l) q
-
-each-contained : {A : Type 0} (P : A → Type 0) (xs : List A) (x : A) → Each P xs → Contains xs x → P x
-each-contained P xs x e c = each-at P xs c.0 x e c.1 c.2
-
 pub answer-push : (script : Script) (before ss : List Step) (s : Step) → DoStepsAnswer script before ss → DoMarksAnswer script (before ++ ss) s [] s.marks → DoStepsAnswer script before (ss ++ s ∷ [])
 answer-push script before [] s e h = (subst (λ x. DoMarksAnswer script x s [] s.marks) (append-nil before) h, tt)
 answer-push script before (x ∷ ss) s e h = (e.0, answer-push script (before ++ x ∷ []) ss s e.1 (subst (λ y. DoMarksAnswer script y s [] s.marks) (sym (append_assoc before (x ∷ []) ss)) h))
@@ -146,24 +156,33 @@ starts-last t (x ∷ steps) s = ap (λ n. starts_by t x.event + n) (starts-last 
     three : (a b c : ℕ) → a + (b + c) ≡ (a + b) + c
     three a b c = omega arith
 
+starts-more : (t : SessionId) (steps : List Step) (ms : List Mark) → starts_in t (with_more steps ms) ≡ starts_in t steps
+starts-more t [] ms = refl
+starts-more t (x ∷ []) ms = refl
+starts-more t (x ∷ y ∷ steps) ms = ap (λ n. starts_by t x.event + n) (starts-more t (y ∷ steps) ms)
+
+each-parts : {A : Type 0} (P : A → Type 0) (xs ys : List A) → Each P (xs ++ ys) → Each P xs × Each P ys
+each-parts P [] ys e = (tt, e)
+each-parts P (x ∷ xs) ys e = let p = each-parts P xs ys e.1 in ((e.0, p.0), p.1)
+
 -- WHAT WAS SENT STAYS SO
-back-one : (c d : Coord) (steps ss : List Step) (to : Node) (m : Message) → ((i g n : ℕ) → IsBack c steps i g n → IsBack d (steps ++ ss) i g n) → Back c steps to m → Back d (steps ++ ss) to m
-back-one c d steps ss to (message.Exec g n level x h y) f b = f to.0 g.0 n.0 b
-back-one c d steps ss to (message.Prepare g) f b = tt
-back-one c d steps ss to (message.Commit g) f b = tt
-back-one c d steps ss to (message.CommitPrepared g) f b = tt
-back-one c d steps ss to (message.Abort g) f b = tt
-back-one c d steps ss to (message.Forget g) f b = tt
-back-one c d steps ss to (message.Collect round) f b = tt
-back-one c d steps ss to (message.Answer g r) f b = tt
-back-one c d steps ss to (message.Graph round graph) f b = tt
+back-one : (c d : Coord) (steps next : List Step) (to : Node) (m : Message) → ((i g n : ℕ) → IsBack c steps i g n → IsBack d next i g n) → Back c steps to m → Back d next to m
+back-one c d steps next to (message.Exec g n level x h y) f b = f to.0 g.0 n.0 b
+back-one c d steps next to (message.Prepare g) f b = tt
+back-one c d steps next to (message.Commit g) f b = tt
+back-one c d steps next to (message.CommitPrepared g) f b = tt
+back-one c d steps next to (message.Abort g) f b = tt
+back-one c d steps next to (message.Forget g) f b = tt
+back-one c d steps next to (message.Collect round) f b = tt
+back-one c d steps next to (message.Answer g r) f b = tt
+back-one c d steps next to (message.Graph round graph) f b = tt
 
-back-mark : (c d : Coord) (steps ss : List Step) (node : Node) (m : Mark) → ((i g n : ℕ) → IsBack c steps i g n → IsBack d (steps ++ ss) i g n) → SentBack c steps node m → SentBack d (steps ++ ss) node m
-back-mark c d steps ss node (mark.Sent to number m) f b = λ e. back-one c d steps ss to m f (b e)
-back-mark c d steps ss node m f b = tt
+back-mark : (c d : Coord) (steps next : List Step) (node : Node) (m : Mark) → ((i g n : ℕ) → IsBack c steps i g n → IsBack d next i g n) → SentBack c steps node m → SentBack d next node m
+back-mark c d steps next node (mark.Sent to number m) f b = λ e. back-one c d steps next to m f (b e)
+back-mark c d steps next node m f b = tt
 
-pub back-all : (c d : Coord) (steps ss xs : List Step) → ((i g n : ℕ) → IsBack c steps i g n → IsBack d (steps ++ ss) i g n) → Each (StepBack c steps) xs → Each (StepBack d (steps ++ ss)) xs
-back-all c d steps ss xs f b = each_weaker (StepBack c steps) (StepBack d (steps ++ ss)) (λ s e. each_weaker (SentBack c steps s.stamp.node) (SentBack d (steps ++ ss) s.stamp.node) (λ m q. back-mark c d steps ss s.stamp.node m f q) s.marks e) xs b
+pub back-all : (c d : Coord) (steps next xs : List Step) → ((i g n : ℕ) → IsBack c steps i g n → IsBack d next i g n) → Each (StepBack c steps) xs → Each (StepBack d next) xs
+back-all c d steps next xs f b = each_weaker (StepBack c steps) (StepBack d next) (λ s e. each_weaker (SentBack c steps s.stamp.node) (SentBack d next s.stamp.node) (λ m q. back-mark c d steps next s.stamp.node m f q) s.marks e) xs b
 
 -- marks that send nothing
 no-sent-back : (c : Coord) (steps : List Step) (node : Node) (ns : List Mark) → Each NoSent ns → Each (SentBack c steps node) ns
@@ -210,10 +229,34 @@ sent-answers : (script : Script) (steps : List Step) (step : Step) (earlier : Li
 sent-answers script steps step earlier f [] = tt
 sent-answers script steps step earlier f (o ∷ outs) = (tt, sent-answers script steps step (earlier ++ mark.Sent o.node (f o.node.0 + 1) o.message ∷ []) (counted f o) outs)
 
-pub none-answers : (script : Script) (steps : List Step) (step : Step) (earlier ns : List Mark) (f : ℕ → ℕ) (outs : List Out) → Each NoAnswer ns → DoMarksAnswer script steps step earlier (ns ++ numbered f outs)
+-- marks that answer no line, or refuse it
+abbrev pub Refuses : Mark → Type 0
+Refuses (mark.Answer s n (told.Refused reason)) = Unit {0}
+Refuses (mark.Answer s n a) = ⊥
+Refuses _ = Unit {0}
+
+refuse-one : (script : Script) (node : Node) (point : Point) (m : Mark) → Refuses m → AnswersAt script node point m
+refuse-one script node point (mark.Answer s n (told.Refused reason)) e = tt
+refuse-one script node point (mark.Answer s n told.Begin) e = absurd e
+refuse-one script node point (mark.Answer s n told.Commit) e = absurd e
+refuse-one script node point (mark.Answer s n told.Rollback) e = absurd e
+refuse-one script node point (mark.Answer s n told.Locked) e = absurd e
+refuse-one script node point (mark.Answer s n (told.Inserted y)) e = absurd e
+refuse-one script node point (mark.Answer s n (told.Updated y)) e = absurd e
+refuse-one script node point (mark.Answer s n (told.Deleted y)) e = absurd e
+refuse-one script node point (mark.Answer s n (told.Rows y)) e = absurd e
+refuse-one script node point m e = tt
+
+pub none-answers : (script : Script) (steps : List Step) (step : Step) (earlier ns : List Mark) (f : ℕ → ℕ) (outs : List Out) → Each Refuses ns → DoMarksAnswer script steps step earlier (ns ++ numbered f outs)
 none-answers script steps step earlier [] f outs e = sent-answers script steps step earlier f outs
-none-answers script steps step earlier (mark.Answer s n a ∷ ns) f outs e = absurd e.0
-none-answers script steps step earlier (m ∷ ns) f outs e = (tt, none-answers script steps step (earlier ++ m ∷ []) ns f outs e.1)
+none-answers script steps step earlier (m ∷ ns) f outs e = (refuse-one script step.stamp.node _ m e.0, none-answers script steps step (earlier ++ m ∷ []) ns f outs e.1)
+
+-- a victim's turn refuses its line, and orders nothing
+cancels-refuse : (c : Coord) (g : Gxid) → Each Refuses (cancels c g).marks
+cancels-refuse c g = cancel-ways (λ turn. Each Refuses turn.marks) c g tt (λ live busy. (tt, (tt, each-released Refuses the_coordinator c.locks g (λ claim. tt))))
+
+cancels-no-exec : (c : Coord) (g : Gxid) → Each (λ (o : Out). NoExec o.message) (cancels c g).outs
+cancels-no-exec c g = cancel-ways (λ turn. Each (λ (o : Out). NoExec o.message) turn.outs) c g tt (λ live busy. abort-none g (find_txn c.table g))
 
 -- A STEP OF THE COORDINATOR
 module _ (script : Script) (w : World) (n : Knows script w) (v : Holds script w) (r : Replied script w) (e : Event) (x : NodeEvent) (fails : Bool) where
@@ -226,14 +269,8 @@ module _ (script : Script) (w : World) (n : Knows script w) (v : Holds script w)
   abbrev sent : List Mark
   sent = numbered turn.coord.sent turn.outs
 
-  abbrev last_coord : Coord
-  last_coord = (coord_rule script w.coord x fails).coord
-
   abbrev step : Step
   step = record { stamp = record { clock = clock_after w.coord.clock x; node = the_coordinator }; event = e; marks = turn.marks ++ sent }
-
-  abbrev next : World
-  next = coord_did w e (coord_rule script w.coord x fails)
 
   abbrev Gets : ℕ → ℕ → ℕ → Type 0
   Gets i g m = Comes w.steps e i g m
@@ -303,48 +340,159 @@ module _ (script : Script) (w : World) (n : Knows script w) (v : Holds script w)
   may-answers earlier [] f outs a b y = sent-answers script w.steps step earlier f outs
   may-answers earlier (m ∷ ns) f outs a b y = (may-one earlier (ns ++ numbered f outs) m (each_append (SentAsks turn.coord) earlier (ns ++ numbered f outs) a b.1) y.0, may-answers (earlier ++ m ∷ []) ns f outs (each_append (SentAsks turn.coord) earlier (m ∷ []) a (b.0, tt)) b.1 y.1)
 
-  all : ms ++ (turn.marks ++ sent) ≡ marks_in next.steps
-  all = sym (marks-last w.steps step)
+  -- the answers of an event
+  pub event-answers : Led script (parts_in w) w.coord ms turn → MayAll script w.coord ms Gets starting turn.coord.works [] turn.marks → DoMarksAnswer script w.steps step [] step.marks
+  event-answers f may =
+      let none : Each NoSent turn.marks = fol-no-sent script ms turn.marks f.way.fol in
+      may-answers [] turn.marks turn.coord.sent turn.outs tt
+      (each_append (SentAsks turn.coord) turn.marks sent (no-sent-asks turn.coord turn.marks none)
+      (sent-asks turn.coord turn.coord.sent turn.outs (each_weaker (SaidOut script (parts_in w) turn.coord (ms ++ turn.marks)) (λ (o : Out). AsksFor turn.coord o.node.0 o.message) (λ o q. q.2) turn.outs f.outs))) may
 
-  pub coord-replied : coord_can script w.coord x ≡ true → IsSaidIn script (parts_in w) w.coord ms v.stands n.kept n.past (λ g. (n.well.coordinator.works g).writers) x → IsGot script (parts_in w) w.coord ms v.stands n.kept n.past (λ g. (n.well.coordinator.works g).writers) Gets starting r.last x → ((t : SessionId) → counted_by script (parts_in w) w.coord ms v.stands n.kept n.past (λ g. (n.well.coordinator.works g).writers) Gets starting r.last x t.0 ≡ starts_by t e) → Replied script next
-  coord-replied ok d got count = from (event-led script (parts_in w) w.coord ms v.stands n.kept n.past (λ g. (n.well.coordinator.works g).writers) (going-out script w n) x fails ok d) (event-told script (parts_in w) w.coord ms v.stands n.kept n.past (λ g. (n.well.coordinator.works g).writers) Gets starting r.last (going-out script w n) x fails ok got)
+-- A TURN OF THE COORDINATOR
+-- a single one, whose marks stand behind all others
+module _ (script : Script) (w : World) (n : Knows script w) (v : Holds script w) (r : Replied script w) where
+  abbrev pub TellsBy : (ℕ → ℕ → ℕ → Type 0) → (ℕ → Type 0) → (ℕ → ℕ) → CoordTurn → Type 0
+  TellsBy Gets starting count turn = Told script (parts_in w) w.coord (marks_in w.steps) v.stands n.kept n.past (λ g. (n.well.coordinator.works g).writers) Gets starting r.last count turn
+
+  module _ (turn : CoordTurn) (clock : ℕ) (steps : List Step) (f : Led script (parts_in w) w.coord (marks_in w.steps) turn) (Gets : ℕ → ℕ → ℕ → Type 0) (starting : ℕ → Type 0) (count : ℕ → ℕ) (t : TellsBy Gets starting count turn)
+      (all : marks_in steps ≡ marks_in w.steps ++ (coord_sends clock turn).marks) (came : (i g m : ℕ) → Came w.steps i g m ⊎ Gets i g m → Came steps i g m) where
+    abbrev so_far : List Mark
+    so_far = marks_in w.steps
+
+    abbrev marks_sent : List Mark
+    marks_sent = numbered turn.coord.sent turn.outs
+
+    abbrev last_coord : Coord
+    last_coord = (coord_sends clock turn).coord
+
+    no-start-sent : (f : ℕ → ℕ) (outs : List Out) → Each NoStart (numbered f outs)
+    no-start-sent f [] = tt
+    no-start-sent f (o ∷ outs) = (tt, no-start-sent (counted f o) outs)
+
+    aborted-now : (g : ℕ) → is_aborted so_far (gx g) ≡ true → is_aborted (marks_in steps) (gx g) ≡ true
+    aborted-now g y = ap (λ q. is_aborted q (gx g)) all ∙ aborted-append so_far (turn.marks ++ marks_sent) (gx g) ∙ or_left (is_aborted so_far (gx g)) (is_aborted (turn.marks ++ marks_sent) (gx g)) y
+
+    aborted-later : (g : ℕ) → is_aborted turn.marks (gx g) ≡ true → is_aborted (marks_in steps) (gx g) ≡ true
+    aborted-later g y =
+        ap (λ q. is_aborted q (gx g)) all ∙ aborted-append so_far (turn.marks ++ marks_sent) (gx g)
+        ∙ or_right (is_aborted so_far (gx g)) (is_aborted (turn.marks ++ marks_sent) (gx g)) (aborted-append turn.marks marks_sent (gx g) ∙ or_left (is_aborted turn.marks (gx g)) (is_aborted marks_sent (gx g)) y)
+
+    stays : (i g m : ℕ) → IsBack w.coord w.steps i g m → IsBack last_coord steps i g m
+    stays i g m (inl y) = by_works (t.works g i y.0)
+      where
+        by_works : ((waits_in (turn.coord.works g).command i ≡ true) × ((turn.coord.works g).last ≡ (w.coord.works g).last)) ⊎ (is_aborted turn.marks (gx g) ≡ true) ⊎ Gets i g (w.coord.works g).last → IsBack last_coord steps i g m
+        by_works (inl z) = inl (z.0, y.1 ∙ sym z.1)
+        by_works (inr (inl z)) = inr (inr (aborted-later g z))
+        by_works (inr (inr z)) = inr (inl (came i g m (inr (subst (Gets i g) (sym y.1) z))))
+    stays i g m (inr (inl y)) = inr (inl (came i g m (inl y)))
+    stays i g m (inr (inr y)) = inr (inr (aborted-now g y))
+
+    asks : (m : Message) (i : ℕ) → AsksFor turn.coord i m → AsksFor last_coord i m
+    asks (message.Exec g k level y h z) i a = a
+    asks (message.Prepare g) i a = tt
+    asks (message.Commit g) i a = tt
+    asks (message.CommitPrepared g) i a = tt
+    asks (message.Abort g) i a = tt
+    asks (message.Forget g) i a = tt
+    asks (message.Collect round) i a = tt
+    asks (message.Answer g q) i a = tt
+    asks (message.Graph round graph) i a = tt
+
+    -- what was sent before, and what the turn sends
+    pub earlier-back : Each (StepBack last_coord steps) w.steps
+    earlier-back = back-all w.coord last_coord w.steps steps w.steps stays r.back
+
+    pub turn-back : (node : Node) → Each (SentBack last_coord steps node) (turn.marks ++ marks_sent)
+    turn-back node =
+        each_append (SentBack last_coord steps node) turn.marks marks_sent (no-sent-back last_coord steps node turn.marks (fol-no-sent script so_far turn.marks f.way.fol))
+        (sent-back last_coord steps node turn.coord.sent turn.outs (each_weaker (SaidOut script (parts_in w) turn.coord (so_far ++ turn.marks)) (λ (o : Out). AsksFor last_coord o.node.0 o.message) (λ o q. asks o.message o.node.0 q.2) turn.outs f.outs))
+
+    pub turn-replied : ((s : SessionId) → starts_in s steps ≡ starts_in s w.steps + count s.0) → Each (StepBack last_coord steps) steps → DoStepsAnswer script [] steps → Replied script (after_turn w clock turn steps)
+    turn-replied started back answers =
+        record {
+          lines = λ s. t.lines s.0 ∙ ap (λ q. q + count s.0) (r.lines s) ∙ sym (started s);
+          last = λ s h q. t.last s h (sym (started_after-append s None (so_far ++ turn.marks) marks_sent ∙ calm-started s _ marks_sent (no-start-sent turn.coord.sent turn.outs)) ∙ ap (started_after s None) (append_assoc so_far turn.marks marks_sent ∙ sym all) ∙ q);
+          back = back;
+          answers = answers;
+        }
+
+  -- by an event
+  abbrev pub GetsIn : Event → ℕ → ℕ → ℕ → Type 0
+  GetsIn e i g m = Comes w.steps e i g m
+
+  abbrev pub StartsIn : Event → ℕ → Type 0
+  StartsIn e t = (s : SessionId) → s.0 ≡ t → starts_by s e ≡ 1
+
+  pub coord-replied : (e : Event) (x : NodeEvent) (fails : Bool) → Led script (parts_in w) w.coord (marks_in w.steps) (on_event script w.coord x fails) → (count : ℕ → ℕ) → TellsBy (GetsIn e) (StartsIn e) count (on_event script w.coord x fails)
+      → ((t : SessionId) → count t.0 ≡ starts_by t e) → Replied script (coord_did w e (coord_turn script w.coord x fails))
+  coord-replied e x fails f count t counts =
+      turn-replied turn clock steps f (GetsIn e) (StartsIn e) count t all came (λ s. starts-last s w.steps step ∙ ap (λ q. starts_in s w.steps + q) (sym (counts s)))
+      (each_append (StepBack last_coord steps) w.steps (step ∷ []) (earlier-back turn clock steps f (GetsIn e) (StartsIn e) count t all came) (turn-back turn clock steps f (GetsIn e) (StartsIn e) count t all came the_coordinator, tt))
+      (answer-push script [] w.steps step r.answers (event-answers script w n v r e x fails f t.may))
     where
-      no-start-sent : (f : ℕ → ℕ) (outs : List Out) → Each NoStart (numbered f outs)
-      no-start-sent f [] = tt
-      no-start-sent f (o ∷ outs) = (tt, no-start-sent (counted f o) outs)
+      turn : CoordTurn
+      turn = on_event script w.coord x fails
 
-      from : Led script (parts_in w) w.coord ms (on_event script w.coord x fails) → Told script (parts_in w) w.coord ms v.stands n.kept n.past (λ g. (n.well.coordinator.works g).writers) Gets starting r.last (counted_by script (parts_in w) w.coord ms v.stands n.kept n.past (λ g. (n.well.coordinator.works g).writers) Gets starting r.last x) (on_event script w.coord x fails) → Replied script (coord_did w e (coord_rule script w.coord x fails))
-      from f t =
-          record {
-            lines = λ s. t.lines s.0 ∙ ap (λ q. q + counted_by script (parts_in w) w.coord ms v.stands n.kept n.past (λ g. (n.well.coordinator.works g).writers) Gets starting r.last x s.0) (r.lines s) ∙ ap (λ q. starts_in s w.steps + q) (count s) ∙ sym (starts-last s w.steps step);
-            last = λ s h q. t.last s h (sym (started_after-append s None (ms ++ turn.marks) sent ∙ calm-started s _ sent (no-start-sent turn.coord.sent turn.outs)) ∙ ap (started_after s None) (append_assoc ms turn.marks sent ∙ all) ∙ q);
-            back = each_append (StepBack last_coord next.steps) w.steps (step ∷ []) (back-all w.coord last_coord w.steps (step ∷ []) w.steps stays r.back)
-                (each_append (SentBack last_coord next.steps the_coordinator) turn.marks sent (no-sent-back last_coord next.steps the_coordinator turn.marks (Rattle.gx_law_commit.proofs.Everywhere.fol-no-sent script ms turn.marks f.way.fol)) (sent-back last_coord next.steps the_coordinator turn.coord.sent turn.outs (each_weaker (SaidOut script (parts_in w) turn.coord (ms ++ turn.marks)) (λ (o : Out). AsksFor last_coord o.node.0 o.message) (λ o q. asks o.message o.node.0 q.2) turn.outs f.outs)), tt);
-            answers = answer-push script [] w.steps step r.answers (may-answers [] turn.marks turn.coord.sent turn.outs tt
-                (each_append (SentAsks turn.coord) turn.marks sent (no-sent-asks turn.coord turn.marks (Rattle.gx_law_commit.proofs.Everywhere.fol-no-sent script ms turn.marks f.way.fol))
-                (sent-asks turn.coord turn.coord.sent turn.outs (each_weaker (SaidOut script (parts_in w) turn.coord (ms ++ turn.marks)) (λ (o : Out). AsksFor turn.coord o.node.0 o.message) (λ o q. q.2) turn.outs f.outs))) t.may);
-          }
-        where
-          asks : (m : Message) (i : ℕ) → AsksFor turn.coord i m → AsksFor last_coord i m
-          asks (message.Exec g k level y h z) i a = a
-          asks (message.Prepare g) i a = tt
-          asks (message.Commit g) i a = tt
-          asks (message.CommitPrepared g) i a = tt
-          asks (message.Abort g) i a = tt
-          asks (message.Forget g) i a = tt
-          asks (message.Collect round) i a = tt
-          asks (message.Answer g q) i a = tt
-          asks (message.Graph round graph) i a = tt
+      clock : ℕ
+      clock = clock_after w.coord.clock x
 
-          aborted-later : (g : ℕ) → is_aborted turn.marks (gx g) ≡ true → is_aborted (marks_in next.steps) (gx g) ≡ true
-          aborted-later g y = ap (λ q. is_aborted q (gx g)) (sym all) ∙ aborted-append ms (turn.marks ++ sent) (gx g) ∙ or_right (is_aborted ms (gx g)) (is_aborted (turn.marks ++ sent) (gx g)) (aborted-append turn.marks sent (gx g) ∙ or_left (is_aborted turn.marks (gx g)) (is_aborted sent (gx g)) y)
+      step : Step
+      step = record { stamp = record { clock = clock; node = the_coordinator }; event = e; marks = turn.marks ++ numbered turn.coord.sent turn.outs }
 
-          stays : (i g m : ℕ) → IsBack w.coord w.steps i g m → IsBack last_coord (w.steps ++ step ∷ []) i g m
-          stays i g m (inl y) = by_works (t.works g i y.0)
-            where
-              by_works : ((waits_in (turn.coord.works g).command i ≡ true) × ((turn.coord.works g).last ≡ (w.coord.works g).last)) ⊎ (is_aborted turn.marks (gx g) ≡ true) ⊎ Comes w.steps e i g (w.coord.works g).last → IsBack last_coord (w.steps ++ step ∷ []) i g m
-              by_works (inl z) = inl (z.0, y.1 ∙ sym z.1)
-              by_works (inr (inl z)) = inr (inr (aborted-later g z))
-              by_works (inr (inr z)) = inr (inl (came-now w.steps step i g m (subst (Comes w.steps e i g) (sym y.1) z)))
-          stays i g m (inr (inl y)) = inr (inl (came-append w.steps (step ∷ []) i g m y))
-          stays i g m (inr (inr y)) = inr (inr (ap (λ q. is_aborted q (gx g)) (sym all) ∙ aborted-append ms (turn.marks ++ sent) (gx g) ∙ or_left (is_aborted ms (gx g)) (is_aborted (turn.marks ++ sent) (gx g)) y))
+      steps : List Step
+      steps = w.steps ++ step ∷ []
+
+      last_coord : Coord
+      last_coord = (coord_sends clock turn).coord
+
+      all : marks_in steps ≡ marks_in w.steps ++ (coord_sends clock turn).marks
+      all = marks-by-event script w e x fails
+
+      came : (i g m : ℕ) → Came w.steps i g m ⊎ Comes w.steps e i g m → Came steps i g m
+      came i g m (inl y) = came-append w.steps (step ∷ []) i g m y
+      came i g m (inr y) = came-now w.steps step i g m y
+
+  -- by a victim, in the last step
+  pub victim-replied : (g : Gxid) → HasNamed w.steps w.coord.clock w.coord.rounds g → Replied script (and_cancelled w g)
+  victim-replied g h =
+      turn-replied turn w.coord.clock steps f None-gets None-starts (λ t. 0) t all came (λ s. starts-more s w.steps more ∙ same-plus-none (starts_in s w.steps)) back
+      (answer-more script h.step more w.steps h.before h.is (no-orders turn.marks turn.coord.sent turn.outs (fol-no-sent script (marks_in w.steps) turn.marks f.way.fol) (cancels-no-exec w.coord g)) r.answers
+      (none-answers script h.before h.step h.step.marks turn.marks turn.coord.sent turn.outs (cancels-refuse w.coord g)))
+    where
+      turn : CoordTurn
+      turn = cancels w.coord g
+
+      more : List Mark
+      more = (cancel_turn w.coord g).marks
+
+      steps : List Step
+      steps = with_more w.steps more
+
+      last_coord : Coord
+      last_coord = (cancel_turn w.coord g).coord
+
+      None-gets : ℕ → ℕ → ℕ → Type 0
+      None-gets i g m = ⊥
+
+      None-starts : ℕ → Type 0
+      None-starts t = ⊥
+
+      f : Led script (parts_in w) w.coord (marks_in w.steps) turn
+      f = cancel-led script (parts_in w) w.coord (marks_in w.steps) v.stands n.kept n.past (λ g. (n.well.coordinator.works g).writers) g
+
+      t : TellsBy None-gets None-starts (λ t. 0) turn
+      t = cancel-told script (parts_in w) w.coord (marks_in w.steps) v.stands n.kept n.past (λ g. (n.well.coordinator.works g).writers) None-gets None-starts r.last g
+
+      all : marks_in steps ≡ marks_in w.steps ++ (coord_sends w.coord.clock turn).marks
+      all = marks-by-victim w g h
+
+      came : (i g m : ℕ) → Came w.steps i g m ⊎ ⊥ → Came steps i g m
+      came i g m (inl y) = came-more w.steps more i g m y
+      came i g m (inr y) = absurd y
+
+      back : Each (StepBack last_coord steps) steps
+      back =
+          let olds = each-parts (StepBack last_coord steps) h.before (h.step ∷ []) (subst (Each (StepBack last_coord steps)) h.is (earlier-back turn w.coord.clock steps f None-gets None-starts (λ t. 0) t all came)) in
+          subst (Each (StepBack last_coord steps)) (sym (more-now script h.step more w.steps h.before h.is))
+          (each_append (StepBack last_coord steps) h.before _ olds.0
+          (each_append (SentBack last_coord steps h.step.stamp.node) h.step.marks more olds.1.0 (turn-back turn w.coord.clock steps f None-gets None-starts (λ t. 0) t all came h.step.stamp.node), tt))

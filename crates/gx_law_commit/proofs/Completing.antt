@@ -1,5 +1,5 @@
 -- Every event of the coordinator answers a line only when its commands have come back.
-use Rattle.std.proofs.Common.{◌≡◌, ◌⊎◌, inl, inr, ℕ, List, [], ◌∷◌, ◌++◌, Option, Some, None, Bool, true, false, refl, sym, subst, ap, ◌∙◌, if◌then◌else◌, ◌==◌, ◌&&◌, arith, eqb}
+use Rattle.std.proofs.Common.{◌≡◌, ◌⊎◌, inl, inr, ℕ, List, [], ◌∷◌, ◌++◌, ◌+◌, Option, Some, None, Bool, true, false, refl, sym, subst, ap, ◌∙◌, if◌then◌else◌, ◌==◌, ◌&&◌, arith, eqb}
 use Rattle.std.proofs.lemmas.Bool.{and_parts, eqb-true, false_from_ne_true}
 use Rattle.gx_lemmas.proofs.Numbers.{eqb-self}
 use Rattle.gx_lemmas.proofs.Tests.{true-false}
@@ -17,19 +17,24 @@ use Rattle.gx_dtx.specs.declared.phase.Phase.{Phase as Status}
 use Rattle.gx_dtx.specs.declared.txn.Txn.{Txn}
 use Rattle.gx_msg.specs.declared.message.Message.{Message}
 use Rattle.gx_msg.specs.declared.message.Message.TheVariants as message
+use Rattle.gx_msg.specs.declared.message.Out.{Out}
 use Rattle.gx_msg.specs.declared.reply.Cause.{Cause}
 use Rattle.gx_msg.specs.declared.reply.Reply.{Reply}
 use Rattle.gx_msg.specs.declared.reply.Reply.TheVariants as reply
 use Rattle.gx_script.specs.declared.Script.{Script}
 use Rattle.gx_script.specs.declared.state.Block.{Block}
 use Rattle.gx_script.specs.declared.state.Block.TheVariants.{Outside, Open, Failed}
+use Rattle.gx_store.specs.declared.answer.Refused.TheVariants.{Victim}
 use Rattle.gx_store.specs.declared.mark.Mark.{Mark}
 use Rattle.gx_store.specs.declared.mark.Mark.TheVariants as mark
 use Rattle.gx_store.specs.Marks.{is_aborted, started_after}
 use Rattle.gx_store.specs.Refusals.{the_coordinator}
-use Rattle.gx_rules.specs.AtCoordinator.{answers, commits, completes, failure_marks, follows, goes_on, is_awaited, is_refused, on_answer, on_done, on_failed, on_message, on_status, reason_of, resends, takes_done, with_done, writers_with}
+use Rattle.gx_rules.specs.AtCoordinator.{answers, cancels, commits, completes, failure_marks, follows, goes_on, is_awaited, is_refused, on_answer, on_done, on_failed, on_message, on_status, reason_of, resends, takes_done, with_done, writers_with}
 use Rattle.gx_rules.specs.Coordinators.{Command, Coord, CoordTurn, Session, Work, rests, session_of, with_work, work_of}
 use Rattle.gx_rules.specs.Fits.{fits_part}
+use Rattle.gx_rules.specs.Rounds.{begins_round, rechecks, with_report}
+use Rattle.gx_rules.proofs.Rounds.{cancel-ways, graph-ways}
+use Rattle.gx_waits.specs.declared.graph.LocalGraph.{LocalGraph}
 use Rattle.gx_law_order.proofs.Lists.{Each}
 use Rattle.gx_law_order.proofs.Numbers.{NoStart}
 use Rattle.gx_law_order.proofs.Sessions.{Kept, is_working_in, stage_of}
@@ -225,6 +230,19 @@ module _ (script : Script) (P : ℕ → ℕ → Part) (c : Coord) (ms : List Mar
       let x : TidyFrom c.sessions [] (follows c (gx g) (on_reply c.table (gx g) j r fails) (on_reply c.table (gx g) j r fails).out.outcome) = status-tidy g (on_reply c.table (gx g) j r fails) t (on_reply c.table (gx g) j r fails).out.outcome t t.how in
       record { lines = x.lines; transaction = x.transaction; marks = x.marks; works = x.works; may = x.may }
 
+  -- rounds touch no transaction
+  round-tidy : (round : ℕ) (reports : Option (List (Option LocalGraph))) (outs : List Out) (ns : List Mark) → Each NoStart ns → Each NoAnswer ns → TidyFrom c.sessions [] (record { coord = record c { rounds = round; reports = reports }; marks = ns; outs = outs; item = None })
+  round-tidy round reports outs ns n a = rests-tidy script c ms Gets starting (record c { rounds = round; reports = reports }) 0 (same-others 0) [] c.table outs ns n a (λ i e. inl (e, refl))
+
+  pub begins-tidy : TidyFrom c.sessions [] (begins_round script c)
+  begins-tidy = round-tidy (c.rounds + 1) (begins_round script c).coord.reports (begins_round script c).outs [] tt tt
+
+  -- a victim
+  pub cancel-tidy : (g : Gxid) → TidyFrom c.sessions [] (cancels c g)
+  cancel-tidy g =
+      cancel-ways (TidyFrom c.sessions []) c g rest-tidy
+      (λ live busy. refused-tidy script c ms Gets starting c g.0 (same-others g.0) [] (on_abort c.table g) [] (Victim c.rounds) tt tt)
+
   abbrev pub GetsBy : Node → Message → Type 0
   GetsBy j (message.Answer g (reply.Done cid wrote count part)) = Gets j.0 g.0 cid.0
   GetsBy j _ = Unit {0}
@@ -248,7 +266,9 @@ module _ (script : Script) (P : ℕ → ℕ → Part) (c : Coord) (ms : List Mar
   message-tidy j fails (message.Abort g) d = rest-tidy
   message-tidy j fails (message.Forget g) d = rest-tidy
   message-tidy j fails (message.Collect round) d = rest-tidy
-  message-tidy j fails (message.Graph round graph) d = rest-tidy
+  message-tidy j fails (message.Graph round graph) d =
+      graph-ways (TidyFrom c.sessions []) c j round graph rest-tidy (λ e. round-tidy c.rounds (with_report c graph).reports [] [] tt tt)
+      (λ e f. round-tidy c.rounds None [] (rechecks (with_report c graph)).marks (tt, tt) (tt, tt))
 
   pub again-tidy : (i : Node) (o : Option Message) → TidyFrom c.sessions [] (resends c i o)
   again-tidy i None = rest-tidy

@@ -17,12 +17,13 @@ use Rattle.gx_msg.specs.declared.reply.Reply.{Reply}
 use Rattle.gx_msg.specs.declared.reply.Reply.TheVariants as reply
 use Rattle.gx_script.specs.declared.Script.{Script}
 use Rattle.gx_store.specs.declared.mark.Mark.{Mark}
-use Rattle.gx_rules.specs.AtSegment.{changes, commits, ends, finishes, if_fits, on_abort, on_commit, on_commit_prepared, on_exec, on_forget, on_message, on_prepare, once, promises, raised, repeats, resumes, takes, unless_below, was_prepared}
+use Rattle.gx_rules.specs.AtSegment.{changes, commits, ends, finishes, if_fits, on_abort, on_collect, on_commit, on_commit_prepared, on_exec, on_forget, on_message, on_prepare, once, promises, raised, repeats, resumes, takes, unless_below, was_prepared}
 use Rattle.gx_rules.specs.Fits.{fits_exec, is_waiting}
 use Rattle.gx_rules.specs.Maps.{with_at}
 use Rattle.gx_rules.specs.Segments.{Local, Phase, Seg, SegTurn, Suspended, has_committed, has_ended, stays, tells, tells_kept}
 use Rattle.gx_rules.specs.Segments.Phase.{Aborted, Committed, Forgotten, Prepared, Reading, Writing}
 use Rattle.gx_rules.specs.Running.{slice_lock, starts_slice}
+use Rattle.gx_rules.proofs.Rounds.{collect-ways}
 use Rattle.gx_law_order.proofs.Lists.{Each}
 use Rattle.gx_law_commit.specs.Pairs.{IsKept, IsVote}
 use Rattle.gx_law_commit.specs.Said.{gxid_in}
@@ -50,6 +51,10 @@ module _ (script : Script) (told : Message) (s : Seg) (g : ℕ) (wrote : Bool) (
 
   stay : EndsSo (stays s)
   stay = record { ended = λ e. e; last = λ e. inl e; outs = tt }
+
+  -- a segment's graph
+  collect : (round : ℕ) → EndsSo (on_collect s round)
+  collect round = collect-ways EndsSo s round stay (λ e. record { ended = λ q. q; last = λ q. inl q; outs = (tt, tt) }) (λ e graph f. record { ended = λ q. q; last = λ q. inl q; outs = (tt, tt) })
 
   tell : (r : Reply) → TellsEnd l.phase (message.Answer (gx g) r) → EndsSo (tells s (gx g) r)
   tell r t = record { ended = λ e. e; last = λ e. inl e; outs = (t, tt) }
@@ -210,7 +215,7 @@ ends-so script fails s (message.CommitPrepared g) wrote v a = below script (mess
 ends-so script fails s (message.Abort g) wrote v a = below script (message.Abort g) s g.0 wrote v a _ (abort script (message.Abort g) s g.0 wrote v a (s.locals g.0).phase refl)
 ends-so script fails s (message.Forget g) wrote v a = below script (message.Forget g) s g.0 wrote v a _ (forget script (message.Forget g) s g.0 wrote v a (s.locals g.0).phase refl)
 ends-so script fails s (message.Answer g r) wrote v a = stay script (message.Answer g r) s g.0 wrote v a
-ends-so script fails s (message.Collect round) wrote v a = stay script (message.Collect round) s 0 wrote v a
+ends-so script fails s (message.Collect round) wrote v a = collect script (message.Collect round) s 0 wrote v a round
 ends-so script fails s (message.Graph round graph) wrote v a = stay script (message.Graph round graph) s 0 wrote v a
 
 pub resumed-so : (script : Script) (s : Seg) (g : Gxid) (told : Message) (o : Option Claim) (x : Option Suspended) (wrote : Bool) (vote : IsVote (s.locals g.0).phase (s.locals g.0).vote) (answer : IsKept (s.locals g.0).last wrote (s.locals g.0).answer) → has_ended (s.locals g.0).phase ≡ false → nat_lt 0 (s.locals g.0).last ≡ true → EndsSo script told s g.0 wrote vote answer (resumes s g o x)

@@ -30,6 +30,7 @@ use Rattle.gx_script.specs.declared.line_step.LineStep.TheVariants as step
 use Rattle.gx_script.specs.declared.state.Block.{Block}
 use Rattle.gx_script.specs.declared.state.Block.TheVariants.{Outside, Open, Failed}
 use Rattle.gx_script.specs.declared.state.Pending.{Pending}
+use Rattle.gx_store.specs.declared.answer.Refused.TheVariants.{Victim}
 use Rattle.gx_store.specs.declared.answer.StmtAnswer.{StmtAnswer}
 use Rattle.gx_store.specs.declared.answer.StmtAnswer.TheVariants as told
 use Rattle.gx_store.specs.declared.mark.Mark.{Mark}
@@ -37,13 +38,16 @@ use Rattle.gx_store.specs.declared.mark.Mark.TheVariants as mark
 use Rattle.gx_store.specs.declared.node.NodeEvent.{NodeEvent}
 use Rattle.gx_store.specs.declared.node.NodeEvent.TheVariants as event
 use Rattle.gx_store.specs.Marks.{is_committed}
-use Rattle.gx_rules.specs.AtCoordinator.{answer_mark, answers_at_once, awaited, begins, behind, command_order, commits, coord_can, dispatches, ends_in, is_awaited, is_idle, is_nothing, is_refused, next_line, on_answer, on_done, on_event, on_failed, on_line, on_message, order_to, reason_of, resends, resumes, rolls_back, starts, starts_line, status_order, takes_done}
+use Rattle.gx_rules.specs.AtCoordinator.{answer_mark, answers_at_once, awaited, awaited_collect, begins, behind, cancels, command_order, commits, coord_can, dispatches, ends_in, is_awaited, is_idle, is_nothing, is_refused, next_line, on_answer, on_done, on_event, on_failed, on_line, on_message, order_to, reason_of, resends, resumes, rolls_back, starts, starts_line, status_order, takes_done}
 use Rattle.gx_rules.specs.Coordinators.{Command, Coord, CoordTurn, Session, new_work, rests, session_of, with_session, with_state, work_of}
 use Rattle.gx_rules.specs.Fits.{fits_part}
+use Rattle.gx_rules.specs.Rounds.{awaits_graph, begins_round, is_active, is_live, on_graph, rechecks, with_report}
+use Rattle.gx_rules.proofs.Rounds.{cancel-ways, graph-ways}
 use Rattle.gx_law_order.proofs.Ends.{begun-finds}
 use Rattle.gx_law_order.proofs.Lines.{Asks, asks, begun-whole}
 use Rattle.gx_law_order.proofs.Lists.{Each}
 use Rattle.gx_law_order.proofs.Past.{Past}
+use Rattle.gx_law_order.proofs.Places.{collects-each}
 use Rattle.gx_law_order.proofs.Sessions.{Kept, is_nothing_in, is_open_in, is_working_in, stage_of}
 use Rattle.gx_law_order.proofs.Stages.{IsWhole}
 use Rattle.gx_law_order.proofs.Statuses.{stage, stage_in}
@@ -60,6 +64,7 @@ use Rattle.gx_law_commit.proofs.Shifts.{Shift, is-sent, shift-same}
 use Rattle.gx_law_commit.proofs.Ways.{Agrees, AgreesIn, AsksFor, CommandOf, IsOrderOf, Led, Stands, Way, agrees-append, at-new, at-one, rest-led, way-then}
 use Rattle.gx_law_order.proofs.Waiting.{GoesOut}
 use Rattle.gx_locks.specs.Locks.{wait_of}
+use Rattle.gx_waits.specs.declared.graph.LocalGraph.{LocalGraph}
 
 -- the same table and work, another session
 pub moved-stands : (script : Script) (P : ℕ → ℕ → Part) (c : Coord) (ms : List Mark) (s : SessionId) (x : Session) → Stands script P c ms → Stands script P (with_session c s x) ms
@@ -75,6 +80,17 @@ live-stage c g e = by_found (find_txn c.table (gx g)) refl e
     active p e = grind arith
 
     by_found : (o : Option Txn) → find_txn c.table (gx g) ≡ o → stage o ≡ LiveStage → IsLive c g
+    by_found None f e = absurd (cc)
+    by_found (Some t) f e = record { txn = t; found = f; active = active t.phase e }
+
+-- a victim is active
+victim-live : (c : Coord) (g : Gxid) → is_live (find_txn c.table g) ≡ true → IsLive c g.0
+victim-live c g e = by_found (find_txn c.table g) refl e
+  where
+    active : (p : Status) → is_active p ≡ true → p ≡ status.Active
+    active p e = grind arith
+
+    by_found : (o : Option Txn) → find_txn c.table g ≡ o → is_live o ≡ true → IsLive c g.0
     by_found None f e = absurd (cc)
     by_found (Some t) f e = record { txn = t; found = f; active = active t.phase e }
 
@@ -146,6 +162,22 @@ module _ (script : Script) (P : ℕ → ℕ → Part) (c : Coord) (ms : List Mar
   answer-led g j fails reply.Aborted d = status-led script P c ms st k.whole g (ins g) j fails reply.Aborted d
   answer-led g j fails reply.Forgotten d = status-led script P c ms st k.whole g (ins g) j fails reply.Forgotten d
 
+  -- ROUNDS
+  -- which touch no transaction
+  round-led : (rounds : ℕ) (reports : Option (List (Option LocalGraph))) (ns : List Mark) → Each Mute ns → Leads (record { coord = record c { rounds = rounds; reports = reports }; marks = ns; outs = []; item = None })
+  round-led rounds reports ns m = record { way = record { stands = record { pairs = x.stands.pairs; works = x.stands.works; agrees = x.stands.agrees; parts = x.stands.parts }; stays = x.stays; fol = x.fol }; outs = tt }
+    where
+      x : Way script P c ms c ns
+      x = (still script P c ms st k.whole ns m).way
+
+  graph-led : (j : Node) (round : ℕ) (graph : LocalGraph) → Leads (on_graph c j round graph)
+  graph-led j round graph =
+      graph-ways Leads c j round graph rest (λ e. round-led c.rounds (with_report c graph).reports [] tt)
+      (λ e f. round-led c.rounds None (rechecks (with_report c graph)).marks (tt, tt))
+
+  begins-led : Leads (begins_round script c)
+  begins-led = record { way = (round-led (c.rounds + 1) (begins_round script c).coord.reports [] tt).way; outs = collects-each _ script.segments (c.rounds + 1) (λ i one within. (refl, tt, tt)) }
+
   message-led : (j : Node) (fails : Bool) (m : Message) → (is_answer m ≡ true → Said (known_at c ms j.0 (gxid_in m)) (P j.0 (gxid_in m)) m) → Leads (on_message c j fails m)
   message-led j fails (message.Answer g r) d = answer-led g.0 j fails r (d refl)
   message-led j fails (message.Exec g cid level x h y) d = rest
@@ -155,7 +187,7 @@ module _ (script : Script) (P : ℕ → ℕ → Part) (c : Coord) (ms : List Mar
   message-led j fails (message.Abort g) d = rest
   message-led j fails (message.Forget g) d = rest
   message-led j fails (message.Collect round) d = rest
-  message-led j fails (message.Graph round graph) d = rest
+  message-led j fails (message.Graph round graph) d = graph-led j round graph
 
   -- MESSAGES SENT AGAIN
   abbrev IsSaidTo : ℕ → Node → Message → Type 0
@@ -372,11 +404,19 @@ module _ (script : Script) (P : ℕ → ℕ → Part) (c : Coord) (ms : List Mar
   event-led out (event.Start s) fails e d = start-led s (idle-first s _ e) (next_line script c s)
   event-led out (event.End s) fails e d = end-led s (idle-first s _ e)
   event-led out (event.Resend i (Some g)) fails e d = again-led g.0 i (awaited c g i) (command-said g.0 i (c.works g.0).command refl _ (found-said g.0 i (find_txn c.table g) refl))
-  event-led out (event.Resend i None) fails e d = rest
+  event-led out (event.Resend i None) fails e d = again-led 0 i (awaited_collect c i) (collect-said (awaits_graph c i))
+    where
+      collect-said : (b : Bool) → AnySaid 0 i (if b then Some (message.Collect c.rounds) else None)
+      collect-said true = (refl, refl, tt, tt)
+      collect-said false = tt
   event-led out (event.Resume g) fails e d = resumed-led (out g e)
     where
       resumed-led : GoesOut script c g → Leads (resumes script c g (wait_of c.locks g) (work_of c g).waiting)
       resumed-led o =
           subst Leads (goes-out-is script c g o.wanted o.line o.claims o.is)
           (resume-led script P c ms st k.whole g.0 (live-stage c g.0 o.live) (λ i. ap (λ q. waits_in q i) o.idle) o.line o.wanted)
-  event-led out event.Round fails e d = rest
+  event-led out event.Round fails e d = begins-led
+
+  -- a victim
+  pub cancel-led : (g : Gxid) → Leads (cancels c g)
+  cancel-led g = cancel-ways Leads c g rest (λ live busy. refusing-led script P c ms st k.whole g.0 (victim-live c g live) [] (Victim c.rounds) tt)

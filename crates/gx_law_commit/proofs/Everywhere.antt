@@ -30,28 +30,32 @@ use Rattle.gx_store.specs.Messages.{Receives}
 use Rattle.gx_store.specs.Points.{marks_in}
 use Rattle.gx_store.specs.Protocol.{decided_count, is_writer, local_count, prepared_count}
 use Rattle.gx_store.specs.Refusals.{the_coordinator}
-use Rattle.gx_rules.specs.AtCoordinator.{coord_can, coord_rule, on_event}
+use Rattle.gx_rules.specs.AtCoordinator.{cancel_turn, cancels, coord_can, coord_sends, coord_turn, on_event}
 use Rattle.gx_rules.specs.AtSegment as segment
 use Rattle.gx_rules.specs.AtSegment.{seg_rule}
 use Rattle.gx_rules.specs.Coordinators.{Coord, CoordTurn}
-use Rattle.gx_rules.specs.Machine.{Letter, World, coord_did, posted, seg_can, seg_did}
+use Rattle.gx_rules.specs.Machine.{Letter, World, and_cancelled, coord_did, posted, seg_can, seg_did}
 use Rattle.gx_rules.specs.Segments.{Local, Seg, SegTurn, Suspended, local_of}
 use Rattle.gx_rules.specs.Sending.{clock_after, counted, numbered}
+use Rattle.gx_law_order.proofs.Induction.{after_turn, marks-by-event, marks-by-victim}
 use Rattle.gx_law_order.proofs.Lists.{Each, each_weaker}
 use Rattle.gx_law_order.proofs.Past.{aborted-append, committed-append}
 use Rattle.gx_law_order.proofs.Waiting.{GoesOn, Waits, going-on, going-out, going-ways}
-use Rattle.gx_law_order.proofs.World.{Knows, marks-last}
-use Rattle.gx_law_commit.specs.Followed.{DoStepsEnd}
+use Rattle.gx_law_order.proofs.More.{marks-last}
+use Rattle.gx_law_order.proofs.Moves.{HasNamed}
+use Rattle.gx_law_order.proofs.World.{Knows}
+use Rattle.gx_law_commit.specs.Followed.{DoMarksEnd, DoStepsEnd}
 use Rattle.gx_law_commit.specs.Pairs.{Pair}
 use Rattle.gx_law_commit.specs.Said.{Said, SaidIn, gxid_in, is_answer, segment_of}
 use Rattle.gx_law_commit.specs.Standings.{Known, Part, at, gx, is_closing, known_at, part_at, part_of, standing, standing_in}
 use Rattle.gx_law_commit.specs.Standings.Standing.{One}
-use Rattle.gx_law_commit.specs.Told.{DoStepsTell, IsTold}
+use Rattle.gx_law_commit.specs.Told.{AreTold, DoStepsTell, IsTold}
 use Rattle.gx_law_commit.proofs.Telling.{coord-told, seg-told, step-told, tell-push}
 use Rattle.gx_law_commit.proofs.Counts.{NoEnd, NoPart, NoSent, decided-append, local-append, no-aborted, no-committed, no-decided, no-local, no-prepared, no-writer, prepared-append, sent-no-end, sent-no-part, writer-append}
-use Rattle.gx_law_commit.proofs.Events.{IsSaidIn, event-led}
+use Rattle.gx_law_commit.proofs.Events.{IsSaidIn, cancel-led, event-led}
 use Rattle.gx_law_commit.proofs.Following.{HasReached, coord-end, end-push, has-left, has-right, seg-end}
 use Rattle.gx_law_commit.proofs.Handled.{Does, Follows, HasMark, Tells, after_marks, handled, part-eq, went-on}
+use Rattle.gx_law_commit.proofs.Later.{end-more, tell-more}
 use Rattle.gx_law_commit.proofs.Parts.{said-grows}
 use Rattle.gx_law_commit.proofs.Ways.{Agrees, Fol, FolAt, Led, SaidOut, Stands, agrees-append, known-eq}
 
@@ -88,65 +92,103 @@ known-append script P c ms ns i g e =
     (aborted-append ms ns (gx g) ∙ ap (λ b. is_aborted ms (gx g) || b) (no-aborted ns (gx g) e) ∙ or-false (is_aborted ms (gx g)))
     (committed-append ms ns (gx g) ∙ ap (λ b. is_committed ms (gx g) || b) (no-committed ns (gx g) e) ∙ or-false (is_committed ms (gx g)))
 
--- A STEP OF THE COORDINATOR
-module _ (script : Script) (w : World) (n : Knows script w) (v : Holds script w) (e : Event) (x : NodeEvent) (fails : Bool) where
+-- A TURN OF THE COORDINATOR
+-- a single one, whose marks stand behind all others
+module _ (script : Script) (w : World) (v : Holds script w) (turn : CoordTurn) (clock : ℕ) (steps : List Step) (f : Led script (parts_in w) w.coord (marks_in w.steps) turn) (all : marks_in steps ≡ marks_in w.steps ++ (coord_sends clock turn).marks) where
   abbrev ms : List Mark
   ms = marks_in w.steps
-
-  abbrev turn : CoordTurn
-  turn = on_event script w.coord x fails
 
   abbrev sent : List Mark
   sent = numbered turn.coord.sent turn.outs
 
   abbrev last : Coord
-  last = (coord_rule script w.coord x fails).coord
-
-  abbrev step : Step
-  step = record { stamp = record { clock = clock_after w.coord.clock x; node = the_coordinator }; event = e; marks = turn.marks ++ sent }
+  last = (coord_sends clock turn).coord
 
   abbrev next : World
-  next = coord_did w e (coord_rule script w.coord x fails)
+  next = after_turn w clock turn steps
 
-  pub coord-holds : coord_can script w.coord x ≡ true → IsSaidIn script (parts_in w) w.coord ms v.stands n.kept n.past (λ g. (n.well.coordinator.works g).writers) x → Holds script next
-  coord-holds ok d = from-led (event-led script (parts_in w) w.coord ms v.stands n.kept n.past (λ g. (n.well.coordinator.works g).writers) (going-out script w n) x fails ok d)
+  pub turn-holds : DoStepsEnd script [] steps → DoStepsTell [] steps → Holds script (after_turn w clock turn steps)
+  turn-holds ends tells =
+      record {
+        stands = record {
+          pairs = λ i g. subst (λ p. Pair (known_at last (marks_in steps) i g) p) (sym (same-part i g)) (subst (λ k. Pair k (parts_in w i g)) (sym (same-known i g)) (f.way.stands.pairs i g));
+          works = f.way.stands.works;
+          agrees = λ g. subst (λ q. Agrees q g (find_txn last.table (gx g)) (last.works g).writers) (append_assoc ms turn.marks sent ∙ sym all) (agrees-append (ms ++ turn.marks) sent g (find_txn last.table (gx g)) (last.works g).writers (f.way.stands.agrees g));
+          parts = λ i g. record { wrote = refl; promises = refl; commits = refl };
+        };
+        said = posted-each (SaidIn next) the_coordinator clock turn.marks turn.coord.sent turn.outs w.sent (fol-no-sent script ms turn.marks f.way.fol)
+            (each_weaker (SaidOut script (parts_in w) turn.coord (ms ++ turn.marks)) _ (λ o h number. subst (λ b. Said (known_at last (marks_in steps) (if b then 0 else o.node.0) (gxid_in o.message)) (parts_in next (if b then 0 else o.node.0) (gxid_in o.message)) o.message) (sym h.0) (moved o.node.0 (gxid_in o.message) o.message h.1)) turn.outs f.outs)
+            (each_weaker (SaidIn w) (SaidIn next) (λ l h. moved (segment_of l) (gxid_in l.envelope.message) l.envelope.message (f.way.stays (segment_of l) (gxid_in l.envelope.message) l.envelope.message h)) w.sent v.said);
+        failed = λ i g q. subst (HasMark (mark.JournalFailed (at i) (gx g))) (sym all) (has-left (mark.JournalFailed (at i) (gx g)) ms (turn.marks ++ sent) (v.failed i g q));
+        ends = ends;
+        tells = tells;
+      }
     where
-      all : ms ++ (turn.marks ++ sent) ≡ marks_in next.steps
-      all = sym (marks-last w.steps step)
+      same-known : (i g : ℕ) → known_at last (marks_in steps) i g ≡ known_at turn.coord (ms ++ turn.marks) i g
+      same-known i g = ap (λ q. known_at turn.coord q i g) (sym (append_assoc ms turn.marks sent ∙ sym all)) ∙ known-append script (parts_in w) turn.coord (ms ++ turn.marks) sent i g (sent-no-end turn.coord.sent turn.outs)
 
-      from-led : Led script (parts_in w) w.coord ms (on_event script w.coord x fails) → Holds script (coord_did w e (coord_rule script w.coord x fails))
-      from-led f =
-          record {
-            stands = record {
-              pairs = λ i g. subst (λ p. Pair (known_at last (marks_in next.steps) i g) p) (sym (same-part i g)) (subst (λ k. Pair k (parts_in w i g)) (sym (same-known i g)) (f.way.stands.pairs i g));
-              works = f.way.stands.works;
-              agrees = λ g. subst (λ q. Agrees q g (find_txn last.table (gx g)) (last.works g).writers) (append_assoc ms turn.marks sent ∙ all) (agrees-append (ms ++ turn.marks) sent g (find_txn last.table (gx g)) (last.works g).writers (f.way.stands.agrees g));
-              parts = λ i g. record { wrote = refl; promises = refl; commits = refl };
-            };
-            said = posted-each (SaidIn next) the_coordinator (clock_after w.coord.clock x) turn.marks turn.coord.sent turn.outs w.sent (fol-no-sent script ms turn.marks f.way.fol)
-                (each_weaker (SaidOut script (parts_in w) turn.coord (ms ++ turn.marks)) _ (λ o h number. subst (λ b. Said (known_at last (marks_in next.steps) (if b then 0 else o.node.0) (gxid_in o.message)) (parts_in next (if b then 0 else o.node.0) (gxid_in o.message)) o.message) (sym h.0) (moved o.node.0 (gxid_in o.message) o.message h.1)) turn.outs f.outs)
-                (each_weaker (SaidIn w) (SaidIn next) (λ l h. moved (segment_of l) (gxid_in l.envelope.message) l.envelope.message (f.way.stays (segment_of l) (gxid_in l.envelope.message) l.envelope.message h)) w.sent v.said);
-            failed = λ i g q. subst (HasMark (mark.JournalFailed (at i) (gx g))) all (has-left (mark.JournalFailed (at i) (gx g)) ms (turn.marks ++ sent) (v.failed i g q));
-            tells = tell-push [] w.steps step v.tells (step-told the_coordinator ms turn.marks turn.coord.sent turn.outs (fol-no-sent script ms turn.marks f.way.fol)
-                (each_weaker (SaidOut script (parts_in w) turn.coord (ms ++ turn.marks)) (λ (o : Out). IsTold the_coordinator (ms ++ turn.marks) o.message) (λ o h. coord-told (known_at turn.coord (ms ++ turn.marks) o.node.0 (gxid_in o.message)) (parts_in w o.node.0 (gxid_in o.message)) (ms ++ turn.marks) o.message refl refl h.0 h.1) turn.outs f.outs));
-            ends = end-push script [] w.steps step v.ends (coord-end script w.steps step [] turn.marks turn.coord.sent turn.outs (subst (λ q. Fol script q turn.marks) (sym (append-nil ms)) f.way.fol) (each_weaker (SaidOut script (parts_in w) turn.coord (ms ++ turn.marks)) (λ (o : Out). is_answer o.message ≡ false) (λ o h. h.0) turn.outs f.outs));
-          }
-        where
-          same-known : (i g : ℕ) → known_at last (marks_in next.steps) i g ≡ known_at turn.coord (ms ++ turn.marks) i g
-          same-known i g = ap (λ q. known_at turn.coord q i g) (sym (append_assoc ms turn.marks sent ∙ all)) ∙ known-append script (parts_in w) turn.coord (ms ++ turn.marks) sent i g (sent-no-end turn.coord.sent turn.outs)
+      same-part : (i g : ℕ) → parts_in next i g ≡ parts_in w i g
+      same-part i g =
+          let o = f.way.stands.parts i g in
+          let quiet : Each NoPart sent = sent-no-part turn.coord.sent turn.outs in
+          ap (λ q. part_at (w.segs i) q i g) (sym (append_assoc ms turn.marks sent ∙ sym all))
+          ∙ part-eq ((w.segs i).locals g) _ _ _ _ _ _
+          (writer-append (ms ++ turn.marks) sent (gx g) (at i) ∙ ap (λ b. is_writer (ms ++ turn.marks) (gx g) (at i) || b) (no-writer sent (gx g) (at i) quiet) ∙ or-false (is_writer (ms ++ turn.marks) (gx g) (at i)) ∙ o.wrote)
+          (prepared-append (ms ++ turn.marks) sent (at i) (gx g) ∙ ap (λ m. prepared_count (ms ++ turn.marks) (at i) (gx g) + m) (no-prepared sent (at i) (gx g) quiet) ∙ plus-none (prepared_count (ms ++ turn.marks) (at i) (gx g)) ∙ o.promises)
+          (local-append (ms ++ turn.marks) sent (at i) (gx g) ∙ ap (λ m. local_count (ms ++ turn.marks) (at i) (gx g) + m) (no-local sent (at i) (gx g) quiet) ∙ plus-none (local_count (ms ++ turn.marks) (at i) (gx g)) ∙ o.commits)
 
-          same-part : (i g : ℕ) → parts_in next i g ≡ parts_in w i g
-          same-part i g =
-              let o = f.way.stands.parts i g in
-              let quiet : Each NoPart sent = sent-no-part turn.coord.sent turn.outs in
-              ap (λ q. part_at (w.segs i) q i g) (sym (append_assoc ms turn.marks sent ∙ all))
-              ∙ part-eq ((w.segs i).locals g) _ _ _ _ _ _
-              (writer-append (ms ++ turn.marks) sent (gx g) (at i) ∙ ap (λ b. is_writer (ms ++ turn.marks) (gx g) (at i) || b) (no-writer sent (gx g) (at i) quiet) ∙ or-false (is_writer (ms ++ turn.marks) (gx g) (at i)) ∙ o.wrote)
-              (prepared-append (ms ++ turn.marks) sent (at i) (gx g) ∙ ap (λ m. prepared_count (ms ++ turn.marks) (at i) (gx g) + m) (no-prepared sent (at i) (gx g) quiet) ∙ plus-none (prepared_count (ms ++ turn.marks) (at i) (gx g)) ∙ o.promises)
-              (local-append (ms ++ turn.marks) sent (at i) (gx g) ∙ ap (λ m. local_count (ms ++ turn.marks) (at i) (gx g) + m) (no-local sent (at i) (gx g) quiet) ∙ plus-none (local_count (ms ++ turn.marks) (at i) (gx g)) ∙ o.commits)
+      moved : (i g : ℕ) (m : Message) → Said (known_at turn.coord (ms ++ turn.marks) i g) (parts_in w i g) m → Said (known_at last (marks_in steps) i g) (parts_in next i g) m
+      moved i g m q = subst (λ p. Said (known_at last (marks_in steps) i g) p m) (sym (same-part i g)) (subst (λ k. Said k (parts_in w i g) m) (sym (same-known i g)) q)
 
-          moved : (i g : ℕ) (m : Message) → Said (known_at turn.coord (ms ++ turn.marks) i g) (parts_in w i g) m → Said (known_at last (marks_in next.steps) i g) (parts_in next i g) m
-          moved i g m q = subst (λ p. Said (known_at last (marks_in next.steps) i g) p m) (sym (same-part i g)) (subst (λ k. Said k (parts_in w i g) m) (sym (same-known i g)) q)
+-- what its marks follow and tell, in a step of its own or behind marks of the step
+module _ (script : Script) (P : ℕ → ℕ → Part) (c : Coord) (before : List Step) (step : Step) (earlier : List Mark) (turn : CoordTurn) (f : Led script P c (marks_in before ++ earlier) turn) where
+  abbrev so_far : List Mark
+  so_far = marks_in before ++ earlier
+
+  pub turn-ends : DoMarksEnd script before step earlier (turn.marks ++ numbered turn.coord.sent turn.outs)
+  turn-ends = coord-end script before step earlier turn.marks turn.coord.sent turn.outs f.way.fol (each_weaker (SaidOut script P turn.coord (so_far ++ turn.marks)) (λ (o : Out). is_answer o.message ≡ false) (λ o h. h.0) turn.outs f.outs)
+
+  pub turn-tells : AreTold the_coordinator so_far (turn.marks ++ numbered turn.coord.sent turn.outs)
+  turn-tells =
+      step-told the_coordinator so_far turn.marks turn.coord.sent turn.outs (fol-no-sent script so_far turn.marks f.way.fol)
+      (each_weaker (SaidOut script P turn.coord (so_far ++ turn.marks)) (λ (o : Out). IsTold the_coordinator (so_far ++ turn.marks) o.message)
+      (λ o h. coord-told (known_at turn.coord (so_far ++ turn.marks) o.node.0 (gxid_in o.message)) (P o.node.0 (gxid_in o.message)) (so_far ++ turn.marks) o.message refl refl h.0 h.1) turn.outs f.outs)
+
+module _ (script : Script) (w : World) (n : Knows script w) (v : Holds script w) where
+  -- by an event
+  pub coord-holds : (e : Event) (x : NodeEvent) (fails : Bool) → coord_can script w.coord x ≡ true → IsSaidIn script (parts_in w) w.coord (marks_in w.steps) v.stands n.kept n.past (λ g. (n.well.coordinator.works g).writers) x → Holds script (coord_did w e (coord_turn script w.coord x fails))
+  coord-holds e x fails ok d =
+      turn-holds script w v turn (clock_after w.coord.clock x) (coord_did w e (coord_turn script w.coord x fails)).steps f (marks-by-event script w e x fails)
+      (end-push script [] w.steps step v.ends (turn-ends script (parts_in w) w.coord w.steps step [] turn (subst (λ q. Led script (parts_in w) w.coord q turn) (sym (append-nil (marks_in w.steps))) f)))
+      (tell-push [] w.steps step v.tells (subst (λ q. AreTold the_coordinator q step.marks) (append-nil (marks_in w.steps)) (turn-tells script (parts_in w) w.coord w.steps step [] turn (subst (λ q. Led script (parts_in w) w.coord q turn) (sym (append-nil (marks_in w.steps))) f))))
+    where
+      turn : CoordTurn
+      turn = on_event script w.coord x fails
+
+      step : Step
+      step = record { stamp = record { clock = clock_after w.coord.clock x; node = the_coordinator }; event = e; marks = turn.marks ++ numbered turn.coord.sent turn.outs }
+
+      f : Led script (parts_in w) w.coord (marks_in w.steps) turn
+      f = event-led script (parts_in w) w.coord (marks_in w.steps) v.stands n.kept n.past (λ g. (n.well.coordinator.works g).writers) (going-out script w n) x fails ok d
+
+  -- by a victim, in the last step
+  pub victim-holds : (g : Gxid) → HasNamed w.steps w.coord.clock w.coord.rounds g → Holds script (and_cancelled w g)
+  victim-holds g h =
+      turn-holds script w v turn w.coord.clock (and_cancelled w g).steps f (marks-by-victim w g h)
+      (end-more script h.step more w.steps h.before h.is v.ends (turn-ends script (parts_in w) w.coord h.before h.step h.step.marks turn there))
+      (tell-more script h.step more w.steps h.before h.is v.tells (subst (λ n. AreTold n (marks_in h.before ++ h.step.marks) more) (sym h.node) (turn-tells script (parts_in w) w.coord h.before h.step h.step.marks turn there)))
+    where
+      turn : CoordTurn
+      turn = cancels w.coord g
+
+      more : List Mark
+      more = (cancel_turn w.coord g).marks
+
+      f : Led script (parts_in w) w.coord (marks_in w.steps) turn
+      f = cancel-led script (parts_in w) w.coord (marks_in w.steps) v.stands n.kept n.past (λ g. (n.well.coordinator.works g).writers) g
+
+      there : Led script (parts_in w) w.coord (marks_in h.before ++ h.step.marks) turn
+      there = subst (λ q. Led script (parts_in w) w.coord q turn) (ap marks_in h.is ∙ marks-last h.before h.step) f
 
 -- A STEP OF A SEGMENT
 -- where one writer alone is to commit, it stands so at every segment
@@ -224,7 +266,7 @@ told-answer k q i g marks (message.CommitPrepared h) e = absurd e
 told-answer k q i g marks (message.Abort h) e = absurd e
 told-answer k q i g marks (message.Forget h) e = absurd e
 told-answer k q i g marks (message.Collect round) e = absurd e
-told-answer k q i g marks (message.Graph round graph) e = absurd e
+told-answer k q i g marks (message.Graph round graph) e = (refl, e, tt)
 
 -- by any event: what it does is for a message that has been received by then
 module _ (script : Script) (w : World) (n : Knows script w) (v : Holds script w) (e : Event) (x : NodeEvent) (fails : Bool) (i : ℕ) (msg : Message) (reached : HasReached w.steps e i msg) (does : Does msg (known_at w.coord (marks_in w.steps) i (gxid_in msg)) (w.segs i) i (gxid_in msg) (n.well.names i) (is_writer (marks_in w.steps) (gx (gxid_in msg)) (at i)) (prepared_count (marks_in w.steps) (at i) (gx (gxid_in msg))) (local_count (marks_in w.steps) (at i) (gx (gxid_in msg))) (v.stands.pairs i (gxid_in msg)) (segment.on_event script (w.segs i) x fails)) where

@@ -168,6 +168,7 @@ module _ (script : Script) (steps : List Step) (step : Step) where
     follow-one earlier later (mark.Hold n h o x) e f v = tt
     follow-one earlier later (mark.Wait n h o x) e f v = tt
     follow-one earlier later (mark.Release n h o x) e f v = tt
+    follow-one earlier later (mark.Report n r x) e f v = tt
     follow-one earlier later (mark.Decided h) e f v = absurd f
     follow-one earlier later (mark.Sent to number m) e f v = absurd f
     follow-one earlier later m e f v = absurd f

@@ -33,7 +33,7 @@ use Rattle.gx_script.specs.declared.Script.{Script}
 use Rattle.gx_store.specs.declared.mark.Mark.{Mark}
 use Rattle.gx_store.specs.declared.mark.Mark.TheVariants as mark
 use Rattle.gx_store.specs.Protocol.{is_writer, local_count, prepared_count}
-use Rattle.gx_rules.specs.AtSegment.{changes, commits, ends, finishes, if_fits, is_refused, on_abort, on_commit, on_commit_prepared, on_exec, on_forget, on_message, on_prepare, once, promises, raised, repeats, takes, unless_below, was_prepared}
+use Rattle.gx_rules.specs.AtSegment.{changes, commits, ends, finishes, if_fits, is_refused, on_abort, on_collect, on_commit, on_commit_prepared, on_exec, on_forget, on_message, on_prepare, once, promises, raised, repeats, takes, unless_below, was_prepared}
 use Rattle.gx_rules.specs.Changes.{Change, RowTurn, change_of, changes_rows, goes_through, suspended_at, suspends_at, tuple_lock}
 use Rattle.gx_rules.specs.Changes as loop
 use Rattle.gx_rules.specs.Fits.{fits_exec, is_right_slice, is_waiting, reads_nothing}
@@ -46,6 +46,7 @@ use Rattle.gx_rules.specs.Shown.{shown}
 use Rattle.gx_rules.specs.Slices.{Moved, adds_version, answers, cause_of, fails_on, first_fault, has_written, inserted, inserts_row, own_lock, selects, starts_from, takes_own, version, writes_row}
 use Rattle.gx_rules.specs.Visits.{DidStop}
 use Rattle.gx_rules.proofs.Moving.{Ends, Keeps, loop-keeps}
+use Rattle.gx_rules.proofs.Rounds.{collect-ways}
 use Rattle.gx_law_order.proofs.Changing.{change-parts, rows-change, stop-keeps}
 use Rattle.gx_law_order.proofs.Releases.{each-released}
 use Rattle.gx_law_order.proofs.Lists.{Each, each_append, each_weaker}
@@ -81,6 +82,7 @@ Follows told k i g (mark.JournalFailed n h) = Unit {0}
 Follows told k i g (mark.Hold n h o m) = Unit {0}
 Follows told k i g (mark.Wait n h o m) = Unit {0}
 Follows told k i g (mark.Release n h o m) = Unit {0}
+Follows told k i g (mark.Report n r x) = Unit {0}
 Follows told k i g _ = ⊥
 
 -- its promise or its commit is the first mark of its step, and the only such one
@@ -118,6 +120,7 @@ no-votes-local (m ∷ ms) n g e = no-votes-local ms n g e.1
 abbrev pub Tells : Known → Part → ℕ → ℕ → List Mark → Message → Type 0
 Tells k q i g marks (message.Answer h reply.Again) = (h.0 ≡ g) × HasMark (mark.JournalFailed (at i) (gx g)) marks
 Tells k q i g marks (message.Answer h r) = (h.0 ≡ g) × Answers k q r
+Tells k q i g marks (message.Graph round graph) = 0 ≡ g
 Tells k q i g marks _ = ⊥
 
 abbrev pub after_marks : Local → Bool → ℕ → ℕ → ℕ → ℕ → List Mark → Part
@@ -153,6 +156,12 @@ module _ (told : Message) (k : Known) (s : Seg) (i g : ℕ) (named : s.node ≡ 
 
   stay : Does (stays s)
   stay = record { others = λ h d. refl; next = same-next; marks = tt; votes = tt; outs = tt; fails = λ v. inl v }
+
+  -- a segment's graph says nothing of its part
+  collect : (round : ℕ) → 0 ≡ g → Does (on_collect s round)
+  collect round none =
+      collect-ways Does s round stay (λ e. record { others = λ h d. refl; next = same-next; marks = (tt, tt); votes = tt; outs = (none, tt); fails = λ v. inl v })
+      (λ e graph f. record { others = λ h d. refl; next = same-next; marks = tt; votes = tt; outs = (none, tt); fails = λ v. inl v })
 
   -- an answer that changes nothing
   abbrev not-again : Reply → Bool
@@ -751,7 +760,7 @@ handled script fails k s i named w pc lc (message.CommitPrepared g) e st = unles
 handled script fails k s i named w pc lc (message.Abort g) e st = unless-low _ k s i g.0 named w pc lc e _ (abort _ k s i g.0 named w pc lc e (s.locals g.0).phase refl (st refl))
 handled script fails k s i named w pc lc (message.Forget g) e st = unless-low _ k s i g.0 named w pc lc e _ (forget _ k s i g.0 named w pc lc e (s.locals g.0).phase refl (st refl))
 handled script fails k s i named w pc lc (message.Answer g r) e st = stay (message.Answer g r) k s i g.0 named w pc lc e
-handled script fails k s i named w pc lc (message.Collect round) e st = stay (message.Collect round) k s i 0 named w pc lc e
+handled script fails k s i named w pc lc (message.Collect round) e st = collect (message.Collect round) k s i 0 named w pc lc e round refl
 handled script fails k s i named w pc lc (message.Graph round graph) e st = stay (message.Graph round graph) k s i 0 named w pc lc e
 
 -- and its slice that has waited, which comes of a command that was told before

@@ -3,6 +3,7 @@ use Rattle.std.proofs.Common.{◌≡◌, ◌≤◌, ◌⊎◌, inl, inr, ℕ, Li
 use Rattle.std.proofs.lemmas.Bool.{eqb-true, false_from_ne_true}
 use Rattle.gx_lemmas.proofs.Numbers.{eqb-self, one-le-none}
 use Rattle.gx_lemmas.proofs.Tests.{true-false}
+use Rattle.gx_ids.specs.declared.ids.Gxid.{Gxid}
 use Rattle.gx_dtx.specs.Table.{Table}
 use Rattle.gx_msg.specs.declared.message.Message.{Message}
 use Rattle.gx_msg.specs.declared.message.Message.TheVariants as message
@@ -11,28 +12,31 @@ use Rattle.gx_msg.specs.declared.reply.Reply.TheVariants as reply
 use Rattle.gx_script.specs.declared.Script.{Script}
 use Rattle.gx_store.specs.declared.event.Event.{Event}
 use Rattle.gx_store.specs.declared.node.NodeEvent.{NodeEvent}
+use Rattle.gx_store.specs.declared.run.Step.{Step}
 use Rattle.gx_store.specs.Points.{marks_in}
 use Rattle.gx_store.specs.Protocol.{is_writer, local_count, prepared_count}
 use Rattle.gx_store.specs.Refusals.{the_coordinator}
-use Rattle.gx_rules.specs.AtCoordinator.{coord_can, coord_rule, on_event}
+use Rattle.gx_rules.specs.AtCoordinator.{cancels, coord_can, coord_turn, on_event}
 use Rattle.gx_rules.specs.AtSegment as segment
 use Rattle.gx_rules.specs.AtSegment.{seg_rule}
 use Rattle.gx_rules.specs.Coordinators.{CoordTurn}
-use Rattle.gx_rules.specs.Machine.{Letter, World, coord_did, seg_did}
+use Rattle.gx_rules.specs.Machine.{Letter, World, and_cancelled, coord_did, seg_did}
 use Rattle.gx_rules.specs.Segments.{Local, Seg, SegTurn, has_ended}
 use Rattle.gx_rules.specs.Sending.{clock_after}
-use Rattle.gx_law_order.proofs.AtCoordinators.{coord_stays}
+use Rattle.gx_law_order.proofs.AtCoordinators.{cancel_stays, coord_stays}
+use Rattle.gx_law_order.proofs.Induction.{after_turn}
 use Rattle.gx_law_order.proofs.Lists.{Each, each_weaker}
 use Rattle.gx_law_order.proofs.Waiting.{going-out}
 use Rattle.gx_law_order.proofs.World.{Knows}
 use Rattle.gx_law_commit.specs.Said.{gxid_in, is_answer}
 use Rattle.gx_law_commit.specs.Standings.{at, gx, known_at}
+use Rattle.gx_law_commit.proofs.Counts.{NoSent}
 use Rattle.gx_law_commit.proofs.Ended.{EndsSo, IsExec, TellsEnd}
 use Rattle.gx_law_commit.proofs.Everywhere.{Holds, part_then, parts_in, posted-each}
 use Rattle.gx_law_commit.proofs.Following.{HasReached}
 use Rattle.gx_law_commit.proofs.Handled.{Does}
 use Rattle.gx_law_commit.proofs.Held.{held_in}
-use Rattle.gx_law_commit.proofs.Holding.{HeldFor, HeldOut, Holding, IsEndedIn, OrdersHeld, SaysBy, event-holds, held-goes}
+use Rattle.gx_law_commit.proofs.Holding.{HeldFor, HeldOut, Holding, IsEndedIn, OrdersHeld, SaysBy, cancel-holds, event-holds, held-goes}
 use Rattle.gx_law_commit.proofs.Low.{plain-none}
 
 abbrev pub ended_at : (ℕ → Seg) → ℕ → ℕ → Bool
@@ -53,29 +57,34 @@ pub record Waits (w : World) : Type 0 where
   pub locals : (i g : ℕ) → nat_lt 0 ((w.segs i).locals g).last ≡ true → ended_at w.segs i g ≡ false → held_in w.coord.table i g ≡ true
   pub sent : Each (LetterHeld w) w.sent
 
--- A STEP OF THE COORDINATOR
-module _ (script : Script) (some : 1 ≤ script.segments) (w : World) (n : Knows script w) (v : Waits w) (e : Event) (x : NodeEvent) (fails : Bool) where
-  abbrev turn : CoordTurn
-  turn = on_event script w.coord x fails
+-- A TURN OF THE COORDINATOR
+turn-waits : (w : World) → Waits w → (turn : CoordTurn) (clock : ℕ) (steps : List Step) → Holding (ended_at w.segs) w.coord turn → Each NoSent turn.marks → Waits (after_turn w clock turn steps)
+turn-waits w v turn clock steps f none =
+    record {
+      orders = f.orders;
+      locals = λ i g a b. either i g b (f.table i g (v.locals i g a b));
+      sent = posted-each (LetterHeld (after_turn w clock turn steps)) the_coordinator clock turn.marks turn.coord.sent turn.outs w.sent none
+          (each_weaker (HeldOut (ended_at w.segs) turn.coord.table) _ (λ o h number. record { held = h; told = λ z. absurd (one-le-none z) }) turn.outs f.outs)
+          (each_weaker (LetterHeld w) (LetterHeld (after_turn w clock turn steps)) (λ l h. record { held = held-goes (ended_at w.segs) w.coord.table turn.coord.table f.table l.to.0 l.envelope.message h.held; told = h.told }) w.sent v.sent);
+    }
+  where
+    either : (i g : ℕ) → ended_at w.segs i g ≡ false → (held_in turn.coord.table i g ≡ true) ⊎ (ended_at w.segs i g ≡ true) → held_in turn.coord.table i g ≡ true
+    either i g b (inl y) = y
+    either i g b (inr y) = absurd (true-false (ended_at w.segs i g) y b)
 
-  abbrev next : World
-  next = coord_did w e (coord_rule script w.coord x fails)
+module _ (script : Script) (some : 1 ≤ script.segments) (w : World) (n : Knows script w) (v : Waits w) where
+  -- by an event
+  pub coord-waits : (e : Event) (x : NodeEvent) (fails : Bool) → coord_can script w.coord x ≡ true → IsEndedIn (ended_at w.segs) script w.coord n.kept v.orders x → Waits (coord_did w e (coord_turn script w.coord x fails))
+  coord-waits e x fails ok d =
+      turn-waits w v (on_event script w.coord x fails) (clock_after w.coord.clock x) (coord_did w e (coord_turn script w.coord x fails)).steps
+      (event-holds (ended_at w.segs) script w.coord n.kept v.orders (going-out script w n) x fails ok d)
+      (plain-none script the_coordinator (on_event script w.coord x fails).marks (coord_stays script some w.coord x fails n.well.coordinator).marks)
 
-  pub coord-waits : coord_can script w.coord x ≡ true → IsEndedIn (ended_at w.segs) script w.coord n.kept v.orders x → Waits next
-  coord-waits ok d =
-      let f : Holding (ended_at w.segs) w.coord turn = event-holds (ended_at w.segs) script w.coord n.kept v.orders (going-out script w n) x fails ok d in
-      record {
-        orders = f.orders;
-        locals = λ i g a b. either i g b (f.table i g (v.locals i g a b));
-        sent = posted-each (LetterHeld next) the_coordinator (clock_after w.coord.clock x) turn.marks turn.coord.sent turn.outs w.sent
-            (plain-none script the_coordinator turn.marks (coord_stays script some w.coord x fails n.well.coordinator).marks)
-            (each_weaker (HeldOut (ended_at w.segs) turn.coord.table) _ (λ o h number. record { held = h; told = λ z. absurd (one-le-none z) }) turn.outs f.outs)
-            (each_weaker (LetterHeld w) (LetterHeld next) (λ l h. record { held = held-goes (ended_at w.segs) w.coord.table turn.coord.table f.table l.to.0 l.envelope.message h.held; told = h.told }) w.sent v.sent);
-      }
-    where
-      either : (i g : ℕ) → ended_at w.segs i g ≡ false → (held_in turn.coord.table i g ≡ true) ⊎ (ended_at w.segs i g ≡ true) → held_in turn.coord.table i g ≡ true
-      either i g b (inl y) = y
-      either i g b (inr y) = absurd (true-false (ended_at w.segs i g) y b)
+  -- by a victim
+  pub victim-waits : (g : Gxid) → Waits (and_cancelled w g)
+  victim-waits g =
+      turn-waits w v (cancels w.coord g) w.coord.clock (and_cancelled w g).steps (cancel-holds (ended_at w.segs) script w.coord n.kept v.orders g)
+      (plain-none script the_coordinator (cancels w.coord g).marks (cancel_stays script some w.coord g n.well.coordinator).marks)
 
 -- A STEP OF A SEGMENT
 held-more : (E F : ℕ → ℕ → Bool) (d : Table) (i : ℕ) (m : Message) → ((j h : ℕ) → E j h ≡ true → F j h ≡ true) → HeldFor E d i m → HeldFor F d i m

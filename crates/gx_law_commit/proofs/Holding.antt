@@ -40,21 +40,25 @@ use Rattle.gx_script.specs.declared.line_step.LineStep.TheVariants as step
 use Rattle.gx_script.specs.declared.state.Block.{Block}
 use Rattle.gx_script.specs.declared.state.Block.TheVariants.{Outside, Open, Failed}
 use Rattle.gx_store.specs.declared.answer.Refused.{Refused}
+use Rattle.gx_store.specs.declared.answer.Refused.TheVariants.{Victim}
 use Rattle.gx_store.specs.declared.mark.Mark.{Mark}
 use Rattle.gx_store.specs.declared.mark.Mark.TheVariants as mark
 use Rattle.gx_store.specs.declared.node.NodeEvent.{NodeEvent}
 use Rattle.gx_store.specs.declared.node.NodeEvent.TheVariants as event
 use Rattle.gx_store.specs.Writes.{dist_of}
 use Rattle.gx_store.specs.declared.answer.StmtAnswer.TheVariants as told
-use Rattle.gx_rules.specs.AtCoordinator.{Reading, answers, awaited, begins, behind, command_order, commits, completes, coord_can, dispatches, ends_in, enlisted_all, fault_mark, follows, goes, goes_on, is_awaited, is_committed as is_closed, is_idle, is_nothing, is_refused, kept_at, next_cid, next_line, nodes_in, on_answer, on_done, on_event, on_failed, on_line, on_message, on_status, order_to, orders_of, reads_by, reads_for, reason_of, refusal_of, resends, resumes, rolls_back, starts, starts_line, status_order, table_of, takes_done, takes_snapshot, unless_kept, with_done, writers_with, goes_on_locked, if_granted, lock_for, requests, answer_mark}
+use Rattle.gx_rules.specs.AtCoordinator.{Reading, answers, awaited, awaited_collect, begins, behind, cancels, command_order, commits, completes, coord_can, dispatches, ends_in, enlisted_all, fault_mark, follows, goes, goes_on, is_awaited, is_committed as is_closed, is_idle, is_nothing, is_refused, kept_at, next_cid, next_line, nodes_in, on_answer, on_done, on_event, on_failed, on_line, on_message, on_status, order_to, orders_of, reads_by, reads_for, reason_of, refusal_of, resends, resumes, rolls_back, starts, starts_line, status_order, table_of, takes_done, takes_snapshot, unless_kept, with_done, writers_with, goes_on_locked, if_granted, lock_for, requests, answer_mark}
 use Rattle.gx_rules.specs.Coordinators.{Command, Coord, CoordTurn, Session, Work, new_work, no_work, rests, session_of, with_session, with_state, with_work, work_of}
 use Rattle.gx_rules.specs.Fits.{fits_part}
 use Rattle.gx_rules.specs.Maps.{with_at}
+use Rattle.gx_rules.specs.Rounds.{awaits_graph, begins_round, rechecks, with_report}
+use Rattle.gx_rules.proofs.Rounds.{cancel-ways, graph-ways}
 use Rattle.gx_rules.specs.Snapshots.{snapshot_of}
 use Rattle.gx_law_order.proofs.Closings.{live-at, set_live}
 use Rattle.gx_law_order.proofs.Ends.{begun-finds}
 use Rattle.gx_law_order.proofs.Lines.{Asks, asks, begun-whole}
 use Rattle.gx_law_order.proofs.Lists.{Each, each_weaker}
+use Rattle.gx_law_order.proofs.Places.{collects-each}
 use Rattle.gx_law_order.proofs.Sessions.{Kept, is_nothing_in}
 use Rattle.gx_law_order.proofs.Stages.{IsWhole, txn-at}
 use Rattle.gx_law_commit.specs.Standings.{at, gx}
@@ -66,6 +70,7 @@ use Rattle.gx_law_commit.proofs.Nodes.{each-has, has-with}
 use Rattle.gx_locks.specs.Locks.{is_free, resumed, wait_of}
 use Rattle.gx_rules.specs.Locks.{with_hold}
 use Rattle.gx_waits.specs.declared.claim.Claim.{Claim}
+use Rattle.gx_waits.specs.declared.graph.LocalGraph.{LocalGraph}
 use Rattle.gx_law_order.proofs.Waiting.{GoesOut}
 
 module _ (E : ℕ → ℕ → Bool) where
@@ -232,6 +237,17 @@ module _ (E : ℕ → ℕ → Bool) where
     SaysBy i (message.Answer g r) = SaysEnded E i g.0 r
     SaysBy i _ = Unit {0}
 
+    -- rounds touch no transaction
+    round-holds : (round : ℕ) (reports : Option (List (Option LocalGraph))) (ns : List Mark) → Holding c (record { coord = record c { rounds = round; reports = reports }; marks = ns; outs = []; item = None })
+    round-holds round reports ns = record { table = same-on c.table; orders = ol; outs = tt }
+
+    begins-round-holds : (script : Script) → Holding c (begins_round script c)
+    begins-round-holds script = record { table = same-on c.table; orders = ol; outs = collects-each (HeldOut c.table) script.segments (c.rounds + 1) (λ i one within. tt) }
+
+    -- a victim
+    victim-holds : (g : Gxid) → Holding c (cancels c g)
+    victim-holds g = cancel-ways (Holding c) c g (rest-holds c whole ol) (λ live busy. aborting-holds c whole ol g [] (Victim c.rounds))
+
     message-holds : (j : Node) (fails : Bool) (m : Message) → SaysBy j.0 m → Holding c (on_message c j fails m)
     message-holds j fails (message.Answer g r) s = answer-holds g j fails r s
     message-holds j fails (message.Exec g cid level x h y) s = rest-holds c whole ol
@@ -241,7 +257,8 @@ module _ (E : ℕ → ℕ → Bool) where
     message-holds j fails (message.Abort g) s = rest-holds c whole ol
     message-holds j fails (message.Forget g) s = rest-holds c whole ol
     message-holds j fails (message.Collect round) s = rest-holds c whole ol
-    message-holds j fails (message.Graph round graph) s = rest-holds c whole ol
+    message-holds j fails (message.Graph round graph) s =
+        graph-ways (Holding c) c j round graph (rest-holds c whole ol) (λ e. round-holds c.rounds (with_report c graph).reports []) (λ e f. round-holds c.rounds None (rechecks (with_report c graph)).marks)
 
     -- messages sent again
     abbrev AnyHeld : ℕ → Option Message → Type 0
@@ -428,7 +445,11 @@ module _ (E : ℕ → ℕ → Bool) where
     event-holds out (event.Start s) fails e d = start-holds s (idle-first s _ e) (next_line script c s)
     event-holds out (event.End s) fails e d = end-holds s (session_of c s).state.block
     event-holds out (event.Resend i (Some g)) fails e d = again-holds c k.whole ol i (awaited c g i) (command-any c k.whole ol i (work_of c g).command _ (ol g.0) (status-any c k.whole ol i.0 g (awaited_order c.table g i)))
-    event-holds out (event.Resend i None) fails e d = rest-holds c k.whole ol
+    event-holds out (event.Resend i None) fails e d = again-holds c k.whole ol i (awaited_collect c i) (collect-any (awaits_graph c i))
+      where
+        collect-any : (b : Bool) → AnyHeld c k.whole ol i.0 (if b then Some (message.Collect c.rounds) else None)
+        collect-any true = tt
+        collect-any false = tt
     event-holds out (event.Resume g) fails e d = resumed-holds (out g e)
       where
         resumed-holds : GoesOut script c g → Holding c (resumes script c g (wait_of c.locks g) (work_of c g).waiting)
@@ -437,4 +458,7 @@ module _ (E : ℕ → ℕ → Bool) where
             let live = live-stage c g.0 o.live in
             let x = locked-holds free k.whole (work-at c.table c.works g.0 (record (work_of c g) { waiting = None }) ol (ol g.0)) g.0 (record { txn = live.txn; found = live.found; active = live.active }) script o.line in
             subst (Holding c) (goes-out-is script c g o.wanted o.line o.claims o.is) (record { table = x.table; orders = x.orders; outs = x.outs })
-    event-holds out event.Round fails e d = rest-holds c k.whole ol
+    event-holds out event.Round fails e d = begins-round-holds c k.whole ol script
+
+    pub cancel-holds : (g : Gxid) → Holding c (cancels c g)
+    cancel-holds g = victim-holds c k.whole ol g

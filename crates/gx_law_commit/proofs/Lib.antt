@@ -11,6 +11,7 @@ pub mod Dispatching
 pub mod Events
 pub mod Following
 pub mod Telling
+pub mod Later
 pub mod Everywhere
 pub mod Always
 pub mod Answering

@@ -1,5 +1,5 @@
 -- Every event of the coordinator keeps each horizon that was used low.
-use Rattle.std.proofs.Common.{◌≡◌, ℕ, List, [], ◌∷◌, ◌++◌, Option, Some, None, Result, Ok, Err, Bool, true, false, refl, subst, if◌then◌else◌, ◌==◌, ◌&&◌, eqb}
+use Rattle.std.proofs.Common.{◌+◌, ◌≡◌, ℕ, List, [], ◌∷◌, ◌++◌, Option, Some, None, Result, Ok, Err, Bool, true, false, refl, subst, if◌then◌else◌, ◌==◌, ◌&&◌, eqb}
 use Rattle.gx_ids.specs.declared.ids.Cid.{Cid}
 use Rattle.gx_ids.specs.declared.ids.Gxid.{Gxid}
 use Rattle.gx_ids.specs.declared.ids.Node.{Node}
@@ -43,10 +43,14 @@ use Rattle.gx_store.specs.declared.node.NodeEvent.{NodeEvent}
 use Rattle.gx_store.specs.declared.node.NodeEvent.TheVariants as event
 use Rattle.gx_store.specs.Writes.{dist_of}
 use Rattle.gx_store.specs.declared.answer.StmtAnswer.TheVariants as told
-use Rattle.gx_rules.specs.AtCoordinator.{Reading, answer_mark, answers, answers_at_once, awaited, begins, behind, command_order, commits, completes, dispatches, ends_in, fault_mark, follows, goes, goes_on, goes_out, is_awaited, is_committed as is_closed, is_refused, kept_at, next_cid, next_line, nodes_in, on_answer, on_done, on_event, on_failed, on_line, on_message, on_status, order_to, orders_of, reads_by, reads_for, reason_of, refusal_of, resends, rolls_back, starts, starts_line, status_order, table_of, takes_done, takes_snapshot, with_done, writers_with, goes_on_locked, if_granted, lock_for, requests, resumes}
+use Rattle.gx_rules.specs.AtCoordinator.{Reading, answer_mark, answers, answers_at_once, awaited, awaited_collect, begins, cancels, behind, command_order, commits, completes, dispatches, ends_in, fault_mark, follows, goes, goes_on, goes_out, is_awaited, is_committed as is_closed, is_refused, kept_at, next_cid, next_line, nodes_in, on_answer, on_done, on_event, on_failed, on_line, on_message, on_status, order_to, orders_of, reads_by, reads_for, reason_of, refusal_of, resends, rolls_back, starts, starts_line, status_order, table_of, takes_done, takes_snapshot, with_done, writers_with, goes_on_locked, if_granted, lock_for, requests, resumes}
 use Rattle.gx_rules.specs.Coordinators.{Command, Coord, CoordTurn, Session, Work, new_work, no_work, rests, session_of, with_session, with_state, with_work, work_of}
 use Rattle.gx_rules.specs.Fits.{fits_part}
 use Rattle.gx_rules.specs.Maps.{with_at}
+use Rattle.gx_rules.specs.Rounds.{awaits_graph}
+use Rattle.gx_rules.proofs.Rounds.{cancel-ways, graph-ways}
+use Rattle.gx_law_order.proofs.Places.{collects-each}
+use Rattle.gx_store.specs.declared.answer.Refused.TheVariants.{Victim}
 use Rattle.gx_law_order.proofs.Lists.{Each, each_weaker}
 use Rattle.gx_law_order.proofs.Stages.{IsWhole}
 use Rattle.gx_law_commit.specs.Horizons.{IsLow, IsLowIn}
@@ -283,7 +287,8 @@ module _ (script : Script) (c : Coord) (whole : IsWhole c.table) (ol : OrdersLow
   message-low j fails (message.Abort g) = rest-low script c whole ol
   message-low j fails (message.Forget g) = rest-low script c whole ol
   message-low j fails (message.Collect round) = rest-low script c whole ol
-  message-low j fails (message.Graph round graph) = rest-low script c whole ol
+  message-low j fails (message.Graph round graph) =
+      graph-ways (Lowered c) c j round graph (rest-low script c whole ol) (λ e. record { table = λ n f. f; orders = ol; outs = tt }) (λ e f. record { table = λ n f. f; orders = ol; outs = tt })
 
   -- messages sent again
   abbrev AnyLow : Option Message → Type 0
@@ -439,6 +444,14 @@ module _ (script : Script) (c : Coord) (whole : IsWhole c.table) (dense : IsDens
   event-low (event.Start s) fails = start-low s (next_line script c s)
   event-low (event.End s) fails = end-low s (session_of c s).state.block
   event-low (event.Resend i (Some g)) fails = again-low script c whole ol i (awaited c g i) (command-any script c whole ol i (work_of c g).command _ (ol g.0) (status-any script c whole ol g (awaited_order c.table g i)))
-  event-low (event.Resend i None) fails = rest-low script c whole ol
+  event-low (event.Resend i None) fails = again-low script c whole ol i (awaited_collect c i) (collect-any (awaits_graph c i))
+    where
+      collect-any : (b : Bool) → AnyLow script c whole ol (if b then Some (message.Collect c.rounds) else None)
+      collect-any true = tt
+      collect-any false = tt
   event-low (event.Resume g) fails = resume-low script c whole dense ol g (wait_of c.locks g) (work_of c g).waiting
-  event-low event.Round fails = rest-low script c whole ol
+  event-low event.Round fails = record { table = λ n f. f; orders = ol; outs = collects-each (λ (o : Out). IsLowIn c.table o.message) script.segments (c.rounds + 1) (λ i one within. tt) }
+
+  -- a victim
+  pub cancel-low : (g : Gxid) → Lowered c (cancels c g)
+  cancel-low g = cancel-ways (Lowered c) c g (rest-low script c whole ol) (λ live busy. aborting-low script c whole ol g [] (Victim c.rounds))

@@ -19,6 +19,7 @@ use Rattle.gx_rules.specs.Fits.{fits_exec, is_waiting}
 use Rattle.gx_rules.specs.Segments.{Local, Phase, Seg, SegTurn, Suspended, local_of, stays, tells, tells_kept}
 use Rattle.gx_rules.specs.Segments.Phase.{Aborted, Committed, Forgotten, Prepared, Reading, Writing}
 use Rattle.gx_rules.specs.Running.{slice_lock, starts_slice}
+use Rattle.gx_rules.proofs.Rounds.{collect-ways}
 use Rattle.gx_law_order.proofs.Lists.{Each}
 use Rattle.gx_law_commit.specs.Said.{is_answer}
 use Rattle.gx_law_commit.proofs.Leaving.{Leaves, request-leaves, resumed-leaves}
@@ -152,7 +153,7 @@ module _ (script : Script) (s : Seg) (Q : Gxid → Type 0) (base : Q s.horizon) 
   message_keeps fails (message.CommitPrepared g) q = below g _ (commit_prepared g fails (local_of s g) (local_of s g).phase)
   message_keeps fails (message.Abort g) q = below g _ (abort g (local_of s g) (local_of s g).phase)
   message_keeps fails (message.Forget g) q = below g _ (forget g (local_of s g) (local_of s g).phase)
-  message_keeps fails (message.Collect round) q = stay
+  message_keeps fails (message.Collect round) q = collect-ways SegKeeps s round stay (λ e. record { horizon = base; outs = (refl, tt) }) (λ e graph f. record { horizon = base; outs = (refl, tt) })
   message_keeps fails (message.Answer g r) q = stay
   message_keeps fails (message.Graph round graph) q = stay
 

@@ -34,6 +34,7 @@ use Rattle.gx_script.specs.declared.line_step.LineStep.TheVariants as step
 use Rattle.gx_script.specs.declared.state.Block.{Block}
 use Rattle.gx_script.specs.declared.state.Block.TheVariants as block
 use Rattle.gx_store.specs.declared.answer.Refused.{Refused}
+use Rattle.gx_store.specs.declared.answer.Refused.TheVariants.{Victim}
 use Rattle.gx_store.specs.declared.answer.StmtAnswer.TheVariants as told
 use Rattle.gx_store.specs.declared.mark.Mark.{Mark}
 use Rattle.gx_store.specs.declared.mark.Mark.TheVariants as mark
@@ -43,12 +44,13 @@ use Rattle.gx_store.specs.Marks.{is_aborted, is_ended, is_same_gxid}
 use Rattle.gx_store.specs.Marks as marks
 use Rattle.gx_store.specs.Refusals.{the_coordinator}
 use Rattle.gx_store.specs.Writes.{dist_of}
-use Rattle.gx_rules.specs.AtCoordinator.{Reading, answer_at_commit, answer_mark, awaited, begins, behind, commits, completes, coord_can, dispatches, ends_in, failure_marks, fault_mark, follows, goes, goes_on, goes_out, goes_on_locked, if_granted, is_awaited, is_idle, is_committed, is_refused, lock_for, next_cid, next_line, on_answer, on_done, on_event, on_failed, on_line, on_message, on_status, reads_by, reads_for, reason_of, requests, resends, resumes, rolls_back, starts, starts_line, table_of, takes_done, with_done, writers_with}
+use Rattle.gx_rules.specs.AtCoordinator.{Reading, answer_at_commit, answer_mark, awaited, awaited_collect, begins, cancels, behind, commits, completes, coord_can, dispatches, ends_in, failure_marks, fault_mark, follows, goes, goes_on, goes_out, goes_on_locked, if_granted, is_awaited, is_idle, is_committed, is_refused, lock_for, next_cid, next_line, on_answer, on_done, on_event, on_failed, on_line, on_message, on_status, reads_by, reads_for, reason_of, requests, resends, resumes, rolls_back, starts, starts_line, table_of, takes_done, with_done, writers_with}
 use Rattle.gx_meaning.specs.Plan.{plan_of}
 use Rattle.gx_rules.specs.Coordinators.{Command, Coord, CoordTurn, Work, rests, session_of, with_state, with_work, work_of}
 use Rattle.gx_rules.specs.Fits.{fits_part}
 use Rattle.gx_rules.specs.Locks.{hold_mark, release_marks, released, with_hold}
 use Rattle.gx_waits.specs.declared.claim.Claim.{Claim}
+use Rattle.gx_rules.proofs.Rounds.{cancel-ways, graph-ways}
 use Rattle.gx_law_order.proofs.Lists.{Each, each_append}
 use Rattle.gx_law_order.proofs.Lines.{Asks as Admits, asks as admits}
 use Rattle.gx_law_order.proofs.Queued.{lock-of}
@@ -283,7 +285,8 @@ module _ (script : Script) (before : List Mark) (c : Coord) (single : AreSingle 
   message_taken from fails (message.Abort g) = rest before c
   message_taken from fails (message.Forget g) = rest before c
   message_taken from fails (message.Collect round) = rest before c
-  message_taken from fails (message.Graph round graph) = rest before c
+  message_taken from fails (message.Graph round graph) =
+      graph-ways (Holding before c) c from round graph (rest before c) (λ taken. no-lock the_coordinator before c.locks [] tt) (λ taken all. no-lock the_coordinator before c.locks _ (tt, tt))
 
   transaction-now : (s : SessionId) (asked : LineStep) → (session_of (starts_line c s asked) s).transaction ≡ (session_of c s).transaction
   transaction-now s asked = ap (λ (q : Bool). (if q then record (session_of c s) { lines = (session_of c s).lines + 1; state = after_line (session_of c s).state.block asked } else session_of c s).transaction) (eqb-self s.0)
@@ -314,6 +317,10 @@ module _ (script : Script) (before : List Mark) (c : Coord) (single : AreSingle 
   event-holds (event.Start s) fails ok = start s (and-first _ _ ok) (next_line script c s)
   event-holds (event.End s) fails ok = end before c s (session_of c s).state.block
   event-holds (event.Resend i (Some g)) fails ok = again before c i (awaited c g i)
-  event-holds (event.Resend i None) fails ok = rest before c
+  event-holds (event.Resend i None) fails ok = again before c i (awaited_collect c i)
   event-holds (event.Resume g) fails ok = resume script before c g (wait_of c.locks g) (work_of c g).waiting (single.once g) ok
-  event-holds event.Round fails ok = rest before c
+  event-holds event.Round fails ok = no-lock the_coordinator before c.locks [] tt
+
+-- a victim gives its locks back
+pub cancel-locks : (before : List Mark) (c : Coord) (g : Gxid) → Holding before c (cancels c g)
+cancel-locks before c g = cancel-ways (Holding before c) c g (rest before c) (λ live busy. refused before c g (on_abort c.table g) [] (Victim c.rounds) tt)

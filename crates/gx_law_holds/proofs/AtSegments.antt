@@ -25,6 +25,7 @@ use Rattle.gx_waits.specs.Claim.{meets, same_claim, same_object}
 use Rattle.gx_waits.specs.declared.claim.Claim.{Claim}
 use Rattle.gx_waits.specs.declared.object.Object.TheVariants.{Relation, Transaction}
 use Rattle.gx_locks.specs.Claims.{is_of}
+use Rattle.gx_locks.specs.Graphs.{graph_at}
 use Rattle.gx_locks.specs.Locks.{is_free, wait_of}
 use Rattle.gx_locks.specs.Locks as locks
 use Rattle.gx_meaning.specs.declared.fault.ArithFault.{ArithFault}
@@ -51,6 +52,7 @@ use Rattle.gx_rules.specs.Shown.{shown}
 use Rattle.gx_rules.specs.Slices.{Moved, answers, first_fault, inserts_row, is_holding, own_lock, selects, starts_from, takes_lock}
 use Rattle.gx_rules.specs.Visits.{DidStop, WaitsAt}
 use Rattle.gx_rules.proofs.Moving.{Ends, Keeps, loop-keeps}
+use Rattle.gx_rules.proofs.Rounds.{collect-ways}
 use Rattle.gx_law_order.proofs.Changing.{IsAtRow, change-parts, rows-change}
 use Rattle.gx_law_order.proofs.Lists.{Each, each_append, each_weaker}
 use Rattle.gx_law_order.proofs.OwnLocks.{IsOwn, WritersLock, rows-own, slice-rows}
@@ -548,7 +550,10 @@ module _ (script : Script) (P : Gxid → Table → Type 0) (here : Node) (before
     message_locks fails (message.CommitPrepared g) e has = below g _ (commit-prepared g fails (local_of s g).phase refl)
     message_locks fails (message.Abort g) e has = below g _ (abort g (local_of s g).phase e)
     message_locks fails (message.Forget g) e has = below g _ (forget g (local_of s g).phase e)
-    message_locks fails (message.Collect round) e has = stay
+    message_locks fails (message.Collect round) e has =
+        collect-ways Goes s round stay
+        (λ new. record { locking = no-lock here before s.locks (mark.Report s.node round (graph_at s.locks) ∷ []) (tt, tt); lasts = λ h e. (e, λ c is m i. i); rows = rows; writes = tt; written = (tt, tt) })
+        (λ same graph kept. rests script P here before s rows _ None)
     message_locks fails (message.Answer g r) e has = stay
     message_locks fails (message.Graph round graph) e has = stay
 

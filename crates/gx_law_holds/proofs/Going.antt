@@ -1,5 +1,5 @@
 -- Commands go out with their table's lock at the coordinator.
-use Rattle.std.proofs.Common.{◌≡◌, ◌==◌, ◌&&◌, ℕ, List, [], ◌∷◌, Option, Some, None, Result, Ok, Err, Bool, true, false, refl, sym, subst, ap, ◌∙◌, if◌then◌else◌, eqb}
+use Rattle.std.proofs.Common.{◌≡◌, ◌==◌, ◌&&◌, ℕ, ◌+◌, List, [], ◌∷◌, Option, Some, None, Result, Ok, Err, Bool, true, false, refl, sym, subst, ap, ◌∙◌, if◌then◌else◌, eqb}
 use Rattle.std.proofs.lemmas.Bool.{eqb-true}
 use Rattle.std.specs.Prelude.{map}
 use Rattle.gx_lemmas.proofs.Options.{some-same}
@@ -24,10 +24,13 @@ use Rattle.gx_meaning.specs.Target.{target_of}
 use Rattle.gx_meaning.specs.declared.target.Target.TheVariants.{All as AllOfThem}
 use Rattle.gx_msg.specs.declared.message.Out.{Out}
 use Rattle.gx_store.specs.Waits.{added}
-use Rattle.gx_rules.specs.AtCoordinator.{Reading, awaited, begins, command_order, commits, completes, dispatches, ends_in, follows, failure_marks, goes, goes_on, goes_on_locked, if_granted, is_awaited, is_committed, is_refused, lock_for, next_cid, next_line, on_answer, on_done, on_event, on_failed, on_line, on_message, on_status, order_of, order_to, orders_of, reads_by, reads_for, reason_of, requests, resends, resumes, rolls_back, starts, starts_line, status_order, table_of, takes_done, with_done, writers_with, answer_mark}
+use Rattle.gx_rules.specs.AtCoordinator.{Reading, awaited, awaited_collect, begins, cancels, command_order, commits, completes, dispatches, ends_in, follows, failure_marks, goes, goes_on, goes_on_locked, if_granted, is_awaited, is_committed, is_refused, lock_for, next_cid, next_line, on_answer, on_done, on_event, on_failed, on_line, on_message, on_status, order_of, order_to, orders_of, reads_by, reads_for, reason_of, requests, resends, resumes, rolls_back, starts, starts_line, status_order, table_of, takes_done, with_done, writers_with, answer_mark}
 use Rattle.gx_rules.specs.Locks.{with_hold}
 use Rattle.gx_rules.specs.Maps.{with_at}
 use Rattle.gx_rules.specs.Running.{slice_lock}
+use Rattle.gx_rules.specs.Rounds.{awaits_graph}
+use Rattle.gx_rules.proofs.Rounds.{cancel-ways, graph-ways}
+use Rattle.gx_law_order.proofs.Places.{collects-each}
 use Rattle.gx_law_order.proofs.Waiting.{GoesOut}
 use Rattle.gx_law_order.proofs.Lists.{Each, each_flat, each_map, each_weaker}
 use Rattle.gx_law_sessions.proofs.Outs.{IsBare, NoExec, abort-bare, commit-bare, reply-bare}
@@ -61,6 +64,7 @@ use Rattle.gx_script.specs.declared.line_step.LineStep.TheVariants as step
 use Rattle.gx_script.specs.declared.state.Block.{Block}
 use Rattle.gx_script.specs.declared.state.Block.TheVariants as block
 use Rattle.gx_store.specs.declared.answer.Refused.{Refused}
+use Rattle.gx_store.specs.declared.answer.Refused.TheVariants.{Victim}
 use Rattle.gx_store.specs.declared.answer.StmtAnswer.TheVariants as told
 use Rattle.gx_store.specs.declared.mark.Mark.{Mark}
 use Rattle.gx_store.specs.declared.node.NodeEvent.{NodeEvent}
@@ -355,7 +359,8 @@ module _ (script : Script) where
   message_taken c from fails (message.Abort g) e = rest c e
   message_taken c from fails (message.Forget g) e = rest c e
   message_taken c from fails (message.Collect round) e = rest c e
-  message_taken c from fails (message.Graph round graph) e = rest c e
+  message_taken c from fails (message.Graph round graph) e =
+      graph-ways (Going script) c from round graph (rest c e) (λ taken. record { coord = e; outs = tt }) (λ taken all. record { coord = e; outs = tt })
 
   -- MESSAGES SENT AGAIN
   abbrev MaybeLocked : List Claim → Option Message → Type 0
@@ -422,6 +427,14 @@ module _ (script : Script) where
   event-goes c (event.End s) fails out e = end c s (session_of c s).state.block e
   event-goes c (event.Resend i (Some g)) fails out e =
       again c i (awaited c g i) e (command_locked c.locks.holds g.0 i (work_of c g).command (status_order g (awaited_order c.table g i)) (e g.0) (status_locked c.locks.holds g (awaited_order c.table g i)))
-  event-goes c (event.Resend i None) fails out e = rest c e
+  event-goes c (event.Resend i None) fails out e = again c i (awaited_collect c i) e (collect_locked (awaits_graph c i))
+    where
+      collect_locked : (b : Bool) → MaybeLocked c.locks.holds (if b then Some (message.Collect c.rounds) else None)
+      collect_locked true = tt
+      collect_locked false = tt
   event-goes c (event.Resume g) fails out e = resume c g out e
-  event-goes c event.Round fails out e = rest c e
+  event-goes c event.Round fails out e = record { coord = e; outs = collects-each (LockedOut script c.locks.holds) script.segments (c.rounds + 1) (λ i one within. tt) }
+
+  -- a victim is refused
+  pub cancel-goes : (c : Coord) (g : Gxid) → Good script c → Going script (cancels c g)
+  cancel-goes c g e = cancel-ways (Going script) c g (rest c e) (λ live busy. refused c g (on_abort c.table g) [] (Victim c.rounds) e (abort-bare c.table g))

@@ -24,37 +24,41 @@ use Rattle.gx_store.specs.Ordered.{IsAtNode, IsLink, IsSegment}
 use Rattle.gx_store.specs.Points.{marks_in}
 use Rattle.gx_store.specs.Refusals.{the_coordinator}
 use Rattle.gx_store.specs.Waits.{holds_at, holds_from}
-use Rattle.gx_rules.specs.AtCoordinator.{coord_can, coord_rule, on_event}
+use Rattle.gx_rules.specs.AtCoordinator.{cancels, coord_can, coord_sends, coord_turn, on_event}
 use Rattle.gx_rules.specs.AtSegment.{seg_rule}
 use Rattle.gx_rules.specs.AtSegment as segment
 use Rattle.gx_rules.specs.Coordinators.{CoordTurn}
-use Rattle.gx_rules.specs.Machine.{Letter, World, coord_did, new_world, seg_did, world_of}
+use Rattle.gx_rules.specs.Machine.{Letter, World, and_cancelled, coord_did, new_world, seg_did, world_of}
 use Rattle.gx_rules.specs.Segments.{SegTurn}
 use Rattle.gx_rules.specs.Running.{slice_lock}
 use Rattle.gx_rules.specs.Sending.{clock_after, counted, numbered}
-use Rattle.gx_law_order.proofs.AtCoordinators.{coord_stays}
+use Rattle.gx_law_order.specs.Moves.{Move, world_by}
+use Rattle.gx_law_order.proofs.AtCoordinators.{cancel_stays, coord_stays}
+use Rattle.gx_law_order.proofs.Induction.{after_turn, marks-by-event, marks-by-victim}
+use Rattle.gx_law_order.proofs.Moves.{HasNamed}
 use Rattle.gx_law_order.proofs.AtSegments.{PlainAt, seg_stays}
 use Rattle.gx_law_order.proofs.Letters.{IsFound, IsLetter}
 use Rattle.gx_law_order.proofs.Lists.{Each, each_weaker}
-use Rattle.gx_law_order.proofs.Ordered.{apart-back, at_coordinator, seg_marks}
+use Rattle.gx_law_order.proofs.Ordered.{apart-back, at_coordinator, seg_marks, sends-at}
 use Rattle.gx_law_order.proofs.Sent.{at}
-use Rattle.gx_law_order.proofs.World.{Knows, marks-last}
-use Rattle.gx_law_commit.proofs.Always.{each-zip}
+use Rattle.gx_law_order.proofs.More.{marks-last}
+use Rattle.gx_law_order.proofs.World.{Knows}
+use Rattle.gx_law_commit.proofs.Always.{HeardAt, IsGiven, SaidTo, each-zip}
 use Rattle.gx_law_commit.proofs.Counts.{NoSent}
 use Rattle.gx_law_commit.proofs.Everywhere.{Holds, posted-each}
-use Rattle.gx_law_commit.proofs.Steps.{HeardAt, IsGiven, SaidTo, given-is, world-keeps}
+use Rattle.gx_law_commit.proofs.Steps.{given-is, moves-keep, world-keeps}
 use Rattle.gx_law_holds.specs.Late.{AreReleasesLate}
 use Rattle.gx_law_holds.specs.Orders.{AreLockedOrders, AreOrdersLocked, IsLockedOrder}
 use Rattle.gx_law_holds.specs.Writes.{AreWritesLocked}
 use Rattle.gx_law_holds.proofs.AtSegments.{Bids}
 use Rattle.gx_law_holds.proofs.Moves.{AreWritesHeld, held-append}
 use Rattle.gx_law_holds.proofs.Tables.{HasTable, own-gxid, slice-lasts, slice-table}
-use Rattle.gx_law_holds.proofs.Going.{AreLocked, Going, GoneOut, Locked, LockedOut, event-goes}
+use Rattle.gx_law_holds.proofs.Going.{AreLocked, Going, GoneOut, Locked, LockedOut, cancel-goes, event-goes}
 use Rattle.gx_law_order.proofs.Waiting.{GoesOn, HasCome, each-among, going-on, going-out}
 use Rattle.gx_law_holds.proofs.Lasting.{IsIn, late-behind, still-held}
 use Rattle.gx_law_holds.proofs.Marks.{ended-more, other-holds}
 use Rattle.gx_law_holds.proofs.Claims.{each-of}
-use Rattle.gx_law_holds.proofs.World.{BidsAt, ChangesOf, coord-keeps, heard-locks, new-locked, seg-keeps}
+use Rattle.gx_law_holds.proofs.World.{BidsAt, ChangesOf, cancel-keeps, coord-keeps, heard-locks, new-locked, seg-keeps}
 use Rattle.gx_law_holds.proofs.World as world
 
 -- MARKS
@@ -155,38 +159,38 @@ pub record Ordered (script : Script) (w : World) : Type 0 where
 
 -- ALL STEPS
 module _ (script : Script) (some : 1 ≤ script.segments) where
-  -- what was sent before, behind a step more
-  letters-still : (steps : List Step) (s : Step) (ls : List Letter) → AreReleasesLate (marks_in steps) s.marks → Each (LetterLocked script (marks_in steps)) ls
-      → Each (LetterLocked script (marks_in (steps ++ s ∷ []))) ls
-  letters-still steps s ls late e =
-      each_weaker (LetterLocked script (marks_in steps)) (LetterLocked script (marks_in (steps ++ s ∷ []))) (λ l f q. subst (λ m. IsLockedOrder script m l.envelope.message) (sym (marks-last steps s)) (order-still script (marks_in steps) s.marks late l.envelope.message (f q))) ls e
+  -- what was sent before, behind more marks
+  letters-still : (old ms all : List Mark) → all ≡ old ++ ms → (ls : List Letter) → AreReleasesLate old ms → Each (LetterLocked script old) ls → Each (LetterLocked script all) ls
+  letters-still old ms all same ls late e =
+      each_weaker (LetterLocked script old) (LetterLocked script all) (λ l f q. subst (λ m. IsLockedOrder script m l.envelope.message) (sym same) (order-still script old ms late l.envelope.message (f q))) ls e
 
-  late-of : (w v : World) (s : Step) → v.steps ≡ w.steps ++ s ∷ [] → world.Locked script v → AreReleasesLate (marks_in w.steps) s.marks
-  late-of w v s same l = late-behind [] (marks_in w.steps) s.marks (subst (AreReleasesLate []) (ap marks_in same ∙ marks-last w.steps s) l.late)
+  late-of : (old ms all : List Mark) → all ≡ old ++ ms → AreReleasesLate [] all → AreReleasesLate old ms
+  late-of old ms all same late = late-behind [] old ms (subst (AreReleasesLate []) same late)
 
-  coord-orders : (w : World) → Knows script w → Holds script w → Ordered script w → (e : Event) (x : NodeEvent) (fails : Bool) → coord_can script w.coord x ≡ true → SaidTo w x
-      → Ordered script (coord_did w e (coord_rule script w.coord x fails))
-  coord-orders w k v q e x fails ok said =
+  -- a single turn of the coordinator, with what it sends
+  turn-orders : (w : World) → Ordered script w → (turn : CoordTurn) (clock : ℕ) (steps : List Step) → marks_in steps ≡ marks_in w.steps ++ (coord_sends clock turn).marks → Each (IsAtNode script the_coordinator) (coord_sends clock turn).marks
+      → Each (PlainAt script the_coordinator) turn.marks → Going script turn → world.Locked script (after_turn w clock turn steps) → Ordered script (after_turn w clock turn steps)
+  turn-orders w q turn clock steps same there plain goes locked =
       record {
         locked = locked;
         going = goes.coord;
-        letters = posted-each (LetterLocked script (marks_in (w.steps ++ step ∷ []))) the_coordinator step.stamp.clock turn.marks turn.coord.sent turn.outs w.sent
-            (each_weaker (PlainAt script the_coordinator) NoSent (plain-unsent script the_coordinator) turn.marks (coord_stays script some w.coord x fails k.well.coordinator).marks)
-            (each_weaker (LockedOut script turn.coord.locks.holds) (λ (o : Out). (n : ℕ) → LetterLocked script (marks_in (w.steps ++ step ∷ [])) (record { from = the_coordinator; to = o.node; envelope = record { number = n; clock = step.stamp.clock; message = o.message } }))
-            (λ o l n f. order-now script turn.coord.locks.holds (marks_in (w.steps ++ step ∷ [])) locked.marked.coordinator.holds o.message l) turn.outs goes.outs)
-            (letters-still w.steps step w.sent (late-of w (coord_did w e (coord_rule script w.coord x fails)) step refl locked) q.letters);
-        writes = subst (AreWritesLocked script []) (sym (marks-last w.steps step)) (writes-append script [] (marks_in w.steps) step.marks q.writes (no-writes script (marks_in w.steps) step.marks (at_coordinator script some w k.well e x fails)));
+        letters = posted-each (LetterLocked script (marks_in steps)) the_coordinator clock turn.marks turn.coord.sent turn.outs w.sent
+            (each_weaker (PlainAt script the_coordinator) NoSent (plain-unsent script the_coordinator) turn.marks plain)
+            (each_weaker (LockedOut script turn.coord.locks.holds) (λ (o : Out). (n : ℕ) → LetterLocked script (marks_in steps) (record { from = the_coordinator; to = o.node; envelope = record { number = n; clock = clock; message = o.message } }))
+            (λ o l n f. order-now script turn.coord.locks.holds (marks_in steps) locked.marked.coordinator.holds o.message l) turn.outs goes.outs)
+            (letters-still (marks_in w.steps) ms (marks_in steps) same w.sent (late-of (marks_in w.steps) ms (marks_in steps) same locked.late) q.letters);
+        writes = subst (AreWritesLocked script []) (sym same) (writes-append script [] (marks_in w.steps) ms q.writes (no-writes script (marks_in w.steps) ms there));
       }
     where
-      turn : CoordTurn
-      turn = on_event script w.coord x fails
+      ms : List Mark
+      ms = (coord_sends clock turn).marks
 
-      step : Step
-      step = record { stamp = record { clock = clock_after w.coord.clock x; node = the_coordinator }; event = e; marks = (coord_rule script w.coord x fails).marks }
-
-      locked : world.Locked script (coord_did w e (coord_rule script w.coord x fails))
-      locked = coord-keeps script some w k v q.locked e x fails ok said
-
+  coord-orders : (w : World) → Knows script w → Holds script w → Ordered script w → (e : Event) (x : NodeEvent) (fails : Bool) → coord_can script w.coord x ≡ true → SaidTo w x
+      → Ordered script (coord_did w e (coord_turn script w.coord x fails))
+  coord-orders w k v q e x fails ok said =
+      turn-orders w q (on_event script w.coord x fails) (clock_after w.coord.clock x) (coord_did w e (coord_turn script w.coord x fails)).steps (marks-by-event script w e x fails) (at_coordinator script some w k.well e x fails)
+      (coord_stays script some w.coord x fails k.well.coordinator).marks (event-goes script w.coord x fails (gone x ok) q.going) (coord-keeps script some w k v q.locked e x fails ok said)
+    where
       gone : (x : NodeEvent) → coord_can script w.coord x ≡ true → GoneOut script w.coord x
       gone (here.Resume g) ok = going-out script w k g ok
       gone (here.Deliver from envelope) ok = tt
@@ -195,8 +199,11 @@ module _ (script : Script) (some : 1 ≤ script.segments) where
       gone (here.Resend j g) ok = tt
       gone here.Round ok = tt
 
-      goes : Going script turn
-      goes = event-goes script w.coord x fails (gone x ok) q.going
+  cancel-orders : (w : World) → Knows script w → Holds script w → Ordered script w → (g : Gxid) → HasNamed w.steps w.coord.clock w.coord.rounds g → Ordered script (and_cancelled w g)
+  cancel-orders w k v q g h =
+      let left = cancel_stays script some w.coord g k.well.coordinator in
+      turn-orders w q (cancels w.coord g) w.coord.clock (and_cancelled w g).steps (marks-by-victim w g h) (sends-at script w.coord.sent (cancels w.coord g) w.coord.clock left) left.marks (cancel-goes script w.coord g q.going)
+      (cancel-keeps script some w k v q.locked g h)
 
   -- an EXEC that comes was sent with its lock
   order-given : (w : World) → Knows script w → Ordered script w → (e : Event) (i : ℕ) → 1 ≤ i → (from : Node) (envelope : Envelope) → IsGiven w e i from envelope
@@ -255,7 +262,7 @@ module _ (script : Script) (some : 1 ≤ script.segments) where
             (each_weaker (PlainAt script (at i)) NoSent (plain-unsent script (at i)) turn.marks plain)
             (each-of (λ (o : Out). (n : ℕ) → LetterLocked script (marks_in (w.steps ++ step ∷ [])) (record { from = at i; to = o.node; envelope = record { number = n; clock = step.stamp.clock; message = o.message } }))
             (λ o n f. absurd (not-zero f)) turn.outs)
-            (letters-still w.steps step w.sent (late-of w (seg_did w (at i) e (seg_rule script (w.segs i) x fails)) step refl locked) q.letters);
+            (letters-still (marks_in w.steps) step.marks (marks_in (w.steps ++ step ∷ [])) (marks-last w.steps step) w.sent (late-of (marks_in w.steps) step.marks (marks_in (w.steps ++ step ∷ [])) (marks-last w.steps step) locked.late) q.letters);
         writes = subst (AreWritesLocked script []) (sym (marks-last w.steps step)) (writes-append script [] (marks_in w.steps) step.marks q.writes
             (writes-here script (marks_in w.steps) (at i) (apart-back i place.0) (marks_in w.steps) step.marks refl (λ g f. f) (seg_marks script w k.well e x fails i place) writes));
       }
@@ -284,8 +291,11 @@ module _ (script : Script) (some : 1 ≤ script.segments) where
   new-orders : Ordered script new_world
   new-orders = record { locked = new-locked script some; going = λ g. tt; letters = tt; writes = tt }
 
+  pub moves-orders : (ms : List Move) → Ordered script (world_by script ms)
+  moves-orders = moves-keep script some (Ordered script) coord-orders cancel-orders seg-orders new-orders
+
   pub world-orders : (es : List (Event × Bool)) → Ordered script (world_of script es)
-  world-orders = world-keeps script some (Ordered script) coord-orders seg-orders new-orders
+  world-orders = world-keeps script some (Ordered script) coord-orders cancel-orders seg-orders new-orders
 
   pub orders-locked : (es : List (Event × Bool)) → AreOrdersLocked script (world_of script es)
   orders-locked es = all-orders script (marks_in (world_of script es).steps) (world_of script es).sent (world-orders es).letters

@@ -1,6 +1,8 @@
 -- Whoever has written at a segment holds its own lock there until it has ended there.
 use Rattle.std.proofs.Common.{◌≡◌, ◌≤◌, ℕ, List, [], ◌∷◌, ◌++◌, Bool, true, false, refl, sym, subst, if◌then◌else◌, eqb, append_assoc, append-nil}
 use Rattle.std.proofs.lemmas.Bool.{eqb-true}
+use Rattle.std.proofs.lemmas.List.Elements.{All-head, All-tail}
+use Rattle.std.specs.Prelude.{All}
 use Rattle.gx_lemmas.proofs.Numbers.{eqb-self, one-le-none}
 use Rattle.gx_ids.specs.declared.ids.Gxid.{Gxid}
 use Rattle.gx_ids.specs.declared.ids.Node.{Node}
@@ -9,7 +11,7 @@ use Rattle.gx_store.specs.declared.mark.Mark.{Mark}
 use Rattle.gx_store.specs.declared.mark.Mark.TheVariants as mark
 use Rattle.gx_store.specs.declared.run.Step.{Step}
 use Rattle.gx_store.specs.Locks.{HoldOwn}
-use Rattle.gx_store.specs.Ordered.{IsAtNode}
+use Rattle.gx_store.specs.Ordered.{AreOrdered, IsAtNode}
 use Rattle.gx_store.specs.Points.{marks_in}
 use Rattle.gx_store.specs.Refusals.{the_coordinator}
 use Rattle.gx_store.specs.Waits.{holds_at}
@@ -35,6 +37,25 @@ pub own-last : (before ss : List Step) (s : Step) → DoHoldOwn before ss → Ho
 own-last before [] s e f = (subst (λ (b : List Step). HoldOwn (marks_in b) (marks_in b ++ s.marks) s.marks) (append-nil before) f, tt)
 own-last before (x ∷ ss) s e f =
     (e.0, own-last (before ++ x ∷ []) ss s e.1 (subst (λ (b : List Step). HoldOwn (marks_in b) (marks_in b ++ s.marks) s.marks) (sym (append_assoc before (x ∷ []) ss)) f))
+
+-- more marks of the coordinator in its last step, which has written nothing
+pub no-own : (script : Script) (marks after ms : List Mark) → Each (IsAtNode script the_coordinator) ms → HoldOwn marks after ms
+no-own script marks after [] e = tt
+no-own script marks after (mark.Write g c n table rid image ∷ ms) e = absurd (one-le-none e.0.1.0)
+no-own script marks after (m ∷ ms) e = no-own script (marks ++ m ∷ []) after ms e.1
+
+pub own-more : (script : Script) (done ss : List Step) (s : Step) (ms : List Mark) → DoHoldOwn done (ss ++ s ∷ []) → Each (IsAtNode script the_coordinator) (s.marks ++ ms) → DoHoldOwn done (ss ++ record s { marks = s.marks ++ ms } ∷ [])
+own-more script done [] s ms e f = (no-own script (marks_in done) (marks_in done ++ (s.marks ++ ms)) (s.marks ++ ms) f, tt)
+own-more script done (x ∷ ss) s ms e f = (e.0, own-more script (done ++ x ∷ []) ss s ms e.1 f)
+
+-- the marks of the last step stand at its node
+each-there : (P : Mark → Type 0) (ms : List Mark) → All P ms → Each P ms
+each-there P [] e = tt
+each-there P (m ∷ ms) e = (All-head P m ms e, each-there P ms (All-tail P m ms e))
+
+pub last-there : (script : Script) (done ss : List Step) (s : Step) → AreOrdered script done (ss ++ s ∷ []) → Each (IsAtNode script s.stamp.node) s.marks
+last-there script done [] s e = each-there (IsAtNode script s.stamp.node) s.marks e.0.marks
+last-there script done (x ∷ ss) s e = last-there script (done ++ x ∷ []) ss s e.1
 
 -- BEHIND EACH STEP
 -- the transaction holds its own lock at the segment unless it has ended there

@@ -3,12 +3,11 @@
 use Rattle.std.proofs.Common.{◌≡◌, ◌≤◌, ℕ, List, [], ◌∷◌, ◌++◌, Option, Some, None, Bool, true, false, refl, sym, subst, ap, ◌∙◌, arith}
 use Rattle.std.proofs.lemmas.Bool.Decides.{nat_tests}
 use Rattle.std.proofs.lemmas.Bool.{or_left}
-use Rattle.gx_lemmas.proofs.Numbers.{one-le-none, one-le-zero}
+use Rattle.gx_lemmas.proofs.Numbers.{one-le-zero}
 use Rattle.gx_lemmas.proofs.Tests.{true-false}
 use Rattle.gx_ids.specs.declared.ids.Gxid.{Gxid}
 use Rattle.gx_ids.specs.declared.ids.Node.{Node}
 use Rattle.gx_ids.specs.declared.ids.Table.{Table}
-use Rattle.gx_waits.specs.declared.claim.Claim.{Claim}
 use Rattle.gx_locks.specs.Locks.{Locks}
 use Rattle.gx_msg.specs.declared.message.Envelope.{Envelope}
 use Rattle.gx_msg.specs.declared.message.Message.{Message}
@@ -25,35 +24,42 @@ use Rattle.gx_store.specs.declared.run.Step.{Step}
 use Rattle.gx_store.specs.Journals.{is_same_node}
 use Rattle.gx_store.specs.Locks.{AreExclusive, AreGranted}
 use Rattle.gx_store.specs.Marks.{is_aborted, is_committed, is_ended}
-use Rattle.gx_store.specs.Ordered.{IsAtNode, IsSegment}
+use Rattle.gx_store.specs.Ordered.{AreOrdered, IsAtNode, IsSegment}
 use Rattle.gx_store.specs.Points.{marks_in}
 use Rattle.gx_store.specs.Refusals.{the_coordinator}
 use Rattle.gx_store.specs.Waits.{holds_at, holds_from, is_held, waits_at, waits_from}
-use Rattle.gx_rules.specs.AtCoordinator.{coord_can, coord_rule, on_event}
+use Rattle.gx_rules.specs.AtCoordinator.{cancel_turn, cancels, coord_can, coord_sends, coord_turn, on_event}
 use Rattle.gx_rules.specs.AtSegment.{seg_rule}
 use Rattle.gx_rules.specs.AtSegment as segment
 use Rattle.gx_rules.specs.Coordinators.{CoordTurn}
 use Rattle.gx_rules.specs.Maps.{with_at}
-use Rattle.gx_rules.specs.Machine.{World, coord_did, new_world, seg_did, world_of}
+use Rattle.gx_rules.specs.Machine.{World, and_cancelled, coord_did, new_world, seg_did, with_more, world_of}
+use Rattle.gx_rules.proofs.Turns.{with_more-last}
 use Rattle.gx_rules.specs.Segments.{Seg, SegTurn, Suspended, local_of}
 use Rattle.gx_rules.specs.Slices.{own_lock}
 use Rattle.gx_rules.specs.Sending.{clock_after, counted, numbered}
 use Rattle.gx_law_order.proofs.Lists.{Each, each_append, each_weaker}
-use Rattle.gx_law_order.proofs.Ordered.{apart-back, apart-two, at-both, at_coordinator, seg_marks}
+use Rattle.gx_law_order.proofs.Ordered.{apart-back, apart-two, at-both, at_coordinator, seg_marks, sends-at}
 use Rattle.gx_law_order.proofs.Sent.{at}
 use Rattle.gx_law_order.proofs.Waiting.{GoesOn, goes-on-is, going-on}
-use Rattle.gx_law_order.proofs.World.{Knows, marks-last}
+use Rattle.gx_law_order.proofs.More.{marks-last}
+use Rattle.gx_law_order.proofs.World.{Knows}
+use Rattle.gx_law_order.specs.Moves.{Move, world_by}
+use Rattle.gx_law_order.proofs.AtCoordinators.{cancel_stays}
+use Rattle.gx_law_order.proofs.Induction.{after_turn, marks-by-event, marks-by-victim}
+use Rattle.gx_law_order.proofs.Moves.{HasNamed}
 use Rattle.gx_law_commit.proofs.Everywhere.{Holds, parts_in}
 use Rattle.gx_law_commit.specs.Said.{Said, gxid_in, is_answer}
 use Rattle.gx_law_commit.specs.Standings.{known_at}
-use Rattle.gx_law_commit.proofs.Steps.{HeardAt, SaidTo, world-keeps}
+use Rattle.gx_law_commit.proofs.Always.{HeardAt, SaidTo}
+use Rattle.gx_law_commit.proofs.Steps.{moves-keep, world-keeps}
 use Rattle.gx_law_commit.proofs.Waiting.{awaited}
 use Rattle.gx_law_holds.specs.Lasting.{DoHoldsLast}
 use Rattle.gx_law_holds.specs.Late.{AreReleasesLate}
 use Rattle.gx_law_holds.specs.Marked.{AreLocksMarked, AreWaitsLegal, IsMarked}
 use Rattle.gx_law_holds.specs.Own.{DoHoldOwn, DoWritersHold}
 use Rattle.gx_law_holds.specs.Waiting.{EachBehind}
-use Rattle.gx_law_holds.proofs.AtCoordinators.{event-holds}
+use Rattle.gx_law_holds.proofs.AtCoordinators.{Holding, cancel-locks, event-holds}
 use Rattle.gx_law_holds.proofs.AtRows.{AtRows}
 use Rattle.gx_law_holds.proofs.AtSegments.{Bids, IsEndedFor, Turn, message_locks, resume_locks}
 use Rattle.gx_law_holds.proofs.Lasting.{IsIn, holds-last, late-front}
@@ -61,7 +67,7 @@ use Rattle.gx_law_holds.proofs.Legal.{right-granted, right-waits, waits-more}
 use Rattle.gx_law_holds.proofs.Marks.{AreLet, AreRight, Locking, NoLock, Quiet, both, late-append, no-lock, no-lock-quiet, other-holds, other-waits, waits_from-append}
 use Rattle.gx_law_holds.proofs.Lets.{LetsWait, behind-append, let-waits}
 use Rattle.gx_law_holds.proofs.Moves.{WritesOwn}
-use Rattle.gx_law_holds.proofs.Own.{Stands, hold-own, new-stands, none-there, old-stands, own-last, stands-at}
+use Rattle.gx_law_holds.proofs.Own.{Stands, hold-own, last-there, new-stands, no-own, none-there, old-stands, own-last, own-more, stands-at}
 use Rattle.gx_law_holds.proofs.Single.{single-here, single-there}
 use Rattle.gx_law_holds.proofs.Tables.{Changes}
 
@@ -86,44 +92,45 @@ numbered-quiet f outs = each_weaker NoLock Quiet no-lock-quiet (numbered f outs)
 with-sent : (node : Node) (before : List Mark) (l : Locks) (ms : List Mark) (k : Locks) (f : ℕ → ℕ) (outs : List Out) → Locking node before l ms k → Locking node before l (ms ++ numbered f outs) k
 with-sent node before l ms k f outs e = both node before l ms k (numbered f outs) k e (no-lock node (before ++ ms) k (numbered f outs) (numbered-plain f outs))
 
--- ONE STEP OF A NODE
-module _ (script : Script) (steps : List Step) (s : Step) (here : Node) (at_here : Each (IsAtNode script here) s.marks) where
-  own-marked : (l k : Locks) → IsMarked (marks_in steps) here l → Locking here (marks_in steps) l s.marks k → IsMarked (marks_in (steps ++ s ∷ [])) here k
+-- ONE TURN OF A NODE
+-- its marks stand behind all others
+module _ (script : Script) (old ms all : List Mark) (same : all ≡ old ++ ms) (here : Node) (at_here : Each (IsAtNode script here) ms) where
+  own-marked : (l k : Locks) → IsMarked old here l → Locking here old l ms k → IsMarked all here k
   own-marked l k e f =
       record {
-        holds = sym (ap (λ m. holds_at m here) (marks-last steps s) ∙ holds_from-append here [] (marks_in steps) s.marks ∙ ap (λ h. holds_from here h s.marks) (sym e.holds) ∙ f.holds);
-        waits = sym (ap (λ m. waits_at m here) (marks-last steps s) ∙ waits_from-append here [] (marks_in steps) s.marks ∙ ap (λ h. waits_from here h s.marks) (sym e.waits) ∙ f.waits);
+        holds = sym (ap (λ m. holds_at m here) same ∙ holds_from-append here [] old ms ∙ ap (λ h. holds_from here h ms) (sym e.holds) ∙ f.holds);
+        waits = sym (ap (λ m. waits_at m here) same ∙ waits_from-append here [] old ms ∙ ap (λ h. waits_from here h ms) (sym e.waits) ∙ f.waits);
       }
 
-  others-marked : (other : Node) (l : Locks) → is_same_node here other ≡ false → IsMarked (marks_in steps) other l → IsMarked (marks_in (steps ++ s ∷ [])) other l
+  others-marked : (other : Node) (l : Locks) → is_same_node here other ≡ false → IsMarked old other l → IsMarked all other l
   others-marked other l n e =
       record {
-        holds = e.holds ∙ sym (ap (λ m. holds_at m other) (marks-last steps s) ∙ holds_from-append other [] (marks_in steps) s.marks ∙ other-holds script here other (holds_at (marks_in steps) other) s.marks n at_here);
-        waits = e.waits ∙ sym (ap (λ m. waits_at m other) (marks-last steps s) ∙ waits_from-append other [] (marks_in steps) s.marks ∙ other-waits script here other (waits_at (marks_in steps) other) s.marks n at_here);
+        holds = e.holds ∙ sym (ap (λ m. holds_at m other) same ∙ holds_from-append other [] old ms ∙ other-holds script here other (holds_at old other) ms n at_here);
+        waits = e.waits ∙ sym (ap (λ m. waits_at m other) same ∙ waits_from-append other [] old ms ∙ other-waits script here other (waits_at old other) ms n at_here);
       }
 
-  right : (l k : Locks) → IsMarked (marks_in steps) here l → Locking here (marks_in steps) l s.marks k → AreRight here (holds_at (marks_in steps) here) (waits_at (marks_in steps) here) s.marks
-  right l k e f = subst (λ h. AreRight here h (waits_at (marks_in steps) here) s.marks) e.holds (subst (λ h. AreRight here l.holds h s.marks) e.waits f.right)
+  right : (l k : Locks) → IsMarked old here l → Locking here old l ms k → AreRight here (holds_at old here) (waits_at old here) ms
+  right l k e f = subst (λ h. AreRight here h (waits_at old here) ms) e.holds (subst (λ h. AreRight here l.holds h ms) e.waits f.right)
 
-  still-granted : (l k : Locks) → IsMarked (marks_in steps) here l → Locking here (marks_in steps) l s.marks k → AreGranted [] (marks_in steps) → AreGranted [] (marks_in (steps ++ s ∷ []))
-  still-granted l k e f old = subst (AreGranted []) (sym (marks-last steps s)) (granted-more [] (marks_in steps) s.marks old (right-granted script here (marks_in steps) s.marks at_here (right l k e f)))
+  still-granted : (l k : Locks) → IsMarked old here l → Locking here old l ms k → AreGranted [] old → AreGranted [] all
+  still-granted l k e f before = subst (AreGranted []) (sym same) (granted-more [] old ms before (right-granted script here old ms at_here (right l k e f)))
 
-  still-waits : (l k : Locks) → IsMarked (marks_in steps) here l → Locking here (marks_in steps) l s.marks k → AreWaitsLegal [] (marks_in steps) → AreWaitsLegal [] (marks_in (steps ++ s ∷ []))
-  still-waits l k e f old = subst (AreWaitsLegal []) (sym (marks-last steps s)) (waits-more [] (marks_in steps) s.marks old (right-waits script here (marks_in steps) s.marks at_here (right l k e f)))
+  still-waits : (l k : Locks) → IsMarked old here l → Locking here old l ms k → AreWaitsLegal [] old → AreWaitsLegal [] all
+  still-waits l k e f before = subst (AreWaitsLegal []) (sym same) (waits-more [] old ms before (right-waits script here old ms at_here (right l k e f)))
 
-  still-late : (l k : Locks) → Locking here (marks_in steps) l s.marks k → AreReleasesLate [] (marks_in steps) → AreReleasesLate [] (marks_in (steps ++ s ∷ []))
-  still-late l k f old = subst (AreReleasesLate []) (sym (marks-last steps s)) (late-append [] (marks_in steps) s.marks old f.late)
+  still-late : (l k : Locks) → Locking here old l ms k → AreReleasesLate [] old → AreReleasesLate [] all
+  still-late l k f before = subst (AreReleasesLate []) (sym same) (late-append [] old ms before f.late)
 
-  still-lets : (l k : Locks) → IsMarked (marks_in steps) here l → Locking here (marks_in steps) l s.marks k → EachBehind LetsWait [] (marks_in steps) → EachBehind LetsWait [] (marks_in (steps ++ s ∷ []))
-  still-lets l k e f old =
-      subst (EachBehind LetsWait []) (sym (marks-last steps s))
-      (behind-append LetsWait [] (marks_in steps) s.marks old (let-waits script here (marks_in steps) s.marks at_here (subst (λ waits. AreLet here (marks_in steps) waits s.marks) e.waits f.lets)))
+  still-lets : (l k : Locks) → IsMarked old here l → Locking here old l ms k → EachBehind LetsWait [] old → EachBehind LetsWait [] all
+  still-lets l k e f before =
+      subst (EachBehind LetsWait []) (sym same) (behind-append LetsWait [] old ms before (let-waits script here old ms at_here (subst (λ waits. AreLet here old waits ms) e.waits f.lets)))
 
-  -- whoever writes in it locks itself
-  still-own : (left : Locks) → IsMarked (marks_in (steps ++ s ∷ [])) here left → Each (WritesOwn left.holds) s.marks → DoHoldOwn [] steps → DoHoldOwn [] (steps ++ s ∷ [])
-  still-own left e f old =
-      own-last [] steps s old
-      (hold-own script here (marks_in steps ++ s.marks) (marks_in steps) s.marks at_here (subst (λ (m : List Mark). Each (WritesOwn (holds_at m here)) s.marks) (marks-last steps s) (subst (λ hs. Each (WritesOwn hs) s.marks) e.holds f)))
+-- whoever writes in a step locks itself
+still-own : (script : Script) (steps : List Step) (s : Step) (here : Node) → Each (IsAtNode script here) s.marks → (left : Locks) → IsMarked (marks_in (steps ++ s ∷ [])) here left → Each (WritesOwn left.holds) s.marks → DoHoldOwn [] steps
+    → DoHoldOwn [] (steps ++ s ∷ [])
+still-own script steps s here at_here left e f old =
+    own-last [] steps s old
+    (hold-own script here (marks_in steps ++ s.marks) (marks_in steps) s.marks at_here (subst (λ (m : List Mark). Each (WritesOwn (holds_at m here)) s.marks) (marks-last steps s) (subst (λ hs. Each (WritesOwn hs) s.marks) e.holds f)))
 
 -- WHAT A SEGMENT DOES
 -- it is bidden to change rows of the table for the transaction, by a message or by a slice that goes on
@@ -187,53 +194,69 @@ module _ (script : Script) (some : 1 ≤ script.segments) where
   apart : (i : ℕ) → 1 ≤ i → is_same_node the_coordinator (at i) ≡ false
   apart i h = grind (arith, nat_tests)
 
-  no-write : (holds : List Claim) (ms : List Mark) → Each (IsAtNode script the_coordinator) ms → Each (WritesOwn holds) ms
-  no-write holds [] e = tt
-  no-write holds (mark.Write g c n table rid image ∷ ms) e = absurd (one-le-none e.0.1.0)
-  no-write holds (m ∷ ms) e = (tt, no-write holds ms e.1)
-
-  pub coord-keeps : (w : World) → Knows script w → Holds script w → Locked script w → (e : Event) (x : NodeEvent) (fails : Bool) → coord_can script w.coord x ≡ true → SaidTo w x
-      → Locked script (coord_did w e (coord_rule script w.coord x fails))
-  coord-keeps w k v q e x fails ok said =
+  -- a single turn of the coordinator, with what it sends
+  turn-keeps : (w : World) → Locked script w → (turn : CoordTurn) (clock : ℕ) (steps : List Step) → marks_in steps ≡ marks_in w.steps ++ (coord_sends clock turn).marks → Each (IsAtNode script the_coordinator) (coord_sends clock turn).marks
+      → Holding (marks_in w.steps) w.coord turn → DoHoldOwn [] steps → Locked script (after_turn w clock turn steps)
+  turn-keeps w q turn clock steps same there holding own =
       record {
-        marked = record { coordinator = now; segments = λ i one. others-marked script w.steps step the_coordinator there (at i) (w.segs i).locks (apart i one) (q.marked.segments i one) };
-        granted = still-granted script w.steps step the_coordinator there w.coord.locks turn.coord.locks q.marked.coordinator locking q.granted;
-        waits = still-waits script w.steps step the_coordinator there w.coord.locks turn.coord.locks q.marked.coordinator locking q.waits;
-        late = still-late script w.steps step the_coordinator there w.coord.locks turn.coord.locks locking q.late;
-        lets = still-lets script w.steps step the_coordinator there w.coord.locks turn.coord.locks q.marked.coordinator locking q.lets;
-        own = still-own script w.steps step the_coordinator there turn.coord.locks now (no-write turn.coord.locks.holds step.marks there) q.own;
-        writers = subst (Each (Stands w.segs)) (sym (marks-last w.steps step)) (each_append (Stands w.segs) (marks_in w.steps) step.marks q.writers (none-there script w.segs step.marks there));
+        marked = record {
+          coordinator = own-marked script (marks_in w.steps) ms (marks_in steps) same the_coordinator there w.coord.locks turn.coord.locks q.marked.coordinator locking;
+          segments = λ i one. others-marked script (marks_in w.steps) ms (marks_in steps) same the_coordinator there (at i) (w.segs i).locks (apart i one) (q.marked.segments i one);
+        };
+        granted = still-granted script (marks_in w.steps) ms (marks_in steps) same the_coordinator there w.coord.locks turn.coord.locks q.marked.coordinator locking q.granted;
+        waits = still-waits script (marks_in w.steps) ms (marks_in steps) same the_coordinator there w.coord.locks turn.coord.locks q.marked.coordinator locking q.waits;
+        late = still-late script (marks_in w.steps) ms (marks_in steps) same the_coordinator there w.coord.locks turn.coord.locks locking q.late;
+        lets = still-lets script (marks_in w.steps) ms (marks_in steps) same the_coordinator there w.coord.locks turn.coord.locks q.marked.coordinator locking q.lets;
+        own = own;
+        writers = subst (Each (Stands w.segs)) (sym same) (each_append (Stands w.segs) (marks_in w.steps) ms q.writers (none-there script w.segs ms there));
         rows = q.rows;
       }
     where
-      turn : CoordTurn
-      turn = on_event script w.coord x fails
+      ms : List Mark
+      ms = (coord_sends clock turn).marks
 
+      locking : Locking the_coordinator (marks_in w.steps) w.coord.locks (coord_sends clock turn).marks turn.coord.locks
+      locking = with-sent the_coordinator (marks_in w.steps) w.coord.locks turn.marks turn.coord.locks turn.coord.sent turn.outs holding
+
+  pub coord-keeps : (w : World) → Knows script w → Holds script w → Locked script w → (e : Event) (x : NodeEvent) (fails : Bool) → coord_can script w.coord x ≡ true → SaidTo w x
+      → Locked script (coord_did w e (coord_turn script w.coord x fails))
+  coord-keeps w k v q e x fails ok said =
+      turn-keeps w q (on_event script w.coord x fails) (clock_after w.coord.clock x) (w.steps ++ step ∷ []) (marks-by-event script w e x fails) there (event-holds script (marks_in w.steps) w.coord (single-here script w k) x fails ok)
+      (own-last [] w.steps step q.own (no-own script (marks_in w.steps) (marks_in w.steps ++ step.marks) step.marks there))
+    where
       step : Step
-      step = record { stamp = record { clock = clock_after w.coord.clock x; node = the_coordinator }; event = e; marks = (coord_rule script w.coord x fails).marks }
+      step = record { stamp = record { clock = clock_after w.coord.clock x; node = the_coordinator }; event = e; marks = (coord_turn script w.coord x fails).marks }
 
-      there : Each (IsAtNode script the_coordinator) step.marks
+      there : Each (IsAtNode script the_coordinator) (coord_turn script w.coord x fails).marks
       there = at_coordinator script some w k.well e x fails
 
-      locking : Locking the_coordinator (marks_in w.steps) w.coord.locks step.marks turn.coord.locks
-      locking = with-sent the_coordinator (marks_in w.steps) w.coord.locks turn.marks turn.coord.locks turn.coord.sent turn.outs (event-holds script (marks_in w.steps) w.coord (single-here script w k) x fails ok)
+  pub cancel-keeps : (w : World) → Knows script w → Holds script w → Locked script w → (g : Gxid) → HasNamed w.steps w.coord.clock w.coord.rounds g → Locked script (and_cancelled w g)
+  cancel-keeps w k v q g h =
+      turn-keeps w q (cancels w.coord g) w.coord.clock (and_cancelled w g).steps (marks-by-victim w g h) there (cancel-locks (marks_in w.steps) w.coord g)
+      (subst (DoHoldOwn []) (sym (ap (λ ss. with_more ss more) h.is ∙ with_more-last h.before h.step more)) (own-more script [] h.before h.step more (subst (DoHoldOwn []) h.is q.own) (each_append (IsAtNode script the_coordinator) h.step.marks more before there)))
+    where
+      more : List Mark
+      more = (cancel_turn w.coord g).marks
 
-      now : IsMarked (marks_in (w.steps ++ step ∷ [])) the_coordinator turn.coord.locks
-      now = own-marked script w.steps step the_coordinator there w.coord.locks turn.coord.locks q.marked.coordinator locking
+      there : Each (IsAtNode script the_coordinator) (cancel_turn w.coord g).marks
+      there = sends-at script w.coord.sent (cancels w.coord g) w.coord.clock (cancel_stays script some w.coord g k.well.coordinator)
+
+      before : Each (IsAtNode script the_coordinator) h.step.marks
+      before = subst (λ (n : Node). Each (IsAtNode script n) h.step.marks) h.node (last-there script [] h.before h.step (subst (AreOrdered script []) h.is k.well.steps))
 
   pub seg-keeps : (w : World) → Knows script w → Holds script w → Locked script w → (e : Event) (x : NodeEvent) (fails : Bool) (i : ℕ) → IsSegment script (at i) → HeardAt script w e i x
       → Locked script (seg_did w (at i) e (seg_rule script (w.segs i) x fails))
   seg-keeps w k v q e x fails i place h =
       record {
         marked = record {
-          coordinator = others-marked script w.steps step (at i) there the_coordinator w.coord.locks (apart-back i place.0) q.marked.coordinator;
+          coordinator = others-marked script (marks_in w.steps) step.marks (marks_in (w.steps ++ step ∷ [])) behind (at i) there the_coordinator w.coord.locks (apart-back i place.0) q.marked.coordinator;
           segments = at-both (λ j (t : Seg). 1 ≤ j → IsMarked (marks_in (w.steps ++ step ∷ [])) (at j) t.locks) w.segs i (seg_rule script (w.segs i) x fails).seg (λ one. now)
-              (λ j no one. others-marked script w.steps step (at i) there (at j) (w.segs j).locks (apart-two i j no) (q.marked.segments j one));
+              (λ j no one. others-marked script (marks_in w.steps) step.marks (marks_in (w.steps ++ step ∷ [])) behind (at i) there (at j) (w.segs j).locks (apart-two i j no) (q.marked.segments j one));
         };
-        granted = still-granted script w.steps step (at i) there (w.segs i).locks turn.seg.locks (q.marked.segments i place.0) locking q.granted;
-        waits = still-waits script w.steps step (at i) there (w.segs i).locks turn.seg.locks (q.marked.segments i place.0) locking q.waits;
-        late = still-late script w.steps step (at i) there (w.segs i).locks turn.seg.locks locking q.late;
-        lets = still-lets script w.steps step (at i) there (w.segs i).locks turn.seg.locks (q.marked.segments i place.0) locking q.lets;
+        granted = still-granted script (marks_in w.steps) step.marks (marks_in (w.steps ++ step ∷ [])) behind (at i) there (w.segs i).locks turn.seg.locks (q.marked.segments i place.0) locking q.granted;
+        waits = still-waits script (marks_in w.steps) step.marks (marks_in (w.steps ++ step ∷ [])) behind (at i) there (w.segs i).locks turn.seg.locks (q.marked.segments i place.0) locking q.waits;
+        late = still-late script (marks_in w.steps) step.marks (marks_in (w.steps ++ step ∷ [])) behind (at i) there (w.segs i).locks turn.seg.locks locking q.late;
+        lets = still-lets script (marks_in w.steps) step.marks (marks_in (w.steps ++ step ∷ [])) behind (at i) there (w.segs i).locks turn.seg.locks (q.marked.segments i place.0) locking q.lets;
         own = still-own script w.steps step (at i) there turn.seg.locks now written q.own;
         writers = subst (Each (Stands (with_at w.segs i (seg_rule script (w.segs i) x fails).seg))) (sym (marks-last w.steps step))
             (each_append (Stands (with_at w.segs i (seg_rule script (w.segs i) x fails).seg)) (marks_in w.steps) step.marks
@@ -247,6 +270,9 @@ module _ (script : Script) (some : 1 ≤ script.segments) where
       step : Step
       step = record { stamp = record { clock = clock_after (w.segs i).clock x; node = at i }; event = e; marks = (seg_rule script (w.segs i) x fails).marks }
 
+      behind : marks_in (w.steps ++ step ∷ []) ≡ marks_in w.steps ++ step.marks
+      behind = marks-last w.steps step
+
       there : Each (IsAtNode script (at i)) step.marks
       there = seg_marks script w k.well e x fails i place
 
@@ -257,7 +283,7 @@ module _ (script : Script) (some : 1 ≤ script.segments) where
       locking = with-sent (at i) (marks_in w.steps) (w.segs i).locks turn.marks turn.seg.locks (λ node. turn.seg.sent) turn.outs made.locking
 
       now : IsMarked (marks_in (w.steps ++ step ∷ [])) (at i) turn.seg.locks
-      now = own-marked script w.steps step (at i) there (w.segs i).locks turn.seg.locks (q.marked.segments i place.0) locking
+      now = own-marked script (marks_in w.steps) step.marks (marks_in (w.steps ++ step ∷ [])) behind (at i) there (w.segs i).locks turn.seg.locks (q.marked.segments i place.0) locking
 
       sent-written : (f : ℕ → ℕ) (outs : List Out) → Each (WritesOwn turn.seg.locks.holds) (numbered f outs)
       sent-written f [] = tt
@@ -269,8 +295,11 @@ module _ (script : Script) (some : 1 ≤ script.segments) where
   pub new-locked : Locked script new_world
   new-locked = record { marked = record { coordinator = record { holds = refl; waits = refl }; segments = λ i one. record { holds = refl; waits = refl } }; granted = tt; waits = tt; late = tt; lets = tt; own = tt; writers = tt; rows = λ i h. tt }
 
+  pub moves-locked : (ms : List Move) → Locked script (world_by script ms)
+  moves-locked = moves-keep script some (Locked script) coord-keeps cancel-keeps seg-keeps new-locked
+
   pub world-locked : (es : List (Event × Bool)) → Locked script (world_of script es)
-  world-locked = world-keeps script some (Locked script) coord-keeps seg-keeps new-locked
+  world-locked = world-keeps script some (Locked script) coord-keeps cancel-keeps seg-keeps new-locked
 
   pub world-exclusive : (es : List (Event × Bool)) (before later : List Mark) → marks_in (world_of script es).steps ≡ before ++ later → AreExclusive before
   world-exclusive es before later e = exclusive-behind before (granted-front [] before later (subst (AreGranted []) e (world-locked es).granted))

@@ -47,6 +47,7 @@ use Rattle.gx_meaning.specs.Plan.{plan_of}
 use Rattle.gx_rules.specs.Coordinators.{Command, Coord, CoordTurn, Work, rests, session_of, with_work, work_of}
 use Rattle.gx_rules.specs.Fits.{fits_part}
 use Rattle.gx_rules.specs.Locks.{release_marks, with_hold}
+use Rattle.gx_rules.proofs.Rounds.{graph-ways}
 use Rattle.gx_waits.specs.declared.claim.Claim.{Claim}
 
 abbrev pub NoAnswer : Mark → Type 0
@@ -201,7 +202,7 @@ module _ {script : Script} (c : Coord) (kept : Kept script c) where
   message-deals from fails (message.Abort g) = tt
   message-deals from fails (message.Forget g) = tt
   message-deals from fails (message.Collect round) = tt
-  message-deals from fails (message.Graph round graph) = tt
+  message-deals from fails (message.Graph round graph) = graph-ways (λ (turn : CoordTurn). Deals c turn) c from round graph tt (λ r. tt) (λ r a. (tt, tt))
 
 -- LINES
 -- the answer is to the line that starts, which takes no lock, or a refusal

@@ -5,7 +5,7 @@ use Rattle.std.specs.Prelude.{Contains, filter}
 use Rattle.std.proofs.lemmas.Bool.{and_parts, or_left, or_right}
 use Rattle.std.proofs.lemmas.Bool.Decides.{nat_tests}
 use Rattle.std.proofs.lemmas.List.Elements.{Contains-append_cases, Contains-append_left, Contains-push_cases}
-use Rattle.gx_lemmas.proofs.Numbers.{eqb-self, one-le-zero}
+use Rattle.gx_lemmas.proofs.Numbers.{eqb-self, one-le-zero, same-plus-none}
 use Rattle.gx_lemmas.proofs.Options.{none-some, some-same}
 use Rattle.gx_lemmas.proofs.Tests.{true-false}
 use Rattle.gx_ids.specs.declared.ids.Cid.{Cid}
@@ -15,7 +15,6 @@ use Rattle.gx_ids.specs.declared.ids.SessionId.{SessionId}
 use Rattle.gx_tree.specs.declared.stmt.Stmt.{Stmt}
 use Rattle.gx_waits.specs.declared.claim.Claim.{Claim}
 use Rattle.gx_locks.specs.Locks.{wait_of}
-use Rattle.gx_msg.specs.declared.message.Envelope.{Envelope}
 use Rattle.gx_msg.specs.declared.message.Message.{Message}
 use Rattle.gx_msg.specs.declared.message.Message.TheVariants as message
 use Rattle.gx_script.specs.Session.{after_line, line_step}
@@ -31,7 +30,7 @@ use Rattle.gx_store.specs.Journals.{is_same_node}
 use Rattle.gx_store.specs.Lines.{BlockState, Failed, InBlock, Outside, cid_of, state_of, stmt_of, transaction_of}
 use Rattle.gx_store.specs.Locks.{HasGoneOut, LocksWhileReading}
 use Rattle.gx_store.specs.Marks.{answer_count, is_begun, is_same_session, is_snapped, started_after}
-use Rattle.gx_store.specs.Ordered.{IsAtNode}
+use Rattle.gx_store.specs.Ordered.{IsAtNode, IsSegment}
 use Rattle.gx_store.specs.Points.{marks_in, starts_by, starts_in}
 use Rattle.gx_store.specs.Refusals.{the_coordinator}
 use Rattle.gx_store.specs.Waits.{holds_at, holds_from, without, added, claim}
@@ -42,35 +41,41 @@ use Rattle.gx_store.specs.declared.mark.Mark.TheVariants as mark
 use Rattle.gx_store.specs.declared.node.NodeEvent.{NodeEvent}
 use Rattle.gx_store.specs.declared.node.NodeEvent.TheVariants as here
 use Rattle.gx_store.specs.declared.run.Step.{Step}
-use Rattle.gx_rules.specs.AtCoordinator.{awaited, coord_can, coord_rule, is_nothing, lock_for, next_line, on_event, on_line, resends, resumes, starts, starts_line}
+use Rattle.gx_rules.specs.AtCoordinator.{awaited, awaited_collect, cancel_turn, cancels, coord_can, coord_turn, is_nothing, lock_for, next_line, on_event, on_line, resends, resumes, starts, starts_line}
 use Rattle.gx_rules.specs.AtSegment.{seg_rule}
 use Rattle.gx_rules.specs.Coordinators.{Coord, CoordTurn, Work, session_of, work_of}
 use Rattle.gx_rules.specs.Locks.{hold_mark}
-use Rattle.gx_rules.specs.Machine.{World, at_node, can_here, coord_did, delivered, does, found, new_world, seg_can, seg_did, world_of}
+use Rattle.gx_rules.specs.Machine.{World, and_cancelled, coord_did, seg_did, with_more, world_of}
+use Rattle.gx_rules.proofs.Turns.{with_more-last}
 use Rattle.gx_rules.specs.Sending.{clock_after, numbered}
+use Rattle.gx_law_order.specs.Moves.{Move, world_by}
 use Rattle.gx_law_order.proofs.Dispatches.{without_wait}
+use Rattle.gx_law_order.proofs.Induction.{IsThere, at-events, marks-by-victim}
 use Rattle.gx_law_order.proofs.Lists.{Each, each_append, each_weaker}
-use Rattle.gx_law_order.proofs.Ordered.{seg_marks, world_well}
+use Rattle.gx_law_order.proofs.Moves.{HasNamed}
+use Rattle.gx_law_order.proofs.Ordered.{seg_marks}
+use Rattle.gx_law_order.proofs.Sent.{at}
 use Rattle.gx_law_order.proofs.Sessions.{is_nothing_in, is_open_in, stage_of}
 use Rattle.gx_law_order.proofs.Statuses.Stage.{Live}
 use Rattle.gx_law_order.proofs.Waiting.{GoesOut, going-out}
-use Rattle.gx_law_order.proofs.World.{world_knows}
-use Rattle.gx_law_commit.proofs.Always as commit
+use Rattle.gx_law_order.proofs.World.{Knows, moves_knows}
+use Rattle.gx_law_commit.proofs.Always as always
+use Rattle.gx_law_commit.proofs.Everywhere as commit
 use Rattle.gx_law_reads.proofs.Reading.{at-self}
-use Rattle.gx_law_schedules.proofs.Steps.{IsAt, IsHere, always}
 use Rattle.gx_law_sessions.proofs.Ends.{unsnapped}
 use Rattle.gx_law_sessions.proofs.Said.{CalmFor, Said, said-start}
-use Rattle.gx_law_sessions.proofs.World as sessions
-use Rattle.gx_law_sessions.proofs.World.{after-last, sessions-stand}
+use Rattle.gx_law_sessions.proofs.Stepping as sessions
+use Rattle.gx_law_sessions.proofs.World as world
 use Rattle.gx_law_sessions.specs.Standing.{IsSession, IsStanding, Owns, under_way}
 use Rattle.gx_law_holds.proofs.Lasting.{IsIn, granted-held}
 use Rattle.gx_law_holds.proofs.Marks.{Quiet, quiet-holds}
-use Rattle.gx_law_holds.proofs.Orders.{world-orders}
+use Rattle.gx_law_holds.proofs.Orders.{Ordered, moves-orders}
 use Rattle.gx_law_locks.specs.Commands.{AreReadsHeld, AreUnsent, EachPoint, IsOther}
 use Rattle.gx_law_locks.proofs.Answering.{IsHome}
 use Rattle.gx_law_locks.proofs.Commands.{HoldsTableOf, IsCommandOf, IsRun, IsWaitingOf, Runs, as-meant, out-holds, run-between, runs-back, runs-here, runs-on}
-use Rattle.gx_law_locks.proofs.Shapes.{Anyone, Body, Ebbs, Ends, Free, Locking, Opening, Plain, Shape, Silent, body-more, each-behind, end-ebbs, ends-other, ends-split, line-opens, locked-shape, message-told, plain-ebbs, sent-ebbs, shape-more}
-use Rattle.gx_law_locks.proofs.Unsent.{new-unsent, next-unsent, world-has}
+use Rattle.gx_law_locks.proofs.Shapes.{Anyone, Body, Ebbs, cancel-told, Ends, Free, Locking, Opening, Plain, Shape, Silent, body-more, each-behind, end-ebbs, ends-other, ends-split, line-opens, locked-shape, message-told, plain-ebbs, sent-ebbs, shape-more}
+use Rattle.gx_law_locks.proofs.Told.{runs-later}
+use Rattle.gx_law_locks.proofs.Unsent.{HasLetter, moves-have, new-unsent, next-unsent}
 
 -- WHAT HAS GONE OUT
 -- the command has a snapshot of its own, or was sent to some segment
@@ -287,39 +292,65 @@ reads-last : (script : Script) (done ss : List Step) (s : Step) → AreReadsHeld
 reads-last script done [] s e h = (subst (λ x. EachPoint (LocksWhileReading script) x s.event [] s.marks) (append-nil done) h, tt)
 reads-last script done (x ∷ ss) s e h = (e.0, reads-last script (done ++ x ∷ []) ss s e.1 (subst (λ y. EachPoint (LocksWhileReading script) y s.event [] s.marks) (sym (append_assoc done (x ∷ []) ss)) h))
 
+-- what comes later says nothing of a point, and more marks may stand behind
+reads-later : (script : Script) (steps : List Step) (e : Event) (earlier xs ys : List Mark) → LocksWhileReading script (record { steps = steps; event = e; earlier = earlier; later = xs }) → LocksWhileReading script (record { steps = steps; event = e; earlier = earlier; later = ys })
+reads-later script steps e earlier xs ys f = λ s line level g c r o. f s line level g c (runs-later script steps e earlier ys xs s line level g c r) o
+
+points-join : (script : Script) (steps : List Step) (e : Event) (earlier ms more : List Mark) → EachPoint (LocksWhileReading script) steps e earlier ms → EachPoint (LocksWhileReading script) steps e (earlier ++ ms) more → EachPoint (LocksWhileReading script) steps e earlier (ms ++ more)
+points-join script steps e earlier [] more h t = subst (λ q. EachPoint (LocksWhileReading script) steps e q more) (append-nil earlier) t
+points-join script steps e earlier (m ∷ ms) more h t = (
+  reads-later script steps e earlier ms (ms ++ more) h.0,
+  points-join script steps e (earlier ++ m ∷ []) ms more h.1 (subst (λ q. EachPoint (LocksWhileReading script) steps e q more) (sym (append_assoc earlier (m ∷ []) ms)) t),
+)
+
+reads-more : (script : Script) (done before : List Step) (s : Step) (more : List Mark) → AreReadsHeld script done (before ++ s ∷ []) → EachPoint (LocksWhileReading script) (done ++ before) s.event s.marks more
+    → AreReadsHeld script done (before ++ record s { marks = s.marks ++ more } ∷ [])
+reads-more script done [] s more e h = (points-join script done s.event [] s.marks more e.0 (subst (λ q. EachPoint (LocksWhileReading script) q s.event s.marks more) (append-nil done) h), tt)
+reads-more script done (x ∷ before) s more e h =
+    (e.0, reads-more script (done ++ x ∷ []) before s more e.1 (subst (λ q. EachPoint (LocksWhileReading script) q s.event s.marks more) (sym (append_assoc done (x ∷ []) before)) h))
+
+-- WHAT IS KNOWN OF EACH WORLD
+record IsMet (script : Script) (w : World) : Type 0 where
+  knows : Knows script w
+  holds : commit.Holds script w
+  sessions : sessions.Holds script w
+  orders : Ordered script w
+  has : Each (HasLetter w.sent) (marks_in w.steps)
+
+moves-met : (script : Script) (some : 1 ≤ script.segments) (ms : List Move) → IsMet script (world_by script ms)
+moves-met script some ms =
+    record { knows = moves_knows script some ms; holds = always.moves-holds script some ms; sessions = world.moves-holds script some ms; orders = moves-orders script some ms; has = moves-have script some ms }
+
 module _ (script : Script) (some : 1 ≤ script.segments) where
   -- between steps
-  between : (es : List (Event × Bool)) (k : SessionId) (line : Stmt) (g : Gxid) (c : Cid) → Runs script k (marks_in (world_of script es).steps) (starts_in k (world_of script es).steps) line g c → IsOut (marks_in (world_of script es).steps) g c → IsCommandOf (work_of (world_of script es).coord (session_of (world_of script es).coord k).transaction) line × HoldsTableOf script (marks_in (world_of script es).steps) g line
-  between es k line g c r o = by_way its.way
+  between : (w : World) (met : IsMet script w) (k : SessionId) (line : Stmt) (g : Gxid) (c : Cid) → Runs script k (marks_in w.steps) (starts_in k w.steps) line g c → IsOut (marks_in w.steps) g c → IsCommandOf (work_of w.coord (session_of w.coord k).transaction) line × HoldsTableOf script (marks_in w.steps) g line
+  between w met k line g c r o = by_way its.way
     where
-      w : World
-      w = world_of script es
-
       its : IsRun (marks_in w.steps) w.coord k line g c
-      its = run-between script w (sessions-stand script some es) k line g c r
+      its = run-between script w met.sessions.sessions k line g c r
 
       by_way : IsCommandOf (work_of w.coord (session_of w.coord k).transaction) line ⊎ IsWaitingOf (marks_in w.steps) (work_of w.coord (session_of w.coord k).transaction) line (session_of w.coord k).transaction c → IsCommandOf (work_of w.coord (session_of w.coord k).transaction) line × HoldsTableOf script (marks_in w.steps) g line
       by_way (inl it) = (
         it,
         subst (λ ms. HoldsTableOf script ms g line) (append-nil (marks_in w.steps))
-            (out-holds script w (sessions-stand script some es) (world_knows script some es).kept (world-orders script some es).going (world-orders script some es).locked.marked.coordinator.holds (world-orders script some es).locked.marked.coordinator.waits [] k line g tt its.txn it),
+            (out-holds script w met.sessions.sessions met.knows.kept met.orders.going met.orders.locked.marked.coordinator.holds met.orders.locked.marked.coordinator.waits [] k line g tt its.txn it),
       )
       by_way (inr it) =
           absurd
           (not-out g c (marks_in w.steps) (subst (λ x. is_snapped (marks_in w.steps) x c ≡ false) (sym its.txn) it.unsnapped)
-          (next-unsent script w (world_knows script some es) (commit.world-holds script some es) g c (((world_knows script some es).kept.tied g.0).waits line waits).0 (subst (λ x. (work_of w.coord x).last < c.0) (sym its.txn) it.next) (world-has script some es)) o)
+          (next-unsent script w met.knows met.holds g c ((met.knows.kept.tied g.0).waits line waits).0 (subst (λ x. (work_of w.coord x).last < c.0) (sym its.txn) it.next) met.has) o)
         where
           waits : (work_of w.coord g).waiting ≡ Some line
           waits = subst (λ x. (work_of w.coord x).waiting ≡ Some line) (sym its.txn) it.has_it
 
-  module _ (es : List (Event × Bool)) (e : Event) where
+  module _ (w : World) (met : IsMet script w) (e : Event) where
     -- behind marks that say nothing of the session and change no hold
-    still-held : (k : SessionId) (xs : List Mark) → starts_by k e ≡ 0 → Each (CalmFor k) xs → Each Quiet xs → Each Still xs → Held script (world_of script es).steps e k xs
+    still-held : (k : SessionId) (xs : List Mark) → starts_by k e ≡ 0 → Each (CalmFor k) xs → Each Quiet xs → Each Still xs → Held script w.steps e k xs
     still-held k xs none calm quiet still line g c r o =
-        table-quiet script g line (marks_in (world_of script es).steps) xs quiet
-        (between es k line g c
-        (subst (λ n. Runs script k (marks_in (world_of script es).steps) n line g c) (plus-none (starts_in k (world_of script es).steps) (starts_by k e) none) (runs-back script k (marks_in (world_of script es).steps) xs _ line g c calm r))
-        (out-front g c (marks_in (world_of script es).steps) xs still o)).1
+        table-quiet script g line (marks_in w.steps) xs quiet
+        (between w met k line g c
+        (subst (λ n. Runs script k (marks_in w.steps) n line g c) (plus-none (starts_in k w.steps) (starts_by k e) none) (runs-back script k (marks_in w.steps) xs _ line g c calm r))
+        (out-front g c (marks_in w.steps) xs still o)).1
       where
         plus-none : (a b : ℕ) → b ≡ 0 → a + b ≡ a
         plus-none a b e = omega arith
@@ -327,39 +358,39 @@ module _ (script : Script) (some : 1 ≤ script.segments) where
     -- the point behind the beginning of a transaction whose statement goes out
     abbrev Says : SessionId → List Mark → Gxid → Stmt → Type 0
     Says k pre h asked =
-        (line : Stmt) (g : Gxid) (c : Cid) → Runs script k (marks_in (world_of script es).steps ++ pre) (starts_in k (world_of script es).steps + starts_by k e) line g c
-        → (g ≡ h) × (line ≡ asked) × (IsOut (marks_in (world_of script es).steps ++ pre) g c → ⊥)
+        (line : Stmt) (g : Gxid) (c : Cid) → Runs script k (marks_in w.steps ++ pre) (starts_in k w.steps + starts_by k e) line g c
+        → (g ≡ h) × (line ≡ asked) × (IsOut (marks_in w.steps ++ pre) g c → ⊥)
 
-    module _ (last : List (Event × Bool)) (ms : List Mark)
-        (marks-are : marks_in (world_of script last).steps ≡ marks_in (world_of script es).steps ++ ms)
-        (starts-are : (k : SessionId) → starts_in k (world_of script last).steps ≡ starts_in k (world_of script es).steps + starts_by k e)
+    module _ (v : World) (then_met : IsMet script v) (ms : List Mark)
+        (marks-are : marks_in v.steps ≡ marks_in w.steps ++ ms)
+        (starts-are : (k : SessionId) → starts_in k v.steps ≡ starts_in k w.steps + starts_by k e)
       where
         -- what is held behind the step was held before marks that ebb
-        ebb-held : (k : SessionId) (xs ys : List Mark) → ms ≡ xs ++ ys → Each (Ebbs k) ys → Held script (world_of script es).steps e k xs
+        ebb-held : (k : SessionId) (xs ys : List Mark) → ms ≡ xs ++ ys → Each (Ebbs k) ys → Held script w.steps e k xs
         ebb-held k xs ys split ebbs line g c r o =
-            table-back script k g line (marks_in (world_of script es).steps ++ xs) ys ebbs
+            table-back script k g line (marks_in w.steps ++ xs) ys ebbs
             (subst (λ zs. HoldsTableOf script zs g line) all
-            (between last k line g c
-            (subst (λ zs. Runs script k zs (starts_in k (world_of script last).steps) line g c) (sym all)
-            (subst (λ n. Runs script k ((marks_in (world_of script es).steps ++ xs) ++ ys) n line g c) (sym (starts-are k))
-            (runs-on script k (marks_in (world_of script es).steps ++ xs) ys _ line g c (each_weaker (Ebbs k) (CalmFor k) (ebbs-calm k) ys ebbs) r)))
-            (subst (λ zs. IsOut zs g c) (sym all) (out-more g c (marks_in (world_of script es).steps ++ xs) ys o))).1)
+            (between v then_met k line g c
+            (subst (λ zs. Runs script k zs (starts_in k v.steps) line g c) (sym all)
+            (subst (λ n. Runs script k ((marks_in w.steps ++ xs) ++ ys) n line g c) (sym (starts-are k))
+            (runs-on script k (marks_in w.steps ++ xs) ys _ line g c (each_weaker (Ebbs k) (CalmFor k) (ebbs-calm k) ys ebbs) r)))
+            (subst (λ zs. IsOut zs g c) (sym all) (out-more g c (marks_in w.steps ++ xs) ys o))).1)
           where
-            all : marks_in (world_of script last).steps ≡ (marks_in (world_of script es).steps ++ xs) ++ ys
-            all = marks-are ∙ ap (λ zs. marks_in (world_of script es).steps ++ zs) split ∙ sym (append_assoc (marks_in (world_of script es).steps) xs ys)
+            all : marks_in v.steps ≡ (marks_in w.steps ++ xs) ++ ys
+            all = marks-are ∙ ap (λ zs. marks_in w.steps ++ zs) split ∙ sym (append_assoc (marks_in w.steps) xs ys)
 
-        all-ebbs : ((k : SessionId) → Each (Ebbs k) ms) → AreHeld script (world_of script es).steps e ms
+        all-ebbs : ((k : SessionId) → Each (Ebbs k) ms) → AreHeld script w.steps e ms
         all-ebbs f k xs ys split = ebb-held k xs ys split (each-behind (Ebbs k) xs ys (subst (Each (Ebbs k)) split (f k)))
 
         -- where segments' answers are heard
-        told-held : ((k : SessionId) → starts_by k e ≡ 0) → ((k : SessionId) → Shape Silent Anyone k ms) → AreHeld script (world_of script es).steps e ms
+        told-held : ((k : SessionId) → starts_by k e ≡ 0) → ((k : SessionId) → Shape Silent Anyone k ms) → AreHeld script w.steps e ms
         told-held none f k xs ys split = by_shape (subst (Shape Silent Anyone k) split (f k))
           where
-            by_part : Each (Ebbs k) ys ⊎ (Each Silent xs × Ends Silent Anyone k ys) → Held script (world_of script es).steps e k xs
+            by_part : Each (Ebbs k) ys ⊎ (Each Silent xs × Ends Silent Anyone k ys) → Held script w.steps e k xs
             by_part (inl b) = ebb-held k xs ys split b
             by_part (inr b) = still-held k xs (none k) (each_weaker Silent (CalmFor k) (silent-calm k) xs b.0) (each_weaker Silent Quiet silent-quiet xs b.0) (each_weaker Silent Still silent-still xs b.0)
 
-            by_shape : Shape Silent Anyone k (xs ++ ys) → Held script (world_of script es).steps e k xs
+            by_shape : Shape Silent Anyone k (xs ++ ys) → Held script w.steps e k xs
             by_shape (inl b) = ebb-held k xs ys split (each-behind (Ebbs k) xs ys b)
             by_shape (inr b) = by_part (ends-split Silent Anyone k xs ys b)
 
@@ -367,7 +398,7 @@ module _ (script : Script) (some : 1 ≤ script.segments) where
           whole : (zs ys : List Mark) → body ≡ zs ++ ys → ms ≡ (pre ++ zs) ++ ys
           whole zs ys split = is ∙ ap (λ m. pre ++ m) split ∙ sym (append_assoc pre zs ys)
 
-          ebb-body : (zs ys : List Mark) → body ≡ zs ++ ys → Each (Ebbs k) body → Held script (world_of script es).steps e k (pre ++ zs)
+          ebb-body : (zs ys : List Mark) → body ≡ zs ++ ys → Each (Ebbs k) body → Held script w.steps e k (pre ++ zs)
           ebb-body zs ys split f = ebb-held k (pre ++ zs) ys (whole zs ys split) (each-behind (Ebbs k) zs ys (subst (Each (Ebbs k)) split f))
 
           heads : (x y : Mark) (xs ys : List Mark) → x ∷ xs ≡ y ∷ ys → (x ≡ y) × (xs ≡ ys)
@@ -375,126 +406,115 @@ module _ (script : Script) (some : 1 ≤ script.segments) where
 
           -- its own session
           module _ (says : Says k pre h asked) where
-            at-first : Held script (world_of script es).steps e k (pre ++ [])
-            at-first = subst (Held script (world_of script es).steps e k) (sym (append-nil pre)) (λ line g c r o. absurd ((says line g c r).2 o))
+            at-first : Held script w.steps e k (pre ++ [])
+            at-first = subst (Held script w.steps e k) (sym (append-nil pre)) (λ line g c r o. absurd ((says line g c r).2 o))
 
-            said-behind : (zs : List Mark) → Each (CalmFor k) zs → (line : Stmt) (g : Gxid) (c : Cid) → Runs script k (marks_in (world_of script es).steps ++ (pre ++ zs)) (starts_in k (world_of script es).steps + starts_by k e) line g c → (wanted : Claim) → lock_for script g line ≡ Some wanted → lock_for script h asked ≡ Some wanted
+            said-behind : (zs : List Mark) → Each (CalmFor k) zs → (line : Stmt) (g : Gxid) (c : Cid) → Runs script k (marks_in w.steps ++ (pre ++ zs)) (starts_in k w.steps + starts_by k e) line g c → (wanted : Claim) → lock_for script g line ≡ Some wanted → lock_for script h asked ≡ Some wanted
             said-behind zs calm line g c r wanted takes = subst (λ x. lock_for script x asked ≡ Some wanted) i.0 (subst (λ l. lock_for script g l ≡ Some wanted) i.1 takes)
               where
-                i : (g ≡ h) × (line ≡ asked) × (IsOut (marks_in (world_of script es).steps ++ pre) g c → ⊥)
-                i = says line g c (runs-back script k (marks_in (world_of script es).steps ++ pre) zs _ line g c calm (subst (λ m. Runs script k m (starts_in k (world_of script es).steps + starts_by k e) line g c) (sym (append_assoc (marks_in (world_of script es).steps) pre zs)) r))
+                i : (g ≡ h) × (line ≡ asked) × (IsOut (marks_in w.steps ++ pre) g c → ⊥)
+                i = says line g c (runs-back script k (marks_in w.steps ++ pre) zs _ line g c calm (subst (λ m. Runs script k m (starts_in k w.steps + starts_by k e) line g c) (sym (append_assoc (marks_in w.steps) pre zs)) r))
 
-            behind-free : (zs : List Mark) → Each (Free script h asked) zs → Held script (world_of script es).steps e k (pre ++ zs)
+            behind-free : (zs : List Mark) → Each (Free script h asked) zs → Held script w.steps e k (pre ++ zs)
             behind-free [] f = at-first
             behind-free (z ∷ zs) f = λ line g c r o wanted takes. absurd (none-some (lock_for script h asked) wanted f.0.1 (said-behind (z ∷ zs) (each_weaker (Free script h asked) (CalmFor k) (λ m q. plain-calm k m q.0) (z ∷ zs) f) line g c r wanted takes))
 
-            behind-hold : (own : Claim) → lock_for script h asked ≡ Some own → (zs : List Mark) → Each Plain zs → Held script (world_of script es).steps e k (pre ++ hold_mark the_coordinator own ∷ zs)
+            behind-hold : (own : Claim) → lock_for script h asked ≡ Some own → (zs : List Mark) → Each Plain zs → Held script w.steps e k (pre ++ hold_mark the_coordinator own ∷ zs)
             behind-hold own takes zs f =
                 λ line g c r o wanted wants.
-                subst (λ (x : Claim). IsIn (holds_at (marks_in (world_of script es).steps ++ (pre ++ hold_mark the_coordinator own ∷ zs)) the_coordinator) x)
+                subst (λ (x : Claim). IsIn (holds_at (marks_in w.steps ++ (pre ++ hold_mark the_coordinator own ∷ zs)) the_coordinator) x)
                 (some-same own wanted (sym takes ∙ said-behind (hold_mark the_coordinator own ∷ zs) (tt, each_weaker Plain (CalmFor k) (plain-calm k) zs f) line g c r wanted wants))
-                (subst (λ m. IsIn (holds_at m the_coordinator) own) (append_assoc (marks_in (world_of script es).steps) pre (hold_mark the_coordinator own ∷ zs))
-                (granted-held (marks_in (world_of script es).steps ++ pre) zs the_coordinator own.gxid own.object own.mode (each_weaker Plain Quiet plain-quiet zs f)))
+                (subst (λ m. IsIn (holds_at m the_coordinator) own) (append_assoc (marks_in w.steps) pre (hold_mark the_coordinator own ∷ zs))
+                (granted-held (marks_in w.steps ++ pre) zs the_coordinator own.gxid own.object own.mode (each_weaker Plain Quiet plain-quiet zs f)))
 
-            own-lock : (l : Locking script k h asked Q body) → (zs ys : List Mark) → body ≡ zs ++ ys → Held script (world_of script es).steps e k (pre ++ zs)
+            own-lock : (l : Locking script k h asked Q body) → (zs ys : List Mark) → body ≡ zs ++ ys → Held script w.steps e k (pre ++ zs)
             own-lock l [] ys split = at-first
             own-lock l (z ∷ zs) ys split = by_shape (subst (Shape Plain Q k) same.1 l.shape)
               where
                 same : (hold_mark the_coordinator l.wanted ≡ z) × (l.rest ≡ zs ++ ys)
                 same = heads (hold_mark the_coordinator l.wanted) z l.rest (zs ++ ys) (sym l.is ∙ split)
 
-                by_part : Each (Ebbs k) ys ⊎ (Each Plain zs × Ends Plain Q k ys) → Held script (world_of script es).steps e k (pre ++ z ∷ zs)
+                by_part : Each (Ebbs k) ys ⊎ (Each Plain zs × Ends Plain Q k ys) → Held script w.steps e k (pre ++ z ∷ zs)
                 by_part (inl f) = ebb-held k (pre ++ z ∷ zs) ys (whole (z ∷ zs) ys split) f
-                by_part (inr f) = subst (λ m. Held script (world_of script es).steps e k (pre ++ m ∷ zs)) same.0 (behind-hold l.wanted l.takes zs f.0)
+                by_part (inr f) = subst (λ m. Held script w.steps e k (pre ++ m ∷ zs)) same.0 (behind-hold l.wanted l.takes zs f.0)
 
-                by_shape : Shape Plain Q k (zs ++ ys) → Held script (world_of script es).steps e k (pre ++ z ∷ zs)
+                by_shape : Shape Plain Q k (zs ++ ys) → Held script w.steps e k (pre ++ z ∷ zs)
                 by_shape (inl f) = by_part (inl (each-behind (Ebbs k) zs ys f))
                 by_shape (inr f) = by_part (ends-split Plain Q k zs ys f)
 
-            own-held : Body script k h asked Q body → (zs ys : List Mark) → body ≡ zs ++ ys → Held script (world_of script es).steps e k (pre ++ zs)
+            own-held : Body script k h asked Q body → (zs ys : List Mark) → body ≡ zs ++ ys → Held script w.steps e k (pre ++ zs)
             own-held (inl f) zs ys split = ebb-body zs ys split f
             own-held (inr (inl l)) zs ys split = own-lock l zs ys split
             own-held (inr (inr f)) zs ys split = by_part (ends-split (Free script h asked) Q k zs ys (subst (Ends (Free script h asked) Q k) split f))
               where
-                by_part : Each (Ebbs k) ys ⊎ (Each (Free script h asked) zs × Ends (Free script h asked) Q k ys) → Held script (world_of script es).steps e k (pre ++ zs)
+                by_part : Each (Ebbs k) ys ⊎ (Each (Free script h asked) zs × Ends (Free script h asked) Q k ys) → Held script w.steps e k (pre ++ zs)
                 by_part (inl b) = ebb-held k (pre ++ zs) ys (whole zs ys split) b
                 by_part (inr b) = behind-free zs b.0
 
           -- another session
-          module _ (other : (s : SessionId) → Q s → is_same_session s k ≡ false) (before-it : Held script (world_of script es).steps e k pre) where
-            other-lock : (l : Locking script k h asked Q body) → (zs ys : List Mark) → body ≡ zs ++ ys → Held script (world_of script es).steps e k (pre ++ zs)
-            other-lock l [] ys split = subst (Held script (world_of script es).steps e k) (sym (append-nil pre)) before-it
+          module _ (other : (s : SessionId) → Q s → is_same_session s k ≡ false) (before-it : Held script w.steps e k pre) where
+            other-lock : (l : Locking script k h asked Q body) → (zs ys : List Mark) → body ≡ zs ++ ys → Held script w.steps e k (pre ++ zs)
+            other-lock l [] ys split = subst (Held script w.steps e k) (sym (append-nil pre)) before-it
             other-lock l (z ∷ zs) ys split = ebb-held k (pre ++ z ∷ zs) ys (whole (z ∷ zs) ys split) (each-behind (Ebbs k) zs ys (subst (Each (Ebbs k)) (heads (hold_mark the_coordinator l.wanted) z l.rest (zs ++ ys) (sym l.is ∙ split)).1 (by_shape l.shape)))
               where
                 by_shape : Shape Plain Q k l.rest → Each (Ebbs k) l.rest
                 by_shape (inl f) = f
                 by_shape (inr f) = ends-other Plain Q k (plain-ebbs k) other l.rest f
 
-            other-held : Body script k h asked Q body → (zs ys : List Mark) → body ≡ zs ++ ys → Held script (world_of script es).steps e k (pre ++ zs)
+            other-held : Body script k h asked Q body → (zs ys : List Mark) → body ≡ zs ++ ys → Held script w.steps e k (pre ++ zs)
             other-held (inl f) zs ys split = ebb-body zs ys split f
             other-held (inr (inl l)) zs ys split = other-lock l zs ys split
             other-held (inr (inr f)) zs ys split = ebb-body zs ys split (ends-other (Free script h asked) Q k (free-ebbs script k h asked) other body f)
 
-  -- what happens at a node
+  -- what happens at the coordinator
   abbrev starts_there : SessionId → NodeEvent → ℕ
   starts_there k (here.Start s) = if is_same_session s k then 1 else 0
   starts_there k _ = 0
 
-  starts-at : (w : World) (e : Event) (x : NodeEvent) → at_node w e ≡ Some x → (k : SessionId) → starts_by k e ≡ starts_there k x
-  starts-at w (event.Receive from to number) x q k = by_found (found from to number w.sent) q
-    where
-      by_found : (o : Option Envelope) → delivered from o ≡ Some x → 0 ≡ starts_there k x
-      by_found None r = absurd (cc)
-      by_found (Some envelope) r = ap (starts_there k) (some-same (here.Deliver from envelope) x r)
-  starts-at w (event.Resume n g) x q k = ap (starts_there k) (some-same (here.Resume g) x q)
-  starts-at w (event.Start s) x q k = ap (starts_there k) (some-same (here.Start s) x q)
-  starts-at w (event.End s) x q k = ap (starts_there k) (some-same (here.End s) x q)
-  starts-at w (event.Resend i g) x q k = ap (starts_there k) (some-same (here.Resend i g) x q)
-  starts-at w event.Round x q k = ap (starts_there k) (some-same here.Round x q)
+  starts-at : (w : World) (e : Event) (x : NodeEvent) → IsThere script w e the_coordinator x → (k : SessionId) → starts_by k e ≡ starts_there k x
+  starts-at w e (here.Deliver from envelope) t k = ap (starts_by k) t.event
+  starts-at w e (here.Resume g) t k = ap (starts_by k) t
+  starts-at w e (here.Start s) t k = ap (starts_by k) t
+  starts-at w e (here.End s) t k = ap (starts_by k) t
+  starts-at w e (here.Resend i g) t k = ap (starts_by k) t
+  starts-at w e here.Round t k = ap (starts_by k) t
 
   -- A STEP OF THE COORDINATOR
-  module _ (es : List (Event × Bool)) (e : Event) (x : NodeEvent) (fails : Bool) (h : IsHere script (world_of script es) e x) where
-    abbrev w : World
-    w = world_of script es
+  module _ (w : World) (met : IsMet script w) (e : Event) (x : NodeEvent) (fails : Bool) (t : IsThere script w e the_coordinator x) (ok : coord_can script w.coord x ≡ true) (next_met : IsMet script (coord_did w e (coord_turn script w.coord x fails))) where
+    abbrev next : World
+    next = coord_did w e (coord_turn script w.coord x fails)
 
     abbrev step : Step
-    step = record { stamp = record { clock = clock_after (world_of script es).coord.clock x; node = the_coordinator }; event = e; marks = (coord_rule script (world_of script es).coord x fails).marks }
+    step = record { stamp = record { clock = clock_after w.coord.clock x; node = the_coordinator }; event = e; marks = (coord_turn script w.coord x fails).marks }
 
-    leads : world_of script (es ++ (e, fails) ∷ []) ≡ coord_did (world_of script es) e (coord_rule script (world_of script es).coord x fails)
-    leads =
-        after-last script some new_world es (e, fails)
-        ∙ ap (λ n. if can_here script w n (at_node w e) then does script w e n fails (at_node w e) else w) h.node
-        ∙ ap (λ o. if can_here script w the_coordinator o then does script w e the_coordinator fails o else w) h.is
-        ∙ ap (λ (t : Bool). if t then coord_did w e (coord_rule script w.coord x fails) else w) h.admitted
+    marks-are : marks_in (coord_did w e (coord_turn script w.coord x fails)).steps ≡ marks_in w.steps ++ (coord_turn script w.coord x fails).marks
+    marks-are = marks_in-push w.steps step
 
-    marks-are : marks_in (world_of script (es ++ (e, fails) ∷ [])).steps ≡ marks_in (world_of script es).steps ++ (coord_rule script (world_of script es).coord x fails).marks
-    marks-are = ap (λ (v : World). marks_in v.steps) leads ∙ marks_in-push w.steps step
-
-    starts-are : (k : SessionId) → starts_in k (world_of script (es ++ (e, fails) ∷ [])).steps ≡ starts_in k (world_of script es).steps + starts_by k e
-    starts-are k = ap (λ (v : World). starts_in k v.steps) leads ∙ starts_in-push k w.steps step
+    starts-are : (k : SessionId) → starts_in k (coord_did w e (coord_turn script w.coord x fails)).steps ≡ starts_in k w.steps + starts_by k e
+    starts-are k = starts_in-push k w.steps step
 
     abbrev HeldHere : Type 0
-    HeldHere = AreHeld script (world_of script es).steps e (coord_rule script (world_of script es).coord x fails).marks
+    HeldHere = AreHeld script w.steps e (coord_turn script w.coord x fails).marks
 
-    ebbing : ((k : SessionId) → Each (Ebbs k) (on_event script (world_of script es).coord x fails).marks) → HeldHere
-    ebbing f = all-ebbs es e (es ++ (e, fails) ∷ []) (coord_rule script (world_of script es).coord x fails).marks marks-are starts-are
-        (λ k. each_append (Ebbs k) (on_event script (world_of script es).coord x fails).marks _ (f k) (sent-ebbs k _ (on_event script (world_of script es).coord x fails).outs))
+    ebbing : ((k : SessionId) → Each (Ebbs k) (on_event script w.coord x fails).marks) → HeldHere
+    ebbing f = all-ebbs w met e next next_met (coord_turn script w.coord x fails).marks marks-are starts-are
+        (λ k. each_append (Ebbs k) (on_event script w.coord x fails).marks _ (f k) (sent-ebbs k _ (on_event script w.coord x fails).outs))
 
-    heard : ((k : SessionId) → starts_by k e ≡ 0) → ((k : SessionId) → Shape Silent Anyone k (on_event script (world_of script es).coord x fails).marks) → HeldHere
-    heard none f = told-held es e (es ++ (e, fails) ∷ []) (coord_rule script (world_of script es).coord x fails).marks marks-are starts-are none
-        (λ k. shape-more Silent Anyone k (on_event script (world_of script es).coord x fails).marks _ (sent-ebbs k _ (on_event script (world_of script es).coord x fails).outs) (f k))
+    heard : ((k : SessionId) → starts_by k e ≡ 0) → ((k : SessionId) → Shape Silent Anyone k (on_event script w.coord x fails).marks) → HeldHere
+    heard none f = told-held w met e next next_met (coord_turn script w.coord x fails).marks marks-are starts-are none
+        (λ k. shape-more Silent Anyone k (on_event script w.coord x fails).marks _ (sent-ebbs k _ (on_event script w.coord x fails).outs) (f k))
 
     -- a statement that has waited
     abbrev Home : Gxid → SessionId → Type 0
-    Home g s = s ≡ (work_of (world_of script es).coord g).session
+    Home g s = s ≡ (work_of w.coord g).session
 
-    resumed : (g : Gxid) → x ≡ here.Resume g → GoesOut script (world_of script es).coord g → ((k : SessionId) → starts_by k e ≡ 0) → (on_event script (world_of script es).coord x fails).marks ≡ (resumes script (world_of script es).coord g (wait_of (world_of script es).coord.locks g) (work_of (world_of script es).coord g).waiting).marks → HeldHere
+    resumed : (g : Gxid) → x ≡ here.Resume g → GoesOut script w.coord g → ((k : SessionId) → starts_by k e ≡ 0) → (on_event script w.coord x fails).marks ≡ (resumes script w.coord g (wait_of w.coord.locks g) (work_of w.coord g).waiting).marks → HeldHere
     resumed g is d none same k xs ys split = by_session (is_same_session (work_of w.coord g).session k) refl
       where
         out-is : (o : Option Claim) (l : Option Stmt) → o ≡ Some d.wanted → l ≡ Some d.line → resumes script w.coord g o l ≡ resumes script w.coord g (Some d.wanted) (Some d.line)
         out-is o l p q = cc
 
-        shaped : Locking script k g d.line (Home g) (on_event script (world_of script es).coord x fails).marks
+        shaped : Locking script k g d.line (Home g) (on_event script w.coord x fails).marks
         shaped = record {
           wanted = d.wanted;
           takes = d.lock;
@@ -503,28 +523,28 @@ module _ (script : Script) (some : 1 ≤ script.segments) where
           shape = locked-shape k (Home g) script (without_wait w.coord g d.wanted) g d.line (ap (λ (v : Work). v.session) (at-self w.coord.works g.0 (record (work_of w.coord g) { waiting = None })));
         }
 
-        body : Body script k g d.line (Home g) (coord_rule script (world_of script es).coord x fails).marks
-        body = body-more script k g d.line (Home g) (on_event script (world_of script es).coord x fails).marks _ (sent-ebbs k _ (on_event script (world_of script es).coord x fails).outs) (inr (inl shaped))
+        body : Body script k g d.line (Home g) (coord_turn script w.coord x fails).marks
+        body = body-more script k g d.line (Home g) (on_event script w.coord x fails).marks _ (sent-ebbs k _ (on_event script w.coord x fails).outs) (inr (inl shaped))
 
         plus-none : (a b : ℕ) → b ≡ 0 → a + b ≡ a
         plus-none a b q = omega arith
 
-        own : (work_of w.coord g).session ≡ k → Says es e k [] g d.line
-        own home line f c r = (txn, by_way its.way, λ o. clash (between es k line f c run (subst (λ m. IsOut m f c) (append-nil (marks_in w.steps)) o)).0)
+        own : (work_of w.coord g).session ≡ k → Says w met e k [] g d.line
+        own home line f c r = (txn, by_way its.way, λ o. clash (between w met k line f c run (subst (λ m. IsOut m f c) (append-nil (marks_in w.steps)) o)).0)
           where
-            run : Runs script k (marks_in (world_of script es).steps) (starts_in k (world_of script es).steps) line f c
+            run : Runs script k (marks_in w.steps) (starts_in k w.steps) line f c
             run = subst (λ n. Runs script k (marks_in w.steps) n line f c) (plus-none (starts_in k w.steps) (starts_by k e) (none k)) (subst (λ m. Runs script k m (starts_in k w.steps + starts_by k e) line f c) (append-nil (marks_in w.steps)) r)
 
-            its : IsRun (marks_in (world_of script es).steps) (world_of script es).coord k line f c
-            its = run-between script w (sessions-stand script some es) k line f c run
+            its : IsRun (marks_in w.steps) w.coord k line f c
+            its = run-between script w met.sessions.sessions k line f c run
 
-            here-is : (session_of (world_of script es).coord k).transaction ≡ g
+            here-is : (session_of w.coord k).transaction ≡ g
             here-is = subst (λ s. (session_of w.coord s).transaction ≡ g) home d.home
 
             txn : f ≡ g
             txn = its.txn ∙ here-is
 
-            clash : IsCommandOf (work_of (world_of script es).coord (session_of (world_of script es).coord k).transaction) line → ⊥
+            clash : IsCommandOf (work_of w.coord (session_of w.coord k).transaction) line → ⊥
             clash it = none-some (work_of w.coord g).command it.command d.idle (subst (λ j. (work_of w.coord j).command ≡ Some it.command) here-is it.has_it)
 
             by_way : IsCommandOf (work_of w.coord (session_of w.coord k).transaction) line ⊎ IsWaitingOf (marks_in w.steps) (work_of w.coord (session_of w.coord k).transaction) line (session_of w.coord k).transaction c → line ≡ d.line
@@ -533,45 +553,45 @@ module _ (script : Script) (some : 1 ≤ script.segments) where
 
         by_session : (b : Bool) → is_same_session (work_of w.coord g).session k ≡ b → Held script w.steps e k xs
         by_session true q =
-            own-held es e (es ++ (e, fails) ∷ []) _ marks-are starts-are k [] (coord_rule script w.coord x fails).marks g d.line (Home g) refl (own (same-session (work_of w.coord g).session k q)) body xs ys split
+            own-held w met e next next_met _ marks-are starts-are k [] (coord_turn script w.coord x fails).marks g d.line (Home g) refl (own (same-session (work_of w.coord g).session k q)) body xs ys split
         by_session false q =
-            other-held es e (es ++ (e, fails) ∷ []) _ marks-are starts-are k [] (coord_rule script w.coord x fails).marks g d.line (Home g) refl (λ s home. subst (λ j. is_same_session j k ≡ false) (sym home) q) (still-held es e k [] (none k) tt tt tt) body xs ys split
+            other-held w met e next next_met _ marks-are starts-are k [] (coord_turn script w.coord x fails).marks g d.line (Home g) refl (λ s home. subst (λ j. is_same_session j k ≡ false) (sym home) q) (still-held w met e k [] (none k) tt tt tt) body xs ys split
 
     -- the session whose line starts
-    module _ (s : SessionId) (is : x ≡ here.Start s) (idle : is_nothing (session_of (world_of script es).coord s).state.pending ≡ true) (asked : Stmt) (next : next_line script (world_of script es).coord s ≡ Some asked) where
+    module _ (s : SessionId) (is : x ≡ here.Start s) (idle : is_nothing (session_of w.coord s).state.pending ≡ true) (asked : Stmt) (next : next_line script w.coord s ≡ Some asked) where
       abbrev own_txn : Gxid
-      own_txn = (session_of (world_of script es).coord s).transaction
+      own_txn = (session_of w.coord s).transaction
 
-      abbrev stands : IsSession script s (world_of script es).steps (world_of script es).coord
-      stands = sessions-stand script some es s
+      abbrev stands : IsSession script s w.steps w.coord
+      stands = met.sessions.sessions s
 
-      counts : answer_count s (marks_in (world_of script es).steps) ≡ (session_of (world_of script es).coord s).lines
+      counts : answer_count s (marks_in w.steps) ≡ (session_of w.coord s).lines
       counts = idle-counts script s (marks_in w.steps) w.coord.table.next.0 (session_of w.coord s).state.block (session_of w.coord s).state.pending (session_of w.coord s).lines own_txn (work_of w.coord own_txn) _ idle (stands.stands)
 
-      line-is : (ms : List Mark) (line : Stmt) → answer_count s ms ≡ answer_count s (marks_in (world_of script es).steps) → stmt_of s (answer_count s ms + 1) script.lines ≡ Some line → line ≡ asked
+      line-is : (ms : List Mark) (line : Stmt) → answer_count s ms ≡ answer_count s (marks_in w.steps) → stmt_of s (answer_count s ms + 1) script.lines ≡ Some line → line ≡ asked
       line-is ms line same l = some-same line asked (sym l ∙ ap (λ i. stmt_of s (i + 1) script.lines) (same ∙ counts) ∙ next)
 
       -- before all marks
-      first-says : Says es e s [] own_txn asked
+      first-says : Says w met e s [] own_txn asked
       first-says line g c r = (in-block.txn, line-is (marks_in w.steps) line refl run.is_line, λ o. not-out g c (marks_in w.steps) in-block.unread unsent (subst (λ m. IsOut m g c) (append-nil (marks_in w.steps)) o))
         where
-          run : Runs script s (marks_in (world_of script es).steps) (starts_in s (world_of script es).steps + starts_by s e) line g c
-          run = subst (λ m. Runs script s m (starts_in s (world_of script es).steps + starts_by s e) line g c) (append-nil (marks_in (world_of script es).steps)) r
+          run : Runs script s (marks_in w.steps) (starts_in s w.steps + starts_by s e) line g c
+          run = subst (λ m. Runs script s m (starts_in s w.steps + starts_by s e) line g c) (append-nil (marks_in w.steps)) r
 
-          in-block : IsInBlock (marks_in (world_of script es).steps) (session_of (world_of script es).coord s).state.block own_txn (work_of (world_of script es).coord own_txn) g c
+          in-block : IsInBlock (marks_in w.steps) (session_of w.coord s).state.block own_txn (work_of w.coord own_txn) g c
           in-block = idle-block script s (marks_in w.steps) w.coord.table.next.0 (session_of w.coord s).state.block (session_of w.coord s).state.pending (session_of w.coord s).lines own_txn (work_of w.coord own_txn) _ _ asked line g c idle next stands.stands run
 
-          live : stage_of (world_of script es).coord g.0 ≡ Live
-          live = subst (λ (j : Gxid). stage_of w.coord j.0 ≡ Live) (sym in-block.txn) (((world_knows script some es).kept.placed s.0).free in-block.stands (nothing-in (session_of w.coord s).state.pending idle))
+          live : stage_of w.coord g.0 ≡ Live
+          live = subst (λ (j : Gxid). stage_of w.coord j.0 ≡ Live) (sym in-block.txn) ((met.knows.kept.placed s.0).free in-block.stands (nothing-in (session_of w.coord s).state.pending idle))
 
-          unsent : AreUnsent g c (marks_in (world_of script es).steps)
-          unsent = next-unsent script w (world_knows script some es) (commit.world-holds script some es) g c live (subst (λ (j : Gxid). (work_of w.coord j).last < c.0) (sym in-block.txn) in-block.later) (world-has script some es)
+          unsent : AreUnsent g c (marks_in w.steps)
+          unsent = next-unsent script w met.knows met.holds g c live (subst (λ (j : Gxid). (work_of w.coord j).last < c.0) (sym in-block.txn) in-block.later) met.has
 
       -- behind the start of a transaction
-      new-says : Says es e s (mark.Start (world_of script es).coord.table.next s ∷ []) (world_of script es).coord.table.next asked
+      new-says : Says w met e s (mark.Start w.coord.table.next s ∷ []) w.coord.table.next asked
       new-says line g c r = (txn, line-is (marks_in w.steps ++ mark.Start w.coord.table.next s ∷ []) line z.answered r.is_line, λ o. none (out-front g c (marks_in w.steps) (mark.Start w.coord.table.next s ∷ []) (tt, tt) o))
         where
-          z : Said script s (marks_in (world_of script es).steps ++ mark.Start (world_of script es).coord.table.next s ∷ []) (answer_count s (marks_in (world_of script es).steps)) (state_of script s (marks_in (world_of script es).steps)) true (Some (world_of script es).coord.table.next)
+          z : Said script s (marks_in w.steps ++ mark.Start w.coord.table.next s ∷ []) (answer_count s (marks_in w.steps)) (state_of script s (marks_in w.steps)) true (Some w.coord.table.next)
           z = said-start script s (marks_in w.steps) _ _ (is_begun s (marks_in w.steps)) (started_after s None (marks_in w.steps)) w.coord.table.next (record { answered = refl; state = refl; begun = refl; started = refl })
 
           by_state : (q : BlockState) → transaction_of q s (marks_in w.steps ++ mark.Start w.coord.table.next s ∷ []) ≡ Some g → g ≡ w.coord.table.next
@@ -579,38 +599,38 @@ module _ (script : Script) (some : 1 ≤ script.segments) where
           by_state (InBlock l n) t = some-same g w.coord.table.next (sym t ∙ z.started)
           by_state Failed t = absurd (cc)
 
-          txn : g ≡ (world_of script es).coord.table.next
+          txn : g ≡ w.coord.table.next
           txn = by_state (state_of script s (marks_in w.steps ++ mark.Start w.coord.table.next s ∷ [])) r.transaction
 
-          undrawn : (world_of script es).coord.table.next.0 ≤ g.0
+          undrawn : w.coord.table.next.0 ≤ g.0
           undrawn = subst (λ (j : Gxid). w.coord.table.next.0 ≤ j.0) (sym txn) (le-same w.coord.table.next.0)
 
           none : IsOut (marks_in w.steps) g c → ⊥
-          none = not-out g c (marks_in w.steps) (unsnapped (marks_in w.steps) g c ((sessions.world-holds script some es).fresh.unread g undrawn)) (new-unsent script w (world_knows script some es) (commit.world-holds script some es) g c undrawn (world-has script some es))
+          none = not-out g c (marks_in w.steps) (unsnapped (marks_in w.steps) g c (met.sessions.fresh.unread g undrawn)) (new-unsent script w met.knows met.holds g c undrawn met.has)
 
       abbrev led : Coord
-      led = starts_line (world_of script es).coord s (line_step (session_of (world_of script es).coord s).state.block asked)
+      led = starts_line w.coord s (line_step (session_of w.coord s).state.block asked)
 
       same-txn : (session_of led s).transaction ≡ own_txn
       same-txn = ap (λ (t : Bool). (if t then record (session_of w.coord s) { lines = (session_of w.coord s).lines + 1; state = after_line (session_of w.coord s).state.block (line_step (session_of w.coord s).state.block asked) } else w.coord.sessions s.0).transaction) (eqb-self s.0)
 
-      home : (b : Block) → (session_of (world_of script es).coord s).state.block ≡ b → IsHome led s b
+      home : (b : Block) → (session_of w.coord s).state.block ≡ b → IsHome led s b
       home (block.Open level) q = ap (λ (j : Gxid). (w.coord.works j.0).session) same-txn ∙ in-block-home
         where
           owner : (a b : SessionId) → a.0 ≡ b.0 → a ≡ b
           owner a b q = ap (λ i. let y : SessionId = record { 0 = i } in y) q
 
-          in-block-home : (work_of (world_of script es).coord own_txn).session ≡ s
-          in-block-home = owner _ s (((world_knows script some es).kept.placed s.0).stands (ap is_open_in q)).1
+          in-block-home : (work_of w.coord own_txn).session ≡ s
+          in-block-home = owner _ s ((met.knows.kept.placed s.0).stands (ap is_open_in q)).1
       home block.Outside q = tt
       home block.Failed q = tt
 
       abbrev all_marks : List Mark
-      all_marks = (coord_rule script (world_of script es).coord x fails).marks
+      all_marks = (coord_turn script w.coord x fails).marks
 
-      module _ (same : (coord_rule script (world_of script es).coord x fails).marks ≡ (on_line script led s asked (line_step (session_of (world_of script es).coord s).state.block asked)).marks ++ numbered (on_event script (world_of script es).coord x fails).coord.sent (on_event script (world_of script es).coord x fails).outs) where
+      module _ (same : (coord_turn script w.coord x fails).marks ≡ (on_line script led s asked (line_step (session_of w.coord s).state.block asked)).marks ++ numbered (on_event script w.coord x fails).coord.sent (on_event script w.coord x fails).outs) where
         abbrev line_marks : List Mark
-        line_marks = (on_line script led s asked (line_step (session_of (world_of script es).coord s).state.block asked)).marks
+        line_marks = (on_line script led s asked (line_step (session_of w.coord s).state.block asked)).marks
 
         opens : (k : SessionId) → Opening k script s led asked line_marks
         opens k = line-opens k script s led (session_of w.coord s).state.block asked (home (session_of w.coord s).state.block refl)
@@ -629,31 +649,31 @@ module _ (script : Script) (some : 1 ≤ script.segments) where
             rest : body ≡ zs ++ ys
             rest = cc
 
-        own-start : (xs ys : List Mark) → all_marks ≡ xs ++ ys → Held script (world_of script es).steps e s xs
+        own-start : (xs ys : List Mark) → all_marks ≡ xs ++ ys → Held script w.steps e s xs
         own-start xs ys split = by_opening (opens s)
           where
             by_opening : Opening s script s led asked line_marks → Held script w.steps e s xs
             by_opening (inl b) =
-                own-held es e (es ++ (e, fails) ∷ []) all_marks marks-are starts-are s [] all_marks own_txn asked Its refl first-says
+                own-held w met e next next_met all_marks marks-are starts-are s [] all_marks own_txn asked Its refl first-says
                 (subst (Body script s own_txn asked Its) (sym same) (body-more script s own_txn asked Its line_marks _ (sent-ebbs s _ (on_event script w.coord x fails).outs) (subst (λ j. Body script s j asked Its line_marks) same-txn b))) xs ys split
             by_opening (inr b) =
                 split-first (b.0 ++ numbered (on_event script w.coord x fails).coord.sent (on_event script w.coord x fails).outs) xs ys (sym (same ∙ ap (λ m. m ++ numbered (on_event script w.coord x fails).coord.sent (on_event script w.coord x fails).outs) b.1) ∙ split) s
                 (λ line g c r o. absurd ((first-says line g c r).2 o))
-                (λ zs q. own-held es e (es ++ (e, fails) ∷ []) all_marks marks-are starts-are s (mark.Start w.coord.table.next s ∷ []) _ w.coord.table.next asked Its (same ∙ ap (λ m. m ++ numbered (on_event script w.coord x fails).coord.sent (on_event script w.coord x fails).outs) b.1) new-says
+                (λ zs q. own-held w met e next next_met all_marks marks-are starts-are s (mark.Start w.coord.table.next s ∷ []) _ w.coord.table.next asked Its (same ∙ ap (λ m. m ++ numbered (on_event script w.coord x fails).coord.sent (on_event script w.coord x fails).outs) b.1) new-says
                 (body-more script s w.coord.table.next asked Its b.0 _ (sent-ebbs s _ (on_event script w.coord x fails).outs) b.2) zs ys q)
 
-        other-start : (k : SessionId) → is_same_session s k ≡ false → starts_by k e ≡ 0 → (xs ys : List Mark) → all_marks ≡ xs ++ ys → Held script (world_of script es).steps e k xs
+        other-start : (k : SessionId) → is_same_session s k ≡ false → starts_by k e ≡ 0 → (xs ys : List Mark) → all_marks ≡ xs ++ ys → Held script w.steps e k xs
         other-start k apart none xs ys split = by_opening (opens k)
           where
             by_opening : Opening k script s led asked line_marks → Held script w.steps e k xs
             by_opening (inl b) =
-                other-held es e (es ++ (e, fails) ∷ []) all_marks marks-are starts-are k [] all_marks (session_of led s).transaction asked Its refl (λ j q. subst (λ i. is_same_session i k ≡ false) (sym q) apart) (still-held es e k [] none tt tt tt)
+                other-held w met e next next_met all_marks marks-are starts-are k [] all_marks (session_of led s).transaction asked Its refl (λ j q. subst (λ i. is_same_session i k ≡ false) (sym q) apart) (still-held w met e k [] none tt tt tt)
                 (subst (Body script k (session_of led s).transaction asked Its) (sym same) (body-more script k (session_of led s).transaction asked Its line_marks _ (sent-ebbs k _ (on_event script w.coord x fails).outs) b)) xs ys split
             by_opening (inr b) =
                 split-first (b.0 ++ numbered (on_event script w.coord x fails).coord.sent (on_event script w.coord x fails).outs) xs ys (sym (same ∙ ap (λ m. m ++ numbered (on_event script w.coord x fails).coord.sent (on_event script w.coord x fails).outs) b.1) ∙ split) k
-                (still-held es e k [] none tt tt tt)
-                (λ zs q. other-held es e (es ++ (e, fails) ∷ []) all_marks marks-are starts-are k (mark.Start w.coord.table.next s ∷ []) _ w.coord.table.next asked Its (same ∙ ap (λ m. m ++ numbered (on_event script w.coord x fails).coord.sent (on_event script w.coord x fails).outs) b.1) (λ j i. subst (λ t. is_same_session t k ≡ false) (sym i) apart)
-                (still-held es e k (mark.Start w.coord.table.next s ∷ []) none (apart, tt) (tt, tt) (tt, tt))
+                (still-held w met e k [] none tt tt tt)
+                (λ zs q. other-held w met e next next_met all_marks marks-are starts-are k (mark.Start w.coord.table.next s ∷ []) _ w.coord.table.next asked Its (same ∙ ap (λ m. m ++ numbered (on_event script w.coord x fails).coord.sent (on_event script w.coord x fails).outs) b.1) (λ j i. subst (λ t. is_same_session t k ≡ false) (sym i) apart)
+                (still-held w met e k (mark.Start w.coord.table.next s ∷ []) none (apart, tt) (tt, tt) (tt, tt))
                 (body-more script k w.coord.table.next asked Its b.0 _ (sent-ebbs k _ (on_event script w.coord x fails).outs) b.2) zs ys q)
 
         started : ((k : SessionId) → starts_by k e ≡ (if is_same_session s k then 1 else 0)) → HeldHere
@@ -668,51 +688,78 @@ module _ (script : Script) (some : 1 ≤ script.segments) where
   resent-ebbs k c i None = tt
   resent-ebbs k c i (Some told) = tt
 
-  here-held : (es : List (Event × Bool)) (e : Event) (x : NodeEvent) (fails : Bool) → IsHere script (world_of script es) e x → AreHeld script (world_of script es).steps e (coord_rule script (world_of script es).coord x fails).marks
-  here-held es e (here.Deliver from envelope) fails h = heard es e (here.Deliver from envelope) fails h (starts-at (world_of script es) e (here.Deliver from envelope) h.is) (λ k. message-told k (world_of script es).coord from fails envelope.message)
-  here-held es e (here.Start s) fails h = by_line (next_line script (world_of script es).coord s) refl
+  here-held : (w : World) (met : IsMet script w) (e : Event) (x : NodeEvent) (fails : Bool) → IsThere script w e the_coordinator x → coord_can script w.coord x ≡ true → IsMet script (coord_did w e (coord_turn script w.coord x fails))
+      → AreHeld script w.steps e (coord_turn script w.coord x fails).marks
+  here-held w met e (here.Deliver from envelope) fails t ok next_met =
+      heard w met e (here.Deliver from envelope) fails t ok next_met (starts-at w e (here.Deliver from envelope) t) (λ k. message-told k w.coord from fails envelope.message)
+  here-held w met e (here.Start s) fails t ok next_met = by_line (next_line script w.coord s) refl
     where
-      by_line : (o : Option Stmt) → next_line script (world_of script es).coord s ≡ o → AreHeld script (world_of script es).steps e (coord_rule script (world_of script es).coord (here.Start s) fails).marks
-      by_line None q = ebbing es e (here.Start s) fails h (λ k. subst (λ o. Each (Ebbs k) (starts script (world_of script es).coord s o).marks) (sym q) tt)
+      by_line : (o : Option Stmt) → next_line script w.coord s ≡ o → AreHeld script w.steps e (coord_turn script w.coord (here.Start s) fails).marks
+      by_line None q = ebbing w met e (here.Start s) fails t ok next_met (λ k. subst (λ o. Each (Ebbs k) (starts script w.coord s o).marks) (sym q) tt)
       by_line (Some asked) q =
-          started es e (here.Start s) fails h s refl (and_parts _ _ h.admitted).0 asked q
-          (ap (λ o. (starts script (world_of script es).coord s o).marks ++ numbered (on_event script (world_of script es).coord (here.Start s) fails).coord.sent (on_event script (world_of script es).coord (here.Start s) fails).outs) q)
-          (starts-at (world_of script es) e (here.Start s) h.is)
-  here-held es e (here.End s) fails h = ebbing es e (here.End s) fails h (λ k. end-ebbs k (world_of script es).coord s (session_of (world_of script es).coord s).state.block)
-  here-held es e (here.Resend i (Some g)) fails h = ebbing es e (here.Resend i (Some g)) fails h (λ k. resent-ebbs k (world_of script es).coord i (awaited (world_of script es).coord g i))
-  here-held es e (here.Resend i None) fails h = ebbing es e (here.Resend i None) fails h (λ k. tt)
-  here-held es e (here.Resume g) fails h = resumed es e (here.Resume g) fails h g refl (going-out script (world_of script es) (world_knows script some es) g h.admitted) (starts-at (world_of script es) e (here.Resume g) h.is) refl
-  here-held es e here.Round fails h = ebbing es e here.Round fails h (λ k. tt)
+          started w met e (here.Start s) fails t ok next_met s refl (and_parts _ _ ok).0 asked q
+          (ap (λ o. (starts script w.coord s o).marks ++ numbered (on_event script w.coord (here.Start s) fails).coord.sent (on_event script w.coord (here.Start s) fails).outs) q)
+          (starts-at w e (here.Start s) t)
+  here-held w met e (here.End s) fails t ok next_met = ebbing w met e (here.End s) fails t ok next_met (λ k. end-ebbs k w.coord s (session_of w.coord s).state.block)
+  here-held w met e (here.Resend i (Some g)) fails t ok next_met = ebbing w met e (here.Resend i (Some g)) fails t ok next_met (λ k. resent-ebbs k w.coord i (awaited w.coord g i))
+  here-held w met e (here.Resend i None) fails t ok next_met = ebbing w met e (here.Resend i None) fails t ok next_met (λ k. resent-ebbs k w.coord i (awaited_collect w.coord i))
+  here-held w met e (here.Resume g) fails t ok next_met =
+      resumed w met e (here.Resume g) fails t ok next_met g refl (going-out script w met.knows g ok) (starts-at w e (here.Resume g) t) refl
+  here-held w met e here.Round fails t ok next_met = ebbing w met e here.Round fails t ok next_met (λ k. tt)
 
-  coord-reads : (es : List (Event × Bool)) → AreReadsHeld script [] (world_of script es).steps → (e : Event) (x : NodeEvent) (fails : Bool) → IsHere script (world_of script es) e x → AreReadsHeld script [] (coord_did (world_of script es) e (coord_rule script (world_of script es).coord x fails)).steps
-  coord-reads es q e x fails h = reads-last script [] (world_of script es).steps (step es e x fails h) q (each-held script (world_of script es).steps e [] (coord_rule script (world_of script es).coord x fails).marks (here-held es e x fails h))
+  coord-reads : (w : World) (met : IsMet script w) → AreReadsHeld script [] w.steps → (e : Event) (x : NodeEvent) (fails : Bool) → IsThere script w e the_coordinator x → coord_can script w.coord x ≡ true
+      → IsMet script (coord_did w e (coord_turn script w.coord x fails)) → AreReadsHeld script [] (coord_did w e (coord_turn script w.coord x fails)).steps
+  coord-reads w met q e x fails t ok next_met =
+      reads-last script [] w.steps (step w met e x fails t ok next_met) q (each-held script w.steps e [] (coord_turn script w.coord x fails).marks (here-held w met e x fails t ok next_met))
 
-  module _ (es : List (Event × Bool)) (e : Event) (x : NodeEvent) (fails : Bool) (i : Node) (h : IsAt script (world_of script es) e x i) where
+  -- A VICTIM
+  module _ (w : World) (met : IsMet script w) (g : Gxid) (h : HasNamed w.steps w.coord.clock w.coord.rounds g) (next_met : IsMet script (and_cancelled w g)) where
+    abbrev more : List Mark
+    more = (cancel_turn w.coord g).marks
+
+    steps-are : (and_cancelled w g).steps ≡ h.before ++ record h.step { marks = h.step.marks ++ more } ∷ []
+    steps-are = ap (λ ss. with_more ss more) h.is ∙ with_more-last h.before h.step more
+
+    starts-same : (k : SessionId) → starts_in k (and_cancelled w g).steps ≡ starts_in k w.steps + 0
+    starts-same k =
+        ap (starts_in k) steps-are ∙ starts_in-push k h.before (record h.step { marks = h.step.marks ++ more }) ∙ sym (starts_in-push k h.before h.step) ∙ sym (ap (starts_in k) h.is) ∙ same-plus-none (starts_in k w.steps)
+
+    -- as in a step that starts no line
+    beside : AreHeld script w.steps event.Round more
+    beside =
+        told-held w met event.Round (and_cancelled w g) next_met more (marks-by-victim w g h) starts-same (λ k. refl)
+        (λ k. shape-more Silent Anyone k (cancels w.coord g).marks _ (sent-ebbs k _ (cancels w.coord g).outs) (cancel-told k w.coord g))
+
+    marks-there : (xs : List Mark) → marks_in w.steps ++ xs ≡ marks_in h.before ++ (h.step.marks ++ xs)
+    marks-there xs = ap (λ q. q ++ xs) (ap marks_in h.is ∙ marks_in-push h.before h.step) ∙ append_assoc (marks_in h.before) h.step.marks xs
+
+    starts-there : (k : SessionId) → starts_in k w.steps + 0 ≡ starts_in k h.before + starts_by k h.step.event
+    starts-there k = sym (same-plus-none (starts_in k w.steps)) ∙ ap (starts_in k) h.is ∙ starts_in-push k h.before h.step
+
+    there-held : (k : SessionId) (xs ys : List Mark) → more ≡ xs ++ ys → Held script h.before h.step.event k (h.step.marks ++ xs)
+    there-held k xs ys split =
+        subst (λ zs. (line : Stmt) (f : Gxid) (c : Cid) → Runs script k zs (starts_in k h.before + starts_by k h.step.event) line f c → IsOut zs f c → HoldsTableOf script zs f line) (marks-there xs)
+        (subst (λ i. (line : Stmt) (f : Gxid) (c : Cid) → Runs script k (marks_in w.steps ++ xs) i line f c → IsOut (marks_in w.steps ++ xs) f c → HoldsTableOf script (marks_in w.steps ++ xs) f line) (starts-there k) (beside k xs ys split))
+
+    victim-reads : AreReadsHeld script [] w.steps → AreReadsHeld script [] (and_cancelled w g).steps
+    victim-reads q =
+        subst (AreReadsHeld script []) (sym steps-are)
+        (reads-more script [] h.before h.step more (subst (AreReadsHeld script []) h.is q) (each-held script h.before h.step.event h.step.marks more there-held))
+
+  -- A STEP OF A SEGMENT
+  module _ (w : World) (met : IsMet script w) (e : Event) (x : NodeEvent) (fails : Bool) (i : ℕ) (place : IsSegment script (at i)) (next_met : IsMet script (seg_did w (at i) e (seg_rule script (w.segs i) x fails))) where
     abbrev seg_step : Step
-    seg_step = record { stamp = record { clock = clock_after ((world_of script es).segs i.0).clock x; node = i }; event = e; marks = (seg_rule script ((world_of script es).segs i.0) x fails).marks }
+    seg_step = record { stamp = record { clock = clock_after (w.segs i).clock x; node = at i }; event = e; marks = (seg_rule script (w.segs i) x fails).marks }
 
-    away : is_same_node i the_coordinator ≡ false
-    away = apart i.0 h.place.0
-      where
-        apart : (j : ℕ) → 1 ≤ j → (j == 0) ≡ false
-        apart j l = grind (arith, nat_tests)
-
-    seg-leads : world_of script (es ++ (e, fails) ∷ []) ≡ seg_did (world_of script es) i e (seg_rule script ((world_of script es).segs i.0) x fails)
-    seg-leads =
-        after-last script some new_world es (e, fails)
-        ∙ ap (λ n. if can_here script (world_of script es) n (at_node (world_of script es) e) then does script (world_of script es) e n fails (at_node (world_of script es) e) else world_of script es) h.node
-        ∙ ap (λ o. if can_here script (world_of script es) i o then does script (world_of script es) e i fails o else world_of script es) h.is
-        ∙ ap (λ (t : Bool). if (if t then coord_can script (world_of script es).coord x else seg_can script ((world_of script es).segs i.0) x) then (if t then coord_did (world_of script es) e (coord_rule script (world_of script es).coord x fails) else seg_did (world_of script es) i e (seg_rule script ((world_of script es).segs i.0) x fails)) else world_of script es) away
-        ∙ ap (λ (t : Bool). if t then seg_did (world_of script es) i e (seg_rule script ((world_of script es).segs i.0) x fails) else world_of script es) h.admitted
-
-    at-held : AreHeld script (world_of script es).steps e (seg_rule script ((world_of script es).segs i.0) x fails).marks
+    at-held : AreHeld script w.steps e (seg_rule script (w.segs i) x fails).marks
     at-held =
-        all-ebbs es e (es ++ (e, fails) ∷ []) (seg_rule script ((world_of script es).segs i.0) x fails).marks (ap (λ (v : World). marks_in v.steps) seg-leads ∙ marks_in-push (world_of script es).steps seg_step)
-        (λ k. ap (λ (v : World). starts_in k v.steps) seg-leads ∙ starts_in-push k (world_of script es).steps seg_step)
-        (λ k. at-node-ebbs script k i h.place.0 (seg_rule script ((world_of script es).segs i.0) x fails).marks (seg_marks script (world_of script es) (world_well script some es) e x fails i.0 h.place))
+        all-ebbs w met e (seg_did w (at i) e (seg_rule script (w.segs i) x fails)) next_met (seg_rule script (w.segs i) x fails).marks (marks_in-push w.steps seg_step) (λ k. starts_in-push k w.steps seg_step)
+        (λ k. at-node-ebbs script k (at i) place.0 (seg_rule script (w.segs i) x fails).marks (seg_marks script w met.knows.well e x fails i place))
 
-  seg-reads : (es : List (Event × Bool)) → AreReadsHeld script [] (world_of script es).steps → (e : Event) (x : NodeEvent) (fails : Bool) (i : Node) → IsAt script (world_of script es) e x i → AreReadsHeld script [] (seg_did (world_of script es) i e (seg_rule script ((world_of script es).segs i.0) x fails)).steps
-  seg-reads es q e x fails i h = reads-last script [] (world_of script es).steps (seg_step es e x fails i h) q (each-held script (world_of script es).steps e [] (seg_rule script ((world_of script es).segs i.0) x fails).marks (at-held es e x fails i h))
+    seg-reads : AreReadsHeld script [] w.steps → AreReadsHeld script [] (seg_did w (at i) e (seg_rule script (w.segs i) x fails)).steps
+    seg-reads q = reads-last script [] w.steps seg_step q (each-held script w.steps e [] (seg_rule script (w.segs i) x fails).marks at-held)
 
   pub reads-held : (es : List (Event × Bool)) → AreReadsHeld script [] (world_of script es).steps
-  reads-held = always script some (λ w. AreReadsHeld script [] w.steps) coord-reads seg-reads tt
+  reads-held =
+      at-events script some (IsMet script) (λ w. AreReadsHeld script [] w.steps) (moves-met script some) tt (λ w met q e x fails t ok next_met. coord-reads w met q e x fails t ok next_met) (λ w met q g h next_met. victim-reads w met g h next_met q)
+      (λ w met q e x fails i place t ok next_met. seg-reads w met e x fails i place next_met q)

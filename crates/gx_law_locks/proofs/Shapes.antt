@@ -26,6 +26,7 @@ use Rattle.gx_store.specs.Marks.{is_same_session}
 use Rattle.gx_store.specs.Refusals.{the_coordinator}
 use Rattle.gx_store.specs.Writes.{dist_of}
 use Rattle.gx_store.specs.declared.answer.Refused.{Refused}
+use Rattle.gx_store.specs.declared.answer.Refused.TheVariants.{Victim}
 use Rattle.gx_store.specs.declared.mark.Mark.{Mark}
 use Rattle.gx_store.specs.declared.mark.Mark.TheVariants as mark
 use Rattle.gx_tree.specs.declared.part.Part.{Part}
@@ -33,10 +34,11 @@ use Rattle.gx_tree.specs.declared.stmt.Level.TheVariants.{ReadCommitted}
 use Rattle.gx_tree.specs.declared.stmt.Stmt.{Stmt}
 use Rattle.gx_tree.specs.declared.stmt.Stmt.TheVariants as stmt
 use Rattle.gx_waits.specs.declared.claim.Claim.{Claim}
-use Rattle.gx_rules.specs.AtCoordinator.{Reading, begins, completes, ends_in, failure_marks, fault_mark, follows, goes, goes_on, goes_on_locked, if_granted, is_awaited, is_refused, lock_for, next_cid, on_answer, on_done, on_failed, on_line, on_message, on_status, reads_by, reads_for, reason_of, requests, table_of, takes_done, with_done, writers_with}
+use Rattle.gx_rules.specs.AtCoordinator.{Reading, begins, completes, ends_in, failure_marks, fault_mark, follows, goes, goes_on, goes_on_locked, if_granted, is_awaited, is_refused, lock_for, next_cid, on_answer, on_done, on_failed, on_line, on_message, on_status, reads_by, reads_for, reason_of, requests, table_of, takes_done, with_done, writers_with, cancels}
 use Rattle.gx_rules.specs.Coordinators.{Command, Coord, CoordTurn, Work, new_work, rests, session_of, with_work, work_of}
 use Rattle.gx_rules.specs.Fits.{fits_part}
 use Rattle.gx_rules.specs.Locks.{hold_mark, release_marks, with_hold}
+use Rattle.gx_rules.proofs.Rounds.{cancel-ways, graph-ways}
 use Rattle.gx_rules.specs.Sending.{counted, numbered}
 use Rattle.gx_law_order.proofs.Lists.{Each, each_append}
 use Rattle.gx_law_order.proofs.Releases.{each-released}
@@ -208,7 +210,11 @@ module _ (k : SessionId) where
   message-told c from fails (message.Abort g) = inl tt
   message-told c from fails (message.Forget g) = inl tt
   message-told c from fails (message.Collect round) = inl tt
-  message-told c from fails (message.Graph round graph) = inl tt
+  message-told c from fails (message.Graph round graph) = graph-ways (λ (turn : CoordTurn). Told turn) c from round graph (inl tt) (λ r. inl tt) (λ r a. inl (tt, tt))
+
+  -- a victim
+  pub cancel-told : (c : Coord) (g : Gxid) → Told (cancels c g)
+  cancel-told c g = cancel-ways (λ (turn : CoordTurn). Told turn) c g (inl tt) (λ live busy. inr (refused Anyone c g (on_abort c.table g) [] (Victim c.rounds) tt tt))
 
   -- COMMANDS
   read-each : (P : Mark → Type 0) (c : Coord) (g : Gxid) (cid : Cid) (w : Work) (x : Option Snapshot) → ((y : Snapshot) → P (mark.Snap g cid y)) → Each P (reads_by c g cid w x).marks

@@ -13,20 +13,24 @@ use Rattle.gx_store.specs.declared.mark.Mark.TheVariants as mark
 use Rattle.gx_store.specs.declared.run.Step.{Step}
 use Rattle.gx_store.specs.Points.{marks_in}
 use Rattle.gx_store.specs.Refusals.{the_coordinator}
-use Rattle.gx_rules.specs.AtCoordinator.{coord_rule}
+use Rattle.gx_rules.specs.AtCoordinator.{cancel_turn, coord_turn}
 use Rattle.gx_rules.specs.AtSegment.{seg_rule}
-use Rattle.gx_rules.specs.Machine.{Letter, World, posted, world_of}
+use Rattle.gx_rules.specs.Machine.{Letter, World, and_cancelled, coord_did, new_world, posted, seg_did, world_of}
 use Rattle.gx_rules.specs.Sending.{clock_after}
+use Rattle.gx_law_order.specs.Moves.{Move, world_by}
+use Rattle.gx_law_order.proofs.Induction.{marks-by-event, marks-by-victim}
+use Rattle.gx_law_order.proofs.Moves.{moves_after, world-moves}
 use Rattle.gx_law_order.proofs.Lists.{Each, each_append, each_weaker}
 use Rattle.gx_law_order.proofs.Sessions.{stage_of}
 use Rattle.gx_law_order.proofs.Statuses.Stage.{Live}
 use Rattle.gx_law_order.proofs.Waiting.{IsAmong, each-among}
-use Rattle.gx_law_order.proofs.World.{Knows, marks-last}
+use Rattle.gx_law_order.proofs.More.{marks-last}
+use Rattle.gx_law_order.proofs.World.{Knows}
 use Rattle.gx_law_commit.specs.Said.{SaidAt, SaidIn, segment_of}
 use Rattle.gx_law_commit.specs.Standings.{at}
 use Rattle.gx_law_commit.proofs.Everywhere.{Holds}
 use Rattle.gx_law_reads.proofs.Low.{drawn-is, live-standing}
-use Rattle.gx_law_commit.proofs.Steps.{world-keeps}
+use Rattle.gx_law_commit.proofs.Steps.{moves-keep}
 use Rattle.gx_law_locks.specs.Commands.{AreUnsent, IsOther}
 
 -- a message that is sent is among these letters
@@ -54,18 +58,22 @@ module _ (from : Node) (clock : ℕ) where
 abbrev HasAll : World → Type 0
 HasAll w = Each (HasLetter w.sent) (marks_in w.steps)
 
-one-more : (w : World) (from : Node) (clock : ℕ) (s : Step) → HasAll w → Each (HasLetter (posted from clock s.marks w.sent)) (marks_in (w.steps ++ s ∷ []))
-one-more w from clock s h =
-    subst (Each (HasLetter (posted from clock s.marks w.sent))) (sym (marks-last w.steps s))
-    (each_append (HasLetter (posted from clock s.marks w.sent)) (marks_in w.steps) s.marks (each_weaker (HasLetter w.sent) (HasLetter (posted from clock s.marks w.sent)) (still-has from clock s.marks w.sent) (marks_in w.steps) h) (posted-has from clock s.marks w.sent))
+one-more : (w : World) (from : Node) (clock : ℕ) (steps : List Step) (ms : List Mark) → marks_in steps ≡ marks_in w.steps ++ ms → HasAll w → Each (HasLetter (posted from clock ms w.sent)) (marks_in steps)
+one-more w from clock steps ms e h =
+    subst (Each (HasLetter (posted from clock ms w.sent))) (sym e)
+    (each_append (HasLetter (posted from clock ms w.sent)) (marks_in w.steps) ms (each_weaker (HasLetter w.sent) (HasLetter (posted from clock ms w.sent)) (still-has from clock ms w.sent) (marks_in w.steps) h) (posted-has from clock ms w.sent))
 
 module _ (script : Script) (some : 1 ≤ script.segments) where
-  pub world-has : (es : List (Event × Bool)) → Each (HasLetter (world_of script es).sent) (marks_in (world_of script es).steps)
-  world-has =
-      world-keeps script some HasAll
-      (λ w k v q e x fails ok said. one-more w the_coordinator (clock_after w.coord.clock x) (record { stamp = record { clock = clock_after w.coord.clock x; node = the_coordinator }; event = e; marks = (coord_rule script w.coord x fails).marks }) q)
-      (λ w k v q e x fails i place h. one-more w (at i) (clock_after (w.segs i).clock x) (record { stamp = record { clock = clock_after (w.segs i).clock x; node = at i }; event = e; marks = (seg_rule script (w.segs i) x fails).marks }) q)
+  pub moves-have : (moves : List Move) → Each (HasLetter (world_by script moves).sent) (marks_in (world_by script moves).steps)
+  moves-have =
+      moves-keep script some HasAll
+      (λ w k v q e x fails ok said. one-more w the_coordinator (clock_after w.coord.clock x) (coord_did w e (coord_turn script w.coord x fails)).steps (coord_turn script w.coord x fails).marks (marks-by-event script w e x fails) q)
+      (λ w k v q g h. one-more w the_coordinator w.coord.clock (and_cancelled w g).steps (cancel_turn w.coord g).marks (marks-by-victim w g h) q)
+      (λ w k v q e x fails i place h. one-more w (at i) (clock_after (w.segs i).clock x) (seg_did w (at i) e (seg_rule script (w.segs i) x fails)).steps (seg_rule script (w.segs i) x fails).marks (marks-last w.steps _) q)
       tt
+
+  pub world-has : (es : List (Event × Bool)) → Each (HasLetter (world_of script es).sent) (marks_in (world_of script es).steps)
+  world-has es = subst HasAll (sym (world-moves script es)) (moves-have (moves_after script new_world es))
 
 -- none of the messages is the command's
 pub unsent-by : (w : World) (g : Gxid) (c : Cid) → Each (SaidIn w) w.sent → ((l : Letter) → SaidIn w l → (m : Message) → l.envelope.message ≡ m → IsOther g c m) → (ms : List Mark) → Each (HasLetter w.sent) ms → AreUnsent g c ms

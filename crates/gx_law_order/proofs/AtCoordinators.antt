@@ -1,8 +1,9 @@
 -- What the coordinator sends goes to segments, and its marks stand at the coordinator.
-use Rattle.std.proofs.Common.{◌≡◌, ◌≤◌, ℕ, List, [], ◌∷◌, Option, Some, None, Result, Ok, Err, Bool, true, false, refl, if◌then◌else◌, ◌==◌, ◌&&◌, arith, eqb}
+use Rattle.std.proofs.Common.{◌≡◌, ◌≤◌, ℕ, suc, ◌+◌, List, [], ◌∷◌, ◌∙◌, length, Option, Some, None, Result, Ok, Err, Bool, true, false, refl, if◌then◌else◌, ◌==◌, ◌&&◌, arith, eqb}
 use Rattle.std.proofs.lemmas.Bool.Decides.{nat_tests}
-use Rattle.std.specs.Prelude.{is_some}
-use Rattle.std.proofs.lemmas.Bool.{and_parts}
+use Rattle.std.specs.Prelude.{is_none, is_some}
+use Rattle.std.proofs.lemmas.List.{length-replicate}
+use Rattle.std.proofs.lemmas.Bool.{and_parts, eqb-true}
 use Rattle.gx_ids.specs.declared.ids.Cid.{Cid}
 use Rattle.gx_ids.specs.declared.ids.Gxid.{Gxid}
 use Rattle.gx_ids.specs.declared.ids.Node.{Node}
@@ -22,6 +23,9 @@ use Rattle.gx_dtx.specs.declared.outcome.Outcome.TheVariants as outcome
 use Rattle.gx_dtx.specs.declared.phase.Phase.{Phase}
 use Rattle.gx_dtx.specs.declared.phase.Phase.TheVariants.{Active, Preparing, CommittingOne, CommittingTwo, Ended, Aborting}
 use Rattle.gx_dtx.specs.declared.txn.Txn.{Txn}
+use Rattle.gx_detect.proofs.Places.{length-noted_from}
+use Rattle.gx_detect.specs.Reports.{lacks_from}
+use Rattle.gx_detect.specs.Rounds.{AreOfSegments, lacks}
 use Rattle.gx_meaning.specs.declared.fault.ArithFault.{ArithFault}
 use Rattle.gx_msg.specs.declared.message.Message.{Message}
 use Rattle.gx_msg.specs.declared.message.Message.TheVariants as message
@@ -43,17 +47,20 @@ use Rattle.gx_store.specs.declared.answer.StmtAnswer.TheVariants as told
 use Rattle.gx_store.specs.declared.node.NodeEvent.TheVariants as event
 use Rattle.gx_store.specs.Refusals.{the_coordinator}
 use Rattle.gx_store.specs.Writes.{dist_of}
-use Rattle.gx_rules.specs.AtCoordinator.{Reading, answers, answers_at_once, awaited, begins, behind, command_order, commits, completes, dispatches, ends_in, enlisted_all, failure_marks, fault_mark, follows, goes, goes_on, goes_out, is_awaited, is_committed, is_refused, next_cid, nodes_in, on_answer, on_done, on_event, on_failed, on_line, on_message, on_status, order_of, order_to, orders_of, reads_by, reads_for, resends, rolls_back, starts, starts_line, status_order, table_of, takes_done, takes_snapshot, unless_kept, writers_with, goes_on_locked, if_granted, lock_for, requests, resumes, waits_for, answer_mark}
+use Rattle.gx_rules.specs.AtCoordinator.{Reading, cancels, answers, answers_at_once, awaited, begins, behind, command_order, commits, completes, dispatches, ends_in, enlisted_all, failure_marks, fault_mark, follows, goes, goes_on, goes_out, is_awaited, is_committed, is_refused, next_cid, nodes_in, on_answer, on_done, on_event, on_failed, on_line, on_message, on_status, order_of, order_to, orders_of, reads_by, reads_for, resends, rolls_back, starts, starts_line, status_order, table_of, takes_done, takes_snapshot, unless_kept, writers_with, goes_on_locked, if_granted, lock_for, requests, resumes, waits_for, answer_mark}
 use Rattle.gx_rules.specs.Coordinators.{Command, Coord, CoordTurn, Session, Work, new_work, no_work, rests, session_of, with_session, with_state, with_work, work_of}
 use Rattle.gx_rules.specs.Fits.{fits_part}
 use Rattle.gx_rules.specs.Maps.{with_at}
 use Rattle.gx_law_order.proofs.AtSegments.{PlainAt}
 use Rattle.gx_law_order.proofs.Lists.{Each, each_append, each_map}
-use Rattle.gx_law_order.proofs.Places.{IsAtOneOf, IsOneOf, PlanIn, plan_in}
+use Rattle.gx_law_order.proofs.Places.{IsAtOneOf, IsOneOf, PlanIn, collects-each, plan_in}
 use Rattle.gx_law_order.proofs.Tables.{AreIn, FoundIn, OutIn, PhaseIn, TableIn, TurnIn, begun_in, enlisted_in, find_in, has_in, live_in, on_abort_in, on_commit_in, on_reply_in, with_in, without_in}
 use Rattle.gx_rules.specs.Locks.{hold_mark, release_marks, with_hold}
 use Rattle.gx_locks.specs.Locks.{Locks, is_free, resumed, wait_of}
 use Rattle.gx_waits.specs.declared.claim.Claim.{Claim}
+use Rattle.gx_waits.specs.declared.graph.LocalGraph.{LocalGraph}
+use Rattle.gx_rules.specs.Rounds.{begins_round, noted_in, on_graph, with_report}
+use Rattle.gx_rules.proofs.Rounds.{cancel-ways, graph-ways}
 use Rattle.gx_law_order.proofs.Releases.{each-released}
 
 module _ (script : Script) where
@@ -78,6 +85,7 @@ module _ (script : Script) where
   pub record CoordIn (c : Coord) : Type 0 where
     pub table : TableIn n c.table
     pub works : (g : ℕ) → WorkIn (c.works g)
+    pub reports : AreOfSegments n c.reports
 
   -- what an event keeps, and where what it does stands; `sent` is what was sent before it
   pub record CoordStays (sent : ℕ → ℕ) (turn : CoordTurn) : Type 0 where
@@ -97,13 +105,13 @@ module _ (script : Script) where
       at false = f j
 
   pub works_with : (c : Coord) (g : Gxid) (w : Work) → CoordIn c → WorkIn w → CoordIn (with_work c g w)
-  works_with c g w e h = record { table = e.table; works = λ j. work_at c.works g.0 j w e.works h }
+  works_with c g w e h = record { table = e.table; works = λ j. work_at c.works g.0 j w e.works h; reports = e.reports }
 
   pub table_with : (c : Coord) (d : Table) → CoordIn c → TableIn n d → CoordIn (record c { table = d })
-  table_with c d e h = record { table = h; works = e.works }
+  table_with c d e h = record { table = h; works = e.works; reports = e.reports }
 
   pub state_with : (c : Coord) (s : SessionId) (x : Session) → CoordIn c → CoordIn (with_session c s x)
-  state_with c s x e = record { table = e.table; works = e.works }
+  state_with c s x e = record { table = e.table; works = e.works; reports = e.reports }
 
   rest : (c : Coord) → CoordIn c → CoordStays c.sent (rests c)
   rest c e = record { coord = e; counts = refl; marks = tt; outs = tt }
@@ -113,11 +121,11 @@ module _ (script : Script) where
 
   committed : (c : Coord) (g : Gxid) (turn : Turn) → CoordIn c → TurnIn n turn → CoordStays c.sent (is_committed c g turn)
   committed c g turn e h =
-      record { coord = record { table = h.table; works = λ j. work_at c.works g.0 j no_work e.works none_in }; counts = refl; marks = (refl, (refl, back_here c.locks g)); outs = h.outs }
+      record { coord = record { table = h.table; works = λ j. work_at c.works g.0 j no_work e.works none_in; reports = e.reports }; counts = refl; marks = (refl, (refl, back_here c.locks g)); outs = h.outs }
 
   refused : (c : Coord) (g : Gxid) (turn : Turn) (why : List Mark) (reason : Refused) → CoordIn c → TurnIn n turn → Each PlainHere why → CoordStays c.sent (is_refused c g turn why reason)
   refused c g turn why reason e h m =
-      record { coord = record { table = h.table; works = λ j. work_at c.works g.0 j no_work e.works none_in }; counts = refl; marks = each_append PlainHere why _ m (refl, (refl, back_here c.locks g)); outs = h.outs }
+      record { coord = record { table = h.table; works = λ j. work_at c.works g.0 j no_work e.works none_in; reports = e.reports }; counts = refl; marks = each_append PlainHere why _ m (refl, (refl, back_here c.locks g)); outs = h.outs }
 
   failure_in : (i : Node) (g : Gxid) → Each PlainHere (failure_marks i g)
   failure_in i g = at (i.0 == 0)
@@ -144,7 +152,7 @@ module _ (script : Script) where
 
   snapshot_taken : (c : Coord) (g : Gxid) (cid : Cid) (w : Work) → CoordIn c → WorkIn w → ReadIn c.sent (takes_snapshot c g cid w)
   snapshot_taken c g cid w e h =
-      record { coord = record { table = live_in n c.table g _ e.table; works = λ j. work_at c.works g.0 j _ e.works (record { writers = h.writers; command = h.command }) }; counts = refl; marks = (refl, tt) }
+      record { coord = record { table = live_in n c.table g _ e.table; works = λ j. work_at c.works g.0 j _ e.works (record { writers = h.writers; command = h.command }); reports = e.reports }; counts = refl; marks = (refl, tt) }
 
   read_by : (c : Coord) (g : Gxid) (cid : Cid) (w : Work) (x : Option Snapshot) → CoordIn c → WorkIn w → ReadIn c.sent (reads_by c g cid w x)
   read_by c g cid w None e h = snapshot_taken c g cid w e h
@@ -186,6 +194,7 @@ module _ (script : Script) where
         coord = record {
           table = all_enlisted g (nodes_in pieces) r.coord.table (nodes_are pieces p) e.coord.table;
           works = λ j. work_at r.coord.works g.0 j _ e.coord.works (record { writers = (e.coord.works g.0).writers; command = record { orders = orders_are g cid _ _ _ pieces p; awaited = nodes_are pieces p } });
+          reports = e.coord.reports;
         };
         counts = e.counts;
         marks = e.marks;
@@ -207,13 +216,13 @@ module _ (script : Script) where
     -- with its table's lock
     go_held : (c : Coord) (g : Gxid) (line : Stmt) (locks : Locks) (wanted : Claim) → CoordIn c → CoordStays c.sent (behind (hold_mark the_coordinator wanted ∷ []) (goes_on_locked script (record c { locks = locks }) g line))
     go_held c g line locks wanted e =
-        let x = go_locked (record c { locks = locks }) g line (record { table = e.table; works = e.works }) in
+        let x = go_locked (record c { locks = locks }) g line (record { table = e.table; works = e.works; reports = e.reports }) in
         record { coord = x.coord; counts = x.counts; marks = (refl, x.marks); outs = x.outs }
 
     -- or it waits
     waits_here : (c : Coord) (g : Gxid) (line : Stmt) (wanted : Claim) → CoordIn c → CoordStays c.sent (waits_for c g line wanted)
     waits_here c g line wanted e =
-        record { coord = record { table = e.table; works = λ j. work_at c.works g.0 j _ e.works (record { writers = (e.works g.0).writers; command = (e.works g.0).command }) }; counts = refl; marks = (refl, tt); outs = tt }
+        record { coord = record { table = e.table; works = λ j. work_at c.works g.0 j _ e.works (record { writers = (e.works g.0).writers; command = (e.works g.0).command }); reports = e.reports }; counts = refl; marks = (refl, tt); outs = tt }
 
     request : (c : Coord) (g : Gxid) (line : Stmt) (o : Option Claim) → CoordIn c → CoordStays c.sent (requests script c g line o)
     request c g line None e = go_locked c g line e
@@ -236,13 +245,13 @@ module _ (script : Script) where
 
     -- lines
     begin : (c : Coord) (s : SessionId) (level : Level) → CoordIn c → CoordIn (begins c s level)
-    begin c s level e = record { table = begun_in n c.table e.table; works = λ j. work_at c.works c.table.next.0 j (new_work s level) e.works (record { writers = tt; command = tt }) }
+    begin c s level e = record { table = begun_in n c.table e.table; works = λ j. work_at c.works c.table.next.0 j (new_work s level) e.works (record { writers = tt; command = tt }); reports = e.reports }
 
     at_once : (c : Coord) (s : SessionId) (a : StmtAnswer) → CoordIn c → CoordStays c.sent (answers_at_once c s a)
     at_once c s a e = record { coord = e; counts = refl; marks = (refl, tt); outs = tt }
 
     back : (c : Coord) (g : Gxid) (marks : List Mark) (turn : Turn) → CoordIn c → TurnIn n turn → Each PlainHere marks → CoordStays c.sent (rolls_back c g marks turn)
-    back c g marks turn e h m = record { coord = record { table = h.table; works = λ j. work_at c.works g.0 j no_work e.works none_in }; counts = refl; marks = (refl, each_append PlainHere marks _ m (back_here c.locks g)); outs = h.outs }
+    back c g marks turn e h m = record { coord = record { table = h.table; works = λ j. work_at c.works g.0 j no_work e.works none_in; reports = e.reports }; counts = refl; marks = (refl, each_append PlainHere marks _ m (back_here c.locks g)); outs = h.outs }
 
     line_done : (c : Coord) (s : SessionId) (line : Stmt) (asked : LineStep) → CoordIn c → CoordStays c.sent (on_line script c s line asked)
     line_done c s line (step.Answer plain) e = at_once c s _ e
@@ -260,12 +269,12 @@ module _ (script : Script) where
     start c s None e = rest c e
     start c s (Some line) e =
         let asked = line_step (session_of c s).state.block line in
-        line_done (starts_line c s asked) s line asked (record { table = e.table; works = e.works })
+        line_done (starts_line c s asked) s line asked (record { table = e.table; works = e.works; reports = e.reports })
 
     end : (c : Coord) (s : SessionId) (b : Block) → CoordIn c → CoordStays c.sent (ends_in c s b)
     end c s (block.Open level) e =
-        back (with_state c s idle_outside) (session_of c s).transaction [] _ (record { table = e.table; works = e.works }) (on_abort_in n c.table (session_of c s).transaction e.table) tt
-    end c s block.Failed e = record { coord = record { table = e.table; works = e.works }; counts = refl; marks = tt; outs = tt }
+        back (with_state c s idle_outside) (session_of c s).transaction [] _ (record { table = e.table; works = e.works; reports = e.reports }) (on_abort_in n c.table (session_of c s).transaction e.table) tt
+    end c s block.Failed e = record { coord = record { table = e.table; works = e.works; reports = e.reports }; counts = refl; marks = tt; outs = tt }
     end c s block.Outside e = rest c e
 
     -- answers of segments
@@ -280,7 +289,7 @@ module _ (script : Script) where
     answer : (c : Coord) (g : Gxid) (w : Work) → CoordIn c → WorkIn w → CoordStays c.sent (answers c g w)
     answer c g w e h =
         record {
-          coord = record { table = kept_table w.level c.table g e.table; works = λ j. work_at c.works g.0 j _ e.works (record { writers = h.writers; command = tt }) };
+          coord = record { table = kept_table w.level c.table g e.table; works = λ j. work_at c.works g.0 j _ e.works (record { writers = h.writers; command = tt }); reports = e.reports };
           counts = refl;
           marks = (refl, tt);
           outs = tt;
@@ -331,6 +340,17 @@ module _ (script : Script) where
     answered c g i fails reply.Aborted e = status c g i _ fails e
     answered c g i fails reply.Forgotten e = status c g i _ fails e
 
+    -- graphs
+    noted_of : (reports : Option (List (Option LocalGraph))) (graph : LocalGraph) → AreOfSegments n reports → AreOfSegments n (noted_in reports graph)
+    noted_of None graph e = tt
+    noted_of (Some reports) graph e = length-noted_from 1 reports graph ∙ e
+
+    graph_taken : (c : Coord) (from : Node) (round : ℕ) (graph : LocalGraph) → CoordIn c → CoordStays c.sent (on_graph c from round graph)
+    graph_taken c from round graph e =
+        graph-ways (CoordStays c.sent) c from round graph (rest c e)
+        (λ r. rest (with_report c graph) (record { table = e.table; works = e.works; reports = noted_of c.reports graph e.reports }))
+        (λ r a. record { coord = record { table = e.table; works = e.works; reports = tt }; counts = refl; marks = (refl, tt); outs = tt })
+
     message_taken : (c : Coord) (from : Node) (fails : Bool) (m : Message) → CoordIn c → CoordStays c.sent (on_message c from fails m)
     message_taken c from fails (message.Answer g r) e = answered c g from fails r e
     message_taken c from fails (message.Exec g cid level x h y) e = rest c e
@@ -340,7 +360,7 @@ module _ (script : Script) where
     message_taken c from fails (message.Abort g) e = rest c e
     message_taken c from fails (message.Forget g) e = rest c e
     message_taken c from fails (message.Collect round) e = rest c e
-    message_taken c from fails (message.Graph round graph) e = rest c e
+    message_taken c from fails (message.Graph round graph) e = graph_taken c from round graph e
 
     -- messages sent again
     again : (c : Coord) (i : Node) (m : Option Message) → CoordIn c → (is_some m ≡ true → IsOneOf n i) → CoordStays c.sent (resends c i m)
@@ -377,11 +397,45 @@ module _ (script : Script) where
     awaited_has : (c : Coord) (g : Gxid) (i : Node) → CoordIn c → is_some (awaited c g i) ≡ true → IsOneOf n i
     awaited_has c g i e h = command_has (work_of c g).command i _ (e.works g.0).command (found_has g i (find_txn c.table g) (find_in n c.table g e.table)) h
 
+    -- rounds
+    lacks_has : (i : Node) (k : ℕ) (reports : List (Option LocalGraph)) → 1 ≤ k → k + length reports ≤ n + 1 → lacks_from k reports i ≡ true → IsOneOf n i
+    lacks_has i k [] one h e = absurd (cc)
+    lacks_has i k (r ∷ rs) one h e = at (i.0 == k) refl (λ d. lacks_has i (k + 1) rs (omega arith) (next k (length rs) h) d) e
+      where
+        next : (k m : ℕ) → k + suc m ≤ n + 1 → k + 1 + m ≤ n + 1
+        next k m h = omega arith
+
+        here : (a k m : ℕ) → a ≡ k → 1 ≤ k → k + suc m ≤ n + 1 → (1 ≤ a) × (a ≤ n)
+        here a k m q one h = (omega arith, omega arith)
+
+        at : (b : Bool) → (i.0 == k) ≡ b → (lacks_from (k + 1) rs i ≡ true → IsOneOf n i) → (if b then is_none r else lacks_from (k + 1) rs i) ≡ true → IsOneOf n i
+        at true q later d = here i.0 k (length rs) (eqb-true i.0 k q) one h
+        at false q later d = later d
+
+    collect_has : (c : Coord) (i : Node) (reports : Option (List (Option LocalGraph))) → AreOfSegments n reports → is_some (if lacks reports i then Some (message.Collect c.rounds) else None) ≡ true → IsOneOf n i
+    collect_has c i None h e = absurd (cc)
+    collect_has c i (Some reports) h e = at (lacks_from 1 reports i) refl e
+      where
+        at : (b : Bool) → lacks_from 1 reports i ≡ b → is_some (if b then Some (message.Collect c.rounds) else None) ≡ true → IsOneOf n i
+        at true q d = lacks_has i 1 reports (omega arith) (within (length reports) h) q
+          where
+            within : (m : ℕ) → m ≡ n → 1 + m ≤ n + 1
+            within m h = omega arith
+        at false q d = absurd (cc)
+
+    round_begun : (c : Coord) → CoordIn c → CoordStays c.sent (begins_round script c)
+    round_begun c e =
+        record { coord = record { table = e.table; works = e.works; reports = length-replicate n None }; counts = refl; marks = tt; outs = collects-each (OutIn n) n (c.rounds + 1) (λ i one within. (one, within)) }
+
     pub coord_stays : (c : Coord) (e : NodeEvent) (fails : Bool) → CoordIn c → CoordStays c.sent (on_event script c e fails)
     coord_stays c (event.Deliver from envelope) fails e = message_taken c from fails envelope.message e
     coord_stays c (event.Start s) fails e = start c s _ e
     coord_stays c (event.End s) fails e = end c s _ e
     coord_stays c (event.Resend i (Some g)) fails e = again c i _ e (awaited_has c g i e)
-    coord_stays c (event.Resend i None) fails e = rest c e
+    coord_stays c (event.Resend i None) fails e = again c i _ e (collect_has c i c.reports e.reports)
     coord_stays c (event.Resume g) fails e = resume c g (wait_of c.locks g) (work_of c g).waiting e
-    coord_stays c event.Round fails e = rest c e
+    coord_stays c event.Round fails e = round_begun c e
+
+    -- a victim
+    pub cancel_stays : (c : Coord) (g : Gxid) → CoordIn c → CoordStays c.sent (cancels c g)
+    cancel_stays c g e = cancel-ways (CoordStays c.sent) c g (rest c e) (λ live busy. refused c g _ [] _ e (on_abort_in n c.table g e.table) tt)

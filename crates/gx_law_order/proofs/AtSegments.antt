@@ -29,7 +29,7 @@ use Rattle.gx_store.specs.declared.node.NodeEvent.{NodeEvent}
 use Rattle.gx_store.specs.declared.node.NodeEvent.TheVariants as event
 use Rattle.gx_store.specs.Ordered.{IsAtNode, IsSegment}
 use Rattle.gx_store.specs.Refusals.{the_coordinator}
-use Rattle.gx_rules.specs.AtSegment.{commits, ends, finishes, if_fits, on_abort, on_commit, on_commit_prepared, on_event, on_exec, on_forget, on_message, on_prepare, once, promises, raised, repeats, resumes, takes, unless_below, was_prepared}
+use Rattle.gx_rules.specs.AtSegment.{commits, ends, finishes, if_fits, on_abort, on_collect, on_commit, on_commit_prepared, on_event, on_exec, on_forget, on_message, on_prepare, once, promises, raised, repeats, resumes, takes, unless_below, was_prepared}
 use Rattle.gx_rules.specs.Changes.{Change, RowTurn, change_of, changes_rows, goes_on_at, suspended_at, suspends_at, waits}
 use Rattle.gx_rules.specs.Locks.{hold_mark, with_hold}
 use Rattle.gx_rules.specs.Segments.{Local, Phase, Seg, SegTurn, Suspended, after_marks, local_of, stays, tells, tells_kept}
@@ -40,6 +40,7 @@ use Rattle.gx_rules.specs.Shown.{shown}
 use Rattle.gx_rules.specs.Fits.{fits_exec, is_waiting}
 use Rattle.gx_rules.specs.Visits.{DidStop}
 use Rattle.gx_rules.proofs.Moving.{Ends, Keeps}
+use Rattle.gx_rules.proofs.Rounds.{collect-ways}
 use Rattle.gx_law_order.proofs.Changing.{row-goes-on, rows-change, stop-keeps}
 use Rattle.gx_law_order.proofs.Releases.{each-released}
 use Rattle.gx_law_order.proofs.Lists.{Each, each_append}
@@ -253,6 +254,10 @@ module _ (script : Script) (s : Seg) (at : IsSegment script s.node) where
   fits true turn e = e
   fits false turn e = stay
 
+  collect : (round : ℕ) → Stays (on_collect s round)
+  collect round =
+      collect-ways Stays s round stay (λ e. record { node = refl; sent = refl; marks = (refl, tt); outs = (refl, tt) }) (λ e graph f. record { node = refl; sent = refl; marks = tt; outs = (refl, tt) })
+
   message_stays : (fails : Bool) (m : Message) → Stays (on_message script s fails m)
   message_stays fails (message.Exec g c level snapshot h x) = below g _ (fits (fits_exec script s g c snapshot h x) _ (exec g c level snapshot h x (local_of s g) (local_of s g).phase))
   message_stays fails (message.Prepare g) = below g _ (fits (not (is_waiting (local_of s g))) _ (prepare g fails (local_of s g) (local_of s g).phase))
@@ -260,7 +265,7 @@ module _ (script : Script) (s : Seg) (at : IsSegment script s.node) where
   message_stays fails (message.CommitPrepared g) = below g _ (commit_prepared g fails (local_of s g) (local_of s g).phase)
   message_stays fails (message.Abort g) = below g _ (abort g (local_of s g) (local_of s g).phase)
   message_stays fails (message.Forget g) = below g _ (forget g (local_of s g) (local_of s g).phase)
-  message_stays fails (message.Collect round) = stay
+  message_stays fails (message.Collect round) = collect round
   message_stays fails (message.Answer g r) = stay
   message_stays fails (message.Graph round graph) = stay
 

@@ -8,7 +8,7 @@ use Rattle.gx_store.specs.Journals.{is_same_node}
 use Rattle.gx_store.specs.Ordered.{clock_of}
 use Rattle.gx_rules.specs.Sending.{clock_after, heard_in}
 
-abbrev earlier_clock : Node → Step → ℕ → ℕ
+abbrev pub earlier_clock : Node → Step → ℕ → ℕ
 earlier_clock node x later = if is_same_node x.stamp.node node && (later == 0) then x.stamp.clock else later
 
 stands : (node : Node) (x : Step) (k : ℕ) → 0 < k → earlier_clock node x k ≡ k

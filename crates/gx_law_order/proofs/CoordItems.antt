@@ -33,6 +33,7 @@ use Rattle.gx_script.specs.declared.line_step.LineStep.TheVariants as step
 use Rattle.gx_script.specs.declared.state.Block.{Block}
 use Rattle.gx_script.specs.declared.state.Block.TheVariants.{Outside, Open, Failed}
 use Rattle.gx_store.specs.declared.answer.Refused.{Refused}
+use Rattle.gx_store.specs.declared.answer.Refused.TheVariants.{Victim}
 use Rattle.gx_store.specs.declared.mark.Mark.{Mark}
 use Rattle.gx_store.specs.declared.mark.Mark.TheVariants as mark
 use Rattle.gx_store.specs.declared.node.NodeEvent.{NodeEvent}
@@ -40,7 +41,7 @@ use Rattle.gx_store.specs.declared.node.NodeEvent.TheVariants as event
 use Rattle.gx_store.specs.Journals.{items_from}
 use Rattle.gx_store.specs.Refusals.{the_coordinator}
 use Rattle.gx_store.specs.Writes.{dist_of}
-use Rattle.gx_rules.specs.AtCoordinator.{Reading, awaited, begins, commits, completes, dispatches, ends_in, failure_marks, fault_mark, follows, goes, goes_on, is_awaited, is_refused, next_cid, next_line, on_answer, on_done, on_event, on_failed, on_line, on_message, on_status, reason_of, reads_by, reads_for, refusal_of, resends, starts, starts_line, table_of, takes_done, with_done, writers_with, behind, goes_on_locked, if_granted, lock_for, requests, resumes}
+use Rattle.gx_rules.specs.AtCoordinator.{Reading, awaited, awaited_collect, begins, cancels, commits, completes, dispatches, ends_in, failure_marks, fault_mark, follows, goes, goes_on, is_awaited, is_refused, next_cid, next_line, on_answer, on_done, on_event, on_failed, on_line, on_message, on_status, reason_of, reads_by, reads_for, refusal_of, resends, starts, starts_line, table_of, takes_done, with_done, writers_with, behind, goes_on_locked, if_granted, lock_for, requests, resumes}
 use Rattle.gx_rules.specs.Coordinators.{Command, Coord, CoordTurn, Work, rests, session_of, with_work, work_of}
 use Rattle.gx_rules.specs.Fits.{fits_part}
 use Rattle.gx_rules.specs.Machine.{kept_item}
@@ -49,6 +50,9 @@ use Rattle.gx_law_order.proofs.SegItems.{Dull, dull-items}
 use Rattle.gx_rules.specs.Locks.{hold_mark, release_marks, with_hold}
 use Rattle.gx_locks.specs.Locks.{Locks, is_free, wait_of, resumed}
 use Rattle.gx_waits.specs.declared.claim.Claim.{Claim}
+use Rattle.gx_waits.specs.declared.graph.LocalGraph.{LocalGraph}
+use Rattle.gx_rules.specs.Rounds.{begins_round, on_graph, with_report}
+use Rattle.gx_rules.proofs.Rounds.{cancel-ways, graph-ways}
 use Rattle.gx_law_order.proofs.Releases.{each-released}
 
 -- a turn that appends nothing and whose marks stand for no item
@@ -291,6 +295,9 @@ answer-stands c before g i fails reply.Again = status-stands c before g i reply.
 answer-stands c before g i fails reply.Aborted = status-stands c before g i reply.Aborted fails
 answer-stands c before g i fails reply.Forgotten = status-stands c before g i reply.Forgotten fails
 
+graph-dull : (c : Coord) (from : Node) (round : ℕ) (graph : LocalGraph) → IsDull (on_graph c from round graph)
+graph-dull c from round graph = graph-ways IsDull c from round graph (rest-dull c) (λ e. rest-dull (with_report c graph)) (λ e f. record { marks = (tt, tt); item = refl })
+
 message-stands : (c : Coord) (before : List Mark) (from : Node) (fails : Bool) (m : Message) → Stands before fails (on_message c from fails m)
 message-stands c before from fails (message.Answer g r) = answer-stands c before g from fails r
 message-stands c before from fails (message.Exec g cid level x h y) = dull-stands before fails _ (rest-dull c)
@@ -300,7 +307,7 @@ message-stands c before from fails (message.CommitPrepared g) = dull-stands befo
 message-stands c before from fails (message.Abort g) = dull-stands before fails _ (rest-dull c)
 message-stands c before from fails (message.Forget g) = dull-stands before fails _ (rest-dull c)
 message-stands c before from fails (message.Collect round) = dull-stands before fails _ (rest-dull c)
-message-stands c before from fails (message.Graph round graph) = dull-stands before fails _ (rest-dull c)
+message-stands c before from fails (message.Graph round graph) = dull-stands before fails _ (graph-dull c from round graph)
 
 again-dull : (c : Coord) (i : Node) (m : Option Message) → IsDull (resends c i m)
 again-dull c i None = rest-dull c
@@ -311,6 +318,10 @@ event-stands script c before (event.Deliver from envelope) fails = message-stand
 event-stands script c before (event.Start s) fails = dull-stands before fails _ (start-dull script c s (next_line script c s))
 event-stands script c before (event.End s) fails = dull-stands before fails _ (end-dull c s _)
 event-stands script c before (event.Resend i (Some g)) fails = dull-stands before fails _ (again-dull c i (awaited c g i))
-event-stands script c before (event.Resend i None) fails = dull-stands before fails _ (rest-dull c)
+event-stands script c before (event.Resend i None) fails = dull-stands before fails _ (again-dull c i (awaited_collect c i))
 event-stands script c before (event.Resume g) fails = dull-stands before fails _ (resume-dull script c g (wait_of c.locks g) (work_of c g).waiting)
-event-stands script c before event.Round fails = dull-stands before fails _ (rest-dull c)
+event-stands script c before event.Round fails = dull-stands before fails (begins_round script c) (record { marks = tt; item = refl })
+
+-- a victim's turn appends nothing
+pub cancel-dull : (c : Coord) (g : Gxid) → IsDull (cancels c g)
+cancel-dull c g = cancel-ways IsDull c g (rest-dull c) (λ live busy. refused-dull c g (on_abort c.table g) [] (Victim c.rounds) tt)

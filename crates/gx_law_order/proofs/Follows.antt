@@ -1,29 +1,28 @@
 -- Each node's steps alone follow its rule.
-use Rattle.std.proofs.Common.{◌≡◌, ◌≤◌, ℕ, inl, inr, List, [], ◌∷◌, ◌++◌, Option, Some, None, Bool, true, false, refl, sym, subst, ap, ◌∙◌, if◌then◌else◌, arith, append-nil}
+use Rattle.std.proofs.Common.{◌≡◌, ◌≤◌, ℕ, inl, inr, List, [], ◌∷◌, ◌++◌, Bool, true, false, refl, sym, subst, ap, ◌∙◌, arith, append-nil}
 use Rattle.std.proofs.lemmas.Bool.Decides.{nat_tests}
 use Rattle.std.proofs.lemmas.List.{append_assoc}
 use Rattle.gx_ids.specs.declared.ids.Node.{Node}
 use Rattle.gx_msg.specs.declared.message.Envelope.{Envelope}
 use Rattle.gx_script.specs.declared.Script.{Script}
 use Rattle.gx_store.specs.declared.event.Event.{Event}
-use Rattle.gx_store.specs.declared.event.Event.TheVariants as event
 use Rattle.gx_store.specs.declared.node.NodeEvent.{NodeEvent}
 use Rattle.gx_store.specs.declared.node.NodeEvent.TheVariants as here
 use Rattle.gx_store.specs.declared.run.Step.{Step}
 use Rattle.gx_store.specs.Journals.{is_same_node}
 use Rattle.gx_store.specs.Messages.{IsSending}
-use Rattle.gx_store.specs.Ordered.{IsLink, IsSegment}
+use Rattle.gx_store.specs.Ordered.{IsSegment}
 use Rattle.gx_store.specs.Refusals.{the_coordinator}
 use Rattle.gx_rules.specs.AtCoordinator.{coord_can, coord_rule}
 use Rattle.gx_rules.specs.AtSegment.{seg_rule}
 use Rattle.gx_rules.specs.Coordinators.{Coord, new_coordinator}
-use Rattle.gx_rules.specs.Machine.{World, after, at_node, can, can_here, coord_did, delivered, does, found, happens, new_world, node_of, run_of, seg_can, seg_did, world_of}
+use Rattle.gx_rules.specs.Machine.{World, after, coord_did, happens, new_world, run_of, seg_can, seg_did, world_of}
 use Rattle.gx_rules.specs.Segments.{Seg, new_segment}
 use Rattle.gx_rules.specs.System.{AreAtNodes, DoesCoordFollow, DoesSegFollow, Either, IsCoordStep, IsHere, IsNode, IsPosted, IsSegStep, IsSystemRun}
 use Rattle.gx_law_order.proofs.Letters.{IsFound, IsLetter, found_is}
-use Rattle.gx_law_order.proofs.Ordered.{Well, apart-back, apart-two, at-both, happens_well, resumes_there, new_well, test-self}
+use Rattle.gx_law_order.proofs.Induction.{IsThere, happens-ways}
+use Rattle.gx_law_order.proofs.Ordered.{Well, apart-back, apart-two, at-both, happens_well, new_well, test-self}
 use Rattle.gx_law_order.proofs.Sent.{at}
-use Rattle.gx_ids.specs.declared.ids.Gxid.{Gxid}
 
 either_map : (b : Bool) (A B C D : Type 0) → (A → C) → (B → D) → Either b A B → Either b C D
 either_map true A B C D f g e = f e
@@ -181,69 +180,34 @@ module _ (script : Script) where
       step : Step
       step = record { stamp = record { clock = (seg_rule script (w.segs i) x fails).seg.clock; node = at i }; event = e; marks = (seg_rule script (w.segs i) x fails).marks }
 
-  received : (w : World) (from to : Node) (number : ℕ) (envelope : Envelope) (fails : Bool) → Follows script w → IsFound (IsLetter script w.steps) from to number envelope → can_here script w to (Some (here.Deliver from envelope)) ≡ true → Well script (does script w (event.Receive from to number) to fails (Some (here.Deliver from envelope))) → Follows script (does script w (event.Receive from to number) to fails (Some (here.Deliver from envelope)))
-  received w from to number envelope fails f d ok n = by_test (is_same_node to the_coordinator) refl ok n
-    where
-      e : Event
-      e = event.Receive from to number
+  -- what comes is the step's event
+  is-here : (w : World) (good : Well script w) (e : Event) (n : Node) (x : NodeEvent) → IsThere script w e n x → IsHere w.steps e x
+  is-here w good e n (here.Deliver from envelope) t =
+      subst (λ d. IsHere w.steps d (here.Deliver from envelope)) (sym t.event) (refl, posted_is script w from n t.number envelope (found_is (IsLetter script w.steps) from n t.number w.sent envelope good.letters t.found))
+  is-here w good e n (here.Resume g) t = subst (λ d. IsHere w.steps d (here.Resume g)) (sym t) refl
+  is-here w good e n (here.Start s) t = subst (λ d. IsHere w.steps d (here.Start s)) (sym t) refl
+  is-here w good e n (here.End s) t = subst (λ d. IsHere w.steps d (here.End s)) (sym t) refl
+  is-here w good e n (here.Resend i g) t = subst (λ d. IsHere w.steps d (here.Resend i g)) (sym t) (refl, refl)
+  is-here w good e n here.Round t = subst (λ d. IsHere w.steps d here.Round) (sym t) tt
 
-      x : NodeEvent
-      x = here.Deliver from envelope
+module _ (script : Script) (some : 1 ≤ script.segments) where
+  happens_follows : (w : World) (e : Event) (fails : Bool) → Follows script w → Follows script (happens script w e fails)
+  happens_follows w e fails f =
+      happens-ways script w f.well e fails (λ v. Well script v → Follows script v) (λ n. f)
+      (λ x t ok n. coord_kept script w e x fails f n (is-here script w f.well e the_coordinator x t) ok)
+      (λ x i place t ok n. seg_kept script w e x fails i place f n (is-here script w f.well e (at i) x t) ok)
+      (happens_well script some w e fails f.well)
 
-      by_test : (b : Bool) → is_same_node to the_coordinator ≡ b → (if b then coord_can script w.coord x else seg_can script (w.segs to.0) x) ≡ true → Well script (if b then coord_did w e (coord_rule script w.coord x fails) else seg_did w to e (seg_rule script (w.segs to.0) x fails)) → Follows script (if b then coord_did w e (coord_rule script w.coord x fails) else seg_did w to e (seg_rule script (w.segs to.0) x fails))
-      by_test true is ok n = coord_kept w e x fails f n (refl, posted_is script w from to number envelope d) ok
-      by_test false is ok n = seg_kept w e x fails to.0 (place is d.is.link) f n (refl, posted_is script w from to number envelope d) ok
-        where
-          not_here : (m : Node) → m ≡ the_coordinator → is_same_node m the_coordinator ≡ false → ⊥
-          not_here m same away = grind (arith, nat_tests)
+  after_follows : (es : List (Event × Bool)) (w : World) → Follows script w → Follows script (after script w es)
+  after_follows [] w f = f
+  after_follows (e ∷ es) w f = after_follows es (happens script w e.0 e.1) (happens_follows w e.0 e.1 f)
 
-          place : is_same_node to the_coordinator ≡ false → IsLink script d.letter.from d.letter.to → IsSegment script to
-          place away (inl l) = subst (IsSegment script) d.target l.1
-          place away (inr l) = absurd (not_here to (sym d.target ∙ l.1) away)
-
-  arrives : (w : World) (from to : Node) (number : ℕ) (fails : Bool) (o : Option Envelope) → found from to number w.sent ≡ o → Follows script w → can_here script w to (delivered from o) ≡ true → Well script (does script w (event.Receive from to number) to fails (delivered from o)) → Follows script (does script w (event.Receive from to number) to fails (delivered from o))
-  arrives w from to number fails None e f ok n = f
-  arrives w from to number fails (Some envelope) e f ok n = received w from to number envelope fails f (found_is (IsLetter script w.steps) from to number w.sent envelope f.well.letters e) ok n
-
-  resumed : (w : World) (n : Node) (g : Gxid) (fails : Bool) → Follows script w → (1 ≤ script.segments) → can_here script w n (Some (here.Resume g)) ≡ true → Well script (does script w (event.Resume n g) n fails (Some (here.Resume g))) → Follows script (does script w (event.Resume n g) n fails (Some (here.Resume g)))
-  resumed w n g fails f some ok well = by_test (is_same_node n the_coordinator) refl ok well
-    where
-      e : Event
-      e = event.Resume n g
-
-      x : NodeEvent
-      x = here.Resume g
-
-      by_test : (b : Bool) → is_same_node n the_coordinator ≡ b → (if b then coord_can script w.coord x else seg_can script (w.segs n.0) x) ≡ true → Well script (if b then coord_did w e (coord_rule script w.coord x fails) else seg_did w n e (seg_rule script (w.segs n.0) x fails)) → Follows script (if b then coord_did w e (coord_rule script w.coord x fails) else seg_did w n e (seg_rule script (w.segs n.0) x fails))
-      by_test true is ok well = coord_kept w e x fails f well refl ok
-      by_test false is ok well = seg_kept w e x fails n.0 (resumes_there script some w n g f.well ok) f well refl ok
-
-  event_follows : (w : World) (e : Event) (fails : Bool) → Follows script w → can script w e ≡ true → Well script (does script w e (node_of e) fails (at_node w e)) → (1 ≤ script.segments) → Follows script (does script w e (node_of e) fails (at_node w e))
-  event_follows w (event.Receive from to number) fails f ok n some = arrives w from to number fails (found from to number w.sent) refl f ok n
-  event_follows w (event.Resume m g) fails f ok n some = resumed w m g fails f some ok n
-  event_follows w (event.Start x) fails f ok n some = coord_kept w (event.Start x) (here.Start x) fails f n refl ok
-  event_follows w (event.End x) fails f ok n some = coord_kept w (event.End x) (here.End x) fails f n refl ok
-  event_follows w (event.Resend i g) fails f ok n some = coord_kept w (event.Resend i g) (here.Resend i g) fails f n (refl, refl) ok
-  event_follows w event.Round fails f ok n some = coord_kept w event.Round here.Round fails f n tt ok
-
-  module _ (some : 1 ≤ script.segments) where
-    happens_follows : (w : World) (e : Event) (fails : Bool) → Follows script w → Follows script (happens script w e fails)
-    happens_follows w e fails f = by_can (can script w e) refl (happens_well script some w e fails f.well)
-      where
-        by_can : (b : Bool) → can script w e ≡ b → Well script (if b then does script w e (node_of e) fails (at_node w e) else w) → Follows script (if b then does script w e (node_of e) fails (at_node w e) else w)
-        by_can true ok n = event_follows w e fails f ok n some
-        by_can false ok n = f
-
-    after_follows : (es : List (Event × Bool)) (w : World) → Follows script w → Follows script (after script w es)
-    after_follows [] w f = f
-    after_follows (e ∷ es) w f = after_follows es (happens script w e.0 e.1) (happens_follows w e.0 e.1 f)
-
-    pub world_follows : (es : List (Event × Bool)) → IsSystemRun script (run_of (world_of script es))
-    world_follows es =
-        let f = after_follows es new_world (record { well = new_well script some; nodes = tt; coordinator = refl; segments = λ i k. refl }) in
-        record {
-          ordered = f.well.steps;
-          nodes = f.nodes;
-          coordinator = coord_follows script new_coordinator [] (world_of script es).steps (world_of script es).coord f.coordinator;
-          segments = λ node place. seg_follows script (new_segment node) [] (world_of script es).steps ((world_of script es).segs node.0) (f.segments node.0 place.0);
-        }
+  pub world_follows : (es : List (Event × Bool)) → IsSystemRun script (run_of (world_of script es))
+  world_follows es =
+      let f = after_follows es new_world (record { well = new_well script some; nodes = tt; coordinator = refl; segments = λ i k. refl }) in
+      record {
+        ordered = f.well.steps;
+        nodes = f.nodes;
+        coordinator = coord_follows script new_coordinator [] (world_of script es).steps (world_of script es).coord f.coordinator;
+        segments = λ node place. seg_follows script (new_segment node) [] (world_of script es).steps ((world_of script es).segs node.0) (f.segments node.0 place.0);
+      }

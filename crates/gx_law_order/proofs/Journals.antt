@@ -1,41 +1,44 @@
 -- Over every run of the machine, a journal holds the items that the marks stand for.
-use Rattle.std.proofs.Common.{◌≡◌, ◌≤◌, inl, inr, ℕ, List, [], ◌∷◌, ◌++◌, Option, Some, None, Bool, true, false, refl, sym, subst, ap, ◌∙◌, if◌then◌else◌, ◌==◌, ◌&&◌, ◌||◌, arith, eqb, append-nil}
+use Rattle.std.proofs.Common.{◌≡◌, ◌≤◌, ℕ, List, [], ◌∷◌, ◌++◌, Option, Some, None, Bool, true, false, refl, sym, subst, ap, ◌∙◌, if◌then◌else◌, ◌==◌, ◌&&◌, ◌||◌, arith, eqb, append-nil}
 use Rattle.std.proofs.lemmas.Bool.Decides.{nat_tests}
 use Rattle.std.proofs.lemmas.List.{append_assoc}
 use Rattle.gx_lemmas.proofs.Numbers.{one-le-zero}
 use Rattle.gx_ids.specs.declared.ids.Node.{Node}
 use Rattle.gx_msg.specs.declared.item.JournalItem.{JournalItem}
 use Rattle.gx_msg.specs.declared.item.JournalItem.TheVariants as item
-use Rattle.gx_msg.specs.declared.message.Envelope.{Envelope}
 use Rattle.gx_msg.specs.declared.message.Out.{Out}
 use Rattle.gx_script.specs.declared.Script.{Script}
 use Rattle.gx_store.specs.declared.event.Event.{Event}
-use Rattle.gx_store.specs.declared.event.Event.TheVariants as event
 use Rattle.gx_store.specs.declared.mark.Mark.{Mark}
 use Rattle.gx_store.specs.declared.mark.Mark.TheVariants as mark
 use Rattle.gx_store.specs.declared.node.NodeEvent.{NodeEvent}
-use Rattle.gx_store.specs.declared.node.NodeEvent.TheVariants as here
 use Rattle.gx_store.specs.declared.run.Step.{Step}
 use Rattle.gx_store.specs.Journals.{is_prepared, is_same_node, items_from, items_of, kept_at}
-use Rattle.gx_store.specs.Ordered.{IsAtNode, IsLink, IsSegment}
+use Rattle.gx_store.specs.Ordered.{IsAtNode, IsSegment}
 use Rattle.gx_store.specs.Points.{marks_in}
 use Rattle.gx_store.specs.Refusals.{the_coordinator}
-use Rattle.gx_rules.specs.AtCoordinator.{coord_rule, on_event, coord_can}
+use Rattle.gx_rules.specs.AtCoordinator.{and_cancels, cancel_turn, cancels, coord_can, coord_rule, coord_sends, coord_turn, on_event}
 use Rattle.gx_rules.specs.AtSegment.{seg_rule}
 use Rattle.gx_rules.specs.AtSegment as segment
-use Rattle.gx_rules.specs.Coordinators.{CoordTurn}
-use Rattle.gx_rules.specs.Machine.{World, after, at_node, can, coord_did, delivered, does, found, happens, kept_item, new_world, node_of, seg_did, world_of, can_here, seg_can}
+use Rattle.gx_rules.specs.Coordinators.{Coord, CoordTurn}
+use Rattle.gx_rules.specs.Rounds.{victims_at}
+use Rattle.gx_rules.proofs.Turns.{cancels_all-each}
+use Rattle.gx_rules.specs.Machine.{World, after, and_cancelled, at_node, can, coord_did, does, happens, kept_item, new_world, node_of, seg_did, world_of, can_here, seg_can}
 use Rattle.gx_rules.specs.Segments.{Seg, SegTurn}
 use Rattle.gx_rules.specs.Sending.{clock_after, counted, numbered}
+use Rattle.gx_law_order.specs.Moves.{Move, world_by}
 use Rattle.gx_law_order.specs.Journals.{item_at, journal_after, journal_from, takes}
-use Rattle.gx_law_order.proofs.CoordItems.{event-stands}
-use Rattle.gx_law_order.proofs.Letters.{IsFound, IsLetter, found_is, same_node}
-use Rattle.gx_law_order.proofs.Lists.{Each}
-use Rattle.gx_law_order.proofs.Ordered.{Well, at-both, at_coordinator, happens_well, resumes_there, new_well, seg_marks}
+use Rattle.gx_law_order.proofs.CoordItems.{Stands, cancel-dull, event-stands}
+use Rattle.gx_law_order.proofs.Letters.{same_node}
+use Rattle.gx_law_order.proofs.AtCoordinators.{CoordStays, cancel_stays, coord_stays}
+use Rattle.gx_law_order.proofs.Induction.{after_turn, at-moves, marks-by-event, marks-by-victim, place-of}
+use Rattle.gx_law_order.proofs.Lists.{Each, each_append}
+use Rattle.gx_law_order.proofs.Moves.{comes, moves_after, world-moves}
+use Rattle.gx_law_order.proofs.More.{marks-last}
+use Rattle.gx_law_order.proofs.Ordered.{Well, at-both, happens_well, moves_well, new_well, rule-at, seg_marks, sends-at}
 use Rattle.gx_law_order.proofs.SegItems.{Bound, Dull, Holds, Items, dull-items, dull-prepared, event_items, items-append, prepared-append, writes-append, writes_at}
 use Rattle.gx_law_order.proofs.Sent.{at}
 use Rattle.gx_law_order.proofs.Stages.{gx}
-use Rattle.gx_law_order.proofs.World.{marks-last}
 use Rattle.gx_ids.specs.declared.ids.Gxid.{Gxid}
 
 -- what the segments hold of the marks
@@ -102,19 +105,34 @@ more-items i steps s added e = ap (items_of (at i)) (marks-last steps s) ∙ ite
 with-sent : (node : Node) (before ms : List Mark) (f : ℕ → ℕ) (outs : List Out) (its : List JournalItem) → items_from node before ms ≡ its → items_from node before (ms ++ numbered f outs) ≡ its
 with-sent node before ms f outs its e = items-append node before ms (numbered f outs) ∙ ap (λ q. items_from node before ms ++ q) (dull-items node (before ++ ms) (numbered f outs) (numbered-dull f outs)) ∙ append-nil (items_from node before ms) ∙ e
 
+-- the coordinator's whole rule: its victims append nothing
+rule-stands : (script : Script) (c : Coord) (before : List Mark) (x : NodeEvent) (fails : Bool) → Stands before fails (coord_rule script c x fails)
+rule-stands script c before x fails = cancels_all-each (Stands before fails) one (victims_at c x) (coord_turn script c x fails) first
+  where
+    first : Stands before fails (coord_turn script c x fails)
+    first = with-sent the_coordinator before (on_event script c x fails).marks (on_event script c x fails).coord.sent (on_event script c x fails).outs _ (event-stands script c before x fails)
+
+    one : (turn : CoordTurn) (g : Gxid) → Stands before fails turn → Stands before fails (and_cancels turn g)
+    one turn g e =
+        let next = cancels turn.coord g in
+        let dull = each_append Dull next.marks (numbered next.coord.sent next.outs) (cancel-dull turn.coord g).marks (numbered-dull next.coord.sent next.outs) in
+        items-append the_coordinator before turn.marks (cancel_turn turn.coord g).marks
+        ∙ ap (λ q. items_from the_coordinator before turn.marks ++ q) (dull-items the_coordinator (before ++ turn.marks) (cancel_turn turn.coord g).marks dull)
+        ∙ append-nil (items_from the_coordinator before turn.marks) ∙ e
+
 module _ (script : Script) (some : 1 ≤ script.segments) (w : World) (well : Well script w) (hold : Hold w) (e : Event) (x : NodeEvent) (fails : Bool) (i : ℕ) where
   coord-after : After w (coord_did w e (coord_rule script w.coord x fails)) i (if is_same_node the_coordinator (at i) then kept_item fails (coord_rule script w.coord x fails).item else [])
   coord-after =
       record {
-        hold = λ j one. subst (λ m. Holds (at j) (w.segs j) m) (sym (marks-last w.steps step)) (holds-other script the_coordinator j (w.segs j) (marks_in w.steps) step.marks (apart j one) (at_coordinator script some w well e x fails) (hold j one));
+        hold = λ j one. subst (λ m. Holds (at j) (w.segs j) m) (sym (marks-last w.steps step)) (holds-other script the_coordinator j (w.segs j) (marks_in w.steps) step.marks (apart j one) all_here (hold j one));
         items = more-items i w.steps step _ (by_test (is_same_node the_coordinator (at i)) refl);
       }
     where
       step : Step
-      step = record { stamp = record { clock = clock_after w.coord.clock x; node = the_coordinator }; event = e; marks = (coord_rule script w.coord x fails).marks }
+      step = record { stamp = record { clock = (coord_rule script w.coord x fails).coord.clock; node = the_coordinator }; event = e; marks = (coord_rule script w.coord x fails).marks }
 
-      turn : CoordTurn
-      turn = on_event script w.coord x fails
+      all_here : Each (IsAtNode script the_coordinator) step.marks
+      all_here = rule-at script some w.coord x fails well.coordinator
 
       apart : (j : ℕ) → 1 ≤ j → is_same_node the_coordinator (at j) ≡ false
       apart j one = grind (arith, nat_tests)
@@ -122,9 +140,9 @@ module _ (script : Script) (some : 1 ≤ script.segments) (w : World) (well : We
       back : (j : ℕ) → is_same_node the_coordinator (at j) ≡ false → eqb j 0 ≡ false
       back j n = grind (arith, nat_tests)
 
-      by_test : (b : Bool) → is_same_node the_coordinator (at i) ≡ b → items_from (at i) (marks_in w.steps) step.marks ≡ (if b then kept_item fails turn.item else [])
-      by_test true q = subst (λ n. items_from n (marks_in w.steps) step.marks ≡ kept_item fails turn.item) (same_node the_coordinator (at i) q) (with-sent the_coordinator (marks_in w.steps) turn.marks turn.coord.sent turn.outs _ (event-stands script w.coord (marks_in w.steps) x fails))
-      by_test false q = other-items script the_coordinator (at i) (marks_in w.steps) step.marks q (λ z. back i q) (at_coordinator script some w well e x fails)
+      by_test : (b : Bool) → is_same_node the_coordinator (at i) ≡ b → items_from (at i) (marks_in w.steps) step.marks ≡ (if b then kept_item fails (coord_rule script w.coord x fails).item else [])
+      by_test true q = subst (λ n. items_from n (marks_in w.steps) step.marks ≡ kept_item fails (coord_rule script w.coord x fails).item) (same_node the_coordinator (at i) q) (rule-stands script w.coord (marks_in w.steps) x fails)
+      by_test false q = other-items script the_coordinator (at i) (marks_in w.steps) step.marks q (λ z. back i q) all_here
 
   seg-after : (j : ℕ) → (place : IsSegment script (at j)) → After w (seg_did w (at j) e (seg_rule script (w.segs j) x fails)) i (if is_same_node (at j) (at i) then kept_item fails (seg_rule script (w.segs j) x fails).item else [])
   seg-after j place =
@@ -183,56 +201,23 @@ module _ (script : Script) (some : 1 ≤ script.segments) (i : ℕ) where
   abbrev Taken : World → Event → Node → Bool → Option NodeEvent → List JournalItem
   Taken w e n fails x = if is_same_node n (at i) then kept_item fails (item_at script w n fails x) else []
 
-  received : (w : World) (from to : Node) (number : ℕ) (envelope : Envelope) (fails : Bool) → Well script w → Hold w → IsFound (IsLetter script w.steps) from to number envelope → After w (does script w (event.Receive from to number) to fails (Some (here.Deliver from envelope))) i (Taken w (event.Receive from to number) to fails (Some (here.Deliver from envelope)))
-  received w from to number envelope fails well hold d = by_test (is_same_node to the_coordinator) refl
-    where
-      e : Event
-      e = event.Receive from to number
-
-      x : NodeEvent
-      x = here.Deliver from envelope
-
-      place : is_same_node to the_coordinator ≡ false → IsLink script d.letter.from d.letter.to → IsSegment script to
-      place away (inl l) = subst (IsSegment script) d.target l.1
-      place away (inr l) = absurd (not-here to (sym d.target ∙ l.1) away)
-        where
-          not-here : (n : Node) → n ≡ the_coordinator → is_same_node n the_coordinator ≡ false → ⊥
-          not-here n same away = grind (arith, nat_tests)
-
-      by_test : (b : Bool) → is_same_node to the_coordinator ≡ b → After w (if b then coord_did w e (coord_rule script w.coord x fails) else seg_did w to e (seg_rule script (w.segs to.0) x fails)) i (if is_same_node to (at i) then kept_item fails (if b then (coord_rule script w.coord x fails).item else (seg_rule script (w.segs to.0) x fails).item) else [])
-      by_test true is = subst (λ n. After w (coord_did w e (coord_rule script w.coord x fails)) i (if is_same_node n (at i) then kept_item fails (coord_rule script w.coord x fails).item else [])) (sym (same_node to the_coordinator is)) (coord-after script some w well hold e x fails i)
-      by_test false is = seg-after script some w well hold e x fails i to.0 (place is d.is.link)
-
-  arrives : (w : World) (from to : Node) (number : ℕ) (fails : Bool) (o : Option Envelope) → found from to number w.sent ≡ o → Well script w → Hold w → After w (does script w (event.Receive from to number) to fails (delivered from o)) i (Taken w (event.Receive from to number) to fails (delivered from o))
-  arrives w from to number fails None e well hold = subst (λ q. After w w i q) (sym (never-taken (is_same_node to (at i)) fails)) (nothing-after w hold)
-  arrives w from to number fails (Some envelope) e well hold = received w from to number envelope fails well hold (found_is (IsLetter script w.steps) from to number w.sent envelope well.letters e)
-
-  resumed : (w : World) (n : Node) (g : Gxid) (fails : Bool) → Well script w → Hold w → can_here script w n (Some (here.Resume g)) ≡ true → After w (does script w (event.Resume n g) n fails (Some (here.Resume g))) i (Taken w (event.Resume n g) n fails (Some (here.Resume g)))
-  resumed w n g fails well hold ok = by_test (is_same_node n the_coordinator) refl ok
-    where
-      e : Event
-      e = event.Resume n g
-
-      x : NodeEvent
-      x = here.Resume g
-
-      by_test : (b : Bool) → is_same_node n the_coordinator ≡ b → (if b then coord_can script w.coord x else seg_can script (w.segs n.0) x) ≡ true → After w (if b then coord_did w e (coord_rule script w.coord x fails) else seg_did w n e (seg_rule script (w.segs n.0) x fails)) i (if is_same_node n (at i) then kept_item fails (if b then (coord_rule script w.coord x fails).item else (seg_rule script (w.segs n.0) x fails).item) else [])
-      by_test true is ok = subst (λ q. After w (coord_did w e (coord_rule script w.coord x fails)) i (if is_same_node q (at i) then kept_item fails (coord_rule script w.coord x fails).item else [])) (sym (same_node n the_coordinator is)) (coord-after script some w well hold e x fails i)
-      by_test false is ok = seg-after script some w well hold e x fails i n.0 (resumes_there script some w n g well ok)
-
-  event-after : (w : World) (e : Event) (fails : Bool) → Well script w → Hold w → can script w e ≡ true → After w (does script w e (node_of e) fails (at_node w e)) i (Taken w e (node_of e) fails (at_node w e))
-  event-after w (event.Receive from to number) fails well hold ok = arrives w from to number fails (found from to number w.sent) refl well hold
-  event-after w (event.Resume n g) fails well hold ok = resumed w n g fails well hold ok
-  event-after w (event.Start x) fails well hold ok = coord-after script some w well hold (event.Start x) (here.Start x) fails i
-  event-after w (event.End x) fails well hold ok = coord-after script some w well hold (event.End x) (here.End x) fails i
-  event-after w (event.Resend j g) fails well hold ok = coord-after script some w well hold (event.Resend j g) (here.Resend j g) fails i
-  event-after w event.Round fails well hold ok = coord-after script some w well hold event.Round here.Round fails i
-
   pub happens-after : (w : World) (e : Event) (fails : Bool) → Well script w → Hold w → After w (happens script w e fails) i (takes script w e fails (at i))
   happens-after w e fails well hold = by_can (can script w e) refl
     where
+      by_node : (x : NodeEvent) → at_node w e ≡ Some x → (b : Bool) → is_same_node (node_of e) the_coordinator ≡ b → (if b then coord_can script w.coord x else seg_can script (w.segs (node_of e).0) x) ≡ true
+          → After w (if b then coord_did w e (coord_rule script w.coord x fails) else seg_did w (node_of e) e (seg_rule script (w.segs (node_of e).0) x fails)) i
+          (if is_same_node (node_of e) (at i) then kept_item fails (if b then (coord_rule script w.coord x fails).item else (seg_rule script (w.segs (node_of e).0) x fails).item) else [])
+      by_node x q true is ok =
+          subst (λ n. After w (coord_did w e (coord_rule script w.coord x fails)) i (if is_same_node n (at i) then kept_item fails (coord_rule script w.coord x fails).item else []))
+          (sym (same_node (node_of e) the_coordinator is)) (coord-after script some w well hold e x fails i)
+      by_node x q false is ok = seg-after script some w well hold e x fails i (node_of e).0 (place-of script w well e x (node_of e) is (comes w e x q) ok)
+
+      there : (o : Option NodeEvent) → at_node w e ≡ o → can_here script w (node_of e) o ≡ true → After w (does script w e (node_of e) fails o) i (Taken w e (node_of e) fails o)
+      there None q ok = subst (λ its. After w w i its) (sym (never-taken (is_same_node (node_of e) (at i)) fails)) (nothing-after w hold)
+      there (Some x) q ok = by_node x q (is_same_node (node_of e) the_coordinator) refl ok
+
       by_can : (b : Bool) → can script w e ≡ b → After w (if b then does script w e (node_of e) fails (at_node w e) else w) i (if b then Taken w e (node_of e) fails (at_node w e) else [])
-      by_can true ok = event-after w e fails well hold ok
+      by_can true ok = there (at_node w e) refl ok
       by_can false ok = nothing-after w hold
 
   journal-is : (es : List (Event × Bool)) (w : World) (held : List JournalItem) → Well script w → Hold w → held ≡ items_of (at i) (marks_in w.steps) → journal_from script w (at i) held es ≡ items_of (at i) (marks_in (after script w es).steps)
@@ -246,3 +231,24 @@ module _ (script : Script) (some : 1 ≤ script.segments) (i : ℕ) where
 
   pub journal-holds : (es : List (Event × Bool)) → journal_after script (at i) es ≡ items_of (at i) (marks_in (world_of script es).steps)
   journal-holds es = journal-is es new_world [] (new_well script some) new-hold refl
+
+-- ALL WORLDS
+module _ (script : Script) (some : 1 ≤ script.segments) where
+  -- a single turn of the coordinator leaves the segments
+  turn-hold : (w : World) → Hold w → (turn : CoordTurn) (clock : ℕ) (steps : List Step) → marks_in steps ≡ marks_in w.steps ++ (coord_sends clock turn).marks → CoordStays script w.coord.sent turn → Hold (after_turn w clock turn steps)
+  turn-hold w hold turn clock steps marks stays j one =
+      subst (λ m. Holds (at j) (w.segs j) m) (sym marks) (holds-other script the_coordinator j (w.segs j) (marks_in w.steps) (coord_sends clock turn).marks (apart j one) (sends-at script w.coord.sent turn clock stays) (hold j one))
+    where
+      apart : (j : ℕ) → 1 ≤ j → is_same_node the_coordinator (at j) ≡ false
+      apart j one = grind (arith, nat_tests)
+
+  pub moves-hold : (ms : List Move) → Hold (world_by script ms)
+  moves-hold =
+      at-moves script some (Well script) Hold (moves_well script some) (new-hold script some 0)
+      (λ w good hold e x fails t ok next.
+      turn-hold w hold (on_event script w.coord x fails) (clock_after w.coord.clock x) (coord_did w e (coord_turn script w.coord x fails)).steps (marks-by-event script w e x fails) (coord_stays script some w.coord x fails good.coordinator))
+      (λ w good hold g h next. turn-hold w hold (cancels w.coord g) w.coord.clock (and_cancelled w g).steps (marks-by-victim w g h) (cancel_stays script some w.coord g good.coordinator))
+      (λ w good hold e x fails i place t ok next. (seg-after script some w good hold e x fails 0 i place).hold)
+
+  pub world-hold : (es : List (Event × Bool)) → Hold (world_of script es)
+  world-hold es = subst Hold (sym (world-moves script es)) (moves-hold (moves_after script new_world es))

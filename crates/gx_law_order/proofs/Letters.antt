@@ -41,7 +41,7 @@ letters_kept script steps s [] e = tt
 letters_kept script steps s (l ∷ ls) e = (letter_kept script steps s l e.0, letters_kept script steps s ls e.1)
 
 -- what a step's marks send is in the step
-posted_from : (script : Script) (steps : List Step) (s : Step) (done ms : List Mark) (sent : List Letter) → s.marks ≡ done ++ ms → Each (IsAtNode script s.stamp.node) ms → Each (IsLetter script (steps ++ s ∷ [])) sent → Each (IsLetter script (steps ++ s ∷ [])) (posted s.stamp.node s.stamp.clock ms sent)
+pub posted_from : (script : Script) (steps : List Step) (s : Step) (done ms : List Mark) (sent : List Letter) → s.marks ≡ done ++ ms → Each (IsAtNode script s.stamp.node) ms → Each (IsLetter script (steps ++ s ∷ [])) sent → Each (IsLetter script (steps ++ s ∷ [])) (posted s.stamp.node s.stamp.clock ms sent)
 posted_from script steps s done [] sent e h ls = ls
 posted_from script steps s done (Sent to number told ∷ ms) sent e h ls =
     posted_from script steps s (done ++ Sent to number told ∷ []) ms _ (e ∙ sym (append_assoc done (Sent to number told ∷ []) ms)) h.1 (

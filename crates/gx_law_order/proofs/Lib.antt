@@ -14,7 +14,10 @@ pub mod Suspensions
 pub mod OwnLocks
 pub mod Writers
 pub mod Settled
+pub mod Moves
+pub mod More
 pub mod Ordered
+pub mod Induction
 pub mod Follows
 pub mod Machines
 pub mod Statuses

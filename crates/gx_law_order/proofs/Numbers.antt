@@ -31,6 +31,7 @@ use Rattle.gx_script.specs.declared.line_step.LineStep.TheVariants as step
 use Rattle.gx_script.specs.declared.state.Block.{Block}
 use Rattle.gx_script.specs.declared.state.Block.TheVariants.{Outside, Open, Failed}
 use Rattle.gx_store.specs.declared.answer.Refused.{Refused}
+use Rattle.gx_store.specs.declared.answer.Refused.TheVariants.{Victim}
 use Rattle.gx_store.specs.declared.mark.Mark.{Mark}
 use Rattle.gx_store.specs.declared.mark.Mark.TheVariants as mark
 use Rattle.gx_store.specs.declared.node.NodeEvent.{NodeEvent}
@@ -38,7 +39,7 @@ use Rattle.gx_store.specs.declared.node.NodeEvent.TheVariants as event
 use Rattle.gx_store.specs.Marks.{start_count}
 use Rattle.gx_store.specs.Refusals.{the_coordinator}
 use Rattle.gx_store.specs.Writes.{dist_of}
-use Rattle.gx_rules.specs.AtCoordinator.{Reading, awaited, begins, behind, commits, completes, dispatches, ends_in, enlisted_all, failure_marks, fault_mark, follows, goes, goes_on, is_awaited, is_refused, next_cid, next_line, nodes_in, on_answer, on_done, on_event, on_failed, on_line, on_message, on_status, reads_by, reads_for, reason_of, refusal_of, resends, starts, starts_line, table_of, takes_done, unless_kept, with_done, writers_with, goes_on_locked, if_granted, lock_for, requests, resumes}
+use Rattle.gx_rules.specs.AtCoordinator.{Reading, awaited, awaited_collect, begins, cancels, behind, commits, completes, dispatches, ends_in, enlisted_all, failure_marks, fault_mark, follows, goes, goes_on, is_awaited, is_refused, next_cid, next_line, nodes_in, on_answer, on_done, on_event, on_failed, on_line, on_message, on_status, reads_by, reads_for, reason_of, refusal_of, resends, starts, starts_line, table_of, takes_done, unless_kept, with_done, writers_with, goes_on_locked, if_granted, lock_for, requests, resumes}
 use Rattle.gx_rules.specs.Coordinators.{Command, Coord, CoordTurn, Work, rests, session_of, with_work, work_of}
 use Rattle.gx_rules.specs.Fits.{fits_part}
 use Rattle.gx_law_order.proofs.Lists.{Each, each_append}
@@ -46,6 +47,8 @@ use Rattle.gx_law_order.specs.Numbers.{AreStartsNumbered}
 use Rattle.gx_rules.specs.Locks.{hold_mark, release_marks, with_hold}
 use Rattle.gx_locks.specs.Locks.{Locks, is_free, resumed, wait_of}
 use Rattle.gx_waits.specs.declared.claim.Claim.{Claim}
+use Rattle.gx_rules.specs.Rounds.{begins_round}
+use Rattle.gx_rules.proofs.Rounds.{cancel-ways, graph-ways}
 use Rattle.gx_law_order.proofs.Releases.{each-released}
 
 -- a mark that starts no transaction
@@ -219,7 +222,7 @@ message-calm c from fails (message.CommitPrepared g) = rest-calm c
 message-calm c from fails (message.Abort g) = rest-calm c
 message-calm c from fails (message.Forget g) = rest-calm c
 message-calm c from fails (message.Collect round) = rest-calm c
-message-calm c from fails (message.Graph round graph) = rest-calm c
+message-calm c from fails (message.Graph round graph) = graph-ways (IsCalm c.table.next) c from round graph (rest-calm c) (λ e. record { marks = tt; stands = refl }) (λ e f. record { marks = (tt, tt); stands = refl })
 
 again-calm : (c : Coord) (i : Node) (m : Option Message) → IsCalm c.table.next (resends c i m)
 again-calm c i None = rest-calm c
@@ -289,6 +292,9 @@ module _ (before : List Mark) where
   event-numbered script c (event.Start s) fails n = start-numbered script c s (next_line script c s) n
   event-numbered script c (event.End s) fails n = calm c.table.next _ n (end-calm c s (session_of c s).state.block)
   event-numbered script c (event.Resend i (Some g)) fails n = calm c.table.next _ n (again-calm c i (awaited c g i))
-  event-numbered script c (event.Resend i None) fails n = calm c.table.next _ n (rest-calm c)
+  event-numbered script c (event.Resend i None) fails n = calm c.table.next _ n (again-calm c i (awaited_collect c i))
   event-numbered script c (event.Resume g) fails n = calm c.table.next _ n (resume-calm script c g (wait_of c.locks g) (work_of c g).waiting)
-  event-numbered script c event.Round fails n = calm c.table.next _ n (rest-calm c)
+  event-numbered script c event.Round fails n = calm c.table.next (begins_round script c) n (record { marks = tt; stands = refl })
+
+  pub cancel-numbered : (c : Coord) (g : Gxid) → c.table.next.0 ≡ start_count before + 1 → IsNumbered before (cancels c g)
+  cancel-numbered c g n = calm c.table.next _ n (cancel-ways (IsCalm c.table.next) c g (rest-calm c) (λ live busy. refused-calm c g (on_abort c.table g) [] (Victim c.rounds) refl tt))

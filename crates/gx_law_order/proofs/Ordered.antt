@@ -1,5 +1,5 @@
 -- Every run of the machine is ordered.
-use Rattle.std.proofs.Common.{◌≡◌, ◌≤◌, ◌<◌, inl, inr, ℕ, ◌+◌, List, [], ◌∷◌, ◌++◌, Option, Some, None, Bool, true, false, refl, sym, subst, ap, ◌∙◌, if◌then◌else◌, ◌&&◌, arith, eqb, length, append-nil}
+use Rattle.std.proofs.Common.{◌≡◌, ◌≤◌, ◌<◌, inl, inr, ℕ, ◌+◌, List, [], ◌∷◌, ◌++◌, Some, Bool, true, false, refl, sym, subst, ap, ◌∙◌, if◌then◌else◌, ◌&&◌, arith, eqb, length, append-nil}
 use Rattle.std.proofs.lemmas.Bool.{eqb-true}
 use Rattle.std.proofs.lemmas.Bool.Decides.{nat_tests}
 use Rattle.std.proofs.lemmas.List.{append_assoc}
@@ -22,20 +22,25 @@ use Rattle.gx_store.specs.Journals.{is_same_node}
 use Rattle.gx_store.specs.Messages.{IsSending}
 use Rattle.gx_store.specs.Ordered.{AreNumbered, AreOrdered, IsAtNode, IsDelivery, IsEventAt, IsLink, IsOrderedStep, IsSegment, clock_of, sent_count, sent_in}
 use Rattle.gx_store.specs.Refusals.{the_coordinator}
-use Rattle.gx_rules.specs.AtCoordinator.{coord_can, coord_rule, is_segment, on_event}
+use Rattle.gx_rules.specs.AtCoordinator.{and_cancels, cancel_turn, cancels, coord_can, coord_rule, coord_sends, coord_turn, is_segment, on_event}
 use Rattle.gx_rules.specs.AtSegment.{seg_rule}
 use Rattle.gx_rules.specs.AtSegment as segment
-use Rattle.gx_rules.specs.Coordinators.{CoordTurn}
-use Rattle.gx_rules.specs.Machine.{Letter, World, after, at_node, can, can_here, coord_did, delivered, does, found, happens, new_world, node_of, seg_can, seg_did, world_of}
+use Rattle.gx_rules.specs.Coordinators.{Coord, CoordTurn}
+use Rattle.gx_rules.specs.Rounds.{victims_at}
+use Rattle.gx_rules.specs.Machine.{Letter, World, and_cancelled, coord_did, found, happens, new_world, posted, seg_can, seg_did, with_more, world_of}
 use Rattle.gx_rules.specs.Maps.{with_at}
 use Rattle.gx_rules.specs.Segments.{Seg, SegTurn}
-use Rattle.gx_rules.specs.Sending.{clock_after, counted, numbered}
-use Rattle.gx_law_order.proofs.AtCoordinators.{CoordIn, CoordStays, coord_stays}
+use Rattle.gx_rules.specs.Sending.{clock_after, counted, heard_in, numbered}
+use Rattle.gx_rules.proofs.Turns.{cancels_all-each, with_more-last}
+use Rattle.gx_law_order.specs.Moves.{Move, moved, world_by}
+use Rattle.gx_law_order.proofs.AtCoordinators.{CoordIn, CoordStays, cancel_stays, coord_stays}
 use Rattle.gx_law_order.proofs.AtSegments.{PlainAt, SegStays, seg_stays}
 use Rattle.gx_law_order.proofs.Clocks.{clock_after-above, clock_after-hears, clock_after-positive, clock_of-other, clock_of-same}
-use Rattle.gx_law_order.proofs.Letters.{IsFound, IsLetter, found_is, posted_letters, same_node}
+use Rattle.gx_law_order.proofs.Letters.{IsFound, IsLetter, found_is, posted_from, posted_letters}
 use Rattle.gx_law_order.proofs.Lists.{Each, each_append, each_weaker}
-use Rattle.gx_law_order.proofs.Sent.{all-counted, at, count-both, counted-all, numbered-ok, plain-count, plain-numbered, sent_in-last}
+use Rattle.gx_law_order.proofs.More.{clock-more, come-more, letter-more, ordered-more, sent-more, sent-other}
+use Rattle.gx_law_order.proofs.Moves.{Comes, HasNamed, all-keep, happens-keeps, moved-ways, moves_after, world-moves}
+use Rattle.gx_law_order.proofs.Sent.{all-counted, at, count-both, counted-all, numbered-ok, plain-count, plain-numbered, sent_count-append, sent_in-last}
 use Rattle.gx_law_order.proofs.Suspended.{AreSuspended, HasCome, IsAmong, among-posted, come-later, come-now, each-both, each-own, suspended-later}
 use Rattle.gx_law_order.proofs.Suspensions.{Arrives, event_suspends}
 use Rattle.gx_law_order.proofs.Tables.{OutIn}
@@ -76,6 +81,30 @@ numbered-at script node f (o ∷ outs) e = (e.0, numbered-at script node (counte
 marks-at : (script : Script) (node : Node) (ms : List Mark) (f : ℕ → ℕ) (outs : List Out) → Each (PlainAt script node) ms → Each (λ o. IsLink script node o.node) outs → Each (IsAtNode script node) (ms ++ numbered f outs)
 marks-at script node ms f outs e h = each_append (IsAtNode script node) ms (numbered f outs) (each_weaker (PlainAt script node) (IsAtNode script node) (plain-at script node) ms e) (numbered-at script node f outs h)
 
+-- a single turn of the coordinator, with what it sends
+pub sends-at : (script : Script) (sent : ℕ → ℕ) (turn : CoordTurn) (clock : ℕ) → CoordStays script sent turn → Each (IsAtNode script the_coordinator) (coord_sends clock turn).marks
+sends-at script sent turn clock kept =
+    marks-at script the_coordinator turn.marks turn.coord.sent turn.outs kept.marks (each_weaker (OutIn script.segments) (λ o. IsLink script the_coordinator o.node) (λ o h. inl (refl, h)) turn.outs kept.outs)
+
+-- and all of them
+record AreHere (script : Script) (turn : CoordTurn) : Type 0 where
+  coord : CoordIn script turn.coord
+  marks : Each (IsAtNode script the_coordinator) turn.marks
+
+pub rule-at : (script : Script) → 1 ≤ script.segments → (c : Coord) (x : NodeEvent) (fails : Bool) → CoordIn script c → Each (IsAtNode script the_coordinator) (coord_rule script c x fails).marks
+rule-at script some c x fails e = (cancels_all-each (AreHere script) one (victims_at c x) (coord_turn script c x fails) first).marks
+  where
+    here_so : (sent : ℕ → ℕ) (turn : CoordTurn) (clock : ℕ) → CoordStays script sent turn → AreHere script (coord_sends clock turn)
+    here_so sent turn clock k = record { coord = record { table = k.coord.table; works = k.coord.works; reports = k.coord.reports }; marks = sends-at script sent turn clock k }
+
+    first : AreHere script (coord_turn script c x fails)
+    first = here_so c.sent (on_event script c x fails) (clock_after c.clock x) (coord_stays script some c x fails e)
+
+    one : (turn : CoordTurn) (g : Gxid) → AreHere script turn → AreHere script (and_cancels turn g)
+    one turn g k =
+        let next = here_so turn.coord.sent (cancels turn.coord g) turn.coord.clock (cancel_stays script some turn.coord g k.coord) in
+        record { coord = next.coord; marks = each_append (IsAtNode script the_coordinator) turn.marks _ k.marks next.marks }
+
 -- nodes apart
 apart : (i : ℕ) → 1 ≤ i → is_same_node the_coordinator (at i) ≡ false
 apart i h = grind (arith, nat_tests)
@@ -99,16 +128,13 @@ module _ (script : Script) (some : 1 ≤ script.segments) (w : World) (good : We
   turn = on_event script w.coord x fails
 
   abbrev step : Step
-  step = record { stamp = record { clock = clock_after w.coord.clock x; node = the_coordinator }; event = e; marks = (coord_rule script w.coord x fails).marks }
+  step = record { stamp = record { clock = clock_after w.coord.clock x; node = the_coordinator }; event = e; marks = (coord_turn script w.coord x fails).marks }
 
   kept : CoordStays script w.coord.sent turn
   kept = coord_stays script some w.coord x fails good.coordinator
 
-  links : Each (λ o. IsLink script the_coordinator o.node) turn.outs
-  links = each_weaker (OutIn script.segments) (λ o. IsLink script the_coordinator o.node) (λ o h. inl (refl, h)) turn.outs kept.outs
-
   pub at_coordinator : Each (IsAtNode script the_coordinator) step.marks
-  at_coordinator = marks-at script the_coordinator turn.marks turn.coord.sent turn.outs kept.marks links
+  at_coordinator = sends-at script w.coord.sent turn (clock_after w.coord.clock x) kept
 
   counts : (i : ℕ) → turn.coord.sent i ≡ sent_in the_coordinator (at i) w.steps
   counts i = ap (λ (f : ℕ → ℕ). f i) kept.counts ∙ good.sent i
@@ -133,11 +159,11 @@ module _ (script : Script) (some : 1 ≤ script.segments) (w : World) (good : We
       below : {a b c : ℕ} → a ≤ b → b < c → a < c
       below h k = omega arith
 
-  pub coord_well : IsEventAt script w.steps step e → Well script (coord_did w e (coord_rule script w.coord x fails))
+  pub coord_well : IsEventAt script w.steps step e → Well script (coord_did w e (coord_turn script w.coord x fails))
   coord_well h =
       record {
         steps = ordered-last script [] w.steps step good.steps (is_ordered h);
-        coordinator = record { table = kept.coord.table; works = kept.coord.works };
+        coordinator = record { table = kept.coord.table; works = kept.coord.works; reports = kept.coord.reports };
         names = good.names;
         clock = same-le (clock_of-same the_coordinator w.steps step refl (clock_after-positive w.coord.clock x));
         clocks = λ i k. subst (λ c. c ≤ (w.segs i).clock) (sym (clock_of-other (at i) w.steps step (apart i k))) (good.clocks i k);
@@ -150,10 +176,86 @@ module _ (script : Script) (some : 1 ≤ script.segments) (w : World) (good : We
       }
     where
       next : World
-      next = coord_did w e (coord_rule script w.coord x fails)
+      next = coord_did w e (coord_turn script w.coord x fails)
 
       same-le : {a b : ℕ} → a ≡ b → a ≤ b
       same-le h = omega arith
+
+-- A VICTIM
+module _ (script : Script) (some : 1 ≤ script.segments) (w : World) (good : Well script w) (g : Gxid) (h : HasNamed w.steps w.coord.clock w.coord.rounds g) where
+  abbrev victim : CoordTurn
+  victim = cancels w.coord g
+
+  abbrev more : List Mark
+  more = (cancel_turn w.coord g).marks
+
+  abbrev last : Step
+  last = record h.step { marks = h.step.marks ++ more }
+
+  left : CoordStays script w.coord.sent victim
+  left = cancel_stays script some w.coord g good.coordinator
+
+  victim_marks : Each (IsAtNode script the_coordinator) more
+  victim_marks = sends-at script w.coord.sent victim w.coord.clock left
+
+  own : is_same_node h.step.stamp.node the_coordinator ≡ true
+  own = subst (λ n. is_same_node n the_coordinator ≡ true) (sym h.node) refl
+
+  apart_here : (i : ℕ) → 1 ≤ i → is_same_node h.step.stamp.node (at i) ≡ false
+  apart_here i k = subst (λ n. is_same_node n (at i) ≡ false) (sym h.node) (apart i k)
+
+  sent_so_far : (i : ℕ) → victim.coord.sent i ≡ sent_in the_coordinator (at i) w.steps
+  sent_so_far i = ap (λ (f : ℕ → ℕ). f i) left.counts ∙ good.sent i
+
+  victim_numbers : AreNumbered the_coordinator h.before h.step.marks more
+  victim_numbers =
+      plain-numbered script the_coordinator h.before h.step.marks victim.marks _ left.marks
+      (numbered-ok the_coordinator h.before (λ i. Unit {0}) victim.outs victim.coord.sent (h.step.marks ++ victim.marks) (λ i q. counted i) (nothing_asked victim.outs))
+    where
+      nothing_asked : (outs : List Out) → Each (λ o. Unit {0}) outs
+      nothing_asked [] = tt
+      nothing_asked (o ∷ outs) = (tt, nothing_asked outs)
+
+      with_none : (a b c : ℕ) {x y : ℕ} → x ≡ y → y ≡ a + b → c ≡ 0 → x ≡ a + (b + c)
+      with_none a b c e f k = omega arith
+
+      counted : (i : ℕ) → victim.coord.sent i ≡ sent_in the_coordinator (at i) h.before + sent_count (at i) (h.step.marks ++ victim.marks)
+      counted i =
+          with_none (sent_in the_coordinator (at i) h.before) (sent_count (at i) h.step.marks) (sent_count (at i) victim.marks) (sent_so_far i)
+          (ap (sent_in the_coordinator (at i)) h.is ∙ same-adds the_coordinator (at i) h.before h.step own) (plain-count script the_coordinator (at i) victim.marks left.marks)
+          ∙ ap (λ a. sent_in the_coordinator (at i) h.before + a) (sym (sent_count-append (at i) h.step.marks victim.marks))
+
+  abbrev after_victim : World
+  after_victim = and_cancelled w g
+
+  steps_now : with_more w.steps more ≡ h.before ++ last ∷ []
+  steps_now = ap (λ ss. with_more ss more) h.is ∙ with_more-last h.before h.step more
+
+  victim_letters : Each (IsLetter script (with_more w.steps more)) (posted the_coordinator w.coord.clock more w.sent)
+  victim_letters =
+      subst (λ ss. Each (IsLetter script ss) (posted the_coordinator w.coord.clock more w.sent)) (sym steps_now)
+      (subst (λ n. Each (IsLetter script (h.before ++ last ∷ [])) (posted n w.coord.clock more w.sent)) h.node
+      (subst (λ c. Each (IsLetter script (h.before ++ last ∷ [])) (posted h.step.stamp.node c more w.sent)) h.clock_is
+      (posted_from script h.before last h.step.marks more w.sent refl (subst (λ n. Each (IsAtNode script n) more) (sym h.node) victim_marks)
+      (subst (λ ss. Each (IsLetter script ss) w.sent) steps_now (each_weaker (IsLetter script w.steps) (IsLetter script (with_more w.steps more)) (letter-more script w.steps more) w.sent good.letters)))))
+
+  pub cancel_well : Well script after_victim
+  cancel_well =
+      record {
+        steps = subst (AreOrdered script []) (sym steps_now)
+            (ordered-more script [] h.before h.step more (subst (AreOrdered script []) h.is good.steps) (each-all (IsAtNode script h.step.stamp.node) more (subst (λ n. Each (IsAtNode script n) more) (sym h.node) victim_marks))
+            (subst (λ n. AreNumbered n h.before h.step.marks more) (sym h.node) victim_numbers));
+        coordinator = record { table = left.coord.table; works = left.coord.works; reports = left.coord.reports };
+        names = good.names;
+        clock = subst (λ c. c ≤ w.coord.clock) (sym (clock-more the_coordinator w.steps more)) good.clock;
+        clocks = λ i k. subst (λ c. c ≤ (w.segs i).clock) (sym (clock-more (at i) w.steps more)) (good.clocks i k);
+        sent = λ i. counted-all victim.coord.sent victim.outs i ∙ ap (λ a. a + sent_count (at i) (numbered victim.coord.sent victim.outs)) (sent_so_far i)
+            ∙ sym (sent-more the_coordinator (at i) w.steps h.before h.step more h.is own ∙ ap (λ a. sent_in the_coordinator (at i) w.steps + a) (count-both script the_coordinator (at i) victim.marks _ left.marks));
+        answered = λ i k. good.answered i k ∙ sym (sent-other (at i) the_coordinator w.steps h.before h.step more h.is (apart_here i k));
+        letters = victim_letters;
+        waiting = λ i. suspended-later script (HasCome w i) (HasCome after_victim i) (w.segs i) (λ m. come-more w after_victim i more m refl (among-posted the_coordinator w.coord.clock more w.sent)) (good.waiting i);
+        writers = good.writers;
+      }
 
 -- A STEP OF A SEGMENT
 pub at-both : {A : Type 0} (P : ℕ → A → Type 0) (f : ℕ → A) (i : ℕ) (x : A) → P i x → ((j : ℕ) → (j ≡ i → ⊥) → P j (f j)) → (j : ℕ) → P j (with_at f i x j)
@@ -283,71 +385,78 @@ delivery-ok script w good from to number envelope clock f h =
         under : (a b c : ℕ) → a ≡ b → b < c → a < c
         under a b c e h = omega arith
 
+-- who resumes at a segment does so at one of the script's
+pub resumes_there : (script : Script) (w : World) (n : Node) (g : Gxid) → Well script w → seg_can script (w.segs n.0) (here.Resume g) ≡ true → IsSegment script n
+resumes_there script w n g good ok = inside (w.segs n.0).node (good.names n.0) _ ok
+  where
+    inside : (m : Node) → m ≡ at n.0 → (c : Bool) → (is_segment script m && c) ≡ true → IsSegment script n
+    inside m same c e = subst (IsSegment script) same (placed m (and-first (is_segment script m) c e))
+      where
+        placed : (m : Node) → is_segment script m ≡ true → IsSegment script m
+        placed m e = (grind (arith, nat_tests), grind (arith, nat_tests))
+
+-- what a receipt delivers was sent on its link
+pub delivered-is : (script : Script) (w : World) → Well script w → (from to : Node) (number : ℕ) (envelope : Envelope) → found from to number w.sent ≡ Some envelope → IsFound (λ l. IsLetter script w.steps l × IsAmong l w.sent) from to number envelope
+delivered-is script w good from to number envelope f =
+    found_is (λ l. IsLetter script w.steps l × IsAmong l w.sent) from to number w.sent envelope (each-both (IsLetter script w.steps) (λ l. IsAmong l w.sent) w.sent good.letters (each-own w.sent)) f
+
+-- so whoever takes it at another node than the coordinator is a segment, and has it from the coordinator
+pub link-there : (script : Script) (w : World) → Well script w → (from to : Node) (number : ℕ) (envelope : Envelope) → found from to number w.sent ≡ Some envelope → is_same_node to the_coordinator ≡ false → (from ≡ the_coordinator) × IsSegment script to
+link-there script w good from to number envelope f away = by_link d.is.0.link
+  where
+    d : IsFound (λ l. IsLetter script w.steps l × IsAmong l w.sent) from to number envelope
+    d = delivered-is script w good from to number envelope f
+
+    not-here : (n : Node) → n ≡ the_coordinator → is_same_node n the_coordinator ≡ false → ⊥
+    not-here n same away = grind (arith, nat_tests)
+
+    by_link : IsLink script d.letter.from d.letter.to → (from ≡ the_coordinator) × IsSegment script to
+    by_link (inl l) = (sym d.source ∙ l.0, subst (IsSegment script) d.target l.1)
+    by_link (inr l) = absurd (not-here to (sym d.target ∙ l.1) away)
+
+-- the event of a step stands at its node
+event-at : (script : Script) (w : World) (good : Well script w) (e : Event) (x : NodeEvent) (s : Step) → s.stamp.node ≡ the_coordinator → heard_in x < s.stamp.clock → Comes w e the_coordinator x → IsEventAt script w.steps s e
+event-at script w good e (here.Deliver from envelope) s at_node later c = subst (IsEventAt script w.steps s) (sym c.1) (at_node, delivery-ok script w good from the_coordinator c.0 envelope s.stamp.clock (found_is (IsLetter script w.steps) from the_coordinator c.0 w.sent envelope good.letters c.2) later)
+event-at script w good e (here.Resume g) s at_node later c = subst (IsEventAt script w.steps s) (sym c) at_node
+event-at script w good e (here.Start x) s at_node later c = subst (IsEventAt script w.steps s) (sym c) at_node
+event-at script w good e (here.End x) s at_node later c = subst (IsEventAt script w.steps s) (sym c) at_node
+event-at script w good e (here.Resend i g) s at_node later c = subst (IsEventAt script w.steps s) (sym c) at_node
+event-at script w good e here.Round s at_node later c = subst (IsEventAt script w.steps s) (sym c) at_node
+
 module _ (script : Script) (some : 1 ≤ script.segments) where
-  received : (w : World) (from to : Node) (number : ℕ) (envelope : Envelope) (fails : Bool) → Well script w → IsFound (IsLetter script w.steps) from to number envelope → IsFound (λ l. IsLetter script w.steps l × IsAmong l w.sent) from to number envelope → Well script (does script w (event.Receive from to number) to fails (Some (here.Deliver from envelope)))
-  received w from to number envelope fails good f sent = by_test (is_same_node to the_coordinator) refl
-    where
-      e : Event
-      e = event.Receive from to number
+  turn_well : (w : World) (e : Event) (x : NodeEvent) (fails : Bool) → Well script w → Comes w e the_coordinator x → coord_can script w.coord x ≡ true → Well script (coord_did w e (coord_turn script w.coord x fails))
+  turn_well w e x fails good c ok = coord_well script some w good e x fails (event-at script w good e x (step script some w good e x fails) refl (clock_after-hears w.coord.clock x) c)
 
-      delivery : (clock : ℕ) → envelope.clock < clock → IsDelivery script w.steps clock from to number
-      delivery clock h = delivery-ok script w good from to number envelope clock f h
+  serve_well : (w : World) (e : Event) (x : NodeEvent) (fails : Bool) (n : Node) → Well script w → is_same_node n the_coordinator ≡ false → Comes w e n x → seg_can script (w.segs n.0) x ≡ true → Well script (seg_did w n e (seg_rule script (w.segs n.0) x fails))
+  serve_well w e (here.Deliver from envelope) fails n good away c ok =
+      let x : NodeEvent = here.Deliver from envelope in
+      let place = (link-there script w good from n c.0 envelope c.2 away).1 in
+      let d = delivered-is script w good from n c.0 envelope c.2 in
+      let letter = found_is (IsLetter script w.steps) from n c.0 w.sent envelope good.letters c.2 in
+      seg_well script w good e x fails n.0 place
+      (subst (IsEventAt script w.steps (seg_step script w good e x fails n.0 place)) (sym c.1) (refl, delivery-ok script w good from n c.0 envelope _ letter (clock_after-hears (w.segs n.0).clock x)))
+      (seg_comes script w good e x fails n.0 place from c.0 envelope c.1 d)
+  serve_well w e (here.Resume g) fails n good away c ok =
+      let place = resumes_there script w n g good ok in
+      seg_well script w good e (here.Resume g) fails n.0 place (subst (IsEventAt script w.steps (seg_step script w good e (here.Resume g) fails n.0 place)) (sym c) refl) tt
+  serve_well w e (here.Start s) fails n good away c ok = absurd (cc)
+  serve_well w e (here.End s) fails n good away c ok = absurd (cc)
+  serve_well w e (here.Resend i g) fails n good away c ok = absurd (cc)
+  serve_well w e here.Round fails n good away c ok = absurd (cc)
 
-      place : is_same_node to the_coordinator ≡ false → IsLink script f.letter.from f.letter.to → IsSegment script to
-      place away (inl l) = subst (IsSegment script) f.target l.1
-      place away (inr l) = absurd (not-here to (sym f.target ∙ l.1) away)
-        where
-          not-here : (n : Node) → n ≡ the_coordinator → is_same_node n the_coordinator ≡ false → ⊥
-          not-here n same away = grind (arith, nat_tests)
-
-      by_test : (b : Bool) → is_same_node to the_coordinator ≡ b → Well script (if b then coord_did w e (coord_rule script w.coord (here.Deliver from envelope) fails) else seg_did w to e (seg_rule script (w.segs to.0) (here.Deliver from envelope) fails))
-      by_test true is = coord_well script some w good e (here.Deliver from envelope) fails (sym (same_node to the_coordinator is), delivery _ (clock_after-hears w.coord.clock (here.Deliver from envelope)))
-      by_test false is = seg_well script w good e (here.Deliver from envelope) fails to.0 (place is f.is.link) (refl, delivery _ (clock_after-hears (w.segs to.0).clock (here.Deliver from envelope))) (seg_comes script w good e (here.Deliver from envelope) fails to.0 (place is f.is.link) from number envelope refl sent)
-
-  arrives : (w : World) (from to : Node) (number : ℕ) (fails : Bool) (o : Option Envelope) → found from to number w.sent ≡ o → Well script w → Well script (does script w (event.Receive from to number) to fails (delivered from o))
-  arrives w from to number fails None e good = good
-  arrives w from to number fails (Some envelope) e good = received w from to number envelope fails good (found_is (IsLetter script w.steps) from to number w.sent envelope good.letters e) (found_is (λ l. IsLetter script w.steps l × IsAmong l w.sent) from to number w.sent envelope (each-both (IsLetter script w.steps) (λ l. IsAmong l w.sent) w.sent good.letters (each-own w.sent)) e)
-
-  -- who resumes at a segment does so at one of the script's
-  pub resumes_there : (w : World) (n : Node) (g : Gxid) → Well script w → seg_can script (w.segs n.0) (here.Resume g) ≡ true → IsSegment script n
-  resumes_there w n g good ok = inside (w.segs n.0).node (good.names n.0) _ ok
-    where
-      inside : (m : Node) → m ≡ at n.0 → (c : Bool) → (is_segment script m && c) ≡ true → IsSegment script n
-      inside m same c e = subst (IsSegment script) same (placed m (and-first (is_segment script m) c e))
-        where
-          placed : (m : Node) → is_segment script m ≡ true → IsSegment script m
-          placed m e = (grind (arith, nat_tests), grind (arith, nat_tests))
-
-  resumed : (w : World) (n : Node) (g : Gxid) (fails : Bool) → Well script w → can_here script w n (Some (here.Resume g)) ≡ true → Well script (does script w (event.Resume n g) n fails (Some (here.Resume g)))
-  resumed w n g fails good ok = by_test (is_same_node n the_coordinator) refl ok
-    where
-      e : Event
-      e = event.Resume n g
-
-      x : NodeEvent
-      x = here.Resume g
-
-      by_test : (b : Bool) → is_same_node n the_coordinator ≡ b → (if b then coord_can script w.coord x else seg_can script (w.segs n.0) x) ≡ true → Well script (if b then coord_did w e (coord_rule script w.coord x fails) else seg_did w n e (seg_rule script (w.segs n.0) x fails))
-      by_test true is ok = coord_well script some w good e x fails (sym (same_node n the_coordinator is))
-      by_test false is ok = seg_well script w good e x fails n.0 (resumes_there w n g good ok) refl tt
+  moved_well : (m : Move) (w : World) → Well script w → Well script (moved script w m)
+  moved_well m w good =
+      moved-ways script w (λ move v. Well script v) (λ move. good) (λ e x fails c ok. turn_well w e x fails good c ok) (λ g h. cancel_well script some w good g h)
+      (λ e x fails n away c ok. serve_well w e x fails n good away c ok) m
 
   pub happens_well : (w : World) (e : Event) (fails : Bool) → Well script w → Well script (happens script w e fails)
-  happens_well w e fails good = by_can (can script w e) refl e refl
-    where
-      by_can : (b : Bool) → can script w e ≡ b → (d : Event) → d ≡ e → Well script (if b then does script w e (node_of e) fails (at_node w e) else w)
-      by_can false refused d same = good
-      by_can true admitted (event.Receive from to number) same = subst (λ d. Well script (does script w d (node_of d) fails (at_node w d))) same (arrives w from to number fails (found from to number w.sent) refl good)
-      by_can true admitted (event.Resume n g) same = subst (λ d. Well script (does script w d (node_of d) fails (at_node w d))) same (resumed w n g fails good (subst (λ d. can script w d ≡ true) (sym same) admitted))
-      by_can true admitted (event.Start x) same = subst (λ d. Well script (does script w d (node_of d) fails (at_node w d))) same (coord_well script some w good (event.Start x) (here.Start x) fails refl)
-      by_can true admitted (event.End x) same = subst (λ d. Well script (does script w d (node_of d) fails (at_node w d))) same (coord_well script some w good (event.End x) (here.End x) fails refl)
-      by_can true admitted (event.Resend i g) same = subst (λ d. Well script (does script w d (node_of d) fails (at_node w d))) same (coord_well script some w good (event.Resend i g) (here.Resend i g) fails refl)
-      by_can true admitted event.Round same = subst (λ d. Well script (does script w d (node_of d) fails (at_node w d))) same (coord_well script some w good event.Round here.Round fails refl)
+  happens_well = happens-keeps script (Well script) moved_well
 
   pub new_well : Well script new_world
   new_well =
       record {
         steps = tt;
-        coordinator = record { table = tt; works = λ g. record { writers = tt; command = tt } };
+        coordinator = record { table = tt; works = λ g. record { writers = tt; command = tt }; reports = tt };
         names = λ i. refl;
         clock = least 0;
         clocks = λ i h. least 0;
@@ -361,9 +470,8 @@ module _ (script : Script) (some : 1 ≤ script.segments) where
       least : (k : ℕ) → 0 ≤ k
       least k = omega arith
 
-  after_well : (es : List (Event × Bool)) (w : World) → Well script w → Well script (after script w es)
-  after_well [] w good = good
-  after_well (e ∷ es) w good = after_well es (happens script w e.0 e.1) (happens_well w e.0 e.1 good)
+  pub moves_well : (ms : List Move) → Well script (world_by script ms)
+  moves_well ms = all-keep script (Well script) moved_well ms new_world new_well
 
   pub world_well : (es : List (Event × Bool)) → Well script (world_of script es)
-  world_well es = after_well es new_world new_well
+  world_well es = subst (Well script) (sym (world-moves script es)) (moves_well (moves_after script new_world es))

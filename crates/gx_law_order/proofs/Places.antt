@@ -24,6 +24,11 @@ use Rattle.gx_meaning.specs.declared.target.Target.TheVariants.{All}
 use Rattle.gx_meaning.specs.Constants.{rows_of}
 use Rattle.gx_meaning.specs.Plan.{insert_pieces, nodes_from, nodes_of, piece, pieces, plan_of, row_pieces, rows_at}
 use Rattle.gx_meaning.specs.declared.piece.Piece.{Piece}
+use Rattle.std.specs.List.{range_with_len}
+use Rattle.std.specs.Prelude.{map}
+use Rattle.gx_detect.specs.Rounds.{collects}
+use Rattle.gx_msg.specs.declared.message.Message.TheVariants.{Collect}
+use Rattle.gx_msg.specs.declared.message.Out.{Out}
 use Rattle.gx_law_order.proofs.Lists.{Each, each_flat, each_map, each_weaker}
 
 -- one of n segments
@@ -85,3 +90,12 @@ module _ (n : ℕ) (some : 1 ≤ n) where
   plan_in dist g c (Begin level) = tt
   plan_in dist g c Commit = tt
   plan_in dist g c Rollback = tt
+
+-- A round asks each segment.
+asks-from : (P : Out → Type 0) (n round : ℕ) → ((i : ℕ) → 1 ≤ i → i ≤ n → P (record { node = record { 0 = i }; message = Collect round })) → (k m : ℕ) → 1 ≤ k → k + m ≤ n + 1
+    → Each P (map (λ i. record { node = record { 0 = i }; message = Collect round }) (range_with_len k m))
+asks-from P n round p k zero one h = tt
+asks-from P n round p k (suc m) one h = (p k one (omega arith), asks-from P n round p (k + 1) m (omega arith) (omega arith))
+
+pub collects-each : (P : Out → Type 0) (n round : ℕ) → ((i : ℕ) → 1 ≤ i → i ≤ n → P (record { node = record { 0 = i }; message = Collect round })) → Each P (collects n round)
+collects-each P n round p = asks-from P n round p 1 n (omega arith) (omega arith)

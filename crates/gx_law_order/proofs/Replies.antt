@@ -1,5 +1,6 @@
 -- Answers of segments, and all events of the coordinator.
-use Rattle.std.proofs.Common.{◌≡◌, ◌≤◌, ◌<◌, inl, inr, ℕ, List, [], ◌∷◌, ◌++◌, Option, Some, None, Bool, true, false, refl, sym, subst, ap, ◌∙◌, if◌then◌else◌, ◌==◌, ◌&&◌, arith, eqb, append-nil}
+use Rattle.std.proofs.Common.{◌≡◌, ◌≤◌, ◌<◌, inl, inr, ℕ, List, [], ◌∷◌, ◌++◌, Option, Some, None, Bool, true, false, refl, sym, subst, ap, ◌∙◌, if◌then◌else◌, ◌==◌, ◌&&◌, ◌||◌, arith, eqb, append-nil}
+use Rattle.std.specs.Prelude.{is_some}
 use Rattle.std.proofs.lemmas.Bool.{and_parts, eqb-true}
 use Rattle.gx_lemmas.proofs.Numbers.{eqb-self}
 use Rattle.gx_lemmas.proofs.Tests.{and-first}
@@ -11,6 +12,8 @@ use Rattle.gx_tree.specs.declared.part.Part.{Part}
 use Rattle.gx_dtx.specs.Nodes.{has, without}
 use Rattle.gx_dtx.specs.Rules.{Turn, ends, on_abort, on_reply, with_ended}
 use Rattle.gx_dtx.specs.Table.{find_txn}
+use Rattle.gx_dtx.specs.declared.phase.Phase.{Phase}
+use Rattle.gx_dtx.specs.declared.txn.Txn.{Txn}
 use Rattle.gx_dtx.specs.declared.outcome.Outcome.{Outcome}
 use Rattle.gx_dtx.specs.declared.outcome.Outcome.TheVariants as outcome
 use Rattle.gx_msg.specs.declared.message.Message.{Message}
@@ -23,13 +26,14 @@ use Rattle.gx_script.specs.Session.{block_after_done, block_after_refusal}
 use Rattle.gx_script.specs.declared.state.Block.{Block}
 use Rattle.gx_script.specs.declared.state.Block.TheVariants.{Outside, Open, Failed}
 use Rattle.gx_script.specs.declared.state.Pending.{Pending}
+use Rattle.gx_store.specs.declared.answer.Refused.TheVariants.{Victim}
 use Rattle.gx_store.specs.declared.mark.Mark.{Mark}
 use Rattle.gx_store.specs.declared.mark.Mark.TheVariants as mark
 use Rattle.gx_store.specs.declared.node.NodeEvent.{NodeEvent}
 use Rattle.gx_store.specs.declared.node.NodeEvent.TheVariants as event
 use Rattle.gx_store.specs.Marks.{is_aborted}
 use Rattle.gx_store.specs.Refusals.{the_coordinator}
-use Rattle.gx_rules.specs.AtCoordinator.{answers, awaited, commits, completes, coord_can, is_idle, is_nothing, failure_marks, follows, goes_on, is_awaited, is_refused, next_line, on_answer, on_done, on_event, on_failed, on_message, on_status, reason_of, resends, resumes, takes_done, with_done, writers_with}
+use Rattle.gx_rules.specs.AtCoordinator.{answers, awaited, awaited_collect, cancels, commits, completes, coord_can, is_idle, is_nothing, failure_marks, follows, goes_on, is_awaited, is_refused, next_line, on_answer, on_done, on_event, on_failed, on_message, on_status, reason_of, resends, resumes, takes_done, with_done, writers_with}
 use Rattle.gx_rules.specs.Coordinators.{Command, Coord, Session, Work, rests, session_of, with_work, work_of}
 use Rattle.gx_rules.specs.Fits.{fits_part}
 use Rattle.gx_rules.specs.Maps.{with_at}
@@ -37,18 +41,21 @@ use Rattle.gx_rules.specs.Snapshots.{latest_number}
 use Rattle.gx_law_order.proofs.Closings.{answers-good, commits-good, refuses-good}
 use Rattle.gx_law_order.proofs.Commands.{held-good, same-finds}
 use Rattle.gx_law_order.proofs.Ends.{at-falls, at-same, greater-facts, past-at}
-use Rattle.gx_law_order.proofs.Lines.{end-good, rest-good, start-good}
+use Rattle.gx_law_order.proofs.Lines.{end-good, past-still, rest-good, start-good}
 use Rattle.gx_law_order.proofs.Lists.{Each}
 use Rattle.gx_law_order.proofs.Past.{Past, Still, running-drawn, still-committed}
 use Rattle.gx_law_order.proofs.Sessions.{IsQuiet, Kept, Tied, is_closing_in, is_live_in, is_nothing_in, is_open_in, is_said, is_working_in, kept-quiet, stage_of}
 use Rattle.gx_law_order.proofs.Stages.{gx}
-use Rattle.gx_law_order.proofs.Statuses.{Moves, Stage, Turned, is_running, reply-turns, stage}
+use Rattle.gx_law_order.proofs.Statuses.{Moves, Stage, Turned, is_running, reply-turns, stage, stage_in}
 use Rattle.gx_law_order.proofs.Statuses.Stage.{Absent, Live, Closing, Dropped}
 use Rattle.gx_law_order.proofs.Turns.{Base, Good, base-kept, closed-good, refused-good}
 use Rattle.gx_law_order.proofs.Queued.{queue-released, queue-stays, queued-by}
 use Rattle.gx_locks.specs.Locks.{resumed, wait_of}
 use Rattle.gx_tree.specs.declared.stmt.Stmt.{Stmt}
 use Rattle.gx_waits.specs.declared.claim.Claim.{Claim}
+use Rattle.gx_waits.specs.declared.graph.LocalGraph.{LocalGraph}
+use Rattle.gx_rules.specs.Rounds.{begins_round, is_active, is_live, on_graph, with_report}
+use Rattle.gx_rules.proofs.Rounds.{cancel-ways, graph-ways}
 
 closing-closed : (b : Block) (p : Pending) → is_closing_in b p ≡ true → is_open_in (block_after_done b p) ≡ false
 closing-closed b p e = grind arith
@@ -290,7 +297,45 @@ module _ {script : Script} (c : Coord) (before : List Mark) (k : Kept script c) 
   answer-good i fails reply.Aborted = on-status-good i reply.Aborted fails
   answer-good i fails reply.Forgotten = on-status-good i reply.Forgotten fails
 
+  -- VICTIMS
+  live-stage : (t : Option Txn) → is_live t ≡ true → stage t ≡ Live
+  live-stage None e = absurd (cc)
+  live-stage (Some t) e = by_phase t.phase e
+    where
+      by_phase : (q : Phase) → is_active q ≡ true → stage_in q ≡ Live
+      by_phase q e = grind arith
+
+  -- who is active and has a statement under way, or one that waits, is refused
+  pub cancel-good : Good script before (cancels c (gx g))
+  cancel-good = cancel-ways (Good script before) c (gx g) (rest-good c before k p) (λ live busy. refused (live-stage (find_txn c.table (gx g)) live) (working (c.works g).command (c.works g).waiting refl refl busy))
+    where
+      working : (o : Option Command) (line : Option Stmt) → (c.works g).command ≡ o → (c.works g).waiting ≡ line → (is_some o || is_some line) ≡ true → is_working_in its.state.pending ≡ true
+      working (Some m) line e f b = ((k.tied g).busy m e).1
+      working None (Some line) e f b = ((k.tied g).waits line f).2
+      working None None e f b = absurd (cc)
+
+      waits : (q : Pending) → is_working_in q ≡ true → is_nothing_in q ≡ false
+      waits q e = grind arith
+
+      refused : stage_of c g ≡ Live → is_working_in its.state.pending ≡ true → Good script before (is_refused c (gx g) (on_abort c.table (gx g)) [] (Victim c.rounds))
+      refused live busy = refuses-good c c g home (c.works g) its Live k (base-itself Live live ((k.tied g).live live).0) before p refl [] (Victim c.rounds) tt (waits its.state.pending busy)
+
 module _ (script : Script) (c : Coord) (before : List Mark) (k : Kept script c) (p : Past c before) where
+  -- rounds touch no transaction
+  kept-round : (rounds : ℕ) (reports : Option (List (Option LocalGraph))) → Kept script (record c { rounds = rounds; reports = reports })
+  kept-round rounds reports = record { whole = k.whole; tied = k.tied; placed = k.placed; queued = k.queued }
+
+  past-round : (rounds : ℕ) (reports : Option (List (Option LocalGraph))) → Past (record c { rounds = rounds; reports = reports }) before
+  past-round rounds reports = record { committed = p.committed; ended = p.ended; dropped = p.dropped; latest = p.latest; drawn = p.drawn }
+
+  graph-good : (from : Node) (round : ℕ) (graph : LocalGraph) → Good script before (on_graph c from round graph)
+  graph-good from round graph =
+      graph-ways (Good script before) c from round graph (rest-good c before k p) (λ e. rest-good (with_report c graph) before (kept-round c.rounds _) (past-round c.rounds _))
+      (λ e f. record { kept = kept-round c.rounds None; past = past-still c (record c { reports = None }) before _ p refl (tt, tt); seen = tt })
+
+  begin-good : Good script before (begins_round script c)
+  begin-good = let x = rest-good (begins_round script c).coord before (kept-round _ _) (past-round _ _) in record { kept = x.kept; past = x.past; seen = tt }
+
   message-good : (from : Node) (fails : Bool) (m : Message) → Good script before (on_message c from fails m)
   message-good from fails (message.Answer g r) = answer-good c before k p g.0 from fails r
   message-good from fails (message.Exec g cid level x h y) = rest-good c before k p
@@ -300,7 +345,7 @@ module _ (script : Script) (c : Coord) (before : List Mark) (k : Kept script c) 
   message-good from fails (message.Abort g) = rest-good c before k p
   message-good from fails (message.Forget g) = rest-good c before k p
   message-good from fails (message.Collect round) = rest-good c before k p
-  message-good from fails (message.Graph round graph) = rest-good c before k p
+  message-good from fails (message.Graph round graph) = graph-good from round graph
 
   again-good : (i : Node) (m : Option Message) → Good script before (resends c i m)
   again-good i None = rest-good c before k p
@@ -351,6 +396,6 @@ module _ (script : Script) (c : Coord) (before : List Mark) (k : Kept script c) 
   event-good (event.Start s) fails e = start-good script c before k p s (idle-first s _ e) (next_line script c s)
   event-good (event.End s) fails e = end-good script c before k p s (idle-first s _ e)
   event-good (event.Resend i (Some g)) fails e = again-good i (awaited c g i)
-  event-good (event.Resend i None) fails e = rest-good c before k p
+  event-good (event.Resend i None) fails e = again-good i (awaited_collect c i)
   event-good (event.Resume g) fails e = resume-good g.0 (wait_of c.locks g) (work_of c g).waiting refl
-  event-good event.Round fails e = rest-good c before k p
+  event-good event.Round fails e = begin-good

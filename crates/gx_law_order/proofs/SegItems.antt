@@ -51,6 +51,7 @@ use Rattle.gx_rules.specs.Running.{goes_on, is_granted, requests, runs_locked, r
 use Rattle.gx_rules.specs.Slices.{Moved, answers, fails_on, first_fault, gives_back, inserted, inserts_row, own_lock, selects, starts_from, takes_lock, takes_own, writes_row}
 use Rattle.gx_rules.specs.Visits.{DidStop}
 use Rattle.gx_rules.proofs.Moving.{Ends, Keeps}
+use Rattle.gx_rules.proofs.Rounds.{collect-ways}
 use Rattle.gx_law_order.proofs.Changing.{row-goes-on, rows-change, stop-keeps}
 use Rattle.gx_law_order.proofs.Releases.{each-released}
 use Rattle.gx_law_order.proofs.Lists.{Each}
@@ -553,7 +554,9 @@ module _ (script : Script) (s : Seg) (opens : AreOpen s) (before : List Mark) (k
   message_items fails (message.CommitPrepared g) = below fails g _ (commit_prepared fails g (local_of s g) (local_of s g).phase refl (k.bound g.0))
   message_items fails (message.Abort g) = below fails g _ (abort fails g (local_of s g) (local_of s g).phase)
   message_items fails (message.Forget g) = below fails g _ (forget fails g (local_of s g) (local_of s g).phase)
-  message_items fails (message.Collect round) = stay s before k fails
+  message_items fails (message.Collect round) =
+      collect-ways (Good fails) s round (stay s before k fails) (λ e. dull-turn s before k fails _ (tt, tt) refl (none-kept s before k fails) refl k.bound)
+      (λ e graph f. dull-turn s before k fails _ tt refl (none-kept s before k fails) refl k.bound)
   message_items fails (message.Answer g r) = stay s before k fails
   message_items fails (message.Graph round graph) = stay s before k fails
 

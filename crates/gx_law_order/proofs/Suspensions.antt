@@ -43,6 +43,7 @@ use Rattle.gx_rules.specs.Running.{goes_on, is_granted, requests, runs_locked, r
 use Rattle.gx_rules.specs.Slices.{Moved, answers, first_fault, gives_back, inserted, inserts_row, noted, own_lock, selects, starts_from, takes_lock, takes_own, writes_row}
 use Rattle.gx_rules.specs.Visits.{DidStop}
 use Rattle.gx_rules.proofs.Moving.{Ends}
+use Rattle.gx_rules.proofs.Rounds.{collect-ways}
 use Rattle.gx_rules.proofs.Moving as Loop
 use Rattle.gx_law_order.proofs.Changing.{IsAtRow, IsChangeOf, change-parts, row-goes-on, rows-change, stop-keeps}
 use Rattle.gx_law_order.proofs.Stages.{gx}
@@ -463,7 +464,7 @@ module _ (script : Script) (Come : Message → Type 0) where
     message_keeps fails (message.CommitPrepared g) come = below g _ (commit_prepared g fails (local_of s g).phase refl)
     message_keeps fails (message.Abort g) come = below g _ (abort g (local_of s g).phase)
     message_keeps fails (message.Forget g) come = below g _ (forget g (local_of s g).phase)
-    message_keeps fails (message.Collect round) come = k
+    message_keeps fails (message.Collect round) come = collect-ways Keeps s round k (λ e. record { each = k.each; own = k.own }) (λ e graph f. k)
     message_keeps fails (message.Answer g r) come = k
     message_keeps fails (message.Graph round graph) come = k
 

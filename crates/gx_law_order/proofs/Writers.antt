@@ -1,6 +1,6 @@
 -- Who writes at a segment locks itself there: a transaction holds its own lock from its first write at a segment until it has ended
 -- there, and a hold on a transaction is of that one.
-use Rattle.std.proofs.Common.{◌≡◌, ◌⊎◌, inl, inr, ℕ, List, [], ◌∷◌, ◌++◌, Option, Some, None, Bool, true, false, not, refl, sym, subst, ap, ◌∙◌, if◌then◌else◌, cond, ◌&&◌, ◌||◌, ◌==◌, nat_lt, arith, eqb}
+use Rattle.std.proofs.Common.{◌≡◌, inl, inr, ℕ, List, [], ◌∷◌, ◌++◌, Option, Some, None, Bool, true, false, not, refl, sym, subst, ap, ◌∙◌, if◌then◌else◌, cond, ◌&&◌, ◌||◌, ◌==◌, nat_lt, arith, eqb}
 use Rattle.std.proofs.lemmas.Bool.{eqb-true}
 use Rattle.std.proofs.lemmas.Bool.Decides.{nat_tests}
 use Rattle.std.proofs.lemmas.List.Folds.{list_any-append}
@@ -48,6 +48,7 @@ use Rattle.gx_rules.specs.Shown.{shown}
 use Rattle.gx_rules.specs.Slices.{Moved, adds_version, answers, first_fault, gives_back, inserted, inserts_row, noted, own_lock, selects, starts_from, takes_lock, takes_own, version, writes_row}
 use Rattle.gx_rules.specs.Visits.{DidStop}
 use Rattle.gx_rules.proofs.Moving.{Ends}
+use Rattle.gx_rules.proofs.Rounds.{collect-ways}
 use Rattle.gx_rules.proofs.Moving as Loop
 use Rattle.gx_law_order.proofs.Changing.{IsAtRow, row-goes-on, rows-change, stop-keeps}
 use Rattle.gx_law_order.proofs.Lists.{Each, each_filter}
@@ -346,7 +347,7 @@ module _ (script : Script) (Come : Message → Type 0) (s : Seg) (waits : AreSus
   message_keeps fails (message.CommitPrepared g) = below g _ (commit_prepared g fails (local_of s g).phase refl)
   message_keeps fails (message.Abort g) = below g _ (abort g (local_of s g) (local_of s g).phase)
   message_keeps fails (message.Forget g) = below g _ (forget g (local_of s g) (local_of s g).phase)
-  message_keeps fails (message.Collect round) = k
+  message_keeps fails (message.Collect round) = collect-ways Keeps s round k (λ e. record { owns = k.owns; each = k.each }) (λ e graph f. k)
   message_keeps fails (message.Answer g r) = k
   message_keeps fails (message.Graph round graph) = k
 

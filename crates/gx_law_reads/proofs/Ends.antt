@@ -30,22 +30,26 @@ use Rattle.gx_store.specs.Points.{marks_in}
 use Rattle.gx_store.specs.Protocol.{CommitsBy, is_writer, local_count, prepared_count, writers_of}
 use Rattle.gx_store.specs.Refusals.{the_coordinator}
 use Rattle.gx_rules.specs.AtCoordinator as coordinator
-use Rattle.gx_rules.specs.AtCoordinator.{coord_can, coord_rule}
+use Rattle.gx_rules.specs.AtCoordinator.{coord_can, coord_sends, coord_turn}
 use Rattle.gx_rules.specs.AtSegment.{if_fits, on_event, on_exec, on_message, raised, repeats, seg_rule, takes, unless_below}
 use Rattle.gx_rules.specs.Coordinators.{CoordTurn}
 use Rattle.gx_rules.specs.Fits.{fits_exec}
-use Rattle.gx_rules.specs.Machine.{Letter, World, coord_did, new_world, seg_can, seg_did, world_of}
+use Rattle.gx_rules.specs.Machine.{Letter, World, and_cancelled, coord_did, new_world, seg_can, seg_did, world_of}
 use Rattle.gx_rules.specs.Segments.{Local, Phase, Seg, SegTurn, has_committed, local_of, stays, tells_kept}
 use Rattle.gx_rules.specs.Segments.Phase.{Aborted, Committed, Forgotten, Prepared, Reading, Writing}
 use Rattle.gx_rules.specs.Sending.{clock_after, numbered}
 use Rattle.gx_rules.specs.Running.{starts_slice}
+use Rattle.gx_law_order.specs.Moves.{Move, world_by}
+use Rattle.gx_law_order.proofs.Induction.{after_turn, marks-by-event, marks-by-victim}
 use Rattle.gx_law_order.proofs.Lists.{Each, each_append, each_weaker}
+use Rattle.gx_law_order.proofs.Moves.{HasNamed}
 use Rattle.gx_law_order.proofs.Past.{Past, aborted-append, committed-append, running-drawn}
-use Rattle.gx_law_order.proofs.Replies.{event-good}
+use Rattle.gx_law_order.proofs.Replies.{cancel-good, event-good}
 use Rattle.gx_law_order.proofs.Stages.{IsWhole, gx}
 use Rattle.gx_law_order.proofs.Statuses.{is_running}
 use Rattle.gx_law_order.proofs.Waiting.{each-among}
-use Rattle.gx_law_order.proofs.World.{Knows, marks-last}
+use Rattle.gx_law_order.proofs.More.{marks-last}
+use Rattle.gx_law_order.proofs.World.{Knows}
 use Rattle.gx_law_commit.specs.Pairs.{bit}
 use Rattle.gx_law_commit.specs.Said.{Said, SaidIn, gxid_in, is_answer}
 use Rattle.gx_law_commit.specs.Standings.{Known, at, known_at}
@@ -54,9 +58,10 @@ use Rattle.gx_law_commit.proofs.Everywhere.{Holds, IsResumed, does-it, fol-no-se
 use Rattle.gx_law_commit.proofs.Handled.{Does, Follows, IsExecOf}
 use Rattle.gx_law_commit.proofs.Waiting.{awaited}
 use Rattle.gx_law_commit.proofs.Ways.{Fol, Led, fol-no-part}
-use Rattle.gx_law_reads.proofs.Low.{IsAnswer, Lows, coord-low, heard-low, new-lows}
-use Rattle.gx_law_commit.proofs.Steps.{HeardAt, IsGiven, SaidTo, by-heard, event-leads, given-is, world-keeps}
-use Rattle.gx_law_reads.proofs.Taken.{LiveMessage, Passes, event-pass}
+use Rattle.gx_law_reads.proofs.Low.{IsAnswer, Lows, coord-low, heard-low, new-lows, victim-low}
+use Rattle.gx_law_commit.proofs.Always.{HeardAt, IsGiven, SaidTo, by-heard, each-zip}
+use Rattle.gx_law_commit.proofs.Steps.{cancel-leads, event-leads, given-is, moves-keep, world-keeps}
+use Rattle.gx_law_reads.proofs.Taken.{LiveMessage, Passes, cancel-pass, event-pass}
 
 -- who has committed has its writes committed at each segment, and who was aborted nowhere
 pub record Ended (c a here wrote : Bool) : Type 0 where
@@ -128,31 +133,20 @@ bit-once false true n e f = absurd (differ n e f)
 split : (a b d : Bool) → d ≡ false → (x : Bool) → x ≡ (a || (b || d)) → x ≡ true → (a ≡ false → b ≡ true)
 split a b d n x e t f = grind arith
 
--- A STEP OF THE COORDINATOR
-module _ (script : Script) (w : World) (k : Knows script w) (v : Holds script w) (l : Lows w) (q : Ends w) (e : Event) (x : NodeEvent) (fails : Bool) where
+-- A TURN OF THE COORDINATOR
+-- a single one, whose marks stand behind all others
+module _ (script : Script) (w : World) (k : Knows script w) (v : Holds script w) (l : Lows w) (q : Ends w) (turn : CoordTurn) (clock : ℕ) (steps : List Step) (all : marks_in steps ≡ marks_in w.steps ++ (coord_sends clock turn).marks) where
   abbrev ms : List Mark
   ms = marks_in w.steps
-
-  abbrev turn : CoordTurn
-  turn = coordinator.on_event script w.coord x fails
 
   abbrev sent : List Mark
   sent = numbered turn.coord.sent turn.outs
 
-  abbrev step : Step
-  step = record { stamp = record { clock = clock_after w.coord.clock x; node = the_coordinator }; event = e; marks = turn.marks ++ sent }
-
   abbrev next : World
-  next = coord_did w e (coord_rule script w.coord x fails)
+  next = after_turn w clock turn steps
 
   abbrev new : List Mark
-  new = marks_in next.steps
-
-  pub all-marks : marks_in (coord_did w e (coord_rule script w.coord x fails)).steps ≡ marks_in w.steps ++ ((coordinator.on_event script w.coord x fails).marks ++ numbered (coordinator.on_event script w.coord x fails).coord.sent (coordinator.on_event script w.coord x fails).outs)
-  all-marks = marks-last w.steps step
-
-  all : new ≡ ms ++ (turn.marks ++ sent)
-  all = marks-last w.steps step
+  new = marks_in steps
 
   committed-is : (g : ℕ) → is_committed new (gx g) ≡ is_committed ms (gx g) || (is_committed turn.marks (gx g) || is_committed sent (gx g))
   committed-is g = ap (λ z. is_committed z (gx g)) all ∙ committed-append ms (turn.marks ++ sent) (gx g) ∙ ap (λ b. is_committed ms (gx g) || b) (committed-append turn.marks sent (gx g))
@@ -160,11 +154,8 @@ module _ (script : Script) (w : World) (k : Knows script w) (v : Holds script w)
   aborted-is : (g : ℕ) → is_aborted new (gx g) ≡ is_aborted ms (gx g) || (is_aborted turn.marks (gx g) || is_aborted sent (gx g))
   aborted-is g = ap (λ z. is_aborted z (gx g)) all ∙ aborted-append ms (turn.marks ++ sent) (gx g) ∙ ap (λ b. is_aborted ms (gx g) || b) (aborted-append turn.marks sent (gx g))
 
-  module _ (f : Led script (parts_in w) w.coord (marks_in w.steps) (coordinator.on_event script w.coord x fails)) where
-    pub no-parts : Each NoPart ((coordinator.on_event script w.coord x fails).marks ++ numbered (coordinator.on_event script w.coord x fails).coord.sent (coordinator.on_event script w.coord x fails).outs)
-    no-parts = each_append NoPart turn.marks sent (fol-no-part script ms turn.marks f.way.fol) (sent-no-part turn.coord.sent turn.outs)
-
-    no-part : Each NoPart (turn.marks ++ sent)
+  module _ (f : Led script (parts_in w) w.coord (marks_in w.steps) turn) where
+    pub no-part : Each NoPart (turn.marks ++ numbered turn.coord.sent turn.outs)
     no-part = each_append NoPart turn.marks sent (fol-no-part script ms turn.marks f.way.fol) (sent-no-part turn.coord.sent turn.outs)
 
     writer-is : (i g : ℕ) → is_writer new (gx g) (at i) ≡ is_writer ms (gx g) (at i)
@@ -185,7 +176,7 @@ module _ (script : Script) (w : World) (k : Knows script w) (v : Holds script w)
             bit-once _ false (local_count ms (at i) (gx g)) (v.stands.pairs i g).committed
             (fol-aborted script i g ms turn.marks f.way.fol (split (is_aborted ms (gx g)) (is_aborted turn.marks (gx g)) (is_aborted sent (gx g)) (no-aborted sent (gx g) (sent-no-end turn.coord.sent turn.outs)) (is_aborted new (gx g)) (aborted-is g) t o))
 
-    old-taken : Passes script w k v l (coordinator.on_event script w.coord x fails) → (from to : Node) (m : Message) → Said (known_at w.coord ms (if is_answer m then from.0 else to.0) (gxid_in m)) (parts_in w (if is_answer m then from.0 else to.0) (gxid_in m)) m → TakenAt w to m → TakenAt next to m
+    old-taken : Passes script w k v l turn → (from to : Node) (m : Message) → Said (known_at w.coord ms (if is_answer m then from.0 else to.0) (gxid_in m)) (parts_in w (if is_answer m then from.0 else to.0) (gxid_in m)) m → TakenAt w to m → TakenAt next to m
     old-taken p from to (message.Exec g c level y h slice) s old = (old.0, λ t. by_old t (is_committed ms (gx g.0)) refl)
       where
         by_old : is_committed new (gx g.0) ≡ true → (b : Bool) → is_committed ms (gx g.0) ≡ b → c.0 ≤ ((w.segs to.0).locals g.0).last
@@ -220,17 +211,13 @@ module _ (script : Script) (w : World) (k : Knows script w) (v : Holds script w)
     new-taken past whole to (message.Collect round) live = tt
     new-taken past whole to (message.Graph round graph) live = tt
 
-    both-each : {A : Type 0} (P R : A → Type 0) (xs : List A) → Each P xs → Each R xs → Each (λ y. P y × R y) xs
-    both-each P R [] a b = tt
-    both-each P R (y ∷ ys) a b = ((a.0, b.0), both-each P R ys a.1 b.1)
-
-    coord-ends : Passes script w k v l (coordinator.on_event script w.coord x fails) → Past turn.coord (ms ++ turn.marks) → IsWhole turn.coord.table → Ends next
-    coord-ends p past whole =
+    pub turn-ends : Passes script w k v l turn → Past turn.coord (ms ++ turn.marks) → IsWhole turn.coord.table → Ends (after_turn w clock turn steps)
+    turn-ends p past whole =
         record {
           ended = coord-ended;
-          taken = posted-each (λ (z : Letter). TakenAt next z.to z.envelope.message) the_coordinator (clock_after w.coord.clock x) turn.marks turn.coord.sent turn.outs w.sent (fol-no-sent script ms turn.marks f.way.fol)
+          taken = posted-each (λ (z : Letter). TakenAt next z.to z.envelope.message) the_coordinator clock turn.marks turn.coord.sent turn.outs w.sent (fol-no-sent script ms turn.marks f.way.fol)
               (each_weaker (λ (o : Out). LiveMessage turn.coord.table o.message) _ (λ o h number. new-taken past whole o.node o.message h) turn.outs p.outs)
-              (each_weaker (λ (z : Letter). SaidIn w z × TakenAt w z.to z.envelope.message) (λ (z : Letter). TakenAt next z.to z.envelope.message) (λ z h. old-taken p z.from z.to z.envelope.message h.0 h.1) w.sent (both-each (SaidIn w) (λ (z : Letter). TakenAt w z.to z.envelope.message) w.sent v.said q.taken));
+              (each_weaker (λ (z : Letter). SaidIn w z × TakenAt w z.to z.envelope.message) (λ (z : Letter). TakenAt next z.to z.envelope.message) (λ z h. old-taken p z.from z.to z.envelope.message h.0 h.1) w.sent (each-zip (SaidIn w) (λ (z : Letter). TakenAt w z.to z.envelope.message) w.sent v.said q.taken));
           drawn = λ i g t. q.drawn i g (sym (writer-is i g) ∙ t);
         }
 
@@ -635,12 +622,21 @@ new-ends : Ends new_world
 new-ends = record { ended = λ i g. record { committed = λ a. absurd (cc); aborted = λ a. absurd (cc) }; taken = tt; drawn = λ i g t. absurd (cc) }
 
 module _ (script : Script) (some : 1 ≤ script.segments) where
-  pub coord-facts : (w : World) → Knows script w → Holds script w → Facts w → (e : Event) (x : NodeEvent) (fails : Bool) → coord_can script w.coord x ≡ true → SaidTo w x → Facts (coord_did w e (coord_rule script w.coord x fails))
+  pub coord-facts : (w : World) → Knows script w → Holds script w → Facts w → (e : Event) (x : NodeEvent) (fails : Bool) → coord_can script w.coord x ≡ true → SaidTo w x → Facts (coord_did w e (coord_turn script w.coord x fails))
   coord-facts w k v q e x fails ok d =
+      let good = event-good script w.coord (marks_in w.steps) k.kept k.past x fails ok in
       record {
         lows = coord-low script w k v q.lows e x fails ok d;
-        ends = coord-ends script w k v q.lows q.ends e x fails (event-leads script w k v x fails ok d) (event-pass script w k v q.lows x fails ok d)
-            (event-good script w.coord (marks_in w.steps) k.kept k.past x fails ok).past (event-good script w.coord (marks_in w.steps) k.kept k.past x fails ok).kept.whole;
+        ends = turn-ends script w k v q.lows q.ends (coordinator.on_event script w.coord x fails) (clock_after w.coord.clock x) (coord_did w e (coord_turn script w.coord x fails)).steps (marks-by-event script w e x fails) (event-leads script w k v x fails ok d)
+            (event-pass script w k v q.lows x fails ok d) good.past good.kept.whole;
+      }
+
+  pub victim-facts : (w : World) → Knows script w → Holds script w → Facts w → (g : Gxid) → HasNamed w.steps w.coord.clock w.coord.rounds g → Facts (and_cancelled w g)
+  victim-facts w k v q g h =
+      let good = cancel-good w.coord (marks_in w.steps) k.kept k.past g.0 in
+      record {
+        lows = victim-low script w k v q.lows g;
+        ends = turn-ends script w k v q.lows q.ends (coordinator.cancels w.coord g) w.coord.clock (and_cancelled w g).steps (marks-by-victim w g h) (cancel-leads script w k v g) (cancel-pass script w k v q.lows g) good.past good.kept.whole;
       }
 
   pub seg-facts : (w : World) → Knows script w → Holds script w → Facts w → (e : Event) (x : NodeEvent) (fails : Bool) (i : ℕ) → IsSegment script (at i) → HeardAt script w e i x → Facts (seg_did w (at i) e (seg_rule script (w.segs i) x fails))
@@ -648,5 +644,11 @@ module _ (script : Script) (some : 1 ≤ script.segments) where
       let d = heard-made script w k v q.ends e x fails i h in
       record { lows = heard-low script w k v q.lows e x fails i h; ends = seg-ends script w q.ends e x fails i d.txn d.made }
 
+  new-facts : Facts new_world
+  new-facts = record { lows = new-lows; ends = new-ends }
+
+  pub moves-facts : (moves : List Move) → Facts (world_by script moves)
+  moves-facts = moves-keep script some Facts coord-facts victim-facts seg-facts new-facts
+
   pub world-facts : (es : List (Event × Bool)) → Facts (world_of script es)
-  world-facts = world-keeps script some Facts coord-facts seg-facts (record { lows = new-lows; ends = new-ends })
+  world-facts = world-keeps script some Facts coord-facts victim-facts seg-facts new-facts

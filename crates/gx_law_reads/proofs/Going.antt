@@ -40,6 +40,7 @@ use Rattle.gx_store.specs.declared.node.NodeEvent.TheVariants as event
 use Rattle.gx_rules.specs.AtCoordinator.{Reading, awaited, begins, command_order, dispatches, ends_in, enlisted_all, goes, goes_out, kept_at, next_cid, next_line, nodes_in, on_event, on_line, order_to, orders_of, reads_by, reads_for, resends, starts, starts_line, status_order, table_of, takes_snapshot, goes_on_locked, if_granted, lock_for, requests, resumes}
 use Rattle.gx_rules.specs.Coordinators.{with_work, Command, Coord, CoordTurn, Work, new_work, no_work, session_of, work_of}
 use Rattle.gx_rules.specs.Maps.{with_at}
+use Rattle.gx_rules.specs.Rounds.{awaits_graph}
 use Rattle.gx_rules.specs.Snapshots.{snapshot_of}
 use Rattle.gx_law_order.proofs.Lists.{Each}
 use Rattle.gx_law_order.proofs.Stages.{gx}
@@ -49,7 +50,7 @@ use Rattle.gx_law_reads.proofs.Heights.{Rises, Sorted, begun-rises, changed-rise
 use Rattle.gx_law_reads.proofs.Held.{Held, Latest, held-now, horizon-xmin}
 use Rattle.gx_law_reads.proofs.Plain.{abort-mild, sent-fine}
 use Rattle.gx_law_reads.proofs.Reading.{CommandLow, CountedIn, Fine, OrderHeld, OrderLow, OutFine, Reads, Stood, Went, Works, apart-same, at-self, le-refl, one-went, reads-none, step-apart}
-use Rattle.gx_law_reads.proofs.Turns.{WentBy, commits-went, counted-by, live-apart, live-here, message-went, rest-went, rolled-went, went-then, work-went}
+use Rattle.gx_law_reads.proofs.Turns.{WentBy, begins-round-went, commits-went, counted-by, live-apart, live-here, message-went, rest-went, rolled-went, went-then, work-went}
 use Rattle.gx_rules.specs.Locks.{with_hold}
 use Rattle.gx_waits.specs.declared.claim.Claim.{Claim}
 use Rattle.gx_locks.specs.Locks.{is_free, resumed, wait_of}
@@ -395,6 +396,10 @@ module _ (script : Script) (c : Coord) (s : Stood c.table c.works) (latest : Lat
   event-went (event.Start session) fails = start-went session (next_line script c session)
   event-went (event.End session) fails = end-went session (session_of c session).state.block
   event-went (event.Resend i (Some g)) fails = again-went i g.0 (awaited c g i) refl
-  event-went (event.Resend i None) fails = rest-went c s
+  event-went (event.Resend i None) fails = by_test (awaits_graph c i)
+    where
+      by_test : (b : Bool) → WentBy c (resends c i (if b then Some (message.Collect c.rounds) else None))
+      by_test true = let x = rest-went c s in record { went = x.went; outs = ((tt, tt), tt) }
+      by_test false = rest-went c s
   event-went (event.Resume g) fails = resumes-went c g.0 s latest script (wait_of c.locks g) (work_of c g).waiting
-  event-went event.Round fails = rest-went c s
+  event-went event.Round fails = begins-round-went script c s

@@ -23,19 +23,22 @@ use Rattle.gx_script.specs.declared.Script.{Script}
 use Rattle.gx_store.specs.declared.event.Event.{Event}
 use Rattle.gx_store.specs.declared.node.NodeEvent.{NodeEvent}
 use Rattle.gx_store.specs.declared.node.NodeEvent.TheVariants as here
+use Rattle.gx_store.specs.declared.run.Step.{Step}
 use Rattle.gx_store.specs.Marks.{is_ended}
 use Rattle.gx_store.specs.Points.{marks_in}
 use Rattle.gx_store.specs.Refusals.{the_coordinator}
 use Rattle.gx_rules.specs.AtCoordinator as coordinator
-use Rattle.gx_rules.specs.AtCoordinator.{coord_can, coord_rule}
+use Rattle.gx_rules.specs.AtCoordinator.{coord_can, coord_turn}
 use Rattle.gx_rules.specs.AtSegment.{commits, if_fits, on_abort, on_commit, on_commit_prepared, on_event, on_exec, on_forget, on_message, on_prepare, once, promises, raised, repeats, seg_rule, takes, unless_below, was_prepared}
 use Rattle.gx_rules.specs.Coordinators.{CoordTurn, Work, no_work}
 use Rattle.gx_rules.specs.Fits.{fits_exec, is_waiting}
-use Rattle.gx_rules.specs.Machine.{Letter, World, coord_did, new_world, seg_can, seg_did, world_of}
+use Rattle.gx_rules.specs.Machine.{Letter, World, and_cancelled, coord_did, new_world, seg_can, seg_did, world_of}
 use Rattle.gx_rules.specs.Segments.{Local, Phase, Seg, SegTurn, local_of, stays, tells_kept}
 use Rattle.gx_rules.specs.Segments.Phase.{Aborted, Committed, Forgotten, Prepared, Reading, Writing}
 use Rattle.gx_rules.specs.Sending.{clock_after}
-use Rattle.gx_rules.specs.Running.{is_granted, slice_lock, starts_slice}
+use Rattle.gx_rules.specs.Running.{slice_lock, starts_slice}
+use Rattle.gx_rules.proofs.Rounds.{collect-ways}
+use Rattle.gx_law_order.proofs.Induction.{after_turn}
 use Rattle.gx_law_order.proofs.Lists.{Each, each_weaker}
 use Rattle.gx_law_order.proofs.Past.{there-drawn}
 use Rattle.gx_law_order.proofs.Stages.{gx}
@@ -54,8 +57,10 @@ use Rattle.gx_law_reads.proofs.Heights.{horizon-bounds}
 use Rattle.gx_law_reads.proofs.Held.{Latest}
 use Rattle.gx_law_reads.proofs.Going.{event-went}
 use Rattle.gx_law_reads.proofs.Reading.{CountedIn, FineIn, OutFine, Stood, low-then}
-use Rattle.gx_law_commit.proofs.Steps.{HeardAt, IsGiven, SaidTo, by-heard, event-leads, given-is, world-keeps}
-use Rattle.gx_law_reads.proofs.Turns.{WentBy}
+use Rattle.gx_law_commit.proofs.Always.{HeardAt, IsGiven, SaidTo, by-heard, each-zip}
+use Rattle.gx_law_commit.proofs.Steps.{cancel-leads, event-leads, given-is, world-keeps}
+use Rattle.gx_law_commit.proofs.Ways.{Led}
+use Rattle.gx_law_reads.proofs.Turns.{WentBy, cancel-went}
 
 abbrev pub LetterLow : Table → (ℕ → Work) → Letter → Type 0
 LetterLow d ws l = IsLowIn (horizon_of d) l.envelope.message × FineIn d ws l.envelope.message
@@ -105,39 +110,38 @@ module _ (script : Script) (w : World) (k : Knows script w) where
   pub latest : Latest w.coord.table
   latest = record { all = λ h one l e. k.past.latest h one l (sym (runs-stage (find_txn w.coord.table (gx h))) ∙ e); drawn = k.past.drawn }
 
--- A STEP OF THE COORDINATOR
-module _ (script : Script) (w : World) (k : Knows script w) (v : Holds script w) (q : Lows w) (e : Event) (x : NodeEvent) (fails : Bool) where
-  abbrev turn : CoordTurn
-  turn = coordinator.on_event script w.coord x fails
+-- A TURN OF THE COORDINATOR
+module _ (script : Script) (w : World) (k : Knows script w) (v : Holds script w) (q : Lows w) where
+  module _ (turn : CoordTurn) (clock : ℕ) (steps : List Step) (f : Led script (parts_in w) w.coord (marks_in w.steps) turn) (by : WentBy w.coord turn) where
+    kept-letter : (l : Letter) → SaidIn w l × LetterLow w.coord.table w.coord.works l → LetterLow turn.coord.table turn.coord.works l
+    kept-letter l f = (low-then (horizon_of w.coord.table) (horizon_of turn.coord.table) l.envelope.message by.went.low f.1.0, by.went.fine l.envelope.message (counted script w k (segment_of l) l.envelope.message f.0) f.1.1)
 
-  abbrev table2 : Table
-  table2 = turn.coord.table
+    turn-low : Lows (after_turn w clock turn steps)
+    turn-low =
+        record {
+          stood = by.went.stood;
+          sent = posted-each (LetterLow turn.coord.table turn.coord.works) the_coordinator clock turn.marks turn.coord.sent turn.outs w.sent (fol-no-sent script (marks_in w.steps) turn.marks f.way.fol)
+              (each_weaker (OutFine turn.coord.table turn.coord.works) _ (λ o h number. h) turn.outs by.outs)
+              (each_weaker (λ l. SaidIn w l × LetterLow w.coord.table w.coord.works l) (LetterLow turn.coord.table turn.coord.works) kept-letter w.sent (each-zip (SaidIn w) (LetterLow w.coord.table w.coord.works) w.sent v.said q.sent));
+          segs = λ i. le-trans (w.segs i).horizon.0 (horizon_of w.coord.table).0 (horizon_of turn.coord.table).0 (q.segs i) by.went.low;
+        }
+      where
+        le-trans : (a b c : ℕ) → a ≤ b → b ≤ c → a ≤ c
+        le-trans a b c l m = omega arith
 
-  pub by : WentBy w.coord (coordinator.on_event script w.coord x fails)
-  by = event-went script w.coord q.stood (latest script w k) x fails
+  -- by an event
+  pub event-by : (x : NodeEvent) (fails : Bool) → WentBy w.coord (coordinator.on_event script w.coord x fails)
+  event-by x fails = event-went script w.coord q.stood (latest script w k) x fails
 
-  kept-letter : (l : Letter) → SaidIn w l × LetterLow w.coord.table w.coord.works l → LetterLow turn.coord.table turn.coord.works l
-  kept-letter l f = (low-then (horizon_of w.coord.table) (horizon_of table2) l.envelope.message by.went.low f.1.0, by.went.fine l.envelope.message (counted script w k (segment_of l) l.envelope.message f.0) f.1.1)
+  pub coord-low : (e : Event) (x : NodeEvent) (fails : Bool) → coord_can script w.coord x ≡ true → SaidTo w x → Lows (coord_did w e (coord_turn script w.coord x fails))
+  coord-low e x fails ok d = turn-low (coordinator.on_event script w.coord x fails) (clock_after w.coord.clock x) (coord_did w e (coord_turn script w.coord x fails)).steps (event-leads script w k v x fails ok d) (event-by x fails)
 
-  both-each : {A : Type 0} (P R : A → Type 0) (xs : List A) → Each P xs → Each R xs → Each (λ y. P y × R y) xs
-  both-each P R [] a b = tt
-  both-each P R (y ∷ ys) a b = ((a.0, b.0), both-each P R ys a.1 b.1)
+  -- by a victim
+  pub victim-by : (g : Gxid) → WentBy w.coord (coordinator.cancels w.coord g)
+  victim-by g = cancel-went w.coord g q.stood
 
-  pub coord-low : coord_can script w.coord x ≡ true → SaidTo w x → Lows (coord_did w e (coord_rule script w.coord x fails))
-  coord-low ok d = by_led (event-leads script w k v x fails ok d)
-    where
-      le-trans : (a b c : ℕ) → a ≤ b → b ≤ c → a ≤ c
-      le-trans a b c l m = omega arith
-
-      by_led : Rattle.gx_law_commit.proofs.Ways.Led script (parts_in w) w.coord (marks_in w.steps) (coordinator.on_event script w.coord x fails) → Lows (coord_did w e (coord_rule script w.coord x fails))
-      by_led f =
-          record {
-            stood = by.went.stood;
-            sent = posted-each (LetterLow turn.coord.table turn.coord.works) the_coordinator (clock_after w.coord.clock x) turn.marks turn.coord.sent turn.outs w.sent (fol-no-sent script (marks_in w.steps) turn.marks f.way.fol)
-                (each_weaker (OutFine turn.coord.table turn.coord.works) _ (λ o h number. h) turn.outs by.outs)
-                (each_weaker (λ l. SaidIn w l × LetterLow w.coord.table w.coord.works l) (LetterLow turn.coord.table turn.coord.works) kept-letter w.sent (both-each (SaidIn w) (LetterLow w.coord.table w.coord.works) w.sent v.said q.sent));
-            segs = λ i. le-trans (w.segs i).horizon.0 (horizon_of w.coord.table).0 (horizon_of table2).0 (q.segs i) by.went.low;
-          }
+  pub victim-low : (g : Gxid) → Lows (and_cancelled w g)
+  victim-low g = turn-low (coordinator.cancels w.coord g) w.coord.clock (and_cancelled w g).steps (cancel-leads script w k v g) (victim-by g)
 
 -- A STEP OF A SEGMENT
 -- its horizon is as before, or that of a command
@@ -264,7 +268,7 @@ module _ (script : Script) (limit : ℕ) where
   message-under s fails (message.Abort g) l u = unless-under s g _ l (by-stays s (on_abort s g (local_of s g) (local_of s g).phase) l (abort-stays s g (local_of s g) (local_of s g).phase))
   message-under s fails (message.Forget g) l u = unless-under s g _ l (by-stays s (on_forget s g (local_of s g) (local_of s g).phase) l (forget-stays s g (local_of s g) (local_of s g).phase))
   message-under s fails (message.Answer g r) l u = l
-  message-under s fails (message.Collect round) l u = l
+  message-under s fails (message.Collect round) l u = collect-ways Under s round l (λ e. l) (λ e graph f. l)
   message-under s fails (message.Graph round graph) l u = l
 
 -- what a step of a segment is to send, and where it may leave the horizon
@@ -345,7 +349,7 @@ new-lows =
 module _ (script : Script) (some : 1 ≤ script.segments) where
   pub world-lows : (es : List (Event × Bool)) → Lows (world_of script es)
   world-lows =
-      world-keeps script some Lows (λ w k v q e x fails ok d. coord-low script w k v q e x fails ok d)
+      world-keeps script some Lows (λ w k v q e x fails ok d. coord-low script w k v q e x fails ok d) (λ w k v q g h. victim-low script w k v q g)
       (λ w k v q e x fails i place h. heard-low script w k v q e x fails i h)
       new-lows
 

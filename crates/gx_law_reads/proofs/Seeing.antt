@@ -29,14 +29,13 @@ use Rattle.std.specs.declared.alloc.Global.{Global}
 use Rattle.std.specs.declared.vec.Vec.{Vec}
 use Rattle.gx_tree.specs.declared.row.KeyedRow.{KeyedRow}
 use Rattle.gx_rules.specs.AtSegment.{raised}
-use Rattle.gx_rules.specs.Machine.{Letter, World, after, happens, new_world, world_of}
+use Rattle.gx_rules.specs.Machine.{Letter, World, world_of}
 use Rattle.gx_rules.specs.Segments.{Version, has_committed}
 use Rattle.gx_rules.specs.Shown.{counts, last_images, rows_in, shown}
 use Rattle.gx_rules.specs.Snapshots.{snapshot_of}
 use Rattle.gx_law_order.specs.Seen.{AreEndedSeen, SeesEnded}
-use Rattle.gx_law_order.proofs.Journals.{Hold, happens-after, new-hold}
+use Rattle.gx_law_order.proofs.Journals.{Hold, world-hold}
 use Rattle.gx_law_order.proofs.Lists.{each_weaker}
-use Rattle.gx_law_order.proofs.Ordered.{Well, happens_well, new_well}
 use Rattle.gx_law_order.proofs.Past.{aborted-append, committed-append, seen-now}
 use Rattle.gx_law_order.proofs.SegItems.{writes_at}
 use Rattle.gx_law_order.proofs.World.{Knows, world_knows}
@@ -53,15 +52,6 @@ use Rattle.gx_law_reads.proofs.Held.{held-now, horizon-xmin}
 use Rattle.gx_law_reads.proofs.Images.{row-is, versions-written}
 use Rattle.gx_law_reads.proofs.Below.{low-seen, nobody-dropped}
 use Rattle.gx_law_reads.proofs.Low.{latest}
-
--- versions are the marks' writes, in every run
-module _ (script : Script) (some : 1 ≤ script.segments) where
-  after-hold : (es : List (Event × Bool)) (w : World) → Well script w → Hold w → Hold (after script w es)
-  after-hold [] w well hold = hold
-  after-hold (e ∷ es) w well hold = after-hold es (happens script w e.0 e.1) (happens_well script some w e.0 e.1 well) (happens-after script some 0 w e.0 e.1 well hold).hold
-
-  pub world-hold : (es : List (Event × Bool)) → Hold (world_of script es)
-  world-hold es = after-hold es new_world (new_well script some) (new-hold script some 0)
 
 -- a snapshot at its place
 seen-at : (before ms : List Mark) (k : ℕ) (g : Gxid) (d : Cid) (x : Snapshot) → AreEndedSeen before ms → slice_get ms k ≡ Some (mark.Snap g d x) → SeesEnded (before ++ take k ms) x

@@ -23,24 +23,30 @@ use Rattle.gx_store.specs.Ordered.{IsSegment}
 use Rattle.gx_store.specs.Points.{marks_in}
 use Rattle.gx_store.specs.View.{image, image_after, is_shown_to}
 use Rattle.gx_rules.specs.AtCoordinator as coordinator
-use Rattle.gx_rules.specs.AtCoordinator.{coord_can, coord_rule}
+use Rattle.gx_rules.specs.AtCoordinator.{coord_can, coord_sends, coord_turn}
 use Rattle.gx_rules.specs.AtSegment.{on_event, seg_rule}
-use Rattle.gx_rules.specs.Machine.{World, after, coord_did, seg_did, world_of}
+use Rattle.gx_rules.specs.Coordinators.{CoordTurn}
+use Rattle.gx_rules.specs.Machine.{World, after, and_cancelled, coord_did, seg_did, world_of}
 use Rattle.gx_rules.specs.Sending.{clock_after, numbered}
+use Rattle.gx_law_order.specs.Moves.{Move, moved_by, world_by}
+use Rattle.gx_law_order.proofs.Induction.{after_turn, marks-by-event, marks-by-victim}
 use Rattle.gx_law_order.proofs.Lists.{Each, each_append, each_weaker}
+use Rattle.gx_law_order.proofs.Moves.{HasNamed}
 use Rattle.gx_law_order.proofs.Past.{committed-append}
 use Rattle.gx_law_order.proofs.Stages.{gx}
-use Rattle.gx_law_order.proofs.World.{Knows, marks-last, world_knows}
+use Rattle.gx_law_order.proofs.More.{marks-last}
+use Rattle.gx_law_order.proofs.World.{Knows}
 use Rattle.gx_law_commit.specs.Standings.{at}
-use Rattle.gx_law_commit.proofs.Always.{world-holds}
+use Rattle.gx_law_commit.proofs.Always.{HeardAt, SaidTo}
 use Rattle.gx_law_commit.proofs.Counts.{NoPart, sent-no-part}
-use Rattle.gx_law_commit.proofs.Everywhere.{Holds}
+use Rattle.gx_law_commit.proofs.Everywhere.{Holds, parts_in}
+use Rattle.gx_law_commit.proofs.Steps.{cancel-leads, event-leads, keeps-on, moves-keep-on}
+use Rattle.gx_law_commit.proofs.Ways.{Led}
 use Rattle.gx_dtx.specs.Table.{horizon_of}
 use Rattle.gx_law_reads.specs.Horizons.{HasRisen}
 use Rattle.gx_law_reads.specs.Sights.{DoViewsStay, IsOnlyAt}
-use Rattle.gx_law_reads.proofs.Low.{by}
-use Rattle.gx_law_reads.proofs.Ends.{Facts, MadeOf, NewMark, all-marks, coord-facts, heard-made, last-late, no-parts, seg-facts, world-facts}
-use Rattle.gx_law_commit.proofs.Steps.{HeardAt, SaidTo, event-leads, keeps-after}
+use Rattle.gx_law_reads.proofs.Low.{event-by, victim-by}
+use Rattle.gx_law_reads.proofs.Ends.{Facts, MadeOf, NewMark, coord-facts, heard-made, last-late, moves-facts, no-part, seg-facts, victim-facts, world-facts}
 
 take-kept : {A : Type 0} (xs ys : List A) (k : ℕ) (x : A) → slice_get xs k ≡ Some x → take k (xs ++ ys) ≡ take k xs
 take-kept [] ys k x e = absurd (cc)
@@ -148,18 +154,26 @@ module _ (w0 : World) (node : Node) (g : Gxid) (c : Cid) (place : ℕ) where
   new-quiet w s i its m e = tt
 
   module _ (script : Script) (some : 1 ≤ script.segments) where
-    coord-stays : (w : World) → Knows script w → Holds script w → Stayed w → (e : Event) (x : NodeEvent) (fails : Bool) → coord_can script w.coord x ≡ true → SaidTo w x → Stayed (coord_did w e (coord_rule script w.coord x fails))
-    coord-stays w k v s e x fails ok d =
+    turn-stays : (w : World) → Knows script w → Holds script w → Stayed w → (turn : CoordTurn) (clock : ℕ) (steps : List Step) → marks_in steps ≡ marks_in w.steps ++ (coord_sends clock turn).marks
+        → Led script (parts_in w) w.coord (marks_in w.steps) turn → Facts (after_turn w clock turn steps) → Stayed (after_turn w clock turn steps)
+    turn-stays w k v s turn clock steps all f facts =
+        let ns : List Mark = (coord_sends clock turn).marks in
         record {
-          facts = coord-facts script some w k v s.facts e x fails ok d;
+          facts = facts;
           more = s.more ++ ns;
-          are = all-marks script w k v s.facts.lows s.facts.ends e x fails ∙ ap (λ z. z ++ ns) s.are ∙ append_assoc (marks_in w0.steps) s.more ns;
-          unseen = each_append Quiet s.more ns s.unseen (each_weaker NoPart Quiet no-part-quiet ns (no-parts script w k v s.facts.lows s.facts.ends e x fails (event-leads script w k v x fails ok d)));
+          are = all ∙ ap (λ z. z ++ ns) s.are ∙ append_assoc (marks_in w0.steps) s.more ns;
+          unseen = each_append Quiet s.more ns s.unseen (each_weaker NoPart Quiet no-part-quiet ns (no-part script w k v s.facts.lows s.facts.ends turn clock steps all f));
           taken = s.taken;
         }
-      where
-        ns : List Mark
-        ns = (coordinator.on_event script w.coord x fails).marks ++ numbered (coordinator.on_event script w.coord x fails).coord.sent (coordinator.on_event script w.coord x fails).outs
+
+    coord-stays : (w : World) → Knows script w → Holds script w → Stayed w → (e : Event) (x : NodeEvent) (fails : Bool) → coord_can script w.coord x ≡ true → SaidTo w x → Stayed (coord_did w e (coord_turn script w.coord x fails))
+    coord-stays w k v s e x fails ok d =
+        turn-stays w k v s (coordinator.on_event script w.coord x fails) (clock_after w.coord.clock x) (coord_did w e (coord_turn script w.coord x fails)).steps (marks-by-event script w e x fails)
+        (event-leads script w k v x fails ok d) (coord-facts script some w k v s.facts e x fails ok d)
+
+    victim-stays : (w : World) → Knows script w → Holds script w → Stayed w → (h : Gxid) → HasNamed w.steps w.coord.clock w.coord.rounds h → Stayed (and_cancelled w h)
+    victim-stays w k v s h named =
+        turn-stays w k v s (coordinator.cancels w.coord h) w.coord.clock (and_cancelled w h).steps (marks-by-victim w h named) (cancel-leads script w k v h) (victim-facts script some w k v s.facts h named)
 
     seg-stays : (w : World) → Knows script w → Holds script w → Stayed w → (e : Event) (x : NodeEvent) (fails : Bool) (i : ℕ) → IsSegment script (at i) → HeardAt script w e i x → Stayed (seg_did w (at i) e (seg_rule script (w.segs i) x fails))
     seg-stays w k v s e x fails i place2 h =
@@ -189,31 +203,46 @@ module _ (w0 : World) (node : Node) (g : Gxid) (c : Cid) (place : ℕ) where
         le-trans : (a b c : ℕ) → a ≤ b → b ≤ c → a ≤ c
         le-trans a b c l m = omega arith
 
-    all-stay : (es : List (Event × Bool)) (w : World) → Knows script w → Holds script w → Stayed w → Stayed (after script w es)
-    all-stay es w k v s = keeps-after script some Stayed coord-stays seg-stays es w k v s
+-- where marks have come that the command isn't shown
+stayed-views : (w : World) (node : Node) (g : Gxid) (c : Cid) (place : ℕ) (m : Mark) (late : World) → Stayed w node g c place late → slice_get (marks_in w.steps) place ≡ Some m → (table : Table) (rid : Rid) → IsOnlyAt node rid (marks_in late.steps)
+    → image (marks_in late.steps) (take place (marks_in late.steps)) (Some (g, c)) table rid ≡ image (marks_in w.steps) (take place (marks_in w.steps)) (Some (g, c)) table rid
+stayed-views w node g c place m late s there table rid only =
+    ap (λ z. image z (take place z) (Some (g, c)) table rid) s.are
+    ∙ ap (λ z. image (marks_in w.steps ++ s.more) z (Some (g, c)) table rid) (take-kept (marks_in w.steps) s.more place m there)
+    ∙ unseen-image node g c (take place (marks_in w.steps)) table rid (marks_in w.steps) s.more None (only-right node rid (marks_in w.steps) s.more (subst (IsOnlyAt node rid) s.are only)) s.unseen
 
-module _ (script : Script) (some : 1 ≤ script.segments) (es later : List (Event × Bool)) where
-  pub views-stay : DoViewsStay (world_of script es) (after script (world_of script es) later)
-  views-stay node g c place m table rid taken there only =
+module _ (script : Script) (some : 1 ≤ script.segments) where
+  stayed-first : (w : World) (node : Node) (g : Gxid) (c : Cid) (place : ℕ) → Facts w → c.0 ≤ ((w.segs node.0).locals g.0).last → Stayed w node g c place w
+  stayed-first w node g c place facts taken = record { facts = facts; more = []; are = sym (append-nil (marks_in w.steps)); unseen = tt; taken = taken }
+
+  pub views-stay : (es later : List (Event × Bool)) → DoViewsStay (world_of script es) (after script (world_of script es) later)
+  views-stay es later node g c place m table rid taken there only =
       let w : World = world_of script es in
-      let s : Stayed (world_of script es) node g c place (after script (world_of script es) later) = all-stay (world_of script es) node g c place script some later (world_of script es) (world_knows script some es) (world-holds script some es) (record { facts = world-facts script some es; more = []; are = sym (append-nil (marks_in w.steps)); unseen = tt; taken = taken }) in
-      ap (λ z. image z (take place z) (Some (g, c)) table rid) s.are
-      ∙ ap (λ z. image (marks_in w.steps ++ s.more) z (Some (g, c)) table rid) (take-kept (marks_in w.steps) s.more place m there)
-      ∙ unseen-image node g c (take place (marks_in w.steps)) table rid (marks_in w.steps) s.more None (only-right node rid (marks_in w.steps) s.more (subst (IsOnlyAt node rid) s.are only)) s.unseen
+      let s = keeps-on script some (Stayed w node g c place) (coord-stays w node g c place script some) (victim-stays w node g c place script some) (seg-stays w node g c place script some) es later (stayed-first w node g c place (world-facts script some es) taken) in
+      stayed-views w node g c place m (after script w later) s there table rid only
+
+  pub moved-views-stay : (done more : List Move) → DoViewsStay (world_by script done) (moved_by script (world_by script done) more)
+  moved-views-stay done more node g c place m table rid taken there only =
+      let w : World = world_by script done in
+      let s = moves-keep-on script some (Stayed w node g c place) (coord-stays w node g c place script some) (victim-stays w node g c place script some) (seg-stays w node g c place script some) done more (stayed-first w node g c place (moves-facts script some done) taken) in
+      stayed-views w node g c place m (moved_by script w more) s there table rid only
 
 -- the horizon rises
 record Risen (n : ℕ) (w : World) : Type 0 where
   facts : Facts w
   low : n ≤ (horizon_of w.coord.table).0
 
-module _ (script : Script) (some : 1 ≤ script.segments) (es later : List (Event × Bool)) where
-  pub has-risen : HasRisen (world_of script es) (after script (world_of script es) later)
-  has-risen =
-      (keeps-after script some (Risen (horizon_of (world_of script es).coord.table).0)
-      (λ w k v s e x fails ok d. record { facts = coord-facts script some w k v s.facts e x fails ok d; low = le-trans (horizon_of (world_of script es).coord.table).0 (horizon_of w.coord.table).0 (horizon_of (coordinator.on_event script w.coord x fails).coord.table).0 s.low (by script w k v s.facts.lows e x fails).went.low })
+module _ (script : Script) (some : 1 ≤ script.segments) where
+  pub has-risen : (es later : List (Event × Bool)) → HasRisen (world_of script es) (after script (world_of script es) later)
+  has-risen es later =
+      (keeps-on script some (Risen start) (λ w k v s e x fails ok d. record { facts = coord-facts script some w k v s.facts e x fails ok d; low = le-trans start _ _ s.low (event-by script w k v s.facts.lows x fails).went.low })
+      (λ w k v s g h. record { facts = victim-facts script some w k v s.facts g h; low = le-trans start _ _ s.low (victim-by script w k v s.facts.lows g).went.low })
       (λ w k v s e x fails i place h. record { facts = seg-facts script some w k v s.facts e x fails i place h; low = s.low })
-      later (world_of script es) (world_knows script some es) (world-holds script some es) (record { facts = world-facts script some es; low = le-refl (horizon_of (world_of script es).coord.table).0 })).low
+      es later (record { facts = world-facts script some es; low = le-refl start })).low
     where
+      start : ℕ
+      start = (horizon_of (world_of script es).coord.table).0
+
       le-trans : (a b c : ℕ) → a ≤ b → b ≤ c → a ≤ c
       le-trans a b c l m = omega arith
 

@@ -42,6 +42,7 @@ use Rattle.gx_script.specs.declared.state.Block.{Block}
 use Rattle.gx_script.specs.declared.state.Block.TheVariants.{Failed, Open, Outside}
 use Rattle.gx_script.specs.declared.state.Pending.{Pending}
 use Rattle.gx_store.specs.declared.answer.Refused.{Refused}
+use Rattle.gx_store.specs.declared.answer.Refused.TheVariants.{Victim}
 use Rattle.gx_store.specs.declared.mark.Mark.{Mark}
 use Rattle.gx_store.specs.declared.mark.Mark.TheVariants as mark
 use Rattle.gx_store.specs.declared.node.NodeEvent.{NodeEvent}
@@ -55,9 +56,12 @@ use Rattle.gx_rules.specs.AtCoordinator.{Reading, answer_mark, answers, awaited,
 use Rattle.gx_rules.specs.Coordinators.{Command, Coord, CoordTurn, Session, rests, session_of, with_state, with_work, work_of}
 use Rattle.gx_rules.specs.Fits.{fits_part}
 use Rattle.gx_rules.specs.Machine.{World}
+use Rattle.gx_rules.specs.Rounds.{awaits_graph, begins_round, on_graph, rechecks, with_report}
+use Rattle.gx_rules.proofs.Rounds.{cancel-ways, graph-ways}
 use Rattle.gx_law_order.proofs.Lists.{Each, each_append, each_weaker}
 use Rattle.gx_law_order.proofs.Lines.{asks}
 use Rattle.gx_law_order.proofs.Past.{committed-append}
+use Rattle.gx_law_order.proofs.Places.{collects-each}
 use Rattle.gx_law_order.proofs.Sessions.{is_nothing_in, is_open_in, is_working_in, stage_of}
 use Rattle.gx_law_order.proofs.Stages.{gx}
 use Rattle.gx_law_order.proofs.Statuses.{Moves, Turned, reply-turns, stage, stage_in}
@@ -74,10 +78,11 @@ use Rattle.gx_law_reads.proofs.Held.{Latest}
 use Rattle.gx_law_reads.proofs.Low.{Lows, latest, live-standing}
 use Rattle.gx_law_reads.proofs.Plain.{NoExec, abort-mild, commit-mild, reply-mild}
 use Rattle.gx_law_reads.proofs.Reading.{CommandLow, OrderLow, Stood}
-use Rattle.gx_law_commit.proofs.Steps.{SaidTo}
+use Rattle.gx_law_commit.proofs.Always.{SaidTo}
 use Rattle.gx_rules.specs.Locks.{with_hold, hold_mark, release_marks}
 use Rattle.gx_locks.specs.Locks.{Locks, is_free, resumed, wait_of}
 use Rattle.gx_waits.specs.declared.claim.Claim.{Claim}
+use Rattle.gx_waits.specs.declared.graph.LocalGraph.{LocalGraph}
 use Rattle.gx_store.specs.Refusals.{the_coordinator}
 use Rattle.gx_law_order.proofs.Releases.{each-released}
 use Rattle.gx_law_order.proofs.Waiting.{going-out}
@@ -261,6 +266,18 @@ module _ (script : Script) (w : World) (k : Knows script w) (v : Holds script w)
   answer-pass g i fails reply.Aborted s = status-pass g i reply.Aborted fails
   answer-pass g i fails reply.Forgotten s = status-pass g i reply.Forgotten fails
 
+  -- ROUNDS
+  begins-round-pass : Passes (begins_round script w.coord)
+  begins-round-pass = plain (begins_round script w.coord) (collects-each (λ (o : Out). LiveMessage w.coord.table o.message) script.segments (w.coord.rounds + 1) (λ i one within. tt)) tt
+
+  graph-pass : (from : Node) (round : ℕ) (graph : LocalGraph) → Passes (on_graph w.coord from round graph)
+  graph-pass from round graph =
+      graph-ways Passes w.coord from round graph rest (λ e. plain (rests (with_report w.coord graph)) tt tt) (λ e f. plain (rechecks (with_report w.coord graph)) tt (tt, tt))
+
+  -- a victim
+  pub cancel-pass : (g : Gxid) → Passes (coordinator.cancels w.coord g)
+  cancel-pass g = cancel-ways Passes w.coord g rest (λ live busy. refused-pass w.coord g.0 [] (Victim w.coord.rounds) tt)
+
   message-pass : (from : Node) (fails : Bool) (m : Message) → (is_answer m ≡ true → Said (known from.0 (gxid_in m)) (parts_in w from.0 (gxid_in m)) m) → Passes (on_message w.coord from fails m)
   message-pass from fails (message.Answer g r) s = answer-pass g.0 from fails r (s refl)
   message-pass from fails (message.Exec g cid level x h y) s = rest
@@ -270,7 +287,7 @@ module _ (script : Script) (w : World) (k : Knows script w) (v : Holds script w)
   message-pass from fails (message.Abort g) s = rest
   message-pass from fails (message.Forget g) s = rest
   message-pass from fails (message.Collect round) s = rest
-  message-pass from fails (message.Graph round graph) s = rest
+  message-pass from fails (message.Graph round graph) s = graph-pass from round graph
 
   -- COMMANDS THAT GO OUT
   module _ (c1 : Coord) (g : ℕ) (s1 : Stood c1.table c1.works) (l1 : Latest c1.table) (live : stage_of c1 g ≡ Running) where
@@ -441,6 +458,10 @@ module _ (script : Script) (w : World) (k : Knows script w) (v : Holds script w)
   event-pass (event.Start s) fails e d = start-pass s (idle-first s _ e) (next_line script w.coord s)
   event-pass (event.End s) fails e d = end-pass s (idle-first s _ e) (session_of w.coord s).state.block
   event-pass (event.Resend i (Some g)) fails e d = again-pass i g.0 (awaited w.coord g i) refl
-  event-pass (event.Resend i None) fails e d = rest
+  event-pass (event.Resend i None) fails e d = by_test (awaits_graph w.coord i)
+    where
+      by_test : (b : Bool) → Passes (resends w.coord i (if b then Some (message.Collect w.coord.rounds) else None))
+      by_test true = plain (resends w.coord i (Some (message.Collect w.coord.rounds))) (tt, tt) tt
+      by_test false = rest
   event-pass (event.Resume g) fails e d = resumes-pass g.0 (going-out script w k g e).live (wait_of w.coord.locks g) (w.coord.works g.0).waiting
-  event-pass event.Round fails e d = rest
+  event-pass event.Round fails e d = begins-round-pass

@@ -1,5 +1,5 @@
 -- What the coordinator's events keep of the snapshots by which commands read.
-use Rattle.std.proofs.Common.{◌≡◌, ◌≤◌, ◌<◌, ℕ, List, [], ◌∷◌, Option, Some, None, Bool, true, false, refl, sym, subst, ap, ◌∙◌, cond, if◌then◌else◌, ◌&&◌, arith, eqb}
+use Rattle.std.proofs.Common.{◌≡◌, ◌≤◌, ◌<◌, ℕ, ◌+◌, List, [], ◌∷◌, Option, Some, None, Bool, true, false, refl, sym, subst, ap, ◌∙◌, cond, if◌then◌else◌, ◌&&◌, arith, eqb}
 use Rattle.std.proofs.lemmas.Bool.{eqb-true}
 use Rattle.std.specs.Prelude.{option_map}
 use Rattle.gx_lemmas.proofs.Numbers.{eqb-self}
@@ -28,13 +28,19 @@ use Rattle.gx_msg.specs.declared.reply.Reply.{Reply}
 use Rattle.gx_msg.specs.declared.reply.Reply.TheVariants as reply
 use Rattle.gx_script.specs.declared.state.Block.{Block}
 use Rattle.gx_script.specs.declared.state.Block.TheVariants.{Failed, Open, Outside}
+use Rattle.gx_script.specs.declared.Script.{Script}
 use Rattle.gx_store.specs.declared.answer.Refused.{Refused}
+use Rattle.gx_store.specs.declared.answer.Refused.TheVariants.{Victim}
 use Rattle.gx_store.specs.declared.mark.Mark.{Mark}
-use Rattle.gx_rules.specs.AtCoordinator.{Reading, answers, awaited, begins, command_order, completes, dispatches, ends_in, enlisted_all, fault_mark, follows, goes, goes_on, goes_out, is_awaited, is_refused, kept_at, next_cid, next_line, nodes_in, on_answer, on_done, on_event, on_failed, on_line, on_message, on_status, order_of, order_to, orders_of, reads_by, reads_for, reason_of, refusal_of, resends, rolls_back, starts, starts_line, status_order, table_of, takes_done, takes_snapshot, unless_kept, with_done, writers_with}
+use Rattle.gx_rules.specs.AtCoordinator.{Reading, answers, awaited, begins, cancels, command_order, completes, dispatches, ends_in, enlisted_all, fault_mark, follows, goes, goes_on, goes_out, is_awaited, is_refused, kept_at, next_cid, next_line, nodes_in, on_answer, on_done, on_event, on_failed, on_line, on_message, on_status, order_of, order_to, orders_of, reads_by, reads_for, reason_of, refusal_of, resends, rolls_back, starts, starts_line, status_order, table_of, takes_done, takes_snapshot, unless_kept, with_done, writers_with}
 use Rattle.gx_rules.specs.Coordinators.{Command, Coord, CoordTurn, Work, no_work, rests, session_of, with_work, work_of}
 use Rattle.gx_rules.specs.Fits.{fits_part}
 use Rattle.gx_rules.specs.Maps.{with_at}
+use Rattle.gx_rules.specs.Rounds.{begins_round, on_graph, rechecks, with_report}
+use Rattle.gx_rules.proofs.Rounds.{cancel-ways, graph-ways}
+use Rattle.gx_waits.specs.declared.graph.LocalGraph.{LocalGraph}
 use Rattle.gx_law_order.proofs.Lists.{Each}
+use Rattle.gx_law_order.proofs.Places.{collects-each}
 use Rattle.gx_law_order.proofs.Stages.{gx}
 use Rattle.gx_law_order.proofs.Statuses.{stage}
 use Rattle.gx_law_reads.proofs.Heights.{live-rises, rises-same}
@@ -201,6 +207,21 @@ module _ (c : Coord) (g : ℕ) (s : Stood c.table c.works) where
   answer-went i fails reply.Aborted = status-went i reply.Aborted fails
   answer-went i fails reply.Forgotten = status-went i reply.Forgotten fails
 
+-- rounds touch no transaction
+round-went : (c : Coord) → Stood c.table c.works → (rounds : ℕ) (reports : Option (List (Option LocalGraph))) (ns : List Mark) → WentBy c (record { coord = record c { rounds = rounds; reports = reports }; marks = ns; outs = []; item = None })
+round-went c s rounds reports ns = let x = rest-went c s in record { went = x.went; outs = tt }
+
+pub begins-round-went : (script : Script) (c : Coord) → Stood c.table c.works → WentBy c (begins_round script c)
+begins-round-went script c s = let x = rest-went c s in record { went = x.went; outs = collects-each (OutFine c.table c.works) script.segments (c.rounds + 1) (λ i one within. (tt, tt)) }
+
+graph-went : (c : Coord) → Stood c.table c.works → (from : Node) (round : ℕ) (graph : LocalGraph) → WentBy c (on_graph c from round graph)
+graph-went c s from round graph =
+    graph-ways (WentBy c) c from round graph (rest-went c s) (λ e. round-went c s c.rounds (with_report c graph).reports []) (λ e f. round-went c s c.rounds None (rechecks (with_report c graph)).marks)
+
+-- a victim
+pub cancel-went : (c : Coord) (g : Gxid) → Stood c.table c.works → WentBy c (cancels c g)
+cancel-went c g s = cancel-ways (WentBy c) c g (rest-went c s) (λ live busy. refused-went c g.0 [] (Victim c.rounds) s)
+
 pub message-went : (c : Coord) → Stood c.table c.works → (from : Node) (fails : Bool) (m : Message) → WentBy c (on_message c from fails m)
 message-went c s from fails (message.Answer g r) = answer-went c g.0 s from fails r
 message-went c s from fails (message.Exec g cid level x h y) = rest-went c s
@@ -210,4 +231,4 @@ message-went c s from fails (message.CommitPrepared g) = rest-went c s
 message-went c s from fails (message.Abort g) = rest-went c s
 message-went c s from fails (message.Forget g) = rest-went c s
 message-went c s from fails (message.Collect round) = rest-went c s
-message-went c s from fails (message.Graph round graph) = rest-went c s
+message-went c s from fails (message.Graph round graph) = graph-went c s from round graph

@@ -40,10 +40,13 @@ use Rattle.gx_store.specs.declared.node.NodeEvent.{NodeEvent}
 use Rattle.gx_store.specs.declared.node.NodeEvent.TheVariants as here
 use Rattle.gx_store.specs.Refusals.{the_coordinator}
 use Rattle.gx_store.specs.Writes.{dist_of}
-use Rattle.gx_rules.specs.AtCoordinator.{Reading, awaited, begins, commits, completes, coord_can, coord_rule, dispatches, ends_in, fault_mark, follows, goes, goes_on, is_awaited, is_refused, is_segment, next_cid, next_line, on_answer, on_done, on_event, on_failed, on_line, on_message, on_status, reads_by, reads_for, reason_of, resends, starts, starts_line, table_of, takes_done, with_done, writers_with, goes_on_locked, if_granted, lock_for, requests, resumes}
-use Rattle.gx_rules.specs.Coordinators.{Command, Coord, Work, rests, session_of, with_work, work_of}
+use Rattle.gx_rules.specs.AtCoordinator.{Reading, awaited, awaited_collect, begins, cancel_turn, cancels, commits, completes, coord_can, coord_rule, coord_turn, dispatches, ends_in, fault_mark, follows, goes, goes_on, is_awaited, is_refused, is_segment, next_cid, next_line, on_answer, on_done, on_event, on_failed, on_line, on_message, on_status, reads_by, reads_for, reason_of, resends, starts, starts_line, table_of, takes_done, with_done, writers_with, goes_on_locked, if_granted, lock_for, requests, resumes}
+use Rattle.gx_rules.specs.Coordinators.{Command, Coord, CoordTurn, Work, rests, session_of, with_work, work_of}
 use Rattle.gx_rules.specs.Fits.{fits_part}
-use Rattle.gx_law_runs.proofs.Marks.{MayFail, NoFailures, may-none, may-sent, none-append}
+use Rattle.gx_rules.specs.Rounds.{victims_at}
+use Rattle.gx_rules.proofs.Rounds.{cancel-ways, graph-ways}
+use Rattle.gx_rules.proofs.Turns.{cancels_all-each}
+use Rattle.gx_law_runs.proofs.Marks.{MayFail, NoFailures, may-append, may-none, may-sent, none-append, none-sent}
 use Rattle.gx_rules.specs.Locks.{has_there, release_mark, release_marks, with_hold}
 use Rattle.gx_waits.specs.declared.claim.Claim.{Claim}
 use Rattle.gx_locks.specs.Locks.{Locks, is_free, resumed, wait_of}
@@ -234,6 +237,7 @@ module _ (fails : Bool) where
 
   message-may : (c : Coord) (from : Node) (m : Message) → (from.0 == 0) ≡ false → May (on_message c from fails m).marks
   message-may c from (message.Answer g r) off = answer-may c g from r off
+  message-may c from (message.Graph round graph) off = graph-ways (λ (t : CoordTurn). May t.marks) c from round graph tt (λ r. tt) (λ r a. tt)
   message-may c from m off = tt
 
   resends-may : (c : Coord) (i : Node) (o : Option Message) → May (resends c i o).marks
@@ -249,9 +253,18 @@ module _ (fails : Bool) where
   event-may script c (here.Start s) can = start-may script c s (next_line script c s)
   event-may script c (here.End s) can = end-may c s (session_of c s).state.block
   event-may script c (here.Resend i (Some g)) can = resends-may c i (awaited c g i)
-  event-may script c (here.Resend i None) can = tt
+  event-may script c (here.Resend i None) can = resends-may c i (awaited_collect c i)
   event-may script c (here.Resume g) can = resume-may script c g (wait_of c.locks g) (work_of c g).waiting
   event-may script c x can = tt
 
+  turn-may : (script : Script) (c : Coord) (x : NodeEvent) → coord_can script c x ≡ true → May (coord_turn script c x fails).marks
+  turn-may script c x can = may-sent the_coordinator fails (on_event script c x fails).marks (on_event script c x fails).coord.sent (on_event script c x fails).outs (event-may script c x can)
+
+  -- a victim appends nothing
+  cancel-none : (c : Coord) (g : Gxid) → NoFailures (cancel_turn c g).marks
+  cancel-none c g =
+      none-append (cancels c g).marks _ (cancel-ways (λ (t : CoordTurn). NoFailures t.marks) c g tt (λ live busy. back-none c.locks g)) (none-sent (cancels c g).coord.sent (cancels c g).outs)
+
   pub coordinator-may : (script : Script) (c : Coord) (x : NodeEvent) → coord_can script c x ≡ true → May (coord_rule script c x fails).marks
-  coordinator-may script c x can = may-sent the_coordinator fails (on_event script c x fails).marks (on_event script c x fails).coord.sent (on_event script c x fails).outs (event-may script c x can)
+  coordinator-may script c x can =
+      cancels_all-each (λ (t : CoordTurn). May t.marks) (λ turn g may. may-append the_coordinator fails turn.marks (cancel_turn turn.coord g).marks may (cancel-none turn.coord g)) (victims_at c x) (coord_turn script c x fails) (turn-may script c x can)

@@ -1,5 +1,6 @@
 -- The marks of a turn tell whether the journal failed, where that makes a difference.
 use Rattle.std.proofs.Common.{◌≡◌, ◌⊎◌, inl, inr, ℕ, List, [], ◌∷◌, ◌++◌, Option, Some, None, Bool, true, false, refl, sym, ap, ◌∙◌, if◌then◌else◌, not}
+use Rattle.std.specs.Prelude.{map}
 use Rattle.gx_ids.specs.declared.ids.Gxid.{Gxid}
 use Rattle.gx_ids.specs.declared.ids.Node.{Node}
 use Rattle.gx_dtx.specs.Nodes.{without}
@@ -19,7 +20,12 @@ use Rattle.gx_store.specs.declared.mark.Mark.{Mark}
 use Rattle.gx_store.specs.declared.mark.Mark.TheVariants as mark
 use Rattle.gx_store.specs.declared.node.NodeEvent.{NodeEvent}
 use Rattle.gx_store.specs.declared.node.NodeEvent.TheVariants as here
+use Rattle.gx_store.specs.Refusals.{the_coordinator}
+use Rattle.gx_waits.specs.declared.claim.Claim.{Claim}
 use Rattle.gx_rules.specs.Fits.{is_waiting}
+use Rattle.gx_rules.specs.Locks.{has_there, release_mark}
+use Rattle.gx_rules.specs.Rounds.{victims_at}
+use Rattle.gx_rules.proofs.Rounds.{cancel-ways}
 use Rattle.gx_rules.specs.AtCoordinator as coordinator
 use Rattle.gx_rules.specs.AtSegment as segment
 use Rattle.gx_rules.specs.Coordinators.{Coord, CoordTurn}
@@ -149,5 +155,30 @@ coord-sends : (clock : ℕ) (turn : Bool → CoordTurn) → CoordTells turn → 
 coord-sends clock turn (inl e) = inl (ap (coordinator.coord_sends clock) e)
 coord-sends clock turn (inr h) = inr (failed-sent (turn true).marks (turn true).coord.sent (turn true).outs ∙ h.0, failed-sent (turn false).marks (turn false).coord.sent (turn false).outs ∙ h.1)
 
+-- a victim's turn appends nothing
+failed-more : (xs ys : List Mark) → has_failed ys ≡ false → has_failed (xs ++ ys) ≡ has_failed xs
+failed-more [] ys e = e
+failed-more (mark.JournalFailed node g ∷ xs) ys e = refl
+failed-more (m ∷ xs) ys e = failed-more xs ys e
+
+back-unfailed : (claims : List Claim) → has_failed (map (release_mark the_coordinator) claims) ≡ false
+back-unfailed [] = refl
+back-unfailed (x ∷ xs) = back-unfailed xs
+
+cancel-unfailed : (c : Coord) (g : Gxid) → has_failed (coordinator.cancel_turn c g).marks ≡ false
+cancel-unfailed c g =
+    failed-sent (coordinator.cancels c g).marks (coordinator.cancels c g).coord.sent (coordinator.cancels c g).outs
+    ∙ cancel-ways (λ (t : CoordTurn). has_failed t.marks ≡ false) c g refl (λ live busy. back-unfailed (has_there c.locks g))
+
+all-failed : (victims : List Gxid) (turn : CoordTurn) → has_failed (coordinator.and_cancels_all victims turn).marks ≡ has_failed turn.marks
+all-failed [] turn = refl
+all-failed (g ∷ gs) turn = all-failed gs (coordinator.and_cancels turn g) ∙ failed-more turn.marks (coordinator.cancel_turn turn.coord g).marks (cancel-unfailed turn.coord g)
+
+rule-tells : (victims : List Gxid) (turn : Bool → CoordTurn) → CoordTells turn → CoordTells (λ fails. coordinator.and_cancels_all victims (turn fails))
+rule-tells victims turn (inl e) = inl (ap (coordinator.and_cancels_all victims) e)
+rule-tells victims turn (inr h) = inr (all-failed victims (turn true) ∙ h.0, all-failed victims (turn false) ∙ h.1)
+
 pub coordinator-tells : (script : Script) (c : Coord) (x : NodeEvent) (fails : Bool) → coordinator.coord_rule script c x (has_failed (coordinator.coord_rule script c x fails).marks) ≡ coordinator.coord_rule script c x fails
-coordinator-tells script c x fails = told (λ (t : CoordTurn). t.marks) (λ b. coordinator.coord_rule script c x b) fails (coord-sends (clock_after c.clock x) (λ b. coordinator.on_event script c x b) (coord-event script c x))
+coordinator-tells script c x fails =
+    told (λ (t : CoordTurn). t.marks) (λ b. coordinator.coord_rule script c x b) fails
+    (rule-tells (victims_at c x) (λ b. coordinator.coord_turn script c x b) (coord-sends (clock_after c.clock x) (λ b. coordinator.on_event script c x b) (coord-event script c x)))

@@ -3,7 +3,7 @@ use Rattle.std.proofs.lemmas.Bool.Decides.{nat_tests}
 use Rattle.std.proofs.Common.{◌≡◌, ◌≤◌, ◌<◌, ◌⊎◌, inl, inr, ℕ, ◌+◌, ◌-◌, List, [], ◌∷◌, ◌++◌, Option, None, Some, Bool, true, false, refl, sym, subst, ap, ◌∙◌, if◌then◌else◌, ◌&&◌, ◌||◌, not, arith, length}
 use Rattle.std.specs.Prelude.{◌==◌, filter, is_some, map}
 use Rattle.std.specs.List.{flat_map, list_all}
-use Rattle.gx_lemmas.proofs.Tests.{and-first, false-true}
+use Rattle.gx_lemmas.proofs.Tests.{and-first}
 use Rattle.gx_ids.specs.declared.ids.Gxid.{Gxid}
 use Rattle.gx_ids.specs.declared.ids.Node.{Node}
 use Rattle.gx_ids.specs.declared.ids.SessionId.{SessionId}
@@ -18,7 +18,8 @@ use Rattle.gx_store.specs.Refusals.{the_coordinator}
 use Rattle.gx_store.specs.Schedule.{enabled, first_of, is_exec, is_round, is_next, is_quiet, left_on, segments_of}
 use Rattle.gx_rules.specs.AtCoordinator.{awaited, coord_can, is_idle, is_in_block, is_left, next_line, is_unfinished_there}
 use Rattle.gx_rules.specs.Coordinators.{Coord, session_of}
-use Rattle.gx_rules.specs.Machine.{World, can, world_of}
+use Rattle.gx_rules.specs.Machine.{World, world_of}
+use Rattle.gx_rules.specs.Rounds.{awaits_graph}
 use Rattle.gx_store.specs.Whole.{AreInsertsWhole}
 use Rattle.gx_law_sessions.proofs.World.{sessions-stand}
 use Rattle.gx_law_commit.proofs.Dispatching.{each-unmap}
@@ -34,7 +35,7 @@ use Rattle.gx_law_order.proofs.Waiting.{has-statement}
 use Rattle.gx_law_order.proofs.World.{world_knows}
 use Rattle.gx_law_commit.proofs.Events.{live-stage}
 use Rattle.gx_law_schedules.specs.Enabled.{at_segment_by, drawn, ends_by, is_due, is_next_by, resends_due, resumes_by, rounds_by, sessions_of, starts_by}
-use Rattle.gx_law_schedules.proofs.Enabled.{each-admitted, enabled-there}
+use Rattle.gx_law_schedules.proofs.Enabled.{each-other, enabled-there}
 use Rattle.gx_law_schedules.proofs.Neat.{clash}
 use Rattle.gx_law_schedules.proofs.Sessions.{next-alike, start-alike}
 use Rattle.gx_law_runs.specs.Awaiting.{IsAwaiting, IsBlocked, locks_at}
@@ -61,21 +62,12 @@ module _ (script : Script) (some : 1 ≤ script.segments) (inserts : AreInsertsW
   abbrev again : List Event
   again = flat_map (resends_due script w) (segments_of script)
 
-  -- no round is admitted, and all else that is enabled is
-  not-round : (e : Event) → can script w e ≡ true → is_round e ≡ true → ⊥
-  not-round (event.Receive from to number) ok e = false-true e
-  not-round (event.Resume n g) ok e = false-true e
-  not-round (event.Start s) ok e = false-true e
-  not-round (event.End s) ok e = false-true e
-  not-round (event.Resend i g) ok e = false-true e
-  not-round event.Round ok e = false-true ok
-
-  none-admitted : (xs ys : List Event) → Each (λ e. can script w e ≡ true) xs → list_all is_round (xs ++ ys) ≡ true → xs ≡ []
-  none-admitted [] ys a e = refl
-  none-admitted (x ∷ xs) ys a e = absurd (not-round x a.0 (and-first (is_round x) (list_all is_round (xs ++ ys)) e))
+  none-but-rounds : (xs ys : List Event) → Each (λ e. is_round e ≡ false) xs → list_all is_round (xs ++ ys) ≡ true → xs ≡ []
+  none-but-rounds [] ys a e = refl
+  none-but-rounds (x ∷ xs) ys a e = clash (is_round x) (and-first (is_round x) (list_all is_round (xs ++ ys)) e) a.0
 
   six-parts : receipts ++ deliveries ++ resumptions-here ++ again ++ starts_by script c ++ ends_by script c ≡ []
-  six-parts = none-admitted _ (rounds_by script w) (each-admitted script some es) (sym (ap (list_all is_round) (enabled-there script some es)) ∙ nothing)
+  six-parts = none-but-rounds _ (rounds_by script w) (each-other script some es) (sym (ap (list_all is_round) (enabled-there script some es)) ∙ nothing)
 
   no-ends : ends_by script c ≡ []
   no-ends = nil-right (receipts ++ deliveries ++ resumptions-here ++ again ++ starts_by script c) _ six-parts
@@ -119,7 +111,8 @@ module _ (script : Script) (some : 1 ≤ script.segments) (inserts : AreInsertsW
   none-due : (i : Node) → (1 ≤ i.0) × (i.0 ≤ script.segments) → filter (is_due w i) (drawn c) ≡ []
   none-due i r =
       nil-map (λ g. event.Resend i (Some g)) (filter (is_due w i) (drawn c))
-      (ap (λ (b : Bool). if b then map (λ g. event.Resend i (Some g)) (filter (is_due w i) (drawn c)) else []) (sym (quiet i r)) ∙ at-segment (λ j. resends_due script w j ≡ []) (nil-flat (resends_due script w) (segments_of script) no-resends) i r)
+      (nil-left _ (if awaits_graph c i then event.Resend i None ∷ [] else [])
+      (ap (λ (b : Bool). if b then map (λ g. event.Resend i (Some g)) (filter (is_due w i) (drawn c)) ++ (if awaits_graph c i then event.Resend i None ∷ [] else []) else []) (sym (quiet i r)) ∙ at-segment (λ j. resends_due script w j ≡ []) (nil-flat (resends_due script w) (segments_of script) no-resends) i r))
 
   -- of all that were drawn
   of-drawn : (p : Gxid → Bool) → filter p (drawn c) ≡ [] → (g : Gxid) → (1 ≤ g.0) × (g.0 < c.table.next.0) → p g ≡ false

@@ -25,7 +25,7 @@ none-append [] ys a b = b
 none-append (JournalFailed n g ∷ xs) ys a b = absurd a
 none-append (m ∷ xs) ys a b = none-append xs ys a b
 
-none-sent : (f : ℕ → ℕ) (outs : List Out) → NoFailures (numbered f outs)
+pub none-sent : (f : ℕ → ℕ) (outs : List Out) → NoFailures (numbered f outs)
 none-sent f [] = tt
 none-sent f (out ∷ outs) = none-sent (counted f out) outs
 
@@ -35,7 +35,7 @@ module _ (at : Node) (fails : Bool) where
   may-none (JournalFailed n g ∷ ms) none = absurd none
   may-none (m ∷ ms) none = may-none ms none
 
-  may-append : (xs ys : List Mark) → MayFail at fails xs → NoFailures ys → MayFail at fails (xs ++ ys)
+  pub may-append : (xs ys : List Mark) → MayFail at fails xs → NoFailures ys → MayFail at fails (xs ++ ys)
   may-append [] ys a b = may-none ys b
   may-append (JournalFailed n g ∷ xs) ys a b = (a.0, a.1, none-append xs ys a.2 b)
   may-append (m ∷ xs) ys a b = may-append xs ys a b

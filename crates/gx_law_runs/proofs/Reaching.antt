@@ -1,5 +1,5 @@
 -- The runs that the machine reaches.
-use Rattle.std.proofs.Common.{◌≡◌, ◌≤◌, ℕ, ◌+◌, ◌*◌, List, [], ◌∷◌, ◌++◌, Bool, true, refl, sym, subst, ap, ◌∙◌, ◌&&◌, ◌||◌, length, false}
+use Rattle.std.proofs.Common.{◌≡◌, ◌≤◌, ℕ, ◌+◌, ◌*◌, List, [], ◌∷◌, ◌++◌, Bool, true, refl, sym, subst, ap, ◌∙◌, ◌&&◌, length}
 use Rattle.std.specs.List.{list_all}
 use Rattle.std.specs.declared.alloc.Global.{Global}
 use Rattle.std.specs.declared.vec.Vec.{Vec}
@@ -11,7 +11,7 @@ use Rattle.gx_store.specs.declared.event.Event.{Event}
 use Rattle.gx_store.specs.declared.run.Step.{Step}
 use Rattle.gx_store.specs.Points.{marks_in}
 use Rattle.gx_store.specs.Rows.{row_at}
-use Rattle.gx_store.specs.Schedule.{enabled, is_round}
+use Rattle.gx_store.specs.Schedule.{enabled}
 use Rattle.gx_rules.specs.Coordinators.{Coord}
 use Rattle.gx_rules.specs.Machine.{Letter, World, can, happens, new_world, world_of}
 use Rattle.gx_rules.specs.Segments.{Seg}
@@ -19,8 +19,8 @@ use Rattle.gx_rules.specs.Snapshots.{snapshot_of}
 use Rattle.gx_law_order.proofs.Letters.{found_is}
 use Rattle.gx_law_order.proofs.Lists.{Each}
 use Rattle.gx_law_reads.specs.Sights.{AreRowsOf, AreRowsOfAll, IsOnlyAt, shown_to_all}
-use Rattle.gx_law_schedules.proofs.Awaited.{world-asks}
-use Rattle.gx_law_schedules.proofs.Enabled.{all-admitted, all-but-rounds}
+use Rattle.gx_law_schedules.proofs.Awaited.{sent-room, world-asks}
+use Rattle.gx_law_schedules.proofs.Enabled.{all-admitted}
 use Rattle.gx_law_schedules.proofs.Room.{Stays, world-stays}
 use Rattle.gx_law_runs.specs.Reached.{HasRoomAfter, IsReached}
 use Rattle.gx_law_runs.specs.Replays.{AreReplayed, IsNextAtCoordinator, IsNextAtSegment, coordinator_after, is_admitted, letters_after, world_behind}
@@ -63,14 +63,8 @@ module _ (script : Script) (some : 1 ≤ script.segments) (es : List (Event × B
   told : (e : Event) → can script (world_of script es) e ≡ is_admitted script (world_of script es).steps e
   told = can-told script (world_of script es).steps (world_of script es) (world-replayed script es) refl
 
-  pub admitted-but-rounds : list_all (λ e. is_round e || is_admitted script (world_of script es).steps e) (enabled script (world_of script es).steps) ≡ true
-  admitted-but-rounds =
-      sym (all-same (λ e. is_round e || can script (world_of script es) e) (λ e. is_round e || is_admitted script (world_of script es).steps e) (enabled script (world_of script es).steps) (λ e. ap (λ b. is_round e || b) (told e)))
-      ∙ all-but-rounds script some es
-
-  pub admitted-without-detector : script.detector ≡ false → list_all (is_admitted script (world_of script es).steps) (enabled script (world_of script es).steps) ≡ true
-  admitted-without-detector off =
-      sym (all-same (can script (world_of script es)) (is_admitted script (world_of script es).steps) (enabled script (world_of script es).steps) told) ∙ all-admitted script some es off
+  pub all-are-admitted : list_all (is_admitted script (world_of script es).steps) (enabled script (world_of script es).steps) ≡ true
+  all-are-admitted = sym (all-same (can script (world_of script es)) (is_admitted script (world_of script es).steps) (enabled script (world_of script es).steps) told) ∙ all-admitted script some es
 
 -- COUNTS
 pub room-after : (script : Script) (some : 1 ≤ script.segments) (es : List (Event × Bool)) → HasRoomAfter script (world_of script es).steps
@@ -82,7 +76,7 @@ room-after script some es =
           let d = found_is (λ (l : Letter). l.envelope.clock ≤ length w.steps) from to number (letters_after w.steps) envelope (subst (λ ls. Each (λ (l : Letter). l.envelope.clock ≤ length w.steps) ls) r.sent stays.letters) f in
           subst (λ (x : Envelope). x.clock ≤ length w.steps) d.told d.is;
       next = subst (λ (c : Coord). c.table.next.0 ≤ length w.steps + 1) r.coordinator stays.room.next;
-      sent = λ i. subst (λ (c : Coord). c.sent i ≤ 64 * length w.steps) r.coordinator ((world-asks script some es).sent i);
+      sent = λ i. subst (λ (c : Coord). c.sent i ≤ 64 * length w.steps) r.coordinator (sent-room w (world-asks script some es) i);
       answered = λ i one. subst (λ (s : Seg). s.sent ≤ length w.steps) (r.segments i one) (stays.room.answered i);
     }
   where

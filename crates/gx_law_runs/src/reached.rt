@@ -1,5 +1,5 @@
 //! Laws of the runs that the machine reaches.
-ghost use Rattle.std.specs.Prelude.{◌≡◌, ◌≤◌, ◌||◌, Bool, true, false, List, [], ◌∷◌, ◌++◌};
+ghost use Rattle.std.specs.Prelude.{◌≡◌, ◌≤◌, Bool, true, List, [], ◌∷◌, ◌++◌};
 ghost use Rattle.std.specs.List.{list_all};
 ghost use Rattle.gx_law_runs.specs.Reached.{HasRoomAfter, IsReached};
 ghost use Rattle.gx_law_runs.specs.Replays.{AreReplayed, IsNextAtCoordinator, IsNextAtSegment, is_admitted, world_behind};
@@ -8,7 +8,7 @@ ghost use Rattle.gx_rules.specs.System.{IsSystemRun};
 ghost use Rattle.gx_script.specs.declared.Script.{Script};
 ghost use Rattle.gx_store.specs.Ordered.{AreOrdered};
 ghost use Rattle.gx_store.specs.Protocol.{DoStepsFollow};
-ghost use Rattle.gx_store.specs.Schedule.{enabled, is_round};
+ghost use Rattle.gx_store.specs.Schedule.{enabled};
 ghost use Rattle.gx_store.specs.declared.event.Event.{Event as OneEvent};
 ghost use Rattle.gx_store.specs.declared.run.Run.{Run as OneRun};
 ghost use Rattle.gx_store.specs.declared.run.Step.{Step as OneStep};
@@ -43,14 +43,9 @@ pub fn reached_runs_are_replayed()
     ensures { (script : Script) (steps : List OneStep) (is : IsReached script steps) → AreReplayed script steps (world_of script is.events) }
 {}
 
-/// Each event that is enabled there is admitted, whoever waits, but for a round.
-pub fn enabled_events_are_admitted_but_for_rounds()
-    ensures { (script : Script) (steps : List OneStep) → 1 ≤ script.segments → IsReached script steps → list_all (λ e. is_round e || is_admitted script steps e) (enabled script steps) ≡ true }
-{}
-
-/// So all are where the script has no detector.
-pub fn enabled_events_are_admitted_without_detector()
-    ensures { (script : Script) (steps : List OneStep) → 1 ≤ script.segments → script.detector ≡ false → IsReached script steps → list_all (is_admitted script steps) (enabled script steps) ≡ true }
+/// Each event that is enabled there is admitted, whoever waits.
+pub fn enabled_events_are_admitted()
+    ensures { (script : Script) (steps : List OneStep) → 1 ≤ script.segments → IsReached script steps → list_all (is_admitted script steps) (enabled script steps) ≡ true }
 {}
 
 /// Counts have room.

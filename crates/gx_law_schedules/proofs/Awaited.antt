@@ -1,54 +1,74 @@
 -- In every run, what the steps say was asked of a segment is what the coordinator awaits of it.
-use Rattle.std.proofs.Common.{◌≡◌, ◌≤◌, ◌<◌, ℕ, ◌+◌, ◌*◌, List, [], ◌∷◌, ◌++◌, Option, Some, None, Bool, true, false, refl, sym, subst, ap, ◌∙◌, if◌then◌else◌, ◌&&◌, arith, eqb, append-nil, length}
+use Rattle.std.proofs.Common.{◌≡◌, ◌≤◌, ◌<◌, ℕ, ◌+◌, ◌*◌, List, [], ◌∷◌, ◌++◌, Option, Some, None, Bool, true, false, refl, sym, subst, ap, ◌∙◌, if◌then◌else◌, ◌&&◌, ◌||◌, arith, eqb, append-nil, length}
 use Rattle.std.proofs.lemmas.Bool.{eqb-true}
 use Rattle.std.proofs.lemmas.Bool.Decides.{nat_tests}
 use Rattle.std.proofs.lemmas.List.{append_assoc}
 use Rattle.std.specs.Prelude.{nat_le}
 use Rattle.gx_lemmas.proofs.Lists.{length-push}
 use Rattle.gx_lemmas.proofs.Tests.{and-first}
-use Rattle.gx_lemmas.proofs.Options.{some-same}
 use Rattle.gx_ids.specs.declared.ids.Cid.{Cid}
 use Rattle.gx_ids.specs.declared.ids.Gxid.{Gxid}
 use Rattle.gx_ids.specs.declared.ids.Node.{Node}
 use Rattle.gx_dtx.specs.Nodes.{has}
+use Rattle.gx_dtx.specs.Rules.{on_abort}
 use Rattle.gx_dtx.specs.Table.{find_txn, participants_in}
+use Rattle.gx_dtx.specs.declared.phase.Phase.{Phase}
+use Rattle.gx_dtx.specs.declared.phase.Phase.TheVariants.{Active, Preparing, CommittingOne, CommittingTwo, Ended, Aborting}
 use Rattle.gx_dtx.specs.declared.txn.Txn.{Txn}
 use Rattle.gx_msg.specs.declared.message.Envelope.{Envelope}
 use Rattle.gx_msg.specs.declared.message.Message.{Message}
 use Rattle.gx_msg.specs.declared.message.Message.TheVariants as message
 use Rattle.gx_msg.specs.declared.reply.Reply.TheVariants as reply
 use Rattle.gx_script.specs.declared.Script.{Script}
+use Rattle.gx_store.specs.declared.answer.Refused.TheVariants.{Victim}
+use Rattle.gx_store.specs.declared.answer.StmtAnswer.TheVariants as told
 use Rattle.gx_store.specs.declared.event.Event.{Event}
-use Rattle.gx_store.specs.declared.event.Event.TheVariants as event
+use Rattle.gx_store.specs.declared.mark.Mark.{Mark}
 use Rattle.gx_store.specs.declared.node.NodeEvent.{NodeEvent}
 use Rattle.gx_store.specs.declared.node.NodeEvent.TheVariants as here
 use Rattle.gx_store.specs.declared.run.Step.{Step}
 use Rattle.gx_store.specs.Journals.{is_same_node}
+use Rattle.gx_store.specs.Marks.{is_aborted}
 use Rattle.gx_store.specs.Ordered.{IsSegment}
+use Rattle.gx_store.specs.Points.{marks_in}
 use Rattle.gx_store.specs.Refusals.{the_coordinator}
 use Rattle.gx_store.specs.Schedule.{asked, asked_by, asked_from, is_answer_to, unless_answered}
-use Rattle.gx_rules.specs.AtCoordinator.{awaited, coord_can, coord_rule, on_event}
+use Rattle.gx_rules.specs.AtCoordinator.{answer_mark, awaited, cancel_turn, cancels, coord_can, coord_sends, coord_turn, is_refused, on_event}
 use Rattle.gx_rules.specs.AtSegment.{seg_rule}
-use Rattle.gx_rules.specs.Coordinators.{Coord, CoordTurn}
-use Rattle.gx_rules.specs.Machine.{World, at_node, coord_did, delivered, found, new_world, seg_did, world_of}
-use Rattle.gx_rules.specs.Sending.{clock_after, numbered}
-use Rattle.gx_law_order.proofs.AtCoordinators.{coord_stays}
+use Rattle.gx_rules.specs.Coordinators.{Coord, CoordTurn, work_of}
+use Rattle.gx_rules.specs.Locks.{release_marks}
+use Rattle.gx_rules.specs.Machine.{World, and_cancelled, coord_did, new_world, seg_did, with_more, world_of}
+use Rattle.gx_rules.specs.Rounds.{is_active, is_live}
+use Rattle.gx_rules.specs.Sending.{clock_after, counted_all, numbered}
+use Rattle.gx_rules.proofs.Rounds.{cancel-ways}
+use Rattle.gx_rules.proofs.Turns.{with_more-last}
+use Rattle.gx_law_order.specs.Moves.{Move, world_by}
+use Rattle.gx_law_order.proofs.AtCoordinators.{CoordStays, cancel_stays, coord_stays}
+use Rattle.gx_law_order.proofs.Induction.{IsThere, after_turn, at-moves, marks-by-victim}
 use Rattle.gx_law_order.proofs.Letters.{found_is}
-use Rattle.gx_law_order.proofs.Past.{there-drawn}
+use Rattle.gx_law_order.proofs.More.{marks-last}
+use Rattle.gx_law_order.proofs.Moves.{HasNamed, moves_after, world-moves}
+use Rattle.gx_law_order.proofs.Past.{running-drawn, there-drawn}
 use Rattle.gx_law_order.proofs.Sent.{at, counted-all}
 use Rattle.gx_law_order.proofs.Stages.{gx}
-use Rattle.gx_law_order.proofs.Waiting.{going-on, going-out}
-use Rattle.gx_law_order.proofs.World.{world_knows}
-use Rattle.gx_law_commit.proofs.Always.{world-holds}
-use Rattle.gx_law_schedules.proofs.Replies.{left_by}
-use Rattle.gx_law_schedules.proofs.Asking.{AreNeat, Asks}
-use Rattle.gx_law_schedules.proofs.Fitted.{AreServed, LetterServes, Served, coord-served, partless, resume-served, seg-served}
+use Rattle.gx_law_order.proofs.Statuses.{is_running, stage, stage_in}
+use Rattle.gx_law_order.proofs.Waiting.{going-out}
+use Rattle.gx_law_order.proofs.World.{Knows, moves_knows, world_knows}
+use Rattle.gx_law_commit.specs.Standings.{standing, standing_in}
+use Rattle.gx_law_commit.specs.Standings.Standing.{Over}
+use Rattle.gx_law_commit.proofs.Always.{moves-holds}
+use Rattle.gx_law_commit.proofs.Everywhere.{Holds}
+use Rattle.gx_law_schedules.specs.Links.{message_of}
+use Rattle.gx_law_schedules.proofs.Asking.{AreNeat, Asked, Asks, now_asked}
+use Rattle.gx_law_schedules.proofs.Counts.{abort-first, aborts-front, aborts-most, aborts-new, aborts-next, aborts_in}
+use Rattle.gx_law_schedules.proofs.Fitted.{AreServed, LetterServes, Served, cancel-served, coord-served, partless, seg-served}
 use Rattle.gx_law_schedules.proofs.Fitting.{SaysSo}
 use Rattle.gx_law_schedules.proofs.Neat.{waiting-none}
-use Rattle.gx_law_schedules.proofs.Steps.{IsHere, always, by-kind}
-use Rattle.gx_law_schedules.proofs.Told.{asked-numbered, asked-plain, sends, sent-numbered}
-use Rattle.gx_law_schedules.proofs.Turning.{FitsEvent, FitsMessage, event-asks}
-use Rattle.gx_law_schedules.proofs.World.{world-letters}
+use Rattle.gx_law_schedules.proofs.Replies.{left_by}
+use Rattle.gx_law_schedules.proofs.Room.{Stays, length-named, moves-stay}
+use Rattle.gx_law_schedules.proofs.Told.{asked-append, asked-numbered, asked-plain, sends, sent-numbered}
+use Rattle.gx_law_schedules.proofs.Turning.{FitsEvent, FitsMessage, cancel-asks, event-asks, victim-asks}
+use Rattle.gx_law_schedules.proofs.World.{DoAllLinksAgree, moves-linked}
 
 -- ONE STEP MORE
 abbrev next_asked : List Step → Node → Gxid → Option Message → Step → Option Message
@@ -62,152 +82,268 @@ asked-more before i g a (x ∷ ss) s =
 pub asked-last : (i : Node) (g : Gxid) (steps : List Step) (s : Step) → asked (steps ++ s ∷ []) i g ≡ next_asked steps i g (asked steps i g) s
 asked-last i g steps s = asked-more [] i g None steps s
 
+-- THE SAME STEP, WITH MORE MARKS
+asked-longer : (i : Node) (g : Gxid) (before : List Step) (s : Step) (more : List Mark) → s.stamp.node ≡ the_coordinator → asked (with_more (before ++ s ∷ []) more) i g ≡ asked_by i g (asked (before ++ s ∷ []) i g) more
+asked-longer i g before s more own =
+    ap (λ ss. asked ss i g) (with_more-last before s more) ∙ asked-last i g before (record s { marks = s.marks ++ more }) ∙ by_node (is_same_node s.stamp.node the_coordinator) (ap (λ n. is_same_node n the_coordinator) own)
+    ∙ ap (λ a. asked_by i g a more) (sym (asked-last i g before s))
+  where
+    was : Option Message
+    was = asked before i g
+
+    by_node : (b : Bool) → b ≡ true → (if b then asked_by i g (unless_answered before i g was s.event) (s.marks ++ more) else was) ≡ asked_by i g (if b then asked_by i g (unless_answered before i g was s.event) s.marks else was) more
+    by_node true e = asked-append i g (unless_answered before i g was s.event) s.marks more
+    by_node false e = absurd (cc)
+
+pub asked-named : (i : Node) (g : Gxid) (ss : List Step) (clock round : ℕ) (victim : Gxid) → HasNamed ss clock round victim → (more : List Mark) → asked (with_more ss more) i g ≡ asked_by i g (asked ss i g) more
+asked-named i g ss clock round victim h more =
+    ap (λ q. asked (with_more q more) i g) h.is ∙ asked-longer i g h.before h.step more h.node ∙ ap (λ q. asked_by i g (asked q i g) more) (sym h.is)
+
+-- WHAT IS KNOWN OF EACH WORLD
+pub record IsKnown (script : Script) (w : World) : Type 0 where
+  pub knows : Knows script w
+  pub holds : Holds script w
+  pub links : DoAllLinksAgree w
+  pub stays : Stays w
+
+pub moves-known : (script : Script) (some : 1 ≤ script.segments) (ms : List Move) → IsKnown script (world_by script ms)
+moves-known script some ms = record { knows = moves_knows script some ms; holds = moves-holds script some ms; links = moves-linked script some ms; stays = moves-stay script some ms }
+
 -- what an event answers, at the node and by the steps
+pub left-alike : (script : Script) (w : World) → DoAllLinksAgree w → (i : Node) (g : Gxid) (a : Option Message) (e : Event) (x : NodeEvent) → IsThere script w e the_coordinator x → unless_answered w.steps i g a e ≡ left_by i g a x
+left-alike script w links i g a e (here.Deliver from envelope) t =
+    ap (unless_answered w.steps i g a) t.event
+    ∙ ap (λ m. if is_same_node from i && is_answer_to a g m then None else a) ((links from the_coordinator t.number).message ∙ ap message_of t.found)
+left-alike script w links i g a e (here.Resume h) t = ap (unless_answered w.steps i g a) t
+left-alike script w links i g a e (here.Start s) t = ap (unless_answered w.steps i g a) t
+left-alike script w links i g a e (here.End s) t = ap (unless_answered w.steps i g a) t
+left-alike script w links i g a e (here.Resend j h) t = ap (unless_answered w.steps i g a) t
+left-alike script w links i g a e here.Round t = ap (unless_answered w.steps i g a) t
 
-module _ (script : Script) (some : 1 ≤ script.segments) (es : List (Event × Bool)) where
-  abbrev w : World
-  w = world_of script es
+-- who may be cancelled runs, and hasn't aborted
+live-runs : (t : Option Txn) → is_live t ≡ true → is_running (stage t) ≡ true
+live-runs None e = absurd (cc)
+live-runs (Some t) e = by_phase t.phase e
+  where
+    by_phase : (p : Phase) → is_active p ≡ true → is_running (stage_in p) ≡ true
+    by_phase Active e = refl
+    by_phase (Preparing a b) e = absurd (cc)
+    by_phase (CommittingOne a) e = absurd (cc)
+    by_phase (CommittingTwo a) e = absurd (cc)
+    by_phase (Ended a) e = absurd (cc)
+    by_phase (Aborting a) e = absurd (cc)
 
-  left-alike : (i : Node) (g : Gxid) (a : Option Message) (e : Event) (x : NodeEvent) → at_node w e ≡ Some x → unless_answered w.steps i g a e ≡ left_by i g a x
-  left-alike i g a (event.Receive from to number) x h = by_found (found from to number w.sent) refl h
-    where
-      by_found : (o : Option Envelope) → found from to number (world_of script es).sent ≡ o → delivered from o ≡ Some x → unless_answered (world_of script es).steps i g a (event.Receive from to number) ≡ left_by i g a x
-      by_found None f h = absurd (cc)
-      by_found (Some envelope) f h =
-          ap (λ m. if is_same_node from i && is_answer_to a g m then None else a) ((world-letters script some es from to number).message ∙ ap Rattle.gx_law_schedules.specs.Links.message_of f)
-          ∙ ap (left_by i g a) (some-same (here.Deliver from envelope) x h)
-  left-alike i g a (event.Resume n h) x e = ap (left_by i g a) (some-same (here.Resume h) x e)
-  left-alike i g a (event.Start s) x e = ap (left_by i g a) (some-same (here.Start s) x e)
-  left-alike i g a (event.End s) x e = ap (left_by i g a) (some-same (here.End s) x e)
-  left-alike i g a (event.Resend j h) x e = ap (left_by i g a) (some-same (here.Resend j h) x e)
-  left-alike i g a event.Round x e = ap (left_by i g a) (some-same here.Round x e)
+live-stands : (b : Bool) (t : Option Txn) (i : ℕ) → is_live t ≡ true → standing b t i ≡ Over → ⊥
+live-stands b None i e q = absurd (cc)
+live-stands b (Some t) i e q = by_phase t.phase e q
+  where
+    by_phase : (p : Phase) → is_active p ≡ true → standing_in p i ≡ Over → ⊥
+    by_phase Active e q = cc
+    by_phase (Preparing a b) e q = absurd (cc)
+    by_phase (CommittingOne a) e q = absurd (cc)
+    by_phase (CommittingTwo a) e q = absurd (cc)
+    by_phase (Ended a) e q = absurd (cc)
+    by_phase (Aborting a) e q = absurd (cc)
 
 -- IN EVERY WORLD
+-- A turn sends one message at most to a segment; a victim's has no step of its own, and an Abort mark.
+abbrev pub SendsFew : List Step → (ℕ → ℕ) → Type 0
+SendsFew steps sent = (i : ℕ) → sent i ≤ length steps + aborts_in (marks_in steps) (length steps)
+
 pub record DoAsk (w : World) : Type 0 where
   pub asks : (i : Node) (g : ℕ) → asked w.steps i (gx g) ≡ awaited w.coord (gx g) i
   pub neat : AreNeat w.coord
   pub served : AreServed w
-  pub sent : (i : ℕ) → w.coord.sent i ≤ 64 * length w.steps
+  pub sent : SendsFew w.steps w.coord.sent
 
-module _ (script : Script) (some : 1 ≤ script.segments) where
+pub sent-room : (w : World) → DoAsk w → (i : ℕ) → w.coord.sent i ≤ 64 * length w.steps
+sent-room w q i = few (w.coord.sent i) (length w.steps) _ (q.sent i) (aborts-most (marks_in w.steps) (length w.steps))
+  where
+    few : (a n k : ℕ) → a ≤ n + k → k ≤ n → a ≤ 64 * n
+    few a n k l h = omega arith
+
+module _ (script : Script) (some : 1 ≤ script.segments) (w : World) (k : IsKnown script w) (q : DoAsk w) where
+  abbrev c : Coord
+  c = w.coord
+
+  -- A SINGLE TURN OF THE COORDINATOR
+  turn-asks : (turn : CoordTurn) (clock : ℕ) (steps : List Step) (A : Asked) → CoordStays script w.coord.sent turn → Asks A turn → AreServed (after_turn w clock turn steps)
+      → ((i : Node) (g : ℕ) → asked steps i (gx g) ≡ asked_by i (gx g) (A i g) (coord_sends clock turn).marks) → SendsFew steps (counted_all turn.coord.sent turn.outs) → DoAsk (after_turn w clock turn steps)
+  turn-asks turn clock steps A stays f served told few =
+      record {
+        asks = λ i g. told i g ∙ asked-plain script the_coordinator i (gx g) (A i g) turn.marks (numbered turn.coord.sent turn.outs) stays.marks ∙ asked-numbered i (gx g) (A i g) turn.coord.sent turn.outs ∙ sym (f.asked i g);
+        neat = f.neat;
+        served = served;
+        sent = few;
+      }
+
+  -- how much a turn sends
+  one-sent : (turn : CoordTurn) (i : ℕ) → turn.coord.sent ≡ w.coord.sent → sends (at i) turn.outs ≤ 1 → counted_all turn.coord.sent turn.outs i ≤ w.coord.sent i + 1
+  one-sent turn i same one = adds _ (turn.coord.sent i) (w.coord.sent i) (sends (at i) turn.outs) (counted-all turn.coord.sent turn.outs i ∙ ap (λ m. turn.coord.sent i + m) (sent-numbered (at i) turn.coord.sent turn.outs)) (ap (λ (f : ℕ → ℕ). f i) same) one
+    where
+      adds : (r a b m : ℕ) → r ≡ a + m → a ≡ b → m ≤ 1 → r ≤ b + 1
+      adds r a b m x e l = omega arith
+
+  -- AN EVENT
   -- what is delivered fits
-  module _ (es : List (Event × Bool)) (q : DoAsk (world_of script es)) where
-    abbrev c : Coord
-    c = (world_of script es).coord
+  message-fits : (from : Node) (m : Message) → SaysSo (Served c) (partless c) m → FitsMessage script c k.knows.kept q.neat from m
+  message-fits from (message.Answer g (reply.Done cid wrote count part)) f = λ m e waits. f m e (counted m.cid cid (and-first (eqb m.cid.0 cid.0) (has from m.awaited) waits))
+    where
+      counted : (a b : Cid) → eqb a.0 b.0 ≡ true → a ≡ b
+      counted a b e = ap (λ n. let z : Cid = record { 0 = n } in z) (eqb-true a.0 b.0 e)
+  message-fits from (message.Answer g (reply.Failed c x)) f = tt
+  message-fits from (message.Answer g reply.Prepared) f = tt
+  message-fits from (message.Answer g reply.Committed) f = tt
+  message-fits from (message.Answer g reply.Jfault) f = tt
+  message-fits from (message.Answer g reply.Again) f = tt
+  message-fits from (message.Answer g reply.Aborted) f = tt
+  message-fits from (message.Answer g reply.Forgotten) f = tt
+  message-fits from (message.Exec g c l x h s) f = tt
+  message-fits from (message.Prepare g) f = tt
+  message-fits from (message.Commit g) f = tt
+  message-fits from (message.CommitPrepared g) f = tt
+  message-fits from (message.Abort g) f = tt
+  message-fits from (message.Forget g) f = tt
+  message-fits from (message.Collect round) f = tt
+  message-fits from (message.Graph round graph) f = tt
 
-    message-fits : (from : Node) (m : Message) → SaysSo (Served c) (partless c) m → FitsMessage script c (world_knows script some es).kept q.neat from m
-    message-fits from (message.Answer g (reply.Done cid wrote count part)) f = λ m e waits. f m e (counted m.cid cid (and-first (eqb m.cid.0 cid.0) (has from m.awaited) waits))
+  event-fits : (e : Event) (x : NodeEvent) → IsThere script w e the_coordinator x → coord_can script w.coord x ≡ true → FitsEvent script c k.knows.kept q.neat x
+  event-fits e (here.Deliver from envelope) t ok =
+      let d = found_is (LetterServes w.coord) from the_coordinator t.number w.sent envelope q.served.letters t.found in
+      message-fits from envelope.message (subst (λ (y : Envelope). SaysSo (Served c) (partless c) y.message) d.told (d.is.1 (subst (λ (y : Node). 1 ≤ y.0) (sym d.source) (from-one from.0 (and-first (nat_le 1 from.0) (nat_le from.0 script.segments) ok)))))
+    where
+      from-one : (a : ℕ) → nat_le 1 a ≡ true → 1 ≤ a
+      from-one a e = grind (arith, nat_tests)
+  event-fits e (here.Resume g) t ok = tt
+  event-fits e (here.Start s) t ok = tt
+  event-fits e (here.End s) t ok = tt
+  event-fits e (here.Resend i g) t ok = tt
+  event-fits e here.Round t ok = tt
+
+  pub coord-asks : (e : Event) (x : NodeEvent) (fails : Bool) → IsThere script w e the_coordinator x → coord_can script w.coord x ≡ true → DoAsk (coord_did w e (coord_turn script w.coord x fails))
+  coord-asks e x fails t ok =
+      turn-asks turn (clock_after w.coord.clock x) (w.steps ++ step ∷ []) (λ i g. left_by i (gx g) (awaited w.coord (gx g) i) x) stays asks (coord-served script some w k.knows k.holds q.served q.neat e x fails ok)
+      (λ i g.
+      asked-last i (gx g) w.steps step
+      ∙ ap (λ a. asked_by i (gx g) a step.marks) (left-alike script w k.links i (gx g) (asked w.steps i (gx g)) e x t ∙ ap (λ a. left_by i (gx g) a x) (q.asks i g)))
+      (λ i. grown (w.coord.sent i) (length w.steps) _ _ _ _ (one-sent turn i stays.counts (asks.sends_one (at i))) (q.sent i) longer (more i))
+    where
+      turn : CoordTurn
+      turn = on_event script w.coord x fails
+
+      step : Step
+      step = record { stamp = record { clock = clock_after w.coord.clock x; node = the_coordinator }; event = e; marks = (coord_turn script w.coord x fails).marks }
+
+      stays : CoordStays script w.coord.sent (on_event script w.coord x fails)
+      stays = coord_stays script some w.coord x fails k.knows.well.coordinator
+
+      asks : Asks (λ i g. left_by i (gx g) (awaited w.coord (gx g) i) x) (on_event script w.coord x fails)
+      asks = event-asks script w.coord k.knows.kept q.neat (going-out script w k.knows) x fails ok (event-fits e x t ok)
+
+      longer : length (w.steps ++ step ∷ []) ≡ length w.steps + 1
+      longer = length-push w.steps step
+
+      more : (i : ℕ) → aborts_in (marks_in w.steps) (length w.steps) ≤ aborts_in (marks_in (w.steps ++ step ∷ [])) (length (w.steps ++ step ∷ []))
+      more i = subst (λ m. aborts_in (marks_in w.steps) (length w.steps) ≤ aborts_in m (length (w.steps ++ step ∷ []))) (sym (marks-last w.steps step)) (aborts-next (marks_in w.steps) step.marks (length w.steps) _ longer)
+
+      grown : (a n x y m r : ℕ) → r ≤ a + 1 → a ≤ n + x → m ≡ n + 1 → x ≤ y → r ≤ m + y
+      grown a n x y m r h l e f = omega arith
+
+  -- A VICTIM
+  module _ (g : Gxid) (h : HasNamed w.steps w.coord.clock w.coord.rounds g) where
+    abbrev more : List Mark
+    more = (cancel_turn w.coord g).marks
+
+    abbrev Few : CoordTurn → Type 0
+    Few turn = (i : ℕ) → counted_all turn.coord.sent turn.outs i ≤ length w.steps + aborts_in (marks_in w.steps ++ (coord_sends w.coord.clock turn).marks) (length w.steps)
+
+    refused-few : is_live (find_txn w.coord.table g) ≡ true → Few (is_refused w.coord g (on_abort w.coord.table g) [] (Victim w.coord.rounds))
+    refused-few live i =
+        lets (w.coord.sent i) (length w.steps) _ _ _ (one-sent turn i refl ((victim-asks script w.coord k.knows.kept q.neat g).sends_one (at i))) (q.sent i)
+        (aborts-new (marks_in w.steps) (coord_sends w.coord.clock turn).marks g.0 (length w.steps) drawn.0 (within g.0 w.coord.table.next.0 (length w.steps) drawn.1 k.stays.room.next) old (abort-first g.0 later))
       where
-        counted : (a b : Cid) → eqb a.0 b.0 ≡ true → a ≡ b
-        counted a b e = ap (λ n. let z : Cid = record { 0 = n } in z) (eqb-true a.0 b.0 e)
-    message-fits from (message.Answer g (reply.Failed c x)) f = tt
-    message-fits from (message.Answer g reply.Prepared) f = tt
-    message-fits from (message.Answer g reply.Committed) f = tt
-    message-fits from (message.Answer g reply.Jfault) f = tt
-    message-fits from (message.Answer g reply.Again) f = tt
-    message-fits from (message.Answer g reply.Aborted) f = tt
-    message-fits from (message.Answer g reply.Forgotten) f = tt
-    message-fits from (message.Exec g c l x h s) f = tt
-    message-fits from (message.Prepare g) f = tt
-    message-fits from (message.Commit g) f = tt
-    message-fits from (message.CommitPrepared g) f = tt
-    message-fits from (message.Abort g) f = tt
-    message-fits from (message.Forget g) f = tt
-    message-fits from (message.Collect round) f = tt
-    message-fits from (message.Graph round graph) f = tt
+        turn : CoordTurn
+        turn = is_refused w.coord g (on_abort w.coord.table g) [] (Victim w.coord.rounds)
 
-    abbrev Fits : NodeEvent → Type 0
-    Fits x = FitsEvent script c (world_knows script some es).kept q.neat x
+        later : List Mark
+        later = answer_mark w.coord (work_of w.coord g).session (told.Refused (Victim w.coord.rounds)) ∷ (release_marks the_coordinator w.coord.locks g ++ numbered turn.coord.sent turn.outs)
 
-    delivered-fits : (e : Event) (x : NodeEvent) → IsHere script (world_of script es) e x → Fits x
-    delivered-fits (event.Receive from to number) x h = by_found (found from to number (world_of script es).sent) refl h.is
+        drawn : (1 ≤ g.0) × (g.0 < w.coord.table.next.0)
+        drawn = running-drawn w.coord g.0 k.knows.kept.whole (live-runs (find_txn w.coord.table g) live)
+
+        within : (a b n : ℕ) → a < b → b ≤ n + 1 → a ≤ n
+        within a b n l h = omega arith
+
+        old : is_aborted (marks_in w.steps) g ≡ false
+        old = by_test (is_aborted (marks_in w.steps) g) refl
+          where
+            by_test : (b : Bool) → is_aborted (marks_in w.steps) g ≡ b → b ≡ false
+            by_test true e = absurd (live-stands (nat_le w.coord.table.next.0 g.0) (find_txn w.coord.table g) 0 live ((k.holds.stands.pairs 0 g.0).aborts e))
+            by_test false e = refl
+
+        lets : (a n x y r : ℕ) → r ≤ a + 1 → a ≤ n + x → x + 1 ≤ y → r ≤ n + y
+        lets a n x y r e l h = omega arith
+
+    cancel-few : Few (cancels w.coord g)
+    cancel-few = cancel-ways Few w.coord g (λ i. kept (w.coord.sent i) (length w.steps) _ _ (q.sent i) (aborts-front (marks_in w.steps) [] (length w.steps))) (λ live busy. refused-few live)
       where
-        at-least : (a : ℕ) → nat_le 1 a ≡ true → 1 ≤ a
-        at-least a e = grind (arith, nat_tests)
+        kept : (a n x y : ℕ) → a ≤ n + x → x ≤ y → a ≤ n + y
+        kept a n x y l h = omega arith
 
-        by_found : (o : Option Envelope) → found from to number (world_of script es).sent ≡ o → delivered from o ≡ Some x → FitsEvent script (world_of script es).coord (world_knows script some es).kept q.neat x
-        by_found None f s = absurd (cc)
-        by_found (Some envelope) f s =
-            let same : here.Deliver from envelope ≡ x = some-same (here.Deliver from envelope) x s in
-            let one : 1 ≤ from.0 = at-least from.0 (and-first (nat_le 1 from.0) (nat_le from.0 script.segments) (ap (coord_can script (world_of script es).coord) same ∙ h.admitted)) in
-            let d = found_is (LetterServes (world_of script es).coord) from to number (world_of script es).sent envelope q.served.letters f in
-            subst (FitsEvent script (world_of script es).coord (world_knows script some es).kept q.neat) same
-            (message-fits from envelope.message (subst (λ (y : Envelope). SaysSo (Served (world_of script es).coord) (partless (world_of script es).coord) y.message) d.told (d.is.1 (subst (λ (y : Node). 1 ≤ y.0) (sym d.source) one))))
-    delivered-fits (event.Resume m g) x h = subst Fits (some-same (here.Resume g) x h.is) tt
-    delivered-fits (event.Start s) x h = subst Fits (some-same (here.Start s) x h.is) tt
-    delivered-fits (event.End s) x h = subst Fits (some-same (here.End s) x h.is) tt
-    delivered-fits (event.Resend i g) x h = subst Fits (some-same (here.Resend i g) x h.is) tt
-    delivered-fits event.Round x h = subst Fits (some-same here.Round x h.is) tt
-
-  -- A STEP OF THE COORDINATOR
-  module _ (es : List (Event × Bool)) (q : DoAsk (world_of script es)) (e : Event) (x : NodeEvent) (fails : Bool) (h : IsHere script (world_of script es) e x) where
-    abbrev v : World
-    v = world_of script es
-
-    abbrev turn : CoordTurn
-    turn = on_event script v.coord x fails
-
-    abbrev step : Step
-    step = record { stamp = record { clock = clock_after v.coord.clock x; node = the_coordinator }; event = e; marks = (coord_rule script v.coord x fails).marks }
-
-    asks-now : Asks (λ i g. left_by i (gx g) (awaited v.coord (gx g) i) x) (on_event script v.coord x fails)
-    asks-now = event-asks script v.coord (world_knows script some es).kept q.neat (going-out script v (world_knows script some es)) x fails h.admitted (delivered-fits es q e x h)
-
-    coord-asks : DoAsk (coord_did v e (coord_rule script v.coord x fails))
-    coord-asks =
-        let stays = coord_stays script some v.coord x fails (world_knows script some es).well.coordinator in
-        record {
-          asks = λ i g.
-              asked-last i (gx g) v.steps step
-              ∙ ap (λ a. asked_by i (gx g) a step.marks) (left-alike script some es i (gx g) (asked v.steps i (gx g)) e x h.is ∙ ap (λ a. left_by i (gx g) a x) (q.asks i g))
-              ∙ asked-plain script the_coordinator i (gx g) (left_by i (gx g) (awaited v.coord (gx g) i) x) turn.marks (numbered turn.coord.sent turn.outs) stays.marks
-              ∙ asked-numbered i (gx g) (left_by i (gx g) (awaited v.coord (gx g) i) x) turn.coord.sent turn.outs
-              ∙ sym (asks-now.asked i g);
-          neat = asks-now.neat;
-          served = coord-served script some v (world_knows script some es) (world-holds script some es) q.served q.neat e x fails h.admitted;
-          sent = λ i. adds _ (turn.coord.sent i) (v.coord.sent i) (length v.steps) (sends (at i) turn.outs) _ (counted-all turn.coord.sent turn.outs i ∙ ap (λ k. turn.coord.sent i + k) (sent-numbered (at i) turn.coord.sent turn.outs)) (ap (λ (f : ℕ → ℕ). f i) stays.counts) (asks-now.sends_one (at i)) (q.sent i) (length-push v.steps step);
-        }
+    pub victim-asked : DoAsk (and_cancelled w g)
+    victim-asked =
+        turn-asks (cancels w.coord g) w.coord.clock (and_cancelled w g).steps (now_asked w.coord) (cancel_stays script some w.coord g k.knows.well.coordinator) (cancel-asks script w.coord k.knows.kept q.neat g)
+        (cancel-served script some w k.knows k.holds q.served g)
+        (λ i j. asked-named i (gx j) w.steps w.coord.clock w.coord.rounds g h more ∙ ap (λ a. asked_by i (gx j) a more) (q.asks i j))
+        (λ i. subst (λ n. counted_all turn.coord.sent turn.outs i ≤ n + aborts_in (marks_in (and_cancelled w g).steps) n) (sym same)
+        (subst (λ m. counted_all turn.coord.sent turn.outs i ≤ length w.steps + aborts_in m (length w.steps)) (sym (marks-by-victim w g h)) (cancel-few i)))
       where
-        adds : (r a b n k m : ℕ) → r ≡ a + k → a ≡ b → k ≤ 1 → b ≤ 64 * n → m ≡ n + 1 → r ≤ 64 * m
-        adds r a b n k m x e l h f = omega arith
+        turn : CoordTurn
+        turn = cancels w.coord g
+
+        same : length (and_cancelled w g).steps ≡ length w.steps
+        same = length-named w.steps w.coord.clock w.coord.rounds g h (cancel_turn w.coord g).marks
 
   -- A STEP OF A SEGMENT
-  module _ (es : List (Event × Bool)) (q : DoAsk (world_of script es)) (e : Event) (x : NodeEvent) (fails : Bool) (to : Node) (place : IsSegment script to) where
-    abbrev u : World
-    u = world_of script es
-
+  module _ (e : Event) (x : NodeEvent) (fails : Bool) (i : ℕ) (place : IsSegment script (at i)) where
     abbrev seg_step : Step
-    seg_step = record { stamp = record { clock = clock_after (u.segs to.0).clock x; node = to }; event = e; marks = (seg_rule script (u.segs to.0) x fails).marks }
+    seg_step = record { stamp = record { clock = clock_after (w.segs i).clock x; node = at i }; event = e; marks = (seg_rule script (w.segs i) x fails).marks }
 
-    seg-asks : AreServed (seg_did u to e (seg_rule script (u.segs to.0) x fails)) → DoAsk (seg_did u to e (seg_rule script (u.segs to.0) x fails))
+    pub seg-asks : AreServed (seg_did w (at i) e (seg_rule script (w.segs i) x fails)) → DoAsk (seg_did w (at i) e (seg_rule script (w.segs i) x fails))
     seg-asks served =
         record {
-          asks = λ i g. asked-last i (gx g) u.steps seg_step ∙ ap (λ (b : Bool). if b then asked_by i (gx g) (unless_answered u.steps i (gx g) (asked u.steps i (gx g)) seg_step.event) seg_step.marks else asked u.steps i (gx g)) (away to.0 place.0) ∙ q.asks i g;
+          asks = λ j g. asked-last j (gx g) w.steps seg_step ∙ ap (λ (b : Bool). if b then asked_by j (gx g) (unless_answered w.steps j (gx g) (asked w.steps j (gx g)) seg_step.event) seg_step.marks else asked w.steps j (gx g)) (away i place.0) ∙ q.asks j g;
           neat = q.neat;
           served = served;
-          sent = λ i. up (u.coord.sent i) (length u.steps) _ (q.sent i) (length-push u.steps seg_step);
+          sent = λ j. grown (w.coord.sent j) (length w.steps) _ _ _ (q.sent j) longer more;
         }
       where
         away : (a : ℕ) → 1 ≤ a → is_same_node (at a) the_coordinator ≡ false
         away a l = grind (arith, nat_tests)
 
-        up : (a n m : ℕ) → a ≤ 64 * n → m ≡ n + 1 → a ≤ 64 * m
-        up a n m l e = omega arith
+        longer : length (w.steps ++ seg_step ∷ []) ≡ length w.steps + 1
+        longer = length-push w.steps seg_step
 
-  new-asks : DoAsk new_world
-  new-asks = record { asks = λ i g. refl; neat = λ g. record { writers = tt; txn = tt; command = tt }; served = record { orders = λ g m e. absurd (cc); locals = λ i h. record { answer = tt; vote = tt }; letters = tt }; sent = λ i. least (64 * 0) }
-    where
-      least : (n : ℕ) → 0 ≤ n
-      least n = omega arith
+        more : aborts_in (marks_in w.steps) (length w.steps) ≤ aborts_in (marks_in (w.steps ++ seg_step ∷ [])) (length (w.steps ++ seg_step ∷ []))
+        more = subst (λ m. aborts_in (marks_in w.steps) (length w.steps) ≤ aborts_in m (length (w.steps ++ seg_step ∷ []))) (sym (marks-last w.steps seg_step)) (aborts-next (marks_in w.steps) seg_step.marks (length w.steps) _ longer)
+
+        grown : (a n x y m : ℕ) → a ≤ n + x → m ≡ n + 1 → x ≤ y → a ≤ m + y
+        grown a n x y m l e f = omega arith
+
+new-asks : DoAsk new_world
+new-asks = record { asks = λ i g. refl; neat = λ g. record { writers = tt; txn = tt; command = tt }; served = record { orders = λ g m e. absurd (cc); locals = λ i h. record { answer = tt; vote = tt }; letters = tt }; sent = λ i. least 0 }
+  where
+    least : (n : ℕ) → 0 ≤ n
+    least n = omega arith
+
+module _ (script : Script) (some : 1 ≤ script.segments) where
+  pub moves-ask : (ms : List Move) → DoAsk (world_by script ms)
+  moves-ask =
+      at-moves script some (IsKnown script) DoAsk (moves-known script some) new-asks (λ w k q e x fails t ok next. coord-asks script some w k q e x fails t ok) (λ w k q g h next. victim-asked script some w k q g h)
+      (λ w k q e x fails i place t ok next. seg-asks script some w k q e x fails i place (seg-served script some w k.knows k.holds q.served e x fails i place t ok))
 
   pub world-asks : (es : List (Event × Bool)) → DoAsk (world_of script es)
-  world-asks =
-      always script some DoAsk (λ es q e x fails h. coord-asks es q e x fails h)
-      (λ es q e x fails i h. by-kind script some es e x i h (λ e x. DoAsk (seg_did (world_of script es) i e (seg_rule script ((world_of script es).segs i.0) x fails)))
-      (λ from number envelope t. seg-asks es q (event.Receive from i number) (here.Deliver from envelope) fails i h.place
-      (seg-served script some (world_of script es) (world_knows script some es) (world-holds script some es) q.served from i number envelope fails t ((world_knows script some es).well.names i.0)))
-      (λ g ok. seg-asks es q (event.Resume i g) (here.Resume g) fails i h.place
-      (resume-served script some (world_of script es) (world_knows script some es) (world-holds script some es) q.served i g fails h.place ((world_knows script some es).well.names i.0) (going-on script (world_of script es) (world_knows script some es).well i.0 g ok)))) new-asks
+  world-asks es = subst DoAsk (sym (world-moves script es)) (moves-ask (moves_after script new_world es))
 
   -- nothing is awaited of who wasn't drawn
   pub undrawn-none : (es : List (Event × Bool)) (i : Node) (g : ℕ) → ((1 ≤ g) → (g < (world_of script es).coord.table.next.0) → ⊥) → awaited (world_of script es).coord (gx g) i ≡ None

@@ -2,7 +2,7 @@
 use Rattle.std.proofs.Common.{◌≡◌, ◌≤◌, ◌<◌, ℕ, zero, suc, ◌+◌, ◌-◌, List, [], ◌∷◌, ◌++◌, Option, Some, None, Bool, true, false, refl, sym, subst, ap, ◌∙◌, if◌then◌else◌, ◌&&◌, ◌||◌, not, arith, append-nil, cond, eqb, length}
 use Rattle.std.proofs.lemmas.Bool.Decides.{nat_tests}
 use Rattle.std.proofs.lemmas.List.{append_assoc}
-use Rattle.std.specs.Prelude.{◌==◌, filter, find, is_some, map, nat_le}
+use Rattle.std.specs.Prelude.{◌==◌, filter, find, is_none, is_some, map, nat_le}
 use Rattle.std.specs.List.{flat_map, list_all, list_any, range_with_len}
 use Rattle.std.proofs.lemmas.Bool.{or_right}
 use Rattle.gx_lemmas.proofs.Numbers.{le-apart}
@@ -29,6 +29,7 @@ use Rattle.gx_locks.specs.Claims.{is_of}
 use Rattle.gx_locks.specs.Locks.{Locks, is_ready, wait_of}
 use Rattle.gx_rules.specs.AtCoordinator.{awaited, coord_can, is_segment}
 use Rattle.gx_rules.specs.Machine.{World, can, can_here, delivered, found, world_of}
+use Rattle.gx_rules.specs.Rounds.{awaits_graph, can_begin}
 use Rattle.gx_law_order.proofs.Lists.{Each, each_append, each_flat, each_map, each_weaker}
 use Rattle.gx_law_order.proofs.World.{Knows, world_knows}
 use Rattle.gx_law_sessions.proofs.World.{sessions-stand, world-holds}
@@ -36,11 +37,10 @@ use Rattle.gx_law_schedules.specs.Enabled.{at_segment_by, drawn, enabled_there, 
 use Rattle.gx_law_holds.specs.Marked.{AreLocksMarked, IsMarked}
 use Rattle.gx_law_schedules.specs.Links.{is_number}
 use Rattle.gx_law_schedules.proofs.Awaited.{undrawn-none, world-asks}
-use Rattle.gx_law_schedules.proofs.Room.{world-stays}
+use Rattle.gx_law_schedules.proofs.Rounds.{AreRoundsTold, world-told}
 use Rattle.gx_law_schedules.proofs.Sessions.{end-alike, next-alike, start-alike}
 use Rattle.gx_law_holds.proofs.Single.{single-here, single-there}
 use Rattle.gx_law_holds.proofs.World.{world-locked}
-use Rattle.gx_law_schedules.proofs.Waits.{no-graph, not-running}
 use Rattle.gx_law_schedules.proofs.World.{world-letters}
 
 -- LISTS
@@ -155,11 +155,14 @@ module _ (script : Script) (some : 1 ≤ script.segments) (es : List (Event × B
       first : (a : ℕ) → 1 + a ≤ a + 1
       first a = omega arith
 
-  pub segments-first : Each (λ (i : Node). 1 ≤ i.0) (segments_of script)
-  segments-first = each_weaker (λ (i : Node). is_segment script i ≡ true) (λ (i : Node). 1 ≤ i.0) (λ i e. above i.0 script.segments e) (segments_of script) all-segments
+  from-one : (segment : Node) → is_segment script segment ≡ true → 1 ≤ segment.0
+  from-one segment e = above segment.0 script.segments e
     where
       above : (a k : ℕ) → (nat_le 1 a && nat_le a k) ≡ true → 1 ≤ a
       above a k e = grind (arith, nat_tests)
+
+  pub segments-first : Each (λ (i : Node). 1 ≤ i.0) (segments_of script)
+  segments-first = each_weaker (λ (i : Node). is_segment script i ≡ true) (λ (i : Node). 1 ≤ i.0) from-one (segments_of script) all-segments
 
   marked : AreLocksMarked (world_of script es)
   marked = (world-locked script some es).marked
@@ -208,12 +211,15 @@ module _ (script : Script) (some : 1 ≤ script.segments) (es : List (Event × B
       (count-so segment (w.segs segment.0).locks (marked.segments segment.0 one) (single-there script w n segment.0).once g)
       ∙ ap (λ o. is_some o && (not (is_exec o) || not (is_some (wait_of (w.segs segment.0).locks g)))) ((world-asks script some es).asks segment g.0)
 
-  resends-same : (segment : Node) → 1 ≤ segment.0 → resends script w.steps segment ≡ resends_due script w segment
-  resends-same segment one =
-      ap (λ xs. if is_quiet script w.steps segment then map (λ g. event.Resend segment (Some g)) (filter (may_resend w.steps segment) (gxids_of ms)) ++ xs else [])
-      (ap (λ (b : Bool). if b then event.Resend segment None ∷ [] else []) (no-graph w.steps (world-stays script some es).rounds segment))
-      ∙ ap (λ xs. if is_quiet script w.steps segment then xs else [])
-      (append-nil _ ∙ ap (map (λ g. event.Resend segment (Some g))) (filter-same (may_resend w.steps segment) (is_due w segment) (due-same segment one) (gxids_of ms) ∙ ap (filter (is_due w segment)) drawn-alike))
+  told : AreRoundsTold script (world_of script es)
+  told = world-told script some es
+
+  resends-same : (segment : Node) → is_segment script segment ≡ true → resends script w.steps segment ≡ resends_due script w segment
+  resends-same segment here =
+      ap (λ (b : Bool). if is_quiet script w.steps segment then map (λ g. event.Resend segment (Some g)) (filter (may_resend w.steps segment) (gxids_of ms)) ++ (if b then event.Resend segment None ∷ [] else []) else [])
+      (told.awaited segment here)
+      ∙ ap (λ gs. if is_quiet script w.steps segment then map (λ g. event.Resend segment (Some g)) gs ++ (if awaits_graph w.coord segment then event.Resend segment None ∷ [] else []) else [])
+      (filter-same (may_resend w.steps segment) (is_due w segment) (due-same segment (from-one segment here)) (gxids_of ms) ∙ ap (filter (is_due w segment)) drawn-alike)
 
   -- ROUNDS
   pub any-same : is_any_wait script (marks_in (world_of script es).steps) ≡ is_anybody_waiting script (world_of script es)
@@ -223,17 +229,25 @@ module _ (script : Script) (some : 1 ≤ script.segments) (es : List (Event × B
       (any-each (λ node. not (length (waits_at ms node) == 0)) (λ segment. not (length (w.segs segment.0).locks.waits == 0)) (segments_of script)
       (each_weaker (λ (i : Node). 1 ≤ i.0) (λ (i : Node). not (length (waits_at ms i) == 0) ≡ not (length (w.segs i.0).locks.waits == 0)) (λ i one. ap (λ (xs : List Claim). not (length xs == 0)) (sym (marked.segments i.0 one).waits)) (segments_of script) segments-first))
 
-  rounds-same : rounds script w.steps ≡ rounds_by script w
-  rounds-same =
+  pub rounds-begin : rounds script (world_of script es).steps ≡ (if can_begin script (world_of script es).coord && is_any_wait script (marks_in (world_of script es).steps) then event.Round ∷ [] else [])
+  rounds-begin =
       ap (λ (b : Bool). if b then event.Round ∷ [] else [])
-      (ap (λ b. script.detector && (not b && is_any_wait script ms)) (not-running w.steps (world-stays script some es).rounds) ∙ ap (λ b. script.detector && b) any-same)
+      (ap (λ b. script.detector && (not b && is_any_wait script ms)) told.runs ∙ may-begin script.detector w.coord.reports (is_any_wait script ms))
+    where
+      may-begin : {A : Type 0} (a : Bool) (o : Option A) (b : Bool) → (a && (not (is_some o) && b)) ≡ ((a && is_none o) && b)
+      may-begin true None b = refl
+      may-begin true (Some x) b = refl
+      may-begin false o b = refl
+
+  rounds-same : rounds script w.steps ≡ rounds_by script w
+  rounds-same = rounds-begin ∙ ap (λ b. if can_begin script w.coord && b then event.Round ∷ [] else []) any-same
 
   -- ALL
   pub enabled-there : enabled script (world_of script es).steps ≡ enabled_there script (world_of script es)
   enabled-there =
       ap (λ xs. receipts ++ xs ++ resumptions ms the_coordinator ++ again ++ starts script w.steps ++ ends script w.steps ++ rounds script w.steps) (flat-each (at_segment script w.steps) (at_segment_by script w) (segments_of script) (each_weaker (λ (i : Node). 1 ≤ i.0) _ at-same (segments_of script) segments-first))
       ∙ ap (λ xs. receipts ++ there ++ xs ++ again ++ starts script w.steps ++ ends script w.steps ++ rounds script w.steps) resumes-here
-      ∙ ap (λ xs. receipts ++ there ++ here-too ++ xs ++ starts script w.steps ++ ends script w.steps ++ rounds script w.steps) (flat-each (resends script w.steps) (resends_due script w) (segments_of script) (each_weaker (λ (i : Node). 1 ≤ i.0) _ resends-same (segments_of script) segments-first))
+      ∙ ap (λ xs. receipts ++ there ++ here-too ++ xs ++ starts script w.steps ++ ends script w.steps ++ rounds script w.steps) (flat-each (resends script w.steps) (resends_due script w) (segments_of script) (each_weaker (λ (i : Node). is_segment script i ≡ true) _ resends-same (segments_of script) all-segments))
       ∙ ap (λ xs. receipts ++ there ++ here-too ++ flat_map (resends_due script w) (segments_of script) ++ xs ++ ends script w.steps ++ rounds script w.steps) starts-same
       ∙ ap (λ xs. receipts ++ there ++ here-too ++ flat_map (resends_due script w) (segments_of script) ++ starts_by script w.coord ++ xs ++ rounds script w.steps) ends-same
       ∙ ap (λ xs. receipts ++ there ++ here-too ++ flat_map (resends_due script w) (segments_of script) ++ starts_by script w.coord ++ ends_by script w.coord ++ xs) rounds-same
@@ -332,8 +346,12 @@ module _ (script : Script) (some : 1 ≤ script.segments) (es : List (Event × B
           each_map Admits (λ g. event.Resend segment (Some g)) (filter (is_due w segment) (drawn w.coord))
           (each-passing (λ g. Admits (event.Resend segment (Some g))) (is_due w segment) (drawn w.coord) (each-every (λ g. is_due w segment g ≡ true → Admits (event.Resend segment (Some g))) (λ g e. first _ _ e) (drawn w.coord)))
 
-      by_quiet : (b : Bool) → Each Admits (if b then map (λ g. event.Resend segment (Some g)) (filter (is_due w segment) (drawn w.coord)) else [])
-      by_quiet true = some-there
+      graph-there : (b : Bool) → awaits_graph w.coord segment ≡ b → Each Admits (if b then event.Resend segment None ∷ [] else [])
+      graph-there true e = (e, tt)
+      graph-there false e = tt
+
+      by_quiet : (b : Bool) → Each Admits (if b then map (λ g. event.Resend segment (Some g)) (filter (is_due w segment) (drawn w.coord)) ++ (if awaits_graph w.coord segment then event.Resend segment None ∷ [] else []) else [])
+      by_quiet true = each_append Admits _ _ some-there (graph-there (awaits_graph w.coord segment) refl)
       by_quiet false = tt
 
   start-admitted : (xs : List Line) (line : Line) (ys : List Line) → script.lines ≡ xs ++ line ∷ ys → is_next_by w.coord line ≡ true → coord_can script w.coord (here.Start line.session) ≡ true
@@ -369,16 +387,18 @@ module _ (script : Script) (some : 1 ≤ script.segments) (es : List (Event × B
       each_map Admits event.End (filter (λ s. coord_can script w.coord (here.End s)) (sessions_of script))
       (each-passing (λ s. Admits (event.End s)) (λ s. coord_can script w.coord (here.End s)) (sessions_of script) (each-every (λ s. coord_can script w.coord (here.End s) ≡ true → Admits (event.End s)) (λ s e. e) (sessions_of script)))
 
-  -- all but a round, which no node admits yet
-  abbrev IsTaken : Event → Type 0
-  IsTaken e = (is_round e || can script w e) ≡ true
+  rounds-admitted : Each Admits (rounds_by script w)
+  rounds-admitted = by_test (can_begin script w.coord) (is_anybody_waiting script w) refl
+    where
+      by_test : (a b : Bool) → can_begin script w.coord ≡ a → Each Admits (if a && b then event.Round ∷ [] else [])
+      by_test true true e = (e, tt)
+      by_test true false e = tt
+      by_test false b e = tt
 
-  taken : (e : Event) → Admits e → IsTaken e
-  taken e f = or_right (is_round e) (can script w e) f
-
-  pub each-admitted : Each Admits (receipts-now ++ at-segments ++ resumes-now ++ again-now ++ starts_by script w.coord ++ ends_by script w.coord)
+  pub each-admitted : Each Admits (receipts-now ++ at-segments ++ resumes-now ++ again-now ++ starts_by script w.coord ++ ends_by script w.coord ++ rounds_by script w)
   each-admitted =
-      each_append Admits _ (ends_by script w.coord)
+      each_append Admits _ (rounds_by script w)
+      (each_append Admits _ (ends_by script w.coord)
       (each_append Admits _ (starts_by script w.coord)
       (each_append Admits _ again-now
       (each_append Admits _ resumes-now
@@ -390,22 +410,50 @@ module _ (script : Script) (some : 1 ≤ script.segments) (es : List (Event × B
       (segments_of script) all-segments)))
       (resumption-admitted the_coordinator w.coord.locks (λ g ok. ok)))
       (each_flat Admits (resends_due script w) (segments_of script) (each-every (λ (i : Node). Each Admits (resends_due script w i)) again-admitted (segments_of script))))
-      starts-admitted) ends-admitted
+      starts-admitted) ends-admitted) rounds-admitted
 
-  pub all-but-rounds : list_all (λ e. is_round e || can script (world_of script es) e) (enabled script (world_of script es).steps) ≡ true
-  all-but-rounds = ap (list_all (λ e. is_round e || can script w e)) enabled-there ∙ all-each (λ e. is_round e || can script w e) (enabled_there script w) (each_append IsTaken _ (rounds_by script w) (each_weaker Admits IsTaken taken _ each-admitted) (by_test (script.detector && is_anybody_waiting script w)))
-    where
-      by_test : (b : Bool) → Each IsTaken (if b then event.Round ∷ [] else [])
-      by_test true = (refl, tt)
-      by_test false = tt
+  -- none of them but the last is a round
+  abbrev IsOther : Event → Type 0
+  IsOther e = is_round e ≡ false
 
-  -- and all where the script has no detector
-  pub all-admitted : script.detector ≡ false → list_all (can script (world_of script es)) (enabled script (world_of script es).steps) ≡ true
-  all-admitted off = ap (list_all (can script w)) enabled-there ∙ all-each (can script w) (enabled_there script w) (each_append Admits _ (rounds_by script w) each-admitted (by_test script.detector off))
+  first-other : (xs : List Event) → Each IsOther xs → Each IsOther (first_of xs)
+  first-other xs e = each-first IsOther xs e
+
+  left-other : (from to : Node) → Each IsOther (left_on script w.steps from to)
+  left-other from to = each_map IsOther (event.Receive from to) _ (each-every (λ n. IsOther (event.Receive from to n)) (λ n. refl) _)
+
+  resumes-other : (node : Node) (l : Locks) → Each IsOther (resumes_by w.coord node l)
+  resumes-other node l = first-other _ (each_map IsOther (event.Resume node) _ (each-every (λ g. IsOther (event.Resume node g)) (λ g. refl) _))
+
+  again-other : (segment : Node) → Each IsOther (resends_due script w segment)
+  again-other segment = by_quiet (is_quiet script w.steps segment) (awaits_graph w.coord segment)
     where
-      by_test : (b : Bool) → b ≡ false → Each Admits (if b && is_anybody_waiting script w then event.Round ∷ [] else [])
-      by_test true e = absurd (cc)
-      by_test false e = tt
+      graph-there : (b : Bool) → Each IsOther (if b then event.Resend segment None ∷ [] else [])
+      graph-there true = (refl, tt)
+      graph-there false = tt
+
+      by_quiet : (a b : Bool) → Each IsOther (if a then map (λ g. event.Resend segment (Some g)) (filter (is_due w segment) (drawn w.coord)) ++ (if b then event.Resend segment None ∷ [] else []) else [])
+      by_quiet true b =
+          each_append IsOther _ _ (each_map IsOther (λ g. event.Resend segment (Some g)) (filter (is_due w segment) (drawn w.coord)) (each-every (λ g. IsOther (event.Resend segment (Some g))) (λ g. refl) (filter (is_due w segment) (drawn w.coord)))) (graph-there b)
+      by_quiet false b = tt
+
+  pub each-other : Each (λ e. is_round e ≡ false) (receipts-now ++ at-segments ++ resumes-now ++ again-now ++ starts_by script w.coord ++ ends_by script w.coord)
+  each-other =
+      each_append IsOther _ (ends_by script w.coord)
+      (each_append IsOther _ (starts_by script w.coord)
+      (each_append IsOther _ again-now
+      (each_append IsOther _ resumes-now
+      (each_append IsOther receipts-now at-segments
+      (each_flat IsOther _ (segments_of script) (each-every (λ (i : Node). Each IsOther (first_of (left_on script w.steps i the_coordinator))) (λ i. first-other _ (left-other i the_coordinator)) (segments_of script)))
+      (each_flat IsOther _ (segments_of script)
+      (each-every (λ (i : Node). Each IsOther (at_segment_by script w i)) (λ i. first-other _ (each_append IsOther _ _ (resumes-other i (w.segs i.0).locks) (first-other _ (left-other the_coordinator i)))) (segments_of script))))
+      (resumes-other the_coordinator w.coord.locks))
+      (each_flat IsOther (resends_due script w) (segments_of script) (each-every (λ (i : Node). Each IsOther (resends_due script w i)) again-other (segments_of script))))
+      (each_map IsOther (λ (l : Line). event.Start l.session) (filter (is_next_by w.coord) script.lines) (each-every (λ (l : Line). IsOther (event.Start l.session)) (λ l. refl) (filter (is_next_by w.coord) script.lines))))
+      (each_map IsOther event.End (filter (λ s. coord_can script w.coord (here.End s)) (sessions_of script)) (each-every (λ s. IsOther (event.End s)) (λ s. refl) (filter (λ s. coord_can script w.coord (here.End s)) (sessions_of script))))
+
+  pub all-admitted : list_all (can script (world_of script es)) (enabled script (world_of script es).steps) ≡ true
+  all-admitted = ap (list_all (can script w)) enabled-there ∙ all-each (can script w) (enabled_there script w) each-admitted
 
   -- who wasn't drawn
   among : (a n g : ℕ) → a ≤ g → g < a + n → list_any (λ h. is_same_gxid h (record { 0 = g })) (map (λ k. let h : Gxid = record { 0 = k } in h) (range_with_len a n)) ≡ true

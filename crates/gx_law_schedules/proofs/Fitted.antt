@@ -15,29 +15,31 @@ use Rattle.gx_msg.specs.declared.reply.Reply.{Reply}
 use Rattle.gx_msg.specs.declared.reply.Reply.TheVariants as reply
 use Rattle.gx_script.specs.declared.Script.{Script}
 use Rattle.gx_store.specs.declared.event.Event.{Event}
-use Rattle.gx_store.specs.declared.event.Event.TheVariants as event
 use Rattle.gx_store.specs.declared.mark.Mark.{Mark}
 use Rattle.gx_store.specs.declared.node.NodeEvent.{NodeEvent}
 use Rattle.gx_store.specs.declared.node.NodeEvent.TheVariants as here
 use Rattle.gx_store.specs.Ordered.{IsSegment}
+use Rattle.gx_store.specs.declared.run.Step.{Step}
 use Rattle.gx_store.specs.Points.{marks_in}
 use Rattle.gx_store.specs.Refusals.{the_coordinator}
-use Rattle.gx_rules.specs.AtCoordinator.{coord_can, coord_rule, on_event}
+use Rattle.gx_rules.specs.AtCoordinator.{cancels, coord_can, coord_sends, coord_turn, on_event}
 use Rattle.gx_rules.specs.AtSegment as segment
 use Rattle.gx_rules.specs.AtSegment.{resumes, seg_rule}
 use Rattle.gx_rules.specs.Coordinators.{Command, Coord, CoordTurn}
 use Rattle.gx_rules.specs.Fits.{fits_part}
-use Rattle.gx_rules.specs.Machine.{Letter, World, coord_did, seg_did}
+use Rattle.gx_rules.specs.Machine.{Letter, World, and_cancelled, coord_did, seg_can, seg_did}
 use Rattle.gx_rules.specs.Segments.{Seg, local_of}
 use Rattle.gx_rules.specs.Sending.{clock_after}
-use Rattle.gx_law_order.proofs.AtCoordinators.{coord_stays}
+use Rattle.gx_law_order.proofs.AtCoordinators.{CoordStays, cancel_stays, coord_stays}
 use Rattle.gx_law_order.proofs.AtSegments.{PlainAt, seg_stays}
+use Rattle.gx_law_order.proofs.Induction.{IsThere, after_turn, from-coordinator}
 use Rattle.gx_law_order.proofs.Letters.{found_is}
 use Rattle.gx_law_order.proofs.Lines.{undrawn}
 use Rattle.gx_law_order.proofs.Lists.{Each, each_append, each_weaker}
 use Rattle.gx_law_order.proofs.Ordered.{at-both}
+use Rattle.gx_law_order.proofs.Sent.{at}
 use Rattle.gx_law_order.proofs.Stages.{IsWhole}
-use Rattle.gx_law_order.proofs.Waiting.{GoesOn, each-among, going-out}
+use Rattle.gx_law_order.proofs.Waiting.{GoesOn, each-among, going-on, going-out}
 use Rattle.gx_law_order.proofs.World.{Knows}
 use Rattle.gx_law_sessions.proofs.Sendings.{SentIs, each-posted, numbered-sent, plain-sent}
 use Rattle.gx_law_commit.specs.Pairs.{IsKept, IsVote, Pair}
@@ -51,8 +53,7 @@ use Rattle.gx_law_schedules.proofs.Asking.{AreNeat}
 use Rattle.gx_law_schedules.proofs.Fitting.{IsPartless, KeptSo, LocalSo, RightFor, SaysSo, TurnSo, message-so, resume-so}
 use Rattle.gx_law_schedules.proofs.Parts.{IsFor}
 use Rattle.gx_law_schedules.proofs.Ordering.{IsNew, event-serves}
-use Rattle.gx_law_schedules.proofs.Serving.{AreFor, IsOld, OrdersServe, OutServes, Serves}
-use Rattle.gx_law_schedules.proofs.Steps.{IsThere}
+use Rattle.gx_law_schedules.proofs.Serving.{AreFor, IsOld, OrdersServe, OutServes, Serves, victim-serves}
 
 -- of the command under way of this number, the part fits the statement
 abbrev pub Served : Coord → ℕ → Reply → Type 0
@@ -182,22 +183,16 @@ module _ (c d : Coord) (turn : CoordTurn) (serves : Serves c (IsNew c) turn) (sa
     vote-so g p (Some reply.Forgotten) v = tt
 
 module _ (script : Script) (some : 1 ≤ script.segments) (w : World) (n : Knows script w) (v : Holds script w) (q : AreServed w) where
-  -- A STEP OF THE COORDINATOR
-  module _ (neat : AreNeat w.coord) (e : Event) (x : NodeEvent) (fails : Bool) (admitted : coord_can script w.coord x ≡ true) where
-    abbrev turn : CoordTurn
-    turn = on_event script w.coord x fails
+  -- A SINGLE TURN OF THE COORDINATOR
+  module _ (turn : CoordTurn) (clock : ℕ) (steps : List Step) (stays : CoordStays script w.coord.sent turn) (serves : Serves w.coord (IsNew w.coord) turn) where
+    abbrev d : Coord
+    d = (coord_sends clock turn).coord
 
-    abbrev next : World
-    next = coord_did w e (coord_rule script w.coord x fails)
-
-    serves : Serves w.coord (IsNew w.coord) (on_event script w.coord x fails)
-    serves = event-serves script w.coord n.kept q.orders neat (going-out script w n) x fails admitted
-
-    sent-so : (outs : List Out) → Each (λ (o : Out). OutServes turn.coord o.message) outs → Each (λ (o : Out). (number : ℕ) → LetterServes next.coord (record { from = the_coordinator; to = o.node; envelope = record { number = number; clock = clock_after w.coord.clock x; message = o.message } })) outs
+    sent-so : (outs : List Out) → Each (λ (o : Out). OutServes turn.coord o.message) outs → Each (λ (o : Out). (number : ℕ) → LetterServes d (record { from = the_coordinator; to = o.node; envelope = record { number = number; clock = clock; message = o.message } })) outs
     sent-so [] f = tt
     sent-so (o ∷ os) f = (λ number. (λ own. moved o.message f.0, λ one. absurd (one-le-none one)), sent-so os f.1)
       where
-        moved : (m : Message) → OutServes turn.coord m → OutServes next.coord m
+        moved : (m : Message) → OutServes turn.coord m → OutServes d m
         moved (message.Exec g k l y h s) f = f
         moved (message.Prepare g) f = tt
         moved (message.Commit g) f = tt
@@ -208,78 +203,84 @@ module _ (script : Script) (some : 1 ≤ script.segments) (w : World) (n : Knows
         moved (message.Answer g r) f = tt
         moved (message.Graph round graph) f = tt
 
-    pub coord-served : AreServed (coord_did w e (coord_rule script w.coord x fails))
-    coord-served =
+    turn-served : AreServed (after_turn w clock turn steps)
+    turn-served =
         record {
-          orders = orders-so w.coord next.coord turn serves refl q.orders;
+          orders = orders-so w.coord d turn serves refl q.orders;
           locals = λ i h. record {
-            answer = kept-so w.coord next.coord turn serves refl w.segs (marks_in w.steps) n.kept.whole i h (parts_in w i h) (v.stands.pairs i h) ((w.segs i).locals h).answer (v.stands.pairs i h).kept (q.locals i h).answer;
-            vote = vote-so w.coord next.coord turn serves refl w.segs (marks_in w.steps) n.kept.whole h (parts_in w i h) ((w.segs i).locals h).vote (v.stands.pairs i h).vote;
+            answer = kept-so w.coord d turn serves refl w.segs (marks_in w.steps) n.kept.whole i h (parts_in w i h) (v.stands.pairs i h) ((w.segs i).locals h).answer (v.stands.pairs i h).kept (q.locals i h).answer;
+            vote = vote-so w.coord d turn serves refl w.segs (marks_in w.steps) n.kept.whole h (parts_in w i h) ((w.segs i).locals h).vote (v.stands.pairs i h).vote;
           };
-          letters = each-posted (LetterServes next.coord) the_coordinator (clock_after w.coord.clock x) _ w.sent
-              (each_append (SentIs (LetterServes next.coord) the_coordinator (clock_after w.coord.clock x)) _ _
-              (plain-sent (LetterServes next.coord) script the_coordinator (clock_after w.coord.clock x) _ (coord_stays script some w.coord x fails n.well.coordinator).marks)
-              (numbered-sent (LetterServes next.coord) the_coordinator (clock_after w.coord.clock x) _ _ (sent-so turn.outs serves.outs)))
-              (each_weaker (λ l. LetterServes w.coord l × SaidIn w l) (LetterServes next.coord)
+          letters = each-posted (LetterServes d) the_coordinator clock _ w.sent
+              (each_append (SentIs (LetterServes d) the_coordinator clock) _ _ (plain-sent (LetterServes d) script the_coordinator clock _ stays.marks)
+              (numbered-sent (LetterServes d) the_coordinator clock _ _ (sent-so turn.outs serves.outs)))
+              (each_weaker (λ l. LetterServes w.coord l × SaidIn w l) (LetterServes d)
               (λ l f. (
-                λ own. out-so w.coord next.coord turn serves refl w.segs (marks_in w.steps) n.kept.whole l.from l.to l.envelope.message f.1 (f.0.0 own),
-                λ one. says-so w.coord next.coord turn serves refl w.segs (marks_in w.steps) n.kept.whole l.from l.to l.envelope.message f.1 (f.0.1 one),
+                λ own. out-so w.coord d turn serves refl w.segs (marks_in w.steps) n.kept.whole l.from l.to l.envelope.message f.1 (f.0.0 own),
+                λ one. says-so w.coord d turn serves refl w.segs (marks_in w.steps) n.kept.whole l.from l.to l.envelope.message f.1 (f.0.1 one),
               )) w.sent (each-zip (LetterServes w.coord) (SaidIn w) w.sent q.letters v.said));
         }
 
-  -- A STEP OF A SEGMENT
-  module _ (e : Event) (x : NodeEvent) (fails : Bool) (to : Node) (place : IsSegment script to) (named : (w.segs to.0).node ≡ to) where
-    abbrev s : Seg
-    s = w.segs to.0
+  pub coord-served : AreNeat w.coord → (e : Event) (x : NodeEvent) (fails : Bool) → coord_can script w.coord x ≡ true → AreServed (coord_did w e (coord_turn script w.coord x fails))
+  coord-served neat e x fails admitted =
+      turn-served (on_event script w.coord x fails) (clock_after w.coord.clock x) (coord_did w e (coord_turn script w.coord x fails)).steps (coord_stays script some w.coord x fails n.well.coordinator)
+      (event-serves script w.coord n.kept q.orders neat (going-out script w n) x fails admitted)
 
-    told-so : (outs : List Out) → Each (λ (o : Out). SaysSo (Served w.coord) (partless w.coord) o.message) outs → Each (λ (o : Out). (number : ℕ) → LetterServes w.coord (record { from = to; to = o.node; envelope = record { number = number; clock = clock_after s.clock x; message = o.message } })) outs
+  pub cancel-served : (g : Gxid) → AreServed (and_cancelled w g)
+  cancel-served g = turn-served (cancels w.coord g) w.coord.clock (and_cancelled w g).steps (cancel_stays script some w.coord g n.well.coordinator) (victim-serves (IsNew w.coord) w.coord g)
+
+  -- A STEP OF A SEGMENT
+  module _ (e : Event) (x : NodeEvent) (fails : Bool) (i : ℕ) (place : IsSegment script (at i)) where
+    abbrev s : Seg
+    s = w.segs i
+
+    told-so : (outs : List Out) → Each (λ (o : Out). SaysSo (Served w.coord) (partless w.coord) o.message) outs → Each (λ (o : Out). (number : ℕ) → LetterServes w.coord (record { from = at i; to = o.node; envelope = record { number = number; clock = clock_after s.clock x; message = o.message } })) outs
     told-so [] f = tt
     told-so (o ∷ os) f = (λ number. (λ own. absurd (one-le-none (subst (λ (y : Node). 1 ≤ y.0) own place.0)), λ one. f.0), told-so os f.1)
 
-    turn-served : TurnSo (Served w.coord) (partless w.coord) (segment.on_event script (w.segs to.0) x fails) → AreServed (seg_did w to e (seg_rule script (w.segs to.0) x fails))
-    turn-served so =
+    answer-served : TurnSo (Served w.coord) (partless w.coord) (segment.on_event script (w.segs i) x fails) → AreServed (seg_did w (at i) e (seg_rule script (w.segs i) x fails))
+    answer-served so =
         record {
           orders = q.orders;
-          locals = λ i h. at-both (λ j (z : Seg). LocalSo (Served w.coord) (partless w.coord) h (z.locals h)) w.segs to.0 _ (so.locals h) (λ j no. q.locals j h) i;
-          letters = each-posted (LetterServes w.coord) to (clock_after s.clock x) _ w.sent
-              (each_append (SentIs (LetterServes w.coord) to (clock_after s.clock x)) _ _
-              (plain-sent (LetterServes w.coord) script to (clock_after s.clock x) _ (subst (λ y. Each (PlainAt script y) (segment.on_event script s x fails).marks) named (seg_stays script s (subst (IsSegment script) (sym named) place) x fails).marks))
-              (numbered-sent (LetterServes w.coord) to (clock_after s.clock x) _ _ (told-so _ so.outs)))
+          locals = λ j h. at-both (λ k (z : Seg). LocalSo (Served w.coord) (partless w.coord) h (z.locals h)) w.segs i _ (so.locals h) (λ k no. q.locals k h) j;
+          letters = each-posted (LetterServes w.coord) (at i) (clock_after s.clock x) _ w.sent
+              (each_append (SentIs (LetterServes w.coord) (at i) (clock_after s.clock x)) _ _
+              (plain-sent (LetterServes w.coord) script (at i) (clock_after s.clock x) _ (subst (λ y. Each (PlainAt script y) (segment.on_event script s x fails).marks) (n.well.names i) (seg_stays script s (subst (IsSegment script) (sym (n.well.names i)) place) x fails).marks))
+              (numbered-sent (LetterServes w.coord) (at i) (clock_after s.clock x) _ _ (told-so _ so.outs)))
               q.letters;
         }
 
   -- a message
-  module _ (from to : Node) (number : ℕ) (envelope : Envelope) (fails : Bool) (t : IsThere script w from to number envelope) (named : (w.segs to.0).node ≡ to) where
-    right : (m : Message) → OutServes w.coord m → RightFor (Served w.coord) (partless w.coord) (w.segs to.0) (q.locals to.0) m
-    right (message.Exec g k level y h slice) f = λ wrote count part is m e counted. f m e counted part is
-    right (message.Prepare g) f = tt
-    right (message.Commit g) f = tt
-    right (message.CommitPrepared g) f = tt
-    right (message.Abort g) f = tt
-    right (message.Forget g) f = tt
-    right (message.Collect round) f = tt
-    right (message.Answer g r) f = tt
-    right (message.Graph round graph) f = tt
-
-    so : TurnSo (Served w.coord) (partless w.coord) (segment.on_event script (w.segs to.0) (here.Deliver from envelope) fails)
-    so =
-        let d = found_is (LetterServes w.coord) from to number w.sent envelope q.letters t.is in
-        message-so (Served w.coord) (partless w.coord) (w.segs to.0) (q.locals to.0) script fails envelope.message
-        (right envelope.message (subst (λ (y : Envelope). OutServes w.coord y.message) d.told (d.is.0 (d.source ∙ t.source))))
-
-    pub seg-served : AreServed (seg_did w to (event.Receive from to number) (seg_rule script (w.segs to.0) (here.Deliver from envelope) fails))
-    seg-served = turn-served (event.Receive from to number) (here.Deliver from envelope) fails to t.place named so
+  right : (i : ℕ) (m : Message) → OutServes w.coord m → RightFor (Served w.coord) (partless w.coord) (w.segs i) (q.locals i) m
+  right i (message.Exec g k level y h slice) f = λ wrote count part is m e counted. f m e counted part is
+  right i (message.Prepare g) f = tt
+  right i (message.Commit g) f = tt
+  right i (message.CommitPrepared g) f = tt
+  right i (message.Abort g) f = tt
+  right i (message.Forget g) f = tt
+  right i (message.Collect round) f = tt
+  right i (message.Answer g r) f = tt
+  right i (message.Graph round graph) f = tt
 
   -- a slice that goes on, whose EXEC has come before
-  module _ (to : Node) (g : Gxid) (fails : Bool) (place : IsSegment script to) (named : (w.segs to.0).node ≡ to) (o : GoesOn script w to.0 g) where
+  module _ (i : ℕ) (g : Gxid) (fails : Bool) (o : GoesOn script w i g) where
     of-exec : OutServes w.coord (message.Exec g o.slice.cid o.slice.level o.slice.snapshot o.waits.horizon o.slice.slice)
     of-exec = subst (OutServes w.coord) o.waits.come.told ((each-among (LetterServes w.coord) w.sent o.waits.come.letter q.letters o.waits.come.among).0 o.waits.come.source)
 
-    resume-turn : TurnSo (Served w.coord) (partless w.coord) (segment.on_event script (w.segs to.0) (here.Resume g) fails)
+    resume-turn : TurnSo (Served w.coord) (partless w.coord) (segment.on_event script (w.segs i) (here.Resume g) fails)
     resume-turn =
-        subst (λ y. TurnSo (Served w.coord) (partless w.coord) (resumes (w.segs to.0) g y (local_of (w.segs to.0) g).suspended)) (sym o.claims)
-        (subst (λ y. TurnSo (Served w.coord) (partless w.coord) (resumes (w.segs to.0) g (Some o.wanted) y)) (sym o.is)
-        (resume-so (Served w.coord) (partless w.coord) (w.segs to.0) (q.locals to.0) g o.wanted o.slice (λ wrote count part is m e counted. of-exec m e counted part is)))
+        subst (λ y. TurnSo (Served w.coord) (partless w.coord) (resumes (w.segs i) g y (local_of (w.segs i) g).suspended)) (sym o.claims)
+        (subst (λ y. TurnSo (Served w.coord) (partless w.coord) (resumes (w.segs i) g (Some o.wanted) y)) (sym o.is)
+        (resume-so (Served w.coord) (partless w.coord) (w.segs i) (q.locals i) g o.wanted o.slice (λ wrote count part is m e counted. of-exec m e counted part is)))
 
-    pub resume-served : AreServed (seg_did w to (event.Resume to g) (seg_rule script (w.segs to.0) (here.Resume g) fails))
-    resume-served = turn-served (event.Resume to g) (here.Resume g) fails to place named resume-turn
+  pub seg-served : (e : Event) (x : NodeEvent) (fails : Bool) (i : ℕ) → IsSegment script (at i) → IsThere script w e (at i) x → seg_can script (w.segs i) x ≡ true → AreServed (seg_did w (at i) e (seg_rule script (w.segs i) x fails))
+  seg-served e (here.Deliver from envelope) fails i place t ok =
+      let d = found_is (LetterServes w.coord) from (at i) t.number w.sent envelope q.letters t.found in
+      answer-served e (here.Deliver from envelope) fails i place
+      (message-so (Served w.coord) (partless w.coord) (w.segs i) (q.locals i) script fails envelope.message
+      (right i envelope.message (subst (λ (y : Envelope). OutServes w.coord y.message) d.told (d.is.0 (d.source ∙ from-coordinator script i from place.0 t.link)))))
+  seg-served e (here.Resume g) fails i place t ok = answer-served e (here.Resume g) fails i place (resume-turn i g fails (going-on script w n.well i g ok))
+  seg-served e (here.Start s) fails i place t ok = absurd (cc)
+  seg-served e (here.End s) fails i place t ok = absurd (cc)
+  seg-served e (here.Resend j g) fails i place t ok = absurd (cc)
+  seg-served e here.Round fails i place t ok = absurd (cc)

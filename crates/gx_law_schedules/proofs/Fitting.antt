@@ -35,6 +35,7 @@ use Rattle.gx_rules.specs.Running.{goes_on, is_granted, requests, runs_slice, sl
 use Rattle.gx_rules.specs.Slices.{Moved, answers, cause_of, first_fault, inserted, inserts, inserts_row, selects, starts_from, takes_own, writes_row}
 use Rattle.gx_rules.specs.Visits.{DidStop}
 use Rattle.gx_rules.proofs.Moving.{Ends, Keeps}
+use Rattle.gx_rules.proofs.Rounds.{collect-ways}
 use Rattle.gx_rules.specs.Shown.{shown}
 use Rattle.gx_rules.specs.Fits.{fits_exec, is_waiting}
 use Rattle.gx_rules.specs.Locks.{with_hold}
@@ -308,7 +309,7 @@ module _ (P : ℕ → Reply → Type 0) (partless : (g : ℕ) (r : Reply) → Is
     message-so script fails (message.CommitPrepared g) r = below g _ (commit-prepared g fails (local_of s g).phase)
     message-so script fails (message.Abort g) r = below g _ (abort g (local_of s g).phase)
     message-so script fails (message.Forget g) r = below g _ (forget g (local_of s g).phase)
-    message-so script fails (message.Collect round) r = stay
+    message-so script fails (message.Collect round) r = collect-ways TurnSo s round stay (λ new. record { locals = so; outs = (tt, tt) }) (λ last graph is. record { locals = so; outs = (tt, tt) })
     message-so script fails (message.Answer g a) r = stay
     message-so script fails (message.Graph round graph) r = stay
 

@@ -2,7 +2,7 @@ pub mod Links
 pub mod World
 pub mod Sessions
 pub mod Numbering
-pub mod Steps
+pub mod Counts
 pub mod Quiet
 pub mod QuietSegs
 pub mod Room
@@ -18,5 +18,5 @@ pub mod Serving
 pub mod Ordering
 pub mod Fitted
 pub mod Awaited
-pub mod Waits
+pub mod Rounds
 pub mod Enabled

@@ -34,7 +34,7 @@ use Rattle.gx_store.specs.declared.node.NodeEvent.{NodeEvent}
 use Rattle.gx_store.specs.declared.node.NodeEvent.TheVariants as event
 use Rattle.gx_store.specs.Writes.{dist_of}
 use Rattle.gx_store.specs.declared.answer.StmtAnswer.TheVariants as told
-use Rattle.gx_rules.specs.AtCoordinator.{Reading, awaited, begins, behind, command_order, coord_can, dispatches, ends_in, fault_mark, goes, goes_out, is_idle, is_nothing, next_cid, next_line, on_event, on_line, order_to, orders_of, reads_by, reads_for, refusal_of, starts, starts_line, status_order, table_of, takes_snapshot, goes_on_locked, if_granted, lock_for, requests, resumes, answer_mark}
+use Rattle.gx_rules.specs.AtCoordinator.{Reading, awaited, awaited_collect, begins, behind, command_order, coord_can, dispatches, ends_in, fault_mark, goes, goes_out, is_idle, is_nothing, next_cid, next_line, on_event, on_line, order_to, orders_of, reads_by, reads_for, refusal_of, starts, starts_line, status_order, table_of, takes_snapshot, goes_on_locked, if_granted, lock_for, requests, resumes, answer_mark}
 use Rattle.gx_rules.specs.Coordinators.{Command, Coord, CoordTurn, new_work, session_of}
 use Rattle.gx_law_order.proofs.Lines.{Asks as Admits, asks as admits}
 use Rattle.gx_law_order.proofs.Lists.{Each, each_weaker}
@@ -45,7 +45,7 @@ use Rattle.gx_law_commit.proofs.Events.{live-stage}
 use Rattle.gx_law_schedules.proofs.Asking.{with_waiting}
 use Rattle.gx_law_schedules.proofs.Neat.{IsExecOf, Neat, NeatCommand}
 use Rattle.gx_law_schedules.proofs.Parts.{IsFor, PlanFor, plan-for}
-use Rattle.gx_law_schedules.proofs.Serving.{AnyServes, AreFor, ForOut, IsFresh, IsOld, OrdersServe, OutServes, Serves, again, commit, no-command, old-same, order-status, received, refused, rest-serves, rolled, same, serves-map, some-same}
+use Rattle.gx_law_schedules.proofs.Serving.{AnyServes, AreFor, ForOut, IsFresh, IsOld, OrdersServe, OutServes, Serves, again, commit, no-command, old-same, order-collect, order-status, received, refused, rest-serves, rolled, round-begun, same, serves-map, some-same}
 use Rattle.gx_rules.specs.Locks.{with_hold, with_wait}
 use Rattle.gx_locks.specs.Locks.{Locks, is_free, resumed, wait_of}
 use Rattle.gx_waits.specs.declared.claim.Claim.{Claim}
@@ -305,6 +305,6 @@ module _ (script : Script) (c : Coord) (k : Kept script c) (own : OrdersServe c)
     event-serves out (event.Start s) fails e = start-serves s (idle-first s _ e) (next_line script c s)
     event-serves out (event.End s) fails e = end-serves s (session_of c s).state.block
     event-serves out (event.Resend i (Some g)) fails e = again (IsNew c) c own i (awaited c g i) (resent g.0 i)
-    event-serves out (event.Resend i None) fails e = rest-serves (IsNew c) c
+    event-serves out (event.Resend i None) fails e = again (IsNew c) c own i (awaited_collect c i) (order-collect (IsNew c) c own i)
     event-serves out (event.Resume g) fails e = goes-out-serves g (out g e)
-    event-serves out event.Round fails e = rest-serves (IsNew c) c
+    event-serves out event.Round fails e = round-begun (IsNew c) script c

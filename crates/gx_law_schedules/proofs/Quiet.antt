@@ -1,4 +1,4 @@
--- A turn of the coordinator starts one transaction at most.
+-- A turn of the coordinator starts one transaction at most, and a victim's none.
 use Rattle.std.proofs.Common.{◌≤◌, ℕ, ◌+◌, List, [], ◌∷◌, Option, Some, None, Result, Ok, Err, Bool, true, false, if◌then◌else◌, ◌&&◌, arith}
 use Rattle.gx_ids.specs.declared.ids.Cid.{Cid}
 use Rattle.gx_ids.specs.declared.ids.Gxid.{Gxid}
@@ -31,12 +31,13 @@ use Rattle.gx_script.specs.declared.state.Block.TheVariants.{Outside, Open, Fail
 use Rattle.gx_store.specs.declared.node.NodeEvent.{NodeEvent}
 use Rattle.gx_store.specs.declared.node.NodeEvent.TheVariants as event
 use Rattle.gx_store.specs.Writes.{dist_of}
-use Rattle.gx_rules.specs.AtCoordinator.{Reading, awaited, begins, commits, completes, dispatches, ends_in, enlisted_all, follows, goes, goes_on, is_awaited, is_refused, next_cid, next_line, nodes_in, on_answer, on_done, on_event, on_failed, on_line, on_message, on_status, reads_by, reads_for, reason_of, resends, starts, starts_line, table_of, takes_done, unless_kept, with_done, writers_with, goes_on_locked, if_granted, lock_for, requests, resumes}
+use Rattle.gx_rules.specs.AtCoordinator.{Reading, awaited, awaited_collect, begins, cancels, commits, completes, dispatches, ends_in, enlisted_all, follows, goes, goes_on, is_awaited, is_refused, next_cid, next_line, nodes_in, on_answer, on_done, on_event, on_failed, on_line, on_message, on_status, reads_by, reads_for, reason_of, resends, starts, starts_line, table_of, takes_done, unless_kept, with_done, writers_with, goes_on_locked, if_granted, lock_for, requests, resumes}
 use Rattle.gx_rules.specs.Coordinators.{Command, Coord, CoordTurn, Work, rests, session_of, with_work, work_of}
 use Rattle.gx_rules.specs.Fits.{fits_part}
 use Rattle.gx_rules.specs.Locks.{with_hold}
 use Rattle.gx_waits.specs.declared.claim.Claim.{Claim}
 use Rattle.gx_locks.specs.Locks.{is_free, resumed, wait_of}
+use Rattle.gx_rules.proofs.Rounds.{cancel-ways, graph-ways}
 
 -- gxids stay below this
 abbrev pub IsStill : ℕ → CoordTurn → Type 0
@@ -153,7 +154,7 @@ module _ (limit : ℕ) where
     message-still from fails (message.Abort g) = n
     message-still from fails (message.Forget g) = n
     message-still from fails (message.Collect round) = n
-    message-still from fails (message.Graph round graph) = n
+    message-still from fails (message.Graph round graph) = graph-ways (IsStill limit) c from round graph n (λ r. n) (λ r a. n)
 
     again-still : (i : Node) (m : Option Message) → IsStill limit (resends c i m)
     again-still i None = n
@@ -186,7 +187,7 @@ module _ (limit : ℕ) where
     event-in (event.Start s) fails = start-still s (next_line script c s)
     event-in (event.End s) fails = end-still c n s (session_of c s).state.block
     event-in (event.Resend i (Some g)) fails = again-still c n i (awaited c g i)
-    event-in (event.Resend i None) fails = n
+    event-in (event.Resend i None) fails = again-still c n i (awaited_collect c i)
     event-in (event.Resume g) fails = resume-still script c g n (wait_of c.locks g) (work_of c g).waiting
     event-in event.Round fails = n
 
@@ -196,5 +197,11 @@ event-still script c x fails = event-in (c.table.next.0 + 1) script c (less c.ta
     less : (a : ℕ) → a ≤ a + 1
     less a = omega arith
 
+    same : (a : ℕ) → a ≤ a
+    same a = omega arith
+
+pub victim-still : (c : Coord) (g : Gxid) → IsStill c.table.next.0 (cancels c g)
+victim-still c g = cancel-ways (IsStill c.table.next.0) c g (same c.table.next.0) (λ live busy. same c.table.next.0)
+  where
     same : (a : ℕ) → a ≤ a
     same a = omega arith

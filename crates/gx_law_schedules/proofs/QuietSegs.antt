@@ -30,6 +30,7 @@ use Rattle.gx_rules.specs.Locks.{with_hold}
 use Rattle.gx_waits.specs.declared.claim.Claim.{Claim}
 use Rattle.gx_locks.specs.Locks.{is_free, wait_of}
 use Rattle.gx_rules.proofs.Moving.{Ends, Keeps}
+use Rattle.gx_rules.proofs.Rounds.{collect-ways}
 use Rattle.gx_law_order.proofs.Changing.{row-goes-on, rows-change}
 
 pub record IsStill (turn : SegTurn) : Type 0 where
@@ -181,7 +182,7 @@ module _ (script : Script) (s : Seg) where
   message_still fails (message.CommitPrepared g) = below g _ (commit_prepared g fails (local_of s g) (local_of s g).phase)
   message_still fails (message.Abort g) = below g _ (abort g (local_of s g) (local_of s g).phase)
   message_still fails (message.Forget g) = below g _ (forget g (local_of s g) (local_of s g).phase)
-  message_still fails (message.Collect round) = stay
+  message_still fails (message.Collect round) = collect-ways IsStill s round stay (λ new. record { outs = one-sent }) (λ last graph is. record { outs = one-sent })
   message_still fails (message.Answer g r) = stay
   message_still fails (message.Graph round graph) = stay
 

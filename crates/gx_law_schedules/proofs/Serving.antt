@@ -17,14 +17,19 @@ use Rattle.gx_msg.specs.declared.message.Out.{Out}
 use Rattle.gx_msg.specs.declared.reply.Cause.{Cause}
 use Rattle.gx_msg.specs.declared.reply.Reply.{Reply}
 use Rattle.gx_msg.specs.declared.reply.Reply.TheVariants as reply
+use Rattle.gx_script.specs.declared.Script.{Script}
 use Rattle.gx_script.specs.declared.state.Block.{Block}
 use Rattle.gx_script.specs.declared.state.Block.TheVariants.{Outside, Open, Failed}
 use Rattle.gx_store.specs.declared.answer.Refused.{Refused}
+use Rattle.gx_store.specs.declared.answer.Refused.TheVariants.{Victim}
 use Rattle.gx_store.specs.declared.mark.Mark.{Mark}
-use Rattle.gx_rules.specs.AtCoordinator.{answers, commits, completes, follows, goes_on, is_awaited, is_refused, on_answer, on_done, on_failed, on_message, on_status, reason_of, resends, rolls_back, status_order, takes_done, with_done, writers_with}
+use Rattle.gx_rules.specs.AtCoordinator.{answers, awaited_collect, cancels, commits, completes, follows, goes_on, is_awaited, is_refused, on_answer, on_done, on_failed, on_message, on_status, reason_of, resends, rolls_back, status_order, takes_done, with_done, writers_with}
 use Rattle.gx_rules.specs.Coordinators.{Command, Coord, CoordTurn, Work, no_work, rests, session_of, with_work, work_of}
 use Rattle.gx_rules.specs.Fits.{fits_part}
+use Rattle.gx_rules.specs.Rounds.{awaits_graph, begins_round, rechecks, with_report}
+use Rattle.gx_rules.proofs.Rounds.{cancel-ways, graph-ways}
 use Rattle.gx_law_order.proofs.Lists.{Each, each_weaker}
+use Rattle.gx_law_order.proofs.Places.{collects-each}
 use Rattle.gx_law_sessions.proofs.Outs.{IsBare, NoExec, abort-bare, commit-bare, reply-bare}
 use Rattle.gx_law_schedules.proofs.Parts.{IsFor}
 
@@ -195,7 +200,15 @@ module _ (New : ℕ → Command → Type 0) where
   received c from fails (message.Abort g) = rest-serves c
   received c from fails (message.Forget g) = rest-serves c
   received c from fails (message.Collect round) = rest-serves c
-  received c from fails (message.Graph round graph) = rest-serves c
+  received c from fails (message.Graph round graph) =
+      graph-ways (Keeps c) c from round graph (rest-serves c) (λ r. same c (rests (with_report c graph)) (λ h. refl) tt) (λ r a. same c (rechecks (with_report c graph)) (λ h. refl) tt)
+
+  -- ROUNDS
+  pub round-begun : (script : Script) (c : Coord) → Keeps c (begins_round script c)
+  round-begun script c = same c (begins_round script c) (λ h. refl) (collects-each IsBare script.segments (c.rounds + 1) (λ i one within. tt))
+
+  pub victim-serves : (c : Coord) (g : Gxid) → Keeps c (cancels c g)
+  victim-serves c g = cancel-ways (Keeps c) c g (rest-serves c) (λ live busy. refused c g [] (Victim c.rounds))
 
   -- MESSAGES SENT AGAIN
   module _ (c : Coord) (own : OrdersServe c) where
@@ -210,6 +223,13 @@ module _ (New : ℕ → Command → Type 0) where
     order-status g (Some order.CommitPrepared) = tt
     order-status g (Some order.Abort) = tt
     order-status g (Some order.Forget) = tt
+
+    pub order-collect : (i : Node) → AnyServes (awaited_collect c i)
+    order-collect i = by_test (awaits_graph c i)
+      where
+        by_test : (b : Bool) → AnyServes (if b then Some (message.Collect c.rounds) else None)
+        by_test true = tt
+        by_test false = tt
 
     pub again : (i : Node) (m : Option Message) → AnyServes m → Keeps c (resends c i m)
     again i None e = rest-serves c

@@ -1,8 +1,8 @@
 -- What a list of messages leaves asked of a node about a transaction, and how many of them go to it.
-use Rattle.std.proofs.Common.{◌≡◌, ◌≤◌, ℕ, zero, suc, ◌+◌, List, [], ◌∷◌, ◌++◌, Option, Some, Result, Ok, Err, Bool, true, false, refl, sym, subst, ap, ◌∙◌, if◌then◌else◌, ◌&&◌, ◌||◌, arith, eqb}
+use Rattle.std.proofs.Common.{◌≡◌, ◌≤◌, ◌<◌, ℕ, zero, suc, ◌+◌, List, [], ◌∷◌, ◌++◌, Option, Some, Result, Ok, Err, Bool, true, false, refl, sym, subst, ap, ◌∙◌, if◌then◌else◌, ◌&&◌, ◌||◌, arith, eqb}
 use Rattle.std.proofs.lemmas.Bool.Decides.{nat_tests}
 use Rattle.std.specs.Prelude.{map}
-use Rattle.std.specs.List.{flat_map}
+use Rattle.std.specs.List.{flat_map, range_with_len}
 use Rattle.gx_lemmas.proofs.Numbers.{eqb-self}
 use Rattle.gx_ids.specs.declared.ids.Cid.{Cid}
 use Rattle.gx_ids.specs.declared.ids.Gxid.{Gxid}
@@ -17,6 +17,7 @@ use Rattle.gx_tree.specs.declared.stmt.Stmt.{Stmt}
 use Rattle.gx_tree.specs.declared.stmt.Stmt.TheVariants.{Begin, Commit, Rollback, Select, Insert, Update, Delete, Lock}
 use Rattle.gx_dsnap.specs.declared.snapshot.Snapshot.{Snapshot}
 use Rattle.gx_dtx.specs.Nodes.{has, to_each}
+use Rattle.gx_detect.specs.Rounds.{collects}
 use Rattle.gx_meaning.specs.Expressions.{and_then}
 use Rattle.gx_meaning.specs.declared.fault.ArithFault.{ArithFault}
 use Rattle.gx_msg.specs.declared.message.Message.{Message}
@@ -57,6 +58,11 @@ pub asked-plain : (script : Script) (node i : Node) (g : Gxid) (asked : Option M
 asked-plain script node i g asked [] ns e = refl
 asked-plain script node i g asked (mark.Sent to number told ∷ ms) ns e = absurd e.0
 asked-plain script node i g asked (m ∷ ms) ns e = asked-plain script node i g asked ms ns e.1
+
+pub asked-append : (i : Node) (g : Gxid) (asked : Option Message) (ms ns : List Mark) → asked_by i g asked (ms ++ ns) ≡ asked_by i g (asked_by i g asked ms) ns
+asked-append i g asked [] ns = refl
+asked-append i g asked (mark.Sent to number told ∷ ms) ns = asked-append i g (if is_same_node to i && is_about g told then Some told else asked) ms ns
+asked-append i g asked (m ∷ ms) ns = asked-append i g asked ms ns
 
 pub sent-numbered : (i : Node) (f : ℕ → ℕ) (outs : List Out) → sent_count i (numbered f outs) ≡ sends i outs
 sent-numbered i f [] = refl
@@ -109,6 +115,40 @@ sends-each i m (x ∷ xs) e = by_test (eqb x.0 i.0) refl (sends-each i m xs e.1)
     by_test : (b : Bool) → eqb x.0 i.0 ≡ b → sends i (to_each m xs) ≤ 1 → (if b then sends i (to_each m xs) + 1 else sends i (to_each m xs)) ≤ 1
     by_test true q r = first (sends i (to_each m xs)) (none-sent i m xs (back i x xs q e.0))
     by_test false q r = r
+
+-- A ROUND ASKS EACH SEGMENT ONCE
+abbrev asks : ℕ → ℕ → Out
+asks round k = record { node = record { 0 = k }; message = message.Collect round }
+
+none-asked : (i : Node) (round k n : ℕ) → i.0 < k → sends i (map (asks round) (range_with_len k n)) ≡ 0
+none-asked i round k zero l = refl
+none-asked i round k (suc n) l = ap (λ (b : Bool). if b then sends i (map (asks round) (range_with_len (k + 1) n)) + 1 else sends i (map (asks round) (range_with_len (k + 1) n))) (away i.0 k l) ∙ none-asked i round (k + 1) n (next i.0 k l)
+  where
+    away : (a k : ℕ) → a < k → eqb k a ≡ false
+    away a k l = grind (arith, nat_tests)
+
+    next : (a k : ℕ) → a < k → a < k + 1
+    next a k l = omega arith
+
+asked-once : (i : Node) (round k n : ℕ) → sends i (map (asks round) (range_with_len k n)) ≤ 1
+asked-once i round k zero = none
+  where
+    none : 0 ≤ 1
+    none = omega arith
+asked-once i round k (suc n) = by_test (eqb k i.0) refl (asked-once i round (k + 1) n)
+  where
+    first : (n : ℕ) → n ≡ 0 → n + 1 ≤ 1
+    first n e = omega arith
+
+    here : (a k : ℕ) → eqb k a ≡ true → a < k + 1
+    here a k e = grind (arith, nat_tests)
+
+    by_test : (b : Bool) → eqb k i.0 ≡ b → sends i (map (asks round) (range_with_len (k + 1) n)) ≤ 1 → (if b then sends i (map (asks round) (range_with_len (k + 1) n)) + 1 else sends i (map (asks round) (range_with_len (k + 1) n))) ≤ 1
+    by_test true q r = first (sends i (map (asks round) (range_with_len (k + 1) n))) (none-asked i round (k + 1) n (here i.0 k q))
+    by_test false q r = r
+
+pub sends-collects : (i : Node) (n round : ℕ) → sends i (collects n round) ≤ 1
+sends-collects i n round = asked-once i round 1 n
 
 -- THE ORDERS OF A COMMAND
 module _ (g : Gxid) (c : Cid) (level : Level) (snapshot : Option Snapshot) (horizon : Gxid) where

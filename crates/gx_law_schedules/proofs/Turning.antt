@@ -17,6 +17,7 @@ use Rattle.gx_dtx.specs.declared.order.Order.TheVariants as order
 use Rattle.gx_dtx.specs.declared.txn.Txn.{Txn}
 use Rattle.gx_msg.specs.declared.message.Message.{Message}
 use Rattle.gx_msg.specs.declared.message.Message.TheVariants as message
+use Rattle.gx_msg.specs.declared.message.Out.{Out}
 use Rattle.gx_script.specs.declared.Script.{Script}
 use Rattle.gx_script.specs.Session.{after_line, idle_outside, line_step}
 use Rattle.gx_script.specs.declared.line_step.LineStep.{LineStep}
@@ -30,19 +31,26 @@ use Rattle.gx_store.specs.declared.node.NodeEvent.{NodeEvent}
 use Rattle.gx_store.specs.declared.node.NodeEvent.TheVariants as event
 use Rattle.gx_store.specs.Journals.{is_same_node}
 use Rattle.gx_store.specs.Schedule.{is_about, is_answer_to}
+use Rattle.gx_store.specs.declared.answer.Refused.TheVariants.{Victim}
 use Rattle.gx_store.specs.declared.answer.StmtAnswer.TheVariants as told
-use Rattle.gx_rules.specs.AtCoordinator.{awaited, begins, behind, commits, coord_can, dispatches, ends_in, is_idle, is_nothing, next_line, on_event, on_line, on_message, order_to, resends, rolls_back, starts, starts_line, status_order, resumes, answer_mark}
+use Rattle.gx_waits.specs.declared.graph.LocalGraph.{LocalGraph}
+use Rattle.gx_rules.specs.AtCoordinator.{awaited, awaited_collect, begins, behind, cancels, commits, coord_can, dispatches, ends_in, is_idle, is_nothing, is_refused, next_line, on_event, on_line, on_message, order_to, resends, rolls_back, starts, starts_line, status_order, resumes, answer_mark}
 use Rattle.gx_rules.specs.Coordinators.{Command, Coord, CoordTurn, Work, new_work, rests, session_of, with_state}
+use Rattle.gx_rules.specs.Rounds.{awaits_graph, begins_round, on_graph, rechecks, with_report}
+use Rattle.gx_rules.proofs.Rounds.{cancel-ways, graph-ways}
 use Rattle.gx_law_order.proofs.Ends.{begun-finds}
 use Rattle.gx_law_order.proofs.Lines.{Asks as Admits, asks as admits, begun-whole, undrawn}
+use Rattle.gx_law_order.proofs.Lists.{Each}
+use Rattle.gx_law_order.proofs.Places.{collects-each}
 use Rattle.gx_law_order.proofs.Sessions.{Kept, is_nothing_in, is_open_in, is_working_in}
 use Rattle.gx_law_order.proofs.Stages.{gx}
 use Rattle.gx_law_commit.proofs.Dispatching.{IsLive}
 use Rattle.gx_law_commit.proofs.Events.{live-stage}
 use Rattle.gx_law_schedules.proofs.Answered.{FitsIn, answer-asks}
 use Rattle.gx_law_schedules.proofs.Replies.{left_by, no-answer, unanswered}
-use Rattle.gx_law_schedules.proofs.Asking.{AreNeat, Asks, OneOf, asks-by, commits-asks, dispatch-asks, live-none, nothing-sent, now_asked, one-asks, rest-asks, resume-asks, rolled-asks}
+use Rattle.gx_law_schedules.proofs.Asking.{AreNeat, Asks, OneOf, asks-by, commits-asks, dispatch-asks, live-none, nothing-sent, now_asked, one-asks, refused-asks, rest-asks, resume-asks, rolled-asks}
 use Rattle.gx_law_schedules.proofs.Neat.{IsDone, IsExecOf, Neat, NeatCommand, waiting, waiting-none}
+use Rattle.gx_law_schedules.proofs.Told.{sends, sends-collects, told-other}
 use Rattle.gx_ids.specs.declared.ids.Gxid.{Gxid}
 use Rattle.gx_locks.specs.Locks.{wait_of}
 use Rattle.gx_law_order.proofs.Waiting.{GoesOut}
@@ -232,6 +240,40 @@ module _ (script : Script) (c : Coord) (k : Kept script c) (n : AreNeat c) where
     end-asks Failed e = quiet (with_state c s idle_outside) [] refl refl
     end-asks Outside e = rest-asks c n
 
+  -- ROUNDS
+  -- what is told of no transaction leaves all that is asked
+  apart-asks : (turn : CoordTurn) → turn.coord.table ≡ c.table → turn.coord.works ≡ c.works → ((h : ℕ) → Each (λ (o : Out). is_about (gx h) o.message ≡ false) turn.outs) → ((i : Node) → sends i turn.outs ≤ 1) → Asks (now_asked c) turn
+  apart-asks turn t w apart one =
+      let x = quiet turn.coord turn.marks t w in
+      record { asked = λ i g. x.asked i g ∙ sym (told-other i (gx g) (awaited c (gx g) i) turn.outs (apart g)); sends_one = one; neat = x.neat }
+
+  graph-asks : (j : Node) (round : ℕ) (graph : LocalGraph) → Asks (now_asked c) (on_graph c j round graph)
+  graph-asks j round graph =
+      graph-ways (Asks (now_asked c)) c j round graph (rest-asks c n) (λ r. quiet (with_report c graph) [] refl refl)
+      (λ r a. let turn : CoordTurn = rechecks (with_report c graph) in quiet turn.coord turn.marks refl refl)
+
+  begun-round-asks : Asks (now_asked c) (begins_round script c)
+  begun-round-asks =
+      apart-asks (begins_round script c) refl refl (λ h. collects-each (λ (o : Out). is_about (gx h) o.message ≡ false) script.segments (c.rounds + 1) (λ i one within. refl)) (λ i. sends-collects i script.segments (c.rounds + 1))
+
+  collect-asks : (i : Node) → Asks (now_asked c) (resends c i (awaited_collect c i))
+  collect-asks i = by_test (awaits_graph c i)
+    where
+      once : (b : Bool) → (if b then 0 + 1 else 0) ≤ 1
+      once true = omega arith
+      once false = omega arith
+
+      by_test : (b : Bool) → Asks (now_asked c) (resends c i (if b then Some (message.Collect c.rounds) else None))
+      by_test true = apart-asks (resends c i (Some (message.Collect c.rounds))) refl refl (λ h. (refl, tt)) (λ j. once (is_same_node i j))
+      by_test false = rest-asks c n
+
+  -- A VICTIM
+  pub victim-asks : (g : Gxid) → Asks (now_asked c) (is_refused c g (on_abort c.table g) [] (Victim c.rounds))
+  victim-asks g = refused-asks c k.whole n g.0 (now_asked c) (λ i h e. refl) (λ i e. waiting-none g.0 (c.works g.0) (find_txn c.table g) i (n g.0) e) [] (Victim c.rounds)
+
+  pub cancel-asks : (g : Gxid) → Asks (now_asked c) (cancels c g)
+  cancel-asks g = cancel-ways (Asks (now_asked c)) c g (rest-asks c n) (λ live busy. victim-asks g)
+
   -- MESSAGES
   abbrev pub FitsMessage : Node → Message → Type 0
   FitsMessage j (message.Answer g r) = FitsIn c k n g.0 j r
@@ -246,7 +288,7 @@ module _ (script : Script) (c : Coord) (k : Kept script c) (n : AreNeat c) where
   message-asks j fails (message.Abort g) f = asks-by (now_asked c) _ (rests c) (λ i b. unanswered i j _ _ (no-answer (awaited c (gx b) i) (gx b) (message.Abort g) tt)) (rest-asks c n)
   message-asks j fails (message.Forget g) f = asks-by (now_asked c) _ (rests c) (λ i b. unanswered i j _ _ (no-answer (awaited c (gx b) i) (gx b) (message.Forget g) tt)) (rest-asks c n)
   message-asks j fails (message.Collect round) f = asks-by (now_asked c) _ (rests c) (λ i b. unanswered i j _ _ (no-answer (awaited c (gx b) i) (gx b) (message.Collect round) tt)) (rest-asks c n)
-  message-asks j fails (message.Graph round graph) f = asks-by (now_asked c) _ (rests c) (λ i b. unanswered i j _ _ (no-answer (awaited c (gx b) i) (gx b) (message.Graph round graph) tt)) (rest-asks c n)
+  message-asks j fails (message.Graph round graph) f = asks-by (now_asked c) _ (on_graph c j round graph) (λ i b. unanswered i j _ _ (no-answer (awaited c (gx b) i) (gx b) (message.Graph round graph) tt)) (graph-asks j round graph)
 
   -- ALL EVENTS
   abbrev pub FitsEvent : NodeEvent → Type 0
@@ -271,6 +313,6 @@ module _ (script : Script) (c : Coord) (k : Kept script c) (n : AreNeat c) where
   event-asks out (event.Start s) fails e f = start-asks s (idle-first s _ e) (next_line script c s)
   event-asks out (event.End s) fails e f = end-asks s (idle-first s _ e) (session_of c s).state.block refl
   event-asks out (event.Resend i (Some g)) fails e f = again-asks c n g.0 i (awaited c g i) refl (waiting-about g.0 (c.works g.0) (find_txn c.table g) i (n g.0))
-  event-asks out (event.Resend i None) fails e f = rest-asks c n
+  event-asks out (event.Resend i None) fails e f = collect-asks i
   event-asks out (event.Resume g) fails e f = goes-out-asks g (out g e)
-  event-asks out event.Round fails e f = rest-asks c n
+  event-asks out event.Round fails e f = begun-round-asks

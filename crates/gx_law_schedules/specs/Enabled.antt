@@ -1,5 +1,5 @@
 -- What may happen next, by what the nodes hold: the links, the coordinator's sessions and the answers that it awaits.
-use Rattle.std.specs.Prelude.{◌+◌, ◌-◌, ◌==◌, Bool, not, if◌then◌else◌, ◌&&◌, ◌||◌, is_some, List, [], ◌∷◌, ◌++◌, filter, length, map, Some}
+use Rattle.std.specs.Prelude.{◌+◌, ◌-◌, ◌==◌, Bool, not, if◌then◌else◌, ◌&&◌, ◌||◌, is_some, List, [], ◌∷◌, ◌++◌, filter, length, map, Some, None}
 use Rattle.std.specs.List.{flat_map, list_any, range_with_len}
 use Rattle.gx_ids.specs.declared.ids.Gxid.{Gxid}
 use Rattle.gx_ids.specs.declared.ids.Node.{Node}
@@ -15,6 +15,7 @@ use Rattle.gx_store.specs.Schedule.{first_of, is_exec, is_quiet, left_on, segmen
 use Rattle.gx_rules.specs.AtCoordinator.{awaited, coord_can, is_idle}
 use Rattle.gx_rules.specs.Coordinators.{Coord, session_of}
 use Rattle.gx_rules.specs.Machine.{World}
+use Rattle.gx_rules.specs.Rounds.{awaits_graph, can_begin}
 
 -- the gxids that were drawn
 abbrev pub drawn : Coord → List Gxid
@@ -45,16 +46,20 @@ at_segment_by script w segment = first_of (resumes_by w.coord segment (w.segs se
 abbrev pub is_due : World → Node → Gxid → Bool
 is_due w segment g = is_some (awaited w.coord g segment) && (not (is_exec (awaited w.coord g segment)) || not (is_some (wait_of (w.segs segment.0).locks g)))
 
+-- and its graph, last
 abbrev pub resends_due : Script → World → Node → List Event
-resends_due script w segment = if is_quiet script w.steps segment then map (λ g. Resend segment (Some g)) (filter (is_due w segment) (drawn w.coord)) else []
+resends_due script w segment =
+    if is_quiet script w.steps segment
+    then map (λ g. Resend segment (Some g)) (filter (is_due w segment) (drawn w.coord)) ++ (if awaits_graph w.coord segment then Resend segment None ∷ [] else [])
+    else []
 
 -- some transaction waits at the coordinator or at a segment
 abbrev pub is_anybody_waiting : Script → World → Bool
 is_anybody_waiting script w = not (length w.coord.locks.waits == 0) || list_any (λ segment. not (length (w.segs segment.0).locks.waits == 0)) (segments_of script)
 
--- no round has begun yet, so the first may
+-- no round runs, so the next may begin where somebody waits
 abbrev pub rounds_by : Script → World → List Event
-rounds_by script w = if script.detector && is_anybody_waiting script w then Round ∷ [] else []
+rounds_by script w = if can_begin script w.coord && is_anybody_waiting script w then Round ∷ [] else []
 
 -- The first message of each link to the coordinator; at each segment who resumes there, or else the first message of its link; who
 -- resumes at the coordinator; what is sent again; the lines and ends of sessions; and a round.

@@ -3,8 +3,8 @@ use Rattle.std.specs.Prelude.{ℕ, ◌+◌, ◌*◌, ◌≤◌, length}
 use Rattle.gx_rules.specs.Machine.{World}
 
 -- No clock, no number of a link's messages and no gxid is above what the number of steps allows: a step of a segment sends one
--- message at most on its link, one of the coordinator 64 at most on each, since it ends no more transactions than there are
--- sessions, and a step begins one transaction at most.
+-- message at most on its link, one of the coordinator one on each, and one more for each victim of a recheck, and all victims
+-- together are no more than those who began; a step begins one transaction at most.
 pub record HasRoom (w : World) : Type 0 where
   pub clock : w.coord.clock ≤ length w.steps
   pub clocks : (i : ℕ) → (w.segs i).clock ≤ length w.steps

@@ -1,5 +1,5 @@
 //! Laws of every run, whatever the network loses, repeats, delays and reorders, and whichever appends fail.
-ghost use Rattle.std.specs.Prelude.{◌≡◌, ◌≤◌, ℕ, ◌+◌, ◌==◌, Bool, true, false, ◌&&◌, ◌||◌, is_some, List, [], None, Some, Contains};
+ghost use Rattle.std.specs.Prelude.{◌≡◌, ◌≤◌, ℕ, ◌+◌, ◌==◌, Bool, true, false, ◌&&◌, is_some, List, [], None, Some, Contains};
 ghost use Rattle.std.specs.List.{list_all, list_any};
 ghost use Rattle.gx_ids.specs.declared.ids.Gxid.{Gxid as OneGxid};
 ghost use Rattle.gx_ids.specs.declared.ids.Node.{Node as OneNode};
@@ -88,11 +88,6 @@ pub fn counts_have_room()
     ensures { (script : Script) (events : List (OneEvent × Bool)) → 1 ≤ script.segments → HasRoom (world_of script events) }
 {}
 
-/// No graph is awaited.
-pub fn no_graph_is_awaited()
-    ensures { (script : Script) (events : List (OneEvent × Bool)) (segment : OneNode) → 1 ≤ script.segments → schedule.is_graph_awaited (world_of script events).steps segment ≡ false }
-{}
-
 /// The message that was sent last to a segment about a transaction and isn't answered is the one whose answer the coordinator
 /// awaits.
 pub fn asked_is_awaited()
@@ -116,14 +111,8 @@ pub fn enabled_by_what_nodes_hold()
     ensures { (script : Script) (events : List (OneEvent × Bool)) → 1 ≤ script.segments → schedule.enabled script (world_of script events).steps ≡ enabled_there script (world_of script events) }
 {}
 
-/// The machine admits each event that is enabled, whoever waits, but for a round.
-pub fn enabled_is_admitted_but_for_rounds()
+/// The machine admits each event that is enabled, whoever waits.
+pub fn enabled_is_admitted()
     ensures { (script : Script) (events : List (OneEvent × Bool)) → 1 ≤ script.segments
-        → list_all (λ e. schedule.is_round e || can script (world_of script events) e) (schedule.enabled script (world_of script events).steps) ≡ true }
-{}
-
-/// So it admits all of them where the script has no detector.
-pub fn enabled_is_admitted_without_detector()
-    ensures { (script : Script) (events : List (OneEvent × Bool)) → 1 ≤ script.segments → script.detector ≡ false
         → list_all (can script (world_of script events)) (schedule.enabled script (world_of script events).steps) ≡ true }
 {}

@@ -1,5 +1,5 @@
 //! Laws of every script that was read.
-ghost use Rattle.std.specs.Prelude.{◌≡◌, ◌≤◌, ℕ, Bool, List, [], Ok};
+ghost use Rattle.std.specs.Prelude.{◌≡◌, ◌≤◌, ℕ, Bool, List, [], Ok, length};
 ghost use Rattle.gx_store.specs.Whole.{AreInsertsWhole};
 ghost use Rattle.gx_store.specs.Language.{AreLinesNumbered};
 ghost use Rattle.gx_rules.specs.Machine.{run_of, world_of};
@@ -7,6 +7,7 @@ ghost use Rattle.gx_rules.specs.System.{IsSystemRun};
 ghost use Rattle.gx_script.specs.declared.Script.{Script};
 ghost use Rattle.gx_store.specs.Language.{IsScript};
 ghost use Rattle.gx_sql.specs.Script.{Reads};
+ghost use Rattle.gx_law_scripts.specs.Tuples.{HaveTuplesTo};
 ghost use Rattle.gx_store.specs.Runs.{IsLegalHistory};
 ghost use Rattle.gx_store.specs.declared.event.Event.{Event as OneEvent};
 ghost use Rattle.gx_store.specs.declared.run.Run.{Run as OneRun};
@@ -24,6 +25,11 @@ pub fn scripts_keep_the_language()
 /// Each INSERT of a script that was read has a tuple, and each of its tuples a value for the distribution column, which no UPDATE sets.
 pub fn inserts_are_whole()
     ensures { (bytes : List ℕ) (script : Script) → Reads bytes (Ok script) → AreInsertsWhole script.tables script.lines }
+{}
+
+/// No INSERT of a script that was read has more tuples than the script has bytes.
+pub fn inserts_have_no_more_tuples_than_bytes()
+    ensures { (bytes : List ℕ) (script : Script) → Reads bytes (Ok script) → HaveTuplesTo (length bytes) script.lines }
 {}
 
 /// Every run of a script that was read is a legal history of one store without segments, whatever the network does and

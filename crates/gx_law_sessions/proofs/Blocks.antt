@@ -156,37 +156,39 @@ module _ (script : Script) (steps : List Step) (c : Coord) (k : Kept script c) (
       waits-does : Does script steps c e (follows c1 g turn outcome.Pending)
       waits-does =
           record {
-            s = s.0;
-            g = g.0;
-            x = moved step.CommitBlock;
-            sessions = λ j. refl;
-            works = λ j h. refl;
-            next = le-same next;
-            whose = inl (ap (λ (i : SessionId). i.0) (own l eb).0.home);
-            of = tt;
-            fresh = record { unended = λ h m. refl; unread = λ h m. refl; unstarted = λ h m. refl };
-            alone = (others script steps c k p fr number s all idle line is_next);
-            starts = (started script steps c k p fr number s all idle line is_next);
-            stands = inl (
-              (ended script steps c k p fr number s all idle line is_next),
-              subst (λ q. Stands script s (ms ++ []) next (block_after q step.CommitBlock) pending.Commit (y.lines + 1) g (work_of c g)) eb
-                  (record {
-                    commands = (st script steps c k p fr number s all idle line is_next).1.commands;
-                    answered = ap (λ i. i + 1) (at-own l eb).said.answered;
-                    state = (at-own l eb).said.state;
-                    begun = (at-own l eb).said.begun;
-                    sound = refl;
-                    owns = λ h. (own-late l eb, ((own l eb).1, is_next ∙ ap (λ q. Some q) is), roots-commit script s ms [] l y.lines g (work_of c g) (own-roots l eb));
-                  }),
-            );
+            alters = record {
+              s = s.0;
+              g = g.0;
+              x = moved step.CommitBlock;
+              sessions = λ j. refl;
+              works = λ j h. refl;
+              next = le-same next;
+              whose = inl (ap (λ (i : SessionId). i.0) (own l eb).0.home);
+              of = tt;
+              fresh = record { unended = λ h m. refl; unread = λ h m. refl; unstarted = λ h m. refl };
+              alone = (others script steps c k p fr number s all idle line is_next);
+              starts = (started script steps c k p fr number s all idle line is_next);
+              stands = inl (
+                (ended script steps c k p fr number s all idle line is_next),
+                subst (λ q. Stands script s (ms ++ []) next (block_after q step.CommitBlock) pending.Commit (y.lines + 1) g (work_of c g)) eb
+                    (record {
+                      commands = (st script steps c k p fr number s all idle line is_next).1.commands;
+                      answered = ap (λ i. i + 1) (at-own l eb).said.answered;
+                      state = (at-own l eb).said.state;
+                      begun = (at-own l eb).said.begun;
+                      sound = refl;
+                      owns = λ h. (own-late l eb, ((own l eb).1, is_next ∙ ap (λ q. Some q) is), roots-commit script s ms [] l y.lines g (work_of c g) (own-roots l eb));
+                    }),
+              );
+              outs = bare-outs script (ms ++ []) _ (commit-bare c.table g (work_of c g).writers);
+              owned = λ h. h;
+              sent = bare-all (follows c1 g turn outcome.Pending).coord _ (commit-bare c.table g (work_of c g).writers);
+              keeps = λ a i level q. inl q;
+              orders = λ h. h;
+              gathers = λ h. h;
+            };
             legal = λ later. tt;
             rest = λ t later. tt;
-            outs = bare-outs script (ms ++ []) _ (commit-bare c.table g (work_of c g).writers);
-            owned = λ h. h;
-            sent = bare-all (follows c1 g turn outcome.Pending).coord _ (commit-bare c.table g (work_of c g).writers);
-            keeps = λ a i level q. inl q;
-            orders = λ h. h;
-            gathers = λ h. h;
           }
 
       ends-does : Does script steps c e (follows c1 g turn outcome.Committed)

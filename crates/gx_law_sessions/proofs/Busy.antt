@@ -183,34 +183,36 @@ module _ (script : Script) (steps : List Step) (c : Coord) (from : Node) (to : N
     pub goes-on : (turn : CoordTurn) (w : Work) → Likewise w → turn.marks ≡ [] → turn.coord.works g.0 ≡ w → ((j : ℕ) → eqb j g.0 ≡ false → turn.coord.works j ≡ c.works j) → ((j : ℕ) → turn.coord.sessions j ≡ c.sessions j) → turn.coord.table.next.0 ≡ c.table.next.0 → Each (OutIs script (ms ++ turn.marks)) turn.outs → (CommandIs script (ms ++ turn.marks) (c.works g.0).command → CommandIs script (ms ++ turn.marks) (turn.coord.works g.0).command) → (GathersIn script (HeardNow steps e) g (c.works g.0).command → GathersIn script (HeardNow steps e) g (turn.coord.works g.0).command) → (OwnIn g (c.works g.0) → OwnIn g (turn.coord.works g.0)) → Each (OutAwaits turn.coord) turn.outs → ((a : Cid) (i : Node) (level : Level) → IsAwaited (c.works g.0) a i level → IsAwaited (turn.coord.works g.0) a i level ⊎ IsSettled (HeardNow steps e) turn.marks g a i) → Does script steps c e turn
     goes-on turn w k none work works sessions next outs orders gathers owned sent keeps =
         record {
-          s = s.0;
-          g = g.0;
-          x = y;
-          sessions = λ j. (busy-under turn.coord w work k.session works sessions next).sessions j;
-          works = works;
-          next = subst (λ i. c.table.next.0 ≤ i) (sym next) (le-same c.table.next.0);
-          whose = inl refl;
-          of = subst (λ m. Each (IsOf s.0 g.0) m) (sym none) tt;
-          fresh = subst (λ m. Fresh m turn.coord.table.next.0) (sym none) (record { unended = λ h l. refl; unread = λ h l. refl; unstarted = λ h l. refl });
-          alone = λ j h. others j;
-          starts = started;
-          stands = inl (
-            ended,
-            subst (λ m. Stands script s (ms ++ m) turn.coord.table.next.0 y.state.block y.state.pending y.lines y.transaction (turn.coord.works y.transaction.0)) (sym none)
-                (subst (λ i. Stands script s (ms ++ []) i y.state.block y.state.pending y.lines y.transaction (turn.coord.works y.transaction.0)) (sym next)
-                (subst (λ x. Stands script s (ms ++ []) c.table.next.0 x y.state.pending y.lines y.transaction (turn.coord.works y.transaction.0)) (sym q.in_block)
-                (subst (λ x. Stands script s (ms ++ []) c.table.next.0 B x y.lines y.transaction (turn.coord.works y.transaction.0)) (sym q.in_line)
-                (subst (λ (x : Gxid). Stands script s (ms ++ []) c.table.next.0 B P y.lines x (turn.coord.works x.0)) (sym q.its)
-                (subst (λ v. Stands script s (ms ++ []) c.table.next.0 B P y.lines g v) (sym work) there))))),
-          );
+          alters = record {
+            s = s.0;
+            g = g.0;
+            x = y;
+            sessions = λ j. (busy-under turn.coord w work k.session works sessions next).sessions j;
+            works = works;
+            next = subst (λ i. c.table.next.0 ≤ i) (sym next) (le-same c.table.next.0);
+            whose = inl refl;
+            of = subst (λ m. Each (IsOf s.0 g.0) m) (sym none) tt;
+            fresh = subst (λ m. Fresh m turn.coord.table.next.0) (sym none) (record { unended = λ h l. refl; unread = λ h l. refl; unstarted = λ h l. refl });
+            alone = λ j h. others j;
+            starts = started;
+            stands = inl (
+              ended,
+              subst (λ m. Stands script s (ms ++ m) turn.coord.table.next.0 y.state.block y.state.pending y.lines y.transaction (turn.coord.works y.transaction.0)) (sym none)
+                  (subst (λ i. Stands script s (ms ++ []) i y.state.block y.state.pending y.lines y.transaction (turn.coord.works y.transaction.0)) (sym next)
+                  (subst (λ x. Stands script s (ms ++ []) c.table.next.0 x y.state.pending y.lines y.transaction (turn.coord.works y.transaction.0)) (sym q.in_block)
+                  (subst (λ x. Stands script s (ms ++ []) c.table.next.0 B x y.lines y.transaction (turn.coord.works y.transaction.0)) (sym q.in_line)
+                  (subst (λ (x : Gxid). Stands script s (ms ++ []) c.table.next.0 B P y.lines x (turn.coord.works x.0)) (sym q.its)
+                  (subst (λ v. Stands script s (ms ++ []) c.table.next.0 B P y.lines g v) (sym work) there))))),
+            );
+            outs = outs;
+            orders = orders;
+            gathers = gathers;
+            owned = owned;
+            sent = sent;
+            keeps = keeps;
+          };
           legal = λ later. subst (λ m. EachMark (Given script) steps e [] m later) (sym none) tt;
           rest = λ t later. subst (λ m. EachMark (Rest script) steps e [] m later) (sym none) tt;
-          outs = outs;
-          orders = orders;
-          gathers = gathers;
-          owned = owned;
-          sent = sent;
-          keeps = keeps;
         }
       where
         there : Stands script s (ms ++ []) c.table.next.0 B P y.lines g w
@@ -328,29 +330,31 @@ module _ (script : Script) (steps : List Step) (c : Coord) (from : Node) (to : N
     pub block-answer : (c1 : Coord) (w : Work) (m : Command) (l : Level) → Gathers script (HeardNow steps e) g m → m.awaited ≡ [] → m.cid ≡ cid_of b → Under script steps c e c1 s g w y n b (is_alone B P) line [] → Likewise w → B ≡ block.Open l → P ≡ pending.Command → w.command ≡ Some m → m.stmt ≡ line → is_command b line ≡ true → c1.table.next.0 ≡ c.table.next.0 → ((a : Cid) (i : Node) (level : Level) → IsAwaited (c.works g.0) a i level → HasAnswered (HeardNow steps e) i g a) → Does script steps c e (answers c1 g (work_of c1 g))
     block-answer c1 w m l gath none its_cid o k opened working has same cmd next over =
         record {
-          s = s.0;
-          g = g.0;
-          x = record y { state = after_done y.state };
-          sessions = λ j. ap (λ (i : SessionId). with_at c1.sessions i.0 (record (session_of c1 i) { state = after_done (session_of c1 i).state }) j) home ∙ ap (λ (z : Session). if eqb j s.0 then record z { state = after_done z.state } else c1.sessions j) now
-              ∙ past (eqb j s.0) _ (c1.sessions j) y (c.sessions j) (o.sessions j);
-          works = λ j h. ap (λ t. if t then record (work_of c1 g) { command = None } else c1.works j) h ∙ o.works j h;
-          next = subst (λ i. c.table.next.0 ≤ i) (sym (next-is (work_of c1 g).level)) o.next;
-          whose = inl refl;
-          of = (ap (λ (i : SessionId). i.0) home, tt);
-          fresh = record { unended = λ h z. refl; unread = λ h z. refl; unstarted = λ h z. refl };
-          alone = λ j h. others j;
-          starts = started;
-          stands = inl (ended, moved (subst (λ v. Stands script s late c.table.next.0 (block.Open l) pending.Nothing y.lines g v) (sym work-now) (subst (λ i. Stands script s (ms ++ mark.Answer i (session_of c1 i).lines r ∷ []) c.table.next.0 (block.Open l) pending.Nothing y.lines g done) (sym home) there)));
+          alters = record {
+            s = s.0;
+            g = g.0;
+            x = record y { state = after_done y.state };
+            sessions = λ j. ap (λ (i : SessionId). with_at c1.sessions i.0 (record (session_of c1 i) { state = after_done (session_of c1 i).state }) j) home ∙ ap (λ (z : Session). if eqb j s.0 then record z { state = after_done z.state } else c1.sessions j) now
+                ∙ past (eqb j s.0) _ (c1.sessions j) y (c.sessions j) (o.sessions j);
+            works = λ j h. ap (λ t. if t then record (work_of c1 g) { command = None } else c1.works j) h ∙ o.works j h;
+            next = subst (λ i. c.table.next.0 ≤ i) (sym (next-is (work_of c1 g).level)) o.next;
+            whose = inl refl;
+            of = (ap (λ (i : SessionId). i.0) home, tt);
+            fresh = record { unended = λ h z. refl; unread = λ h z. refl; unstarted = λ h z. refl };
+            alone = λ j h. others j;
+            starts = started;
+            stands = inl (ended, moved (subst (λ v. Stands script s late c.table.next.0 (block.Open l) pending.Nothing y.lines g v) (sym work-now) (subst (λ i. Stands script s (ms ++ mark.Answer i (session_of c1 i).lines r ∷ []) c.table.next.0 (block.Open l) pending.Nothing y.lines g done) (sym home) there)));
+            outs = tt;
+            owned = λ h. own-none g ((answers c1 g (work_of c1 g)).coord.works g.0) (ap (λ (v : Work). v.command) work-now);
+            sent = tt;
+            keeps = λ a i level z. inr (inl (over a i level z));
+            orders = λ h. subst (CommandIs script late) (sym (ap (λ (v : Work). v.command) work-now)) tt;
+            gathers = λ h. subst (GathersIn script (HeardNow steps e) g) (sym (ap (λ (v : Work). v.command) work-now)) tt;
+          };
           legal = λ later. subst (λ i. EachMark (Given script) steps e [] (mark.Answer i (session_of c1 i).lines r ∷ []) later) (sym home)
               (λ rest. legal-answer script steps e s line n b (is_alone B P) (Some g) [] at-now later (session_of c1 s).lines r numbered (is later rest), tt);
           rest = λ t later. subst (λ i. EachMark (Rest script) steps e [] (mark.Answer i (session_of c1 i).lines r ∷ []) later) (sym home)
               (subst (λ z. RestAnswer script (record { steps = steps; event = e; earlier = []; later = later }) s z) (sym told-as) (rest-is script (record { steps = steps; event = e; earlier = []; later = later }) s line m (told-inside t m later)), tt);
-          outs = tt;
-          owned = λ h. own-none g ((answers c1 g (work_of c1 g)).coord.works g.0) (ap (λ (v : Work). v.command) work-now);
-          sent = tt;
-          keeps = λ a i level z. inr (inl (over a i level z));
-          orders = λ h. subst (CommandIs script late) (sym (ap (λ (v : Work). v.command) work-now)) tt;
-          gathers = λ h. subst (GathersIn script (HeardNow steps e) g) (sym (ap (λ (v : Work). v.command) work-now)) tt;
         }
       where
         home : (work_of c1 g).session ≡ s

@@ -100,26 +100,28 @@ module _ (script : Script) (steps : List Step) (c : Coord) (s : SessionId) (all 
   open-does : (l : Rattle.gx_tree.specs.declared.stmt.Level.Level) → block.Open l ≡ y.state.block → Does script steps c (event.End s) (rolls_back (with_state c s idle_outside) y.transaction [] (on_abort c.table y.transaction))
   open-does l eb =
       record {
-        s = s.0;
-        g = y.transaction.0;
-        x = record y { state = idle_outside };
-        sessions = λ j. refl;
-        works = λ j h. ap (λ q. if q then no_work else c.works j) h;
-        next = le-same next;
-        whose = inl (ap (λ (i : SessionId). i.0) own.home);
-        of = (refl, lock-of s.0 y.transaction.0 tail back);
-        fresh = of-fresh s.0 y.transaction.0 next (mark.Abort y.transaction ∷ tail) own.drawn (refl, lock-of s.0 y.transaction.0 tail back);
-        alone = others;
-        starts = started;
-        stands = inr (ended, over (mark.Abort y.transaction ∷ tail) (tt, lock-for s tail back));
+        alters = record {
+          s = s.0;
+          g = y.transaction.0;
+          x = record y { state = idle_outside };
+          sessions = λ j. refl;
+          works = λ j h. ap (λ q. if q then no_work else c.works j) h;
+          next = le-same next;
+          whose = inl (ap (λ (i : SessionId). i.0) own.home);
+          of = (refl, lock-of s.0 y.transaction.0 tail back);
+          fresh = of-fresh s.0 y.transaction.0 next (mark.Abort y.transaction ∷ tail) own.drawn (refl, lock-of s.0 y.transaction.0 tail back);
+          alone = others;
+          starts = started;
+          stands = inr (ended, over (mark.Abort y.transaction ∷ tail) (tt, lock-for s tail back));
+          outs = bare-outs script (ms ++ mark.Abort y.transaction ∷ tail) _ (abort-bare c.table y.transaction);
+          owned = λ h. own-none y.transaction ((rolls_back (with_state c s idle_outside) y.transaction [] (on_abort c.table y.transaction)).coord.works y.transaction.0) (ap (λ (z : Work). z.command) (ap (λ q. if q then no_work else c.works y.transaction.0) (eqb-self y.transaction.0)));
+          sent = bare-all (rolls_back (with_state c s idle_outside) y.transaction [] (on_abort c.table y.transaction)).coord _ (abort-bare c.table y.transaction);
+          keeps = λ k i level a. inr (inr (ap (λ q. q || is_aborted tail y.transaction) (eqb-self y.transaction.0)));
+          orders = λ h. subst (CommandIs script (ms ++ mark.Abort y.transaction ∷ tail)) (sym (ap (λ (z : Work). z.command) (ap (λ q. if q then no_work else c.works y.transaction.0) (eqb-self y.transaction.0)))) tt;
+          gathers = λ h. subst (GathersIn script (HeardNow steps (event.End s)) y.transaction) (sym (ap (λ (z : Work). z.command) (ap (λ q. if q then no_work else c.works y.transaction.0) (eqb-self y.transaction.0)))) tt;
+        };
         legal = λ later. (λ q. record { running = subst (λ m. is_ended m y.transaction ≡ false) (sym (append-nil ms)) own.running; cause = inr (record { session = s; event = refl; transaction = transaction }) }, lock-given script steps (event.End s) (mark.Abort y.transaction ∷ []) tail later back);
         rest = λ t later. (tt, lock-rest script steps (event.End s) (mark.Abort y.transaction ∷ []) tail later back);
-        outs = bare-outs script (ms ++ mark.Abort y.transaction ∷ tail) _ (abort-bare c.table y.transaction);
-        owned = λ h. own-none y.transaction ((rolls_back (with_state c s idle_outside) y.transaction [] (on_abort c.table y.transaction)).coord.works y.transaction.0) (ap (λ (z : Work). z.command) (ap (λ q. if q then no_work else c.works y.transaction.0) (eqb-self y.transaction.0)));
-        sent = bare-all (rolls_back (with_state c s idle_outside) y.transaction [] (on_abort c.table y.transaction)).coord _ (abort-bare c.table y.transaction);
-        keeps = λ k i level a. inr (inr (ap (λ q. q || is_aborted tail y.transaction) (eqb-self y.transaction.0)));
-        orders = λ h. subst (CommandIs script (ms ++ mark.Abort y.transaction ∷ tail)) (sym (ap (λ (z : Work). z.command) (ap (λ q. if q then no_work else c.works y.transaction.0) (eqb-self y.transaction.0)))) tt;
-        gathers = λ h. subst (GathersIn script (HeardNow steps (event.End s)) y.transaction) (sym (ap (λ (z : Work). z.command) (ap (λ q. if q then no_work else c.works y.transaction.0) (eqb-self y.transaction.0)))) tt;
       }
     where
       tail : List Mark
@@ -139,26 +141,28 @@ module _ (script : Script) (steps : List Step) (c : Coord) (s : SessionId) (all 
   failed-does : Does script steps c (event.End s) (Rattle.gx_rules.specs.Coordinators.rests (with_state c s idle_outside))
   failed-does =
       record {
-        s = s.0;
-        g = next;
-        x = record y { state = idle_outside };
-        sessions = λ j. refl;
-        works = λ j h. refl;
-        next = le-same next;
-        whose = inr (le-same next);
-        of = tt;
-        fresh = record { unended = λ h l. refl; unread = λ h l. refl; unstarted = λ h l. refl };
-        alone = others;
-        starts = started;
-        stands = inr (ended, over [] tt);
+        alters = record {
+          s = s.0;
+          g = next;
+          x = record y { state = idle_outside };
+          sessions = λ j. refl;
+          works = λ j h. refl;
+          next = le-same next;
+          whose = inr (le-same next);
+          of = tt;
+          fresh = record { unended = λ h l. refl; unread = λ h l. refl; unstarted = λ h l. refl };
+          alone = others;
+          starts = started;
+          stands = inr (ended, over [] tt);
+          outs = tt;
+          owned = λ h. h;
+          sent = tt;
+          keeps = λ k i level a. inl a;
+          orders = λ h. h;
+          gathers = λ h. h;
+        };
         legal = λ later. tt;
         rest = λ t later. tt;
-        outs = tt;
-        owned = λ h. h;
-        sent = tt;
-        keeps = λ k i level a. inl a;
-        orders = λ h. h;
-        gathers = λ h. h;
       }
 
   pub end-does : (b : Block) → b ≡ y.state.block → Does script steps c (event.End s) (ends_session c s b)

@@ -45,6 +45,7 @@ use Rattle.gx_store.specs.Refusals.{HasJournalFailed, IsCause, may_refuse, the_c
 use Rattle.gx_rules.specs.AtCoordinator.{failure_marks, follows, is_awaited, is_committed as is_closed, is_refused, item_for, on_answer, on_done, on_failed, on_message, on_status, reason_of, takes_done}
 use Rattle.gx_rules.specs.Coordinators.{Command, Coord, CoordTurn, Session, rests, session_of, work_of}
 use Rattle.gx_rules.specs.Fits.{fits_part}
+use Rattle.gx_rules.proofs.Rounds.{graph-ways}
 use Rattle.gx_law_order.proofs.Lists.{Each}
 use Rattle.gx_law_order.proofs.Sessions.{Kept, is_closing_in, stage_of}
 use Rattle.gx_law_order.proofs.Stages.{gx}
@@ -68,7 +69,12 @@ use Rattle.gx_law_sessions.proofs.Under.{Under, refuse-does}
 -- the item of a turn says nothing of sessions
 pub does-with : (script : Script) (steps : List Step) (c : Coord) (e : Event) (turn : CoordTurn) (item : Option JournalItem) → Does script steps c e turn → Does script steps c e (record turn { item = item })
 does-with script steps c e turn item d =
-    record { s = d.s; g = d.g; x = d.x; sessions = d.sessions; works = d.works; next = d.next; whose = d.whose; of = d.of; fresh = d.fresh; alone = d.alone; starts = d.starts; stands = d.stands; legal = d.legal; outs = d.outs; orders = d.orders; gathers = d.gathers; rest = d.rest; owned = d.owned; sent = d.sent; keeps = d.keeps }
+    let a = d.alters in
+    record {
+      alters = record { s = a.s; g = a.g; x = a.x; sessions = a.sessions; works = a.works; next = a.next; whose = a.whose; of = a.of; fresh = a.fresh; alone = a.alone; starts = a.starts; stands = a.stands; outs = a.outs; orders = a.orders; gathers = a.gathers; owned = a.owned; sent = a.sent; keeps = a.keeps };
+      legal = d.legal;
+      rest = d.rest;
+    }
 
 pub rests-now : (script : Script) (steps : List Step) (c : Coord) (from to : Node) (number : ℕ) → Rests script steps c (event.Receive from to number) (rests c)
 rests-now script steps c from to number = record { sessions = λ j. refl; works = λ j. refl; next = refl; quiet = tt; alone = λ j. (refl, refl); outs = λ h. tt; sent = λ h. tt }
@@ -270,4 +276,7 @@ message-does script steps c k all gath from some to number fails (message.Commit
 message-does script steps c k all gath from some to number fails (message.Abort g) r n = inr (rests-now script steps c from to number)
 message-does script steps c k all gath from some to number fails (message.Forget g) r n = inr (rests-now script steps c from to number)
 message-does script steps c k all gath from some to number fails (message.Collect round) r n = inr (rests-now script steps c from to number)
-message-does script steps c k all gath from some to number fails (message.Graph round graph) r n = inr (rests-now script steps c from to number)
+message-does script steps c k all gath from some to number fails (message.Graph round graph) r n =
+    graph-ways (Effect script steps c (event.Receive from to number)) c from round graph (inr (rests-now script steps c from to number))
+    (λ taken. inr (record { sessions = λ j. refl; works = λ j. refl; next = refl; quiet = tt; alone = λ j. (refl, refl); outs = λ h. tt; sent = λ h. tt }))
+    (λ taken all. inr (record { sessions = λ j. refl; works = λ j. refl; next = refl; quiet = (tt, tt); alone = λ j. (refl, refl); outs = λ h. tt; sent = λ h. tt }))

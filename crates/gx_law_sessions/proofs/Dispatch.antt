@@ -188,27 +188,29 @@ module _ (script : Script) (steps : List Step) (ev : Event) (exempt : (A : Type 
   out-does : (pieces : List Piece) (r : Reading) → ReadsHere r → plan_of script.segments (dist_of script.tables (table_of line)) g (next_cid w) line ≡ Ok pieces → Does script steps c ev (behind earlier (goes_out g (next_cid w) line pieces r))
   out-does pieces r R plan =
       record {
-        s = s.0;
-        g = g.0;
-        x = x;
-        sessions = λ j. R.sessions j ∙ o.sessions j;
-        works = λ j h. ap (λ q. if q then sent-work r pieces (work_of r.coord g) else r.coord.works j) h ∙ R.works j h ∙ o.works j h;
-        next = subst (λ (i : Gxid). c.table.next.0 ≤ i.0) (sym next-is) o.next;
-        whose = o.whose;
-        of = each_append (IsOf s.0 g.0) earlier r.marks o.of R.of;
-        fresh = of-fresh s.0 g.0 _ (earlier ++ r.marks) (subst (λ (i : Gxid). g.0 < i.0) (sym next-is) o.drawn) (each_append (IsOf s.0 g.0) earlier r.marks o.of R.of);
-        alone = o.alone;
-        starts = o.at.starts ∙ sym o.lines;
-        stands = inl (o.ends, at_x (subst (λ v. Stands script s (marks_in steps ++ (earlier ++ r.marks)) late.coord.table.next.0 B pending.Command x.lines g v) (sym work-now) there));
+        alters = record {
+          s = s.0;
+          g = g.0;
+          x = x;
+          sessions = λ j. R.sessions j ∙ o.sessions j;
+          works = λ j h. ap (λ q. if q then sent-work r pieces (work_of r.coord g) else r.coord.works j) h ∙ R.works j h ∙ o.works j h;
+          next = subst (λ (i : Gxid). c.table.next.0 ≤ i.0) (sym next-is) o.next;
+          whose = o.whose;
+          of = each_append (IsOf s.0 g.0) earlier r.marks o.of R.of;
+          fresh = of-fresh s.0 g.0 _ (earlier ++ r.marks) (subst (λ (i : Gxid). g.0 < i.0) (sym next-is) o.drawn) (each_append (IsOf s.0 g.0) earlier r.marks o.of R.of);
+          alone = o.alone;
+          starts = o.at.starts ∙ sym o.lines;
+          stands = inl (o.ends, at_x (subst (λ v. Stands script s (marks_in steps ++ (earlier ++ r.marks)) late.coord.table.next.0 B pending.Command x.lines g v) (sym work-now) there));
+          outs = sent_orders;
+          owned = λ h m q. subst (λ (z : Command). Each (λ (o : Out). IsOwn g z.cid ((goes_out g (next_cid w) line pieces r).coord.works g.0).level o.message) z.orders) (some-same _ m (sym command-now ∙ q)) (own-all pieces);
+          sent = awaited-all pieces (λ i h. h);
+          keeps = λ k i level a. absurd (unawaited k i level a);
+          orders = λ h. subst (CommandIs script (marks_in steps ++ (earlier ++ r.marks))) (sym command-now) sent_orders;
+          gathers = λ h. subst (GathersIn script (HeardNow steps ev) g) (sym command-now)
+              (record { pieces = pieces; plan = plan; taken = []; heard = tt; fits = tt; apart = tt; all = λ i. or-none (has i (nodes_in pieces)); free = λ i q. refl; parts = refl; counted = refl });
+        };
         legal = λ later. marks-append (Given script) steps ev [] earlier r.marks later (o.legal (r.marks ++ later)) (R.legal later);
         rest = λ t later. marks-append (Rest script) steps ev [] earlier r.marks later (o.rests (r.marks ++ later)) (R.rests later);
-        outs = sent_orders;
-        owned = λ h m q. subst (λ (z : Command). Each (λ (o : Out). IsOwn g z.cid ((goes_out g (next_cid w) line pieces r).coord.works g.0).level o.message) z.orders) (some-same _ m (sym command-now ∙ q)) (own-all pieces);
-        sent = awaited-all pieces (λ i h. h);
-        keeps = λ k i level a. absurd (unawaited k i level a);
-        orders = λ h. subst (CommandIs script (marks_in steps ++ (earlier ++ r.marks))) (sym command-now) sent_orders;
-        gathers = λ h. subst (GathersIn script (HeardNow steps ev) g) (sym command-now)
-            (record { pieces = pieces; plan = plan; taken = []; heard = tt; fits = tt; apart = tt; all = λ i. or-none (has i (nodes_in pieces)); free = λ i q. refl; parts = refl; counted = refl });
       }
     where
       own-all : (qs : List Piece) → Each (λ (o : Out). IsOwn g (next_cid w) ((goes_out g (next_cid w) line pieces r).coord.works g.0).level o.message) (orders_of g (next_cid w) (work_of r.coord g).level r.snapshot (horizon_of r.coord.table) qs)
@@ -514,26 +516,28 @@ module _ (script : Script) (steps : List Step) (ev : Event) (exempt : (A : Type 
     pub waits-does : Does script steps c ev (behind earlier late)
     waits-does =
         record {
-          s = s.0;
-          g = g.0;
-          x = x;
-          sessions = o.sessions;
-          works = λ j h. ap (λ q. if q then held_work else c1.works j) h ∙ o.works j h;
-          next = o.next;
-          whose = o.whose;
-          of = each_append (IsOf s.0 g.0) earlier tail o.of (tt, tt);
-          fresh = of-fresh s.0 g.0 _ (earlier ++ tail) o.drawn (each_append (IsOf s.0 g.0) earlier tail o.of (tt, tt));
-          alone = o.alone;
-          starts = o.at.starts ∙ sym o.lines;
-          stands = inl (o.ends, at_x (subst (λ v. Stands script s (marks_in steps ++ (earlier ++ tail)) c1.table.next.0 B pending.Command x.lines g v) (sym work-now) there));
+          alters = record {
+            s = s.0;
+            g = g.0;
+            x = x;
+            sessions = o.sessions;
+            works = λ j h. ap (λ q. if q then held_work else c1.works j) h ∙ o.works j h;
+            next = o.next;
+            whose = o.whose;
+            of = each_append (IsOf s.0 g.0) earlier tail o.of (tt, tt);
+            fresh = of-fresh s.0 g.0 _ (earlier ++ tail) o.drawn (each_append (IsOf s.0 g.0) earlier tail o.of (tt, tt));
+            alone = o.alone;
+            starts = o.at.starts ∙ sym o.lines;
+            stands = inl (o.ends, at_x (subst (λ v. Stands script s (marks_in steps ++ (earlier ++ tail)) c1.table.next.0 B pending.Command x.lines g v) (sym work-now) there));
+            outs = tt;
+            orders = λ h. subst (CommandIs script (marks_in steps ++ (earlier ++ tail))) (sym no-command) tt;
+            gathers = λ h. subst (GathersIn script (HeardNow steps ev) g) (sym no-command) tt;
+            owned = λ h. own-none g (late.coord.works g.0) no-command;
+            sent = tt;
+            keeps = λ k i level a. absurd (unawaited k i level a);
+          };
           legal = λ later. marks-append (Given script) steps ev [] earlier tail later (o.legal (tail ++ later)) (λ r. tt, tt);
           rest = λ t later. marks-append (Rest script) steps ev [] earlier tail later (o.rests (tail ++ later)) (tt, tt);
-          outs = tt;
-          orders = λ h. subst (CommandIs script (marks_in steps ++ (earlier ++ tail))) (sym no-command) tt;
-          gathers = λ h. subst (GathersIn script (HeardNow steps ev) g) (sym no-command) tt;
-          owned = λ h. own-none g (late.coord.works g.0) no-command;
-          sent = tt;
-          keeps = λ k i level a. absurd (unawaited k i level a);
         }
 
   pub dispatch-does : ((v : Work) (ns : List Mark) → v.last ≡ (work_of c1 g).last → v.command ≡ None → v.waiting ≡ Some line → Roots script s ((marks_in steps ++ earlier) ++ ns) B pending.Command x.lines g v) → Does script steps c ev (behind earlier (dispatches script c1 g line))

@@ -75,8 +75,9 @@ pub standing-by : (script : Script) (k : SessionId) (ms ns : List Mark) (next la
 standing-by script k ms ns next later b p lines g w v ends (inl s) calm l busy = inl (s.0, stands-by script k ms ns next later b p lines g w v s.1 calm l busy)
 standing-by script k ms ns next later b p lines g w v ends (inr s) calm l busy = inr (s.0, over-by script k ms ns b p lines s.1 calm)
 
--- AN EVENT OF ONE SESSION
-pub record Does (script : Script) (steps : List Step) (c : Coord) (e : Event) (turn : CoordTurn) : Type 0 where
+-- A TURN OF ONE SESSION
+-- what a turn changes, with an event that starts and ends what it may
+pub record Alters (script : Script) (steps : List Step) (c : Coord) (e : Event) (turn : CoordTurn) : Type 0 where
   pub s : ℕ
   pub g : ℕ
   pub x : Session
@@ -89,8 +90,6 @@ pub record Does (script : Script) (steps : List Step) (c : Coord) (e : Event) (t
   pub alone : (k : SessionId) → eqb k.0 s ≡ false → (starts_by k e ≡ 0) × (ends_by k e ≡ 0)
   pub starts : starts_in (sid s) steps + starts_by (sid s) e ≡ x.lines
   pub stands : IsStanding script (sid s) (marks_in steps ++ turn.marks) turn.coord.table.next.0 x.state.block x.state.pending x.lines x.transaction (turn.coord.works x.transaction.0) (ends_in (sid s) steps + ends_by (sid s) e)
-  pub legal : (later : List Mark) → EachMark (Given script) steps e [] turn.marks later
-  pub rest : AreCommandsTold script steps → (later : List Mark) → EachMark (Rest script) steps e [] turn.marks later
   pub outs : Each (OutIs script (marks_in steps ++ turn.marks)) turn.outs
   pub orders : CommandIs script (marks_in steps ++ turn.marks) (c.works g).command → CommandIs script (marks_in steps ++ turn.marks) (turn.coord.works g).command
   pub gathers : GathersIn script (HeardNow steps e) (gx g) (c.works g).command → GathersIn script (HeardNow steps e) (gx g) (turn.coord.works g).command
@@ -98,9 +97,16 @@ pub record Does (script : Script) (steps : List Step) (c : Coord) (e : Event) (t
   pub sent : Each (OutAwaits turn.coord) turn.outs
   pub keeps : (k : Cid) (i : Node) (level : Level) → IsAwaited (c.works g) k i level → IsAwaited (turn.coord.works g) k i level ⊎ IsSettled (HeardNow steps e) turn.marks (gx g) k i
 
--- AN EVENT OF NO SESSION
+-- and its marks, in a step of its own
+pub record Does (script : Script) (steps : List Step) (c : Coord) (e : Event) (turn : CoordTurn) : Type 0 where
+  pub alters : Alters script steps c e turn
+  pub legal : (later : List Mark) → EachMark (Given script) steps e [] turn.marks later
+  pub rest : AreCommandsTold script steps → (later : List Mark) → EachMark (Rest script) steps e [] turn.marks later
+
+-- A TURN OF NO SESSION
 abbrev pub Quiet : Mark → Type 0
 Quiet (mark.Decided g) = Unit {0}
+Quiet (mark.Recheck round own verdict) = Unit {0}
 Quiet _ = ⊥
 
 pub record Rests (script : Script) (steps : List Step) (c : Coord) (e : Event) (turn : CoordTurn) : Type 0 where
@@ -115,9 +121,17 @@ pub record Rests (script : Script) (steps : List Step) (c : Coord) (e : Event) (
 abbrev pub Effect : Script → List Step → Coord → Event → CoordTurn → Type 0
 Effect script steps c e turn = Does script steps c e turn ⊎ Rests script steps c e turn
 
+abbrev pub Turns : Script → List Step → Coord → Event → CoordTurn → Type 0
+Turns script steps c e turn = Alters script steps c e turn ⊎ Rests script steps c e turn
+
+pub turns : (script : Script) (steps : List Step) (c : Coord) (e : Event) (turn : CoordTurn) → Effect script steps c e turn → Turns script steps c e turn
+turns script steps c e turn (inl d) = inl d.alters
+turns script steps c e turn (inr r) = inr r
+
 pub quiet-calm : (k : SessionId) (ms : List Mark) → Each Quiet ms → Each (CalmFor k) ms
 quiet-calm k [] e = tt
 quiet-calm k (mark.Decided g ∷ ms) e = (tt, quiet-calm k ms e.1)
+quiet-calm k (mark.Recheck round own verdict ∷ ms) e = (tt, quiet-calm k ms e.1)
 quiet-calm k (mark.Start g s ∷ ms) e = absurd e.0
 quiet-calm k (mark.Answer s n a ∷ ms) e = absurd e.0
 quiet-calm k (m ∷ ms) e = (tt, quiet-calm k ms e.1)
@@ -125,4 +139,5 @@ quiet-calm k (m ∷ ms) e = (tt, quiet-calm k ms e.1)
 pub quiet-of : (s g : ℕ) (ms : List Mark) → Each Quiet ms → Each (IsOf s g) ms
 quiet-of s g [] e = tt
 quiet-of s g (mark.Decided h ∷ ms) e = (tt, quiet-of s g ms e.1)
+quiet-of s g (mark.Recheck round own verdict ∷ ms) e = (tt, quiet-of s g ms e.1)
 quiet-of s g (m ∷ ms) e = absurd e.0

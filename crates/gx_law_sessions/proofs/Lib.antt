@@ -10,6 +10,7 @@ pub mod Outs
 pub mod Gathers
 pub mod Awaited
 pub mod Frame
+pub mod Becoming
 pub mod After
 pub mod Under
 pub mod Reading
@@ -21,6 +22,7 @@ pub mod Busy
 pub mod Replies
 pub mod Closings
 pub mod Resuming
+pub mod Cancelling
 pub mod Notes
 pub mod Alive
 pub mod Ran
@@ -28,5 +30,7 @@ pub mod Steps
 pub mod Drawn
 pub mod Sendings
 pub mod Stepping
+pub mod Events
 pub mod World
+pub mod Remaining
 pub mod Waiting

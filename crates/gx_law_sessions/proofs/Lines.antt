@@ -127,26 +127,28 @@ module _ (script : Script) (steps : List Step) (c : Coord) (k : Kept script c) (
     pub at-once : (asked : LineStep) (r : StmtAnswer) (B : Block) → pending_after asked ≡ pending.Nothing → block_after y.state.block asked ≡ B → (is_open B ≡ true → y.state.block ≡ B) → (is_open B ≡ true → (is_command (InBlock ReadCommitted 0) line ≡ false) × (closes_block line ≡ false)) → ((later : List Mark) → IsAnswer script (record { steps = steps; event = e; earlier = []; later = later }) s (state_in y.state.block st.1.commands) line r) → state_after (state_in y.state.block st.1.commands) line r ≡ state_in B st.1.commands → ((later : List Mark) → RestAnswer script (record { steps = steps; event = e; earlier = []; later = later }) s r) → Does script steps c e (answers_at_once (starts_line c s asked) s r)
     at-once asked r B waiting stays same quiet is after rest =
         record {
-          s = s.0;
-          g = next;
-          x = moved asked;
-          sessions = λ j. refl;
-          works = λ j h. refl;
-          next = le-same next;
-          whose = inr (le-same next);
-          of = (refl, tt);
-          fresh = record { unended = λ h l. refl; unread = λ h l. refl; unstarted = λ h l. refl };
-          alone = others;
-          starts = started;
-          stands = inl (ended, subst (λ q. Stands script s late next q (pending_after asked) (y.lines + 1) y.transaction (work_of c y.transaction)) (sym stays) (subst (λ q. Stands script s late next B q (y.lines + 1) y.transaction (work_of c y.transaction)) (sym waiting) there));
+          alters = record {
+            s = s.0;
+            g = next;
+            x = moved asked;
+            sessions = λ j. refl;
+            works = λ j h. refl;
+            next = le-same next;
+            whose = inr (le-same next);
+            of = (refl, tt);
+            fresh = record { unended = λ h l. refl; unread = λ h l. refl; unstarted = λ h l. refl };
+            alone = others;
+            starts = started;
+            stands = inl (ended, subst (λ q. Stands script s late next q (pending_after asked) (y.lines + 1) y.transaction (work_of c y.transaction)) (sym stays) (subst (λ q. Stands script s late next B q (y.lines + 1) y.transaction (work_of c y.transaction)) (sym waiting) there));
+            outs = tt;
+            owned = λ h. h;
+            sent = tt;
+            keeps = λ a i level q. inl q;
+            orders = λ h. h;
+            gathers = λ h. h;
+          };
           legal = λ later. (λ q. legal-answer script steps e s line y.lines (state_in y.state.block st.1.commands) false (started_after s None ms) [] at-zero later lines r numbered (is later), tt);
           rest = λ t later. (rest later, tt);
-          outs = tt;
-          owned = λ h. h;
-          sent = tt;
-          keeps = λ a i level q. inl q;
-          orders = λ h. h;
-          gathers = λ h. h;
         }
       where
         lines : ℕ
@@ -254,26 +256,28 @@ module _ (script : Script) (steps : List Step) (c : Coord) (k : Kept script c) (
     pub begin-does : (level : Level) → line ≡ stmt.Begin level → block.Outside ≡ y.state.block → Does script steps c e (behind (begun ∷ []) (answers_at_once (begins (starts_line c s (step.BeginBlock level)) s level) s told.Begin))
     begin-does level is outside =
         record {
-          s = s.0;
-          g = next;
-          x = fresh asked;
-          sessions = fresh-sessions asked level;
-          works = λ j h. ap (λ q. if q then new_work s level else c.works j) h;
-          next = le-more next;
-          whose = inr (le-same next);
-          of = ((refl, refl), (refl, tt));
-          fresh = of-fresh s.0 next (next + 1) (begun ∷ answer_mark c1 s told.Begin ∷ []) (more next) ((refl, refl), (refl, tt));
-          alone = others;
-          starts = started;
-          stands = inl (ended, subst (λ q. Stands script s late (next + 1) (block_after q asked) pending.Nothing (y.lines + 1) c.table.next (c1.works next)) outside (subst (λ v. Stands script s late (next + 1) (block.Open level) pending.Nothing (y.lines + 1) c.table.next v) (sym (fresh-work asked level)) there));
+          alters = record {
+            s = s.0;
+            g = next;
+            x = fresh asked;
+            sessions = fresh-sessions asked level;
+            works = λ j h. ap (λ q. if q then new_work s level else c.works j) h;
+            next = le-more next;
+            whose = inr (le-same next);
+            of = ((refl, refl), (refl, tt));
+            fresh = of-fresh s.0 next (next + 1) (begun ∷ answer_mark c1 s told.Begin ∷ []) (more next) ((refl, refl), (refl, tt));
+            alone = others;
+            starts = started;
+            stands = inl (ended, subst (λ q. Stands script s late (next + 1) (block_after q asked) pending.Nothing (y.lines + 1) c.table.next (c1.works next)) outside (subst (λ v. Stands script s late (next + 1) (block.Open level) pending.Nothing (y.lines + 1) c.table.next v) (sym (fresh-work asked level)) there));
+            outs = tt;
+            owned = λ h. own-none c.table.next (c1.works c.table.next.0) (ap (λ (v : Work). v.command) (fresh-work asked level));
+            sent = tt;
+            keeps = λ a i level q. absurd (undrawn-unawaited a i level q);
+            orders = λ h. subst (CommandIs script late) (sym (ap (λ (v : Work). v.command) (fresh-work asked level))) tt;
+            gathers = λ h. subst (GathersIn script (HeardNow steps e) c.table.next) (sym (ap (λ (v : Work). v.command) (fresh-work asked level))) tt;
+          };
           legal = λ later. (λ q. start-given _ outside (ap (Rattle.gx_store.specs.Legal.draws Outside) is), (λ q. legal-answer script steps e s line y.lines Outside true (Some c.table.next) (begun ∷ []) (at-begun outside) later _ told.Begin numbered (subst (λ l. IsAnswer script (record { steps = steps; event = e; earlier = begun ∷ []; later = later }) s Outside l told.Begin) (sym is) (at-begun outside).said.begun), tt));
           rest = λ t later. (tt, (tt, tt));
-          outs = tt;
-          owned = λ h. own-none c.table.next (c1.works c.table.next.0) (ap (λ (v : Work). v.command) (fresh-work asked level));
-          sent = tt;
-          keeps = λ a i level q. absurd (undrawn-unawaited a i level q);
-          orders = λ h. subst (CommandIs script late) (sym (ap (λ (v : Work). v.command) (fresh-work asked level))) tt;
-          gathers = λ h. subst (GathersIn script (HeardNow steps e) c.table.next) (sym (ap (λ (v : Work). v.command) (fresh-work asked level))) tt;
         }
       where
         asked : LineStep

@@ -20,6 +20,7 @@ use Rattle.gx_dsnap.specs.declared.snapshot.Snapshot.{Snapshot}
 use Rattle.gx_waits.specs.declared.claim.Claim.{Claim}
 use Rattle.gx_waits.specs.declared.object.Object.{Object}
 use Rattle.gx_waits.specs.declared.object.Object.TheVariants.{Relation, Transaction, Tuple}
+use Rattle.gx_locks.specs.Graphs.{graph_at}
 use Rattle.gx_locks.specs.Locks.{is_free, wait_of}
 use Rattle.gx_meaning.specs.declared.fault.ArithFault.{ArithFault}
 use Rattle.gx_msg.specs.declared.item.JournalItem.{JournalItem}
@@ -43,6 +44,7 @@ use Rattle.gx_rules.specs.Segments.Phase.{Reading, Writing, Prepared, Committed,
 use Rattle.gx_rules.specs.Shown.{shown}
 use Rattle.gx_rules.specs.Slices.{Moved, answers, first_fault, inserted, inserts_row, selects, starts_from, takes_own, writes_row}
 use Rattle.gx_rules.specs.Visits.{DidStop}
+use Rattle.gx_rules.proofs.Rounds.{collect-ways}
 use Rattle.gx_rules.proofs.Moving.{Ends, Keeps}
 use Rattle.gx_law_order.proofs.Changing.{row-goes-on, rows-change, stop-keeps}
 use Rattle.gx_law_order.proofs.Lists.{Each}
@@ -342,7 +344,10 @@ module _ (ms : List Mark) (node : Node) where
     message-notes fails (message.CommitPrepared g) = below g _ (commit-prepared ms node s is all g fails (local_of s g) (local_of s g).phase (all g.0))
     message-notes fails (message.Abort g) = below g _ (abort ms node s is all g (local_of s g) (local_of s g).phase (all g.0))
     message-notes fails (message.Forget g) = below g _ (forget ms node s is all g (local_of s g) (local_of s g).phase (all g.0))
-    message-notes fails (message.Collect round) = stay ms node s is all
+    message-notes fails (message.Collect round) =
+        collect-ways (Notes ms node) s round (stay ms node s is all)
+        (λ new. record { locals = λ g. local-more ms (mark.Report s.node round (graph_at s.locks) ∷ []) node (gx g) (s.locals g) (all g); outs = (tt, tt) })
+        (λ same graph kept. record { locals = λ g. local-more ms [] node (gx g) (s.locals g) (all g); outs = (tt, tt) })
     message-notes fails (message.Answer g r) = stay ms node s is all
     message-notes fails (message.Graph round graph) = stay ms node s is all
 

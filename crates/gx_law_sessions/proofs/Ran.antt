@@ -1,5 +1,5 @@
 -- The command of each EXEC was under way when it was sent.
-use Rattle.std.proofs.Common.{◌≡◌, ◌⊎◌, inl, inr, ℕ, ◌+◌, List, [], ◌∷◌, ◌++◌, Some, refl, sym, subst, ap, ◌∙◌, arith, append_assoc, append-nil}
+use Rattle.std.proofs.Common.{◌≡◌, ◌⊎◌, inl, inr, ℕ, ◌+◌, List, [], ◌∷◌, ◌++◌, Some, refl, sym, subst, ap, ◌∙◌, arith, append-nil}
 use Rattle.gx_lemmas.proofs.Numbers.{plus-none}
 use Rattle.gx_ids.specs.declared.ids.Cid.{Cid}
 use Rattle.gx_ids.specs.declared.ids.Gxid.{Gxid}
@@ -10,10 +10,12 @@ use Rattle.gx_msg.specs.declared.message.Message.{Message}
 use Rattle.gx_msg.specs.declared.message.Message.TheVariants as message
 use Rattle.gx_msg.specs.declared.message.Out.{Out}
 use Rattle.gx_script.specs.declared.Script.{Script}
+use Rattle.gx_store.specs.declared.event.Event.{Event}
 use Rattle.gx_store.specs.declared.event.Event.TheVariants as event
+use Rattle.gx_store.specs.declared.mark.Mark.{Mark}
 use Rattle.gx_store.specs.declared.run.Step.{Step}
 use Rattle.gx_store.specs.Commands.{IsUnderWay}
-use Rattle.gx_store.specs.Points.{IsPointOf, Point, marks_in, starts_in}
+use Rattle.gx_store.specs.Points.{marks_in, starts_in}
 use Rattle.gx_store.specs.Refusals.{the_coordinator}
 use Rattle.gx_store.proofs.Runs.{marks_in-push, starts_in-push}
 use Rattle.gx_rules.specs.Coordinators.{Coord}
@@ -25,6 +27,7 @@ use Rattle.gx_law_sessions.specs.Alive.{HasRun, HaveRun, IsHeard, IsUnderWayBehi
 use Rattle.gx_law_sessions.specs.Scanned.{stmt_of_command}
 use Rattle.gx_law_sessions.specs.Standing.{IsSession}
 use Rattle.gx_law_sessions.proofs.Alive.{behind, under-there}
+use Rattle.gx_law_sessions.proofs.Becoming.{Becomes}
 use Rattle.gx_law_sessions.proofs.Awaited.{IsAwaited, IsAwaitedOut, OutAwaits}
 use Rattle.gx_law_sessions.proofs.Gathers.{GathersIn}
 use Rattle.gx_law_sessions.proofs.Outs.{of-more}
@@ -64,21 +67,18 @@ was-behind script steps level g c u = by_end (ends steps)
               (plus-none (starts_in u.session steps) ∙ ap (starts_in u.session) z.2 ∙ starts_in-push u.session z.0 z.1) (append-nil (marks_in steps) ∙ ap marks_in z.2 ∙ marks_in-push z.0 z.1) here;
         }
 
--- ONE STEP MORE
-among-more : (steps : List Step) (s : Step) (point : Point) → IsPointOf steps point → IsPointOf (steps ++ s ∷ []) point
-among-more steps s point of =
-    record { step = of.step; rest = of.rest ++ s ∷ []; among = ap (λ ss. ss ++ s ∷ []) of.among ∙ append_assoc point.steps (of.step ∷ of.rest) (s ∷ []); event = of.event; marks = of.marks }
-
-was-more : (script : Script) (steps : List Step) (s : Step) (g : Gxid) (c : Cid) → WasUnderWay script steps g c → WasUnderWay script (steps ++ s ∷ []) g c
-was-more script steps s g c w =
+-- ONE TURN MORE
+was-more : (script : Script) (steps new : List Step) (e : Event) (ns : List Mark) → Becomes steps new e ns → (g : Gxid) (c : Cid) → WasUnderWay script steps g c → WasUnderWay script new g c
+was-more script steps new e ns b g c w =
+    let p = b.points w.point w.among in
     record {
       line = w.line;
-      of = λ n. subst (λ m. stmt_of_command script m g c ≡ Some w.line) (sym (marks_in-push steps s)) (of-more script (marks_in steps) s.marks g c w.line (w.of n));
-      point = w.point;
-      among = among-more steps s w.point w.among;
+      of = λ n. subst (λ m. stmt_of_command script m g c ≡ Some w.line) (sym b.marks) (of-more script (marks_in steps) ns g c w.line (w.of n));
+      point = record w.point { later = p.later };
+      among = p.of;
       session = w.session;
       level = w.level;
-      ran = w.ran;
+      ran = under-there script w.point (record w.point { later = p.later }) w.session w.line w.level g c refl refl w.ran;
     }
 
 -- OVER ALL LETTERS
@@ -95,16 +95,16 @@ module _ (script : Script) (c : Coord) (steps : List Step) (kept : Kept script c
   was-now g k level i (inl a) = was-behind script steps level g k (behind script steps c kept all gath g a.its a.is i a.awaits k level a.counted a.level_is)
   was-now g k level i (inr w) = w
 
-  pub ran-later : (d : Coord) (s : Step) (i : Node) (m : Message) → RanOf script c steps i m → RanOf script d (steps ++ s ∷ []) i m
-  ran-later d s i (message.Exec g k level x h slice) r = inr (was-more script steps s g k (was-now g k level i r))
-  ran-later d s i (message.Prepare g) r = tt
-  ran-later d s i (message.Commit g) r = tt
-  ran-later d s i (message.CommitPrepared g) r = tt
-  ran-later d s i (message.Abort g) r = tt
-  ran-later d s i (message.Forget g) r = tt
-  ran-later d s i (message.Collect round) r = tt
-  ran-later d s i (message.Answer g a) r = tt
-  ran-later d s i (message.Graph round graph) r = tt
+  pub ran-later : (d : Coord) (new : List Step) (e : Event) (ns : List Mark) → Becomes steps new e ns → (i : Node) (m : Message) → RanOf script c steps i m → RanOf script d new i m
+  ran-later d new e ns b i (message.Exec g k level x h slice) r = inr (was-more script steps new e ns b g k (was-now g k level i r))
+  ran-later d new e ns b i (message.Prepare g) r = tt
+  ran-later d new e ns b i (message.Commit g) r = tt
+  ran-later d new e ns b i (message.CommitPrepared g) r = tt
+  ran-later d new e ns b i (message.Abort g) r = tt
+  ran-later d new e ns b i (message.Forget g) r = tt
+  ran-later d new e ns b i (message.Collect round) r = tt
+  ran-later d new e ns b i (message.Answer g a) r = tt
+  ran-later d new e ns b i (message.Graph round graph) r = tt
 
   pub has-run : (i : Node) (m : Message) → RanOf script c steps i m → HasRun script steps m
   has-run i (message.Exec g k level x h slice) r = was-now g k level i r

@@ -1,7 +1,9 @@
 -- Steps whose marks are legal if the rest is.
-use Rattle.std.proofs.Common.{◌≡◌, ◌≤◌, ℕ, Bool, true, false, List, [], ◌∷◌, ◌++◌, sym, subst, ap, append-nil, refl}
+use Rattle.std.proofs.Common.{◌≡◌, ◌≤◌, ℕ, Bool, true, false, List, [], ◌∷◌, ◌++◌, Option, Some, None, sym, subst, ap, append-nil, refl, if◌then◌else◌}
+use Rattle.std.specs.Prelude.{IsSome}
 use Rattle.std.proofs.lemmas.List.{append_assoc}
 use Rattle.gx_lemmas.proofs.Numbers.{one-le-zero}
+use Rattle.gx_ids.specs.declared.ids.Gxid.{Gxid}
 use Rattle.gx_ids.specs.declared.ids.Node.{Node}
 use Rattle.gx_script.specs.declared.Script.{Script}
 use Rattle.gx_store.specs.declared.event.Event.{Event}
@@ -10,7 +12,9 @@ use Rattle.gx_store.specs.declared.mark.Mark.{Mark}
 use Rattle.gx_store.specs.declared.mark.Mark.TheVariants as mark
 use Rattle.gx_store.specs.declared.run.Step.{Step}
 use Rattle.gx_store.specs.Legal.{AreLegalSteps, IsDrawn, LegalEvent}
+use Rattle.gx_store.specs.Marks.{is_same_session, started_after}
 use Rattle.gx_store.specs.Ordered.{IsAtNode}
+use Rattle.gx_store.proofs.Marks.{started_after-append}
 use Rattle.gx_store.specs.Refusals.{the_coordinator}
 use Rattle.gx_law_order.proofs.Lists.{Each}
 use Rattle.gx_law_order.proofs.Numbers.{NoStart}
@@ -18,14 +22,15 @@ use Rattle.gx_law_order.proofs.Sent.{at}
 use Rattle.gx_law_sessions.specs.Rest.{AreEventsLegal, AreRestLegal, EachMark, Rest, StartsNothing, is_going_out, unless}
 use Rattle.gx_law_sessions.proofs.Frame.{Quiet}
 use Rattle.gx_law_sessions.specs.Alive.{IsSilent}
-use Rattle.gx_law_sessions.proofs.Given.{Given, given-legal}
+use Rattle.gx_law_sessions.proofs.Given.{Given, given-legal, marks-append}
 use Rattle.gx_store.specs.Points.{starts_by, ends_by}
 use Rattle.gx_store.specs.Faults.{LegalFault}
 use Rattle.gx_ids.specs.declared.ids.SessionId.{SessionId}
 
 -- STEPS
+-- whatever marks the step will have behind these
 abbrev pub IsGivenStep : Script → List Step → Step → Type 0
-IsGivenStep script before s = LegalEvent script before s.event × IsDrawn script before s.event s.marks × EachMark (Given script) before s.event [] s.marks []
+IsGivenStep script before s = LegalEvent script before s.event × IsDrawn script before s.event s.marks × ((later : List Mark) → EachMark (Given script) before s.event [] s.marks later)
 
 abbrev pub AreGiven : Script → List Step → List Step → Type 0
 AreGiven script before [] = Unit {0}
@@ -35,24 +40,48 @@ pub given-last : (script : Script) (before ss : List Step) (s : Step) → AreGiv
 given-last script before [] s e h = (subst (λ x. IsGivenStep script x s) (append-nil before) h, tt)
 given-last script before (x ∷ ss) s e h = (e.0, given-last script (before ++ x ∷ []) ss s e.1 (subst (λ y. IsGivenStep script y s) (sym (append_assoc before (x ∷ []) ss)) h))
 
+-- the last step may have more marks
+drawn-more : (script : Script) (before : List Step) (e : Event) (ms ns : List Mark) → IsDrawn script before e ms → IsDrawn script before e (ms ++ ns)
+drawn-more script before (event.Start s) ms ns d = λ line next draws. subst IsSome (sym (started_after-append s None ms ns)) (still (started_after s None ms) ns (d line next draws))
+  where
+    still : (o : Option Gxid) (ns : List Mark) → IsSome o → IsSome (started_after s o ns)
+    still o [] h = h
+    still o (mark.Start g t ∷ ns) h = still (if is_same_session t s then Some g else o) ns (by_test (is_same_session t s))
+      where
+        by_test : (b : Bool) → IsSome (if b then Some g else o)
+        by_test true = refl
+        by_test false = h
+    still o (m ∷ ns) h = still o ns h
+drawn-more script before (event.Receive from to number) ms ns d = d
+drawn-more script before (event.Resume n g) ms ns d = d
+drawn-more script before (event.End s) ms ns d = d
+drawn-more script before (event.Resend i g) ms ns d = d
+drawn-more script before event.Round ms ns d = d
+
+pub given-more : (script : Script) (done before : List Step) (s : Step) (ns : List Mark) → AreGiven script done (before ++ s ∷ []) → ((later : List Mark) → EachMark (Given script) (done ++ before) s.event s.marks ns later) → AreGiven script done (before ++ record s { marks = s.marks ++ ns } ∷ [])
+given-more script done [] s ns e h = (
+  (
+    e.0.0,
+    drawn-more script done s.event s.marks ns e.0.1,
+    λ later. marks-append (Given script) done s.event [] s.marks ns later (e.0.2 (ns ++ later)) (subst (λ q. EachMark (Given script) q s.event s.marks ns later) (append-nil done) (h later)),
+  ),
+  tt,
+)
+given-more script done (x ∷ before) s ns e h = (e.0, given-more script (done ++ x ∷ []) before s ns e.1 (λ later. subst (λ q. EachMark (Given script) q s.event s.marks ns later) (sym (append_assoc done (x ∷ []) before)) (h later)))
+
 pub given-events : (script : Script) (before ss : List Step) → AreGiven script before ss → AreEventsLegal script before ss
 given-events script before [] e = tt
 given-events script before (s ∷ ss) e = (e.0.0, given-events script (before ++ s ∷ []) ss e.1)
 
 pub given-steps : (script : Script) (before ss : List Step) → AreGiven script before ss → AreRestLegal script before ss → AreLegalSteps script before ss
 given-steps script before [] e r = tt
-given-steps script before (s ∷ ss) e r = (record { event = e.0.0; drawn = e.0.1; marks = given-legal script before s.event [] s.marks [] e.0.2 r.0 }, given-steps script (before ++ s ∷ []) ss e.1 r.1)
+given-steps script before (s ∷ ss) e r = (record { event = e.0.0; drawn = e.0.1; marks = given-legal script before s.event [] s.marks [] (e.0.2 []) r.0 }, given-steps script (before ++ s ∷ []) ss e.1 r.1)
 
 -- MARKS
 pub no-start : (ms : List Mark) → Each IsSilent ms → Each NoStart ms
 no-start [] e = tt
 no-start (mark.Start g s ∷ ms) e = absurd e.0
 no-start (m ∷ ms) e = (tt, no-start ms e.1)
-
-pub quiet-rest : (script : Script) (steps : List Step) (e : Event) (earlier ms later : List Mark) → Each Quiet ms → EachMark (Rest script) steps e earlier ms later
-quiet-rest script steps e earlier [] later h = tt
-quiet-rest script steps e earlier (mark.Decided g ∷ ms) later h = (tt, quiet-rest script steps e (earlier ++ mark.Decided g ∷ []) ms later h.1)
-quiet-rest script steps e earlier (m ∷ ms) later h = absurd h.0
 
 -- one step more of which the rest holds
 pub rest-last : (script : Script) (before ss : List Step) (s : Step) → AreRestLegal script before ss → EachMark (Rest script) (before ++ ss) s.event [] s.marks [] → AreRestLegal script before (ss ++ s ∷ [])
@@ -62,6 +91,7 @@ rest-last script before (x ∷ ss) s e h = (e.0, rest-last script (before ++ x �
 pub quiet-given : (script : Script) (steps : List Step) (e : Event) (earlier ms later : List Mark) → Each Quiet ms → EachMark (Given script) steps e earlier ms later
 quiet-given script steps e earlier [] later h = tt
 quiet-given script steps e earlier (mark.Decided g ∷ ms) later h = (λ r. tt, quiet-given script steps e (earlier ++ mark.Decided g ∷ []) ms later h.1)
+quiet-given script steps e earlier (mark.Recheck round own verdict ∷ ms) later h = (λ r. r, quiet-given script steps e (earlier ++ mark.Recheck round own verdict ∷ []) ms later h.1)
 quiet-given script steps e earlier (m ∷ ms) later h = absurd h.0
 
 -- a segment's marks tell nothing of sessions

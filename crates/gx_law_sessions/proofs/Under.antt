@@ -41,7 +41,7 @@ use Rattle.gx_law_sessions.proofs.Answers.{may-abort-refusable, refused-is}
 use Rattle.gx_law_sessions.proofs.AtLine.{AtLine, answered-now, at-calm, has_txn, legal-abort, legal-answer, legal-commit, transaction-is}
 use Rattle.gx_law_sessions.proofs.Awaited.{IsAwaited, IsSettled, bare-all, own-none}
 use Rattle.gx_law_sessions.proofs.Ends.{IsOf, of-fresh}
-use Rattle.gx_law_sessions.proofs.Frame.{Does}
+use Rattle.gx_law_sessions.proofs.Frame.{Alters, Does}
 use Rattle.gx_law_sessions.proofs.Gathers.{GathersIn, HeardNow}
 use Rattle.gx_law_sessions.proofs.Given.{Given, marks-append}
 use Rattle.gx_law_sessions.proofs.Outs.{CommandIs, IsBare, bare-outs}
@@ -115,6 +115,34 @@ aborts earlier why g ns =
 pub answered-self : (k : SessionId) (i : ℕ) (r : StmtAnswer) (later : List Mark) → is_answered k (mark.Answer k i r ∷ later) ≡ true
 answered-self k i r later = ap (λ q. q || is_answered k later) (eqb-self k.0)
 
+-- a refusal stands behind these marks of the step
+pub refuse-legal : (script : Script) (steps : List Step) (e : Event) (s : SessionId) (g : Gxid) (n : ℕ) (b : BlockState) (u : Bool) (line : Stmt) (earlier : List Mark) → AtLine script steps e s line n b u (Some g) earlier → has_txn b u ≡ true → is_ended (marks_in steps ++ earlier) g ≡ false
+    → (reason : Refused) → may_refuse b line reason ≡ true → (c1 : Coord) (home : SessionId) → home ≡ s → (session_of c1 home).lines ≡ n + 1 → (tail : List Mark) → Each LockMark tail
+    → ((later : List Mark) → RestAnswer script (record { steps = steps; event = e; earlier = earlier ++ mark.Abort g ∷ []; later = later }) s (told.Refused reason) → IsCause (record { steps = steps; event = e; earlier = earlier ++ mark.Abort g ∷ []; later = later }) line (level_of b) g (cid_of b) reason)
+    → (later : List Mark) → EachMark (Given script) steps e earlier (mark.Abort g ∷ answer_mark c1 home (told.Refused reason) ∷ tail) later
+refuse-legal script steps e s g n b u line earlier at has running reason may c1 home same number tail locks cause later =
+    subst (λ i. EachMark (Given script) steps e earlier (mark.Abort g ∷ mark.Answer i (session_of c1 i).lines r ∷ tail) later) (sym same) (
+      λ q. legal-abort script steps e s line n b u (Some g) earlier at _ g has refl running (may-abort-refusable b line reason may) (answered-self s (session_of c1 s).lines r (tail ++ later)),
+      (
+        λ q. legal-answer script steps e s line n b u (Some g) (earlier ++ mark.Abort g ∷ []) at2 (tail ++ later) (session_of c1 s).lines r (ap (λ i. (session_of c1 i).lines) (sym same) ∙ number) (is (tail ++ later) q),
+        lock-given script steps e _ tail later locks,
+      ),
+    )
+  where
+    r : StmtAnswer
+    r = told.Refused reason
+
+    at2 : AtLine script steps e s line n b u (Some g) (earlier ++ mark.Abort g ∷ [])
+    at2 = at-calm script steps e s line n b u (Some g) earlier (mark.Abort g ∷ []) at (tt, tt)
+
+    point : List Mark → Point
+    point later = record { steps = steps; event = e; earlier = earlier ++ mark.Abort g ∷ []; later = later }
+
+    is : (later : List Mark) → RestAnswer script (point later) s r → IsAnswer script (point later) s b line r
+    is later q =
+        refused-is script (point later) s b line reason may
+        (record { kind = may; g = g; transaction = subst (λ z. Rattle.gx_store.specs.Lines.transaction_of z s (marks_in steps ++ (earlier ++ mark.Abort g ∷ [])) ≡ Some g) at2.said.state (transaction-is script steps e s line n b u (Some g) (earlier ++ mark.Abort g ∷ []) at2 later g has refl); aborted = abort-last earlier g; cause = cause later q })
+
 module _ (script : Script) (steps : List Step) (c : Coord) (e : Event) (c1 : Coord) (s : SessionId) (g : Gxid) (w : Work) (x : Session) (n : ℕ) (b : BlockState) (u : Bool) (line : Stmt) (earlier : List Mark) (o : Under script steps c e c1 s g w x n b u line earlier) where
   pub x-is : session_of c1 s ≡ x
   x-is = o.sessions s.0 ∙ ap (λ q. if q then x else c.sessions s.0) (eqb-self s.0)
@@ -126,9 +154,10 @@ module _ (script : Script) (steps : List Step) (c : Coord) (e : Event) (c1 : Coo
   lines-is = ap (λ i. (session_of c1 i).lines) home-is ∙ ap (λ (z : Session). z.lines) x-is ∙ o.lines
 
   -- the session's line is answered by marks that stand behind the others, and nothing is known of its transaction any more
-  plain-does : (turn : CoordTurn) (y : Session) (B : Block) → ((j : ℕ) → turn.coord.sessions j ≡ (if eqb j s.0 then y else c.sessions j)) → ((j : ℕ) → eqb j g.0 ≡ false → turn.coord.works j ≡ c.works j) → turn.coord.table.next.0 ≡ c1.table.next.0 → y.state.block ≡ B → y.state.pending ≡ pending.Nothing → y.lines ≡ n + 1 → is_busy B pending.Nothing ≡ false
-      → Each (IsOf s.0 g.0) turn.marks → ((later : List Mark) → EachMark (Given script) steps e earlier turn.marks later) → (AreCommandsTold script steps → (later : List Mark) → EachMark (Rest script) steps e earlier turn.marks later) → Said script s (marks_in steps ++ (earlier ++ turn.marks)) (n + 1) (state_in B 0) false (Some g) → Each IsBare turn.outs → (turn.coord.works g.0).command ≡ None → ((k : Cid) (i : Node) (level : Level) → IsAwaited (c.works g.0) k i level → IsSettled (HeardNow steps e) (earlier ++ turn.marks) g k i) → Does script steps c e (behind earlier turn)
-  plain-does turn y B sessions works next yb yp yl idle of legal rest said outs none over =
+  plain-alters : (turn : CoordTurn) (y : Session) (B : Block) → ((j : ℕ) → turn.coord.sessions j ≡ (if eqb j s.0 then y else c.sessions j)) → ((j : ℕ) → eqb j g.0 ≡ false → turn.coord.works j ≡ c.works j) → turn.coord.table.next.0 ≡ c1.table.next.0 → y.state.block ≡ B → y.state.pending ≡ pending.Nothing → y.lines ≡ n + 1 → is_busy B pending.Nothing ≡ false
+      → Each (IsOf s.0 g.0) turn.marks → Said script s (marks_in steps ++ (earlier ++ turn.marks)) (n + 1) (state_in B 0) false (Some g) → Each IsBare turn.outs → (turn.coord.works g.0).command ≡ None
+      → ((k : Cid) (i : Node) (level : Level) → IsAwaited (c.works g.0) k i level → IsSettled (HeardNow steps e) (earlier ++ turn.marks) g k i) → Alters script steps c e (behind earlier turn)
+  plain-alters turn y B sessions works next yb yp yl idle of said outs none over =
       record {
         s = s.0;
         g = g.0;
@@ -147,8 +176,6 @@ module _ (script : Script) (steps : List Step) (c : Coord) (e : Event) (c1 : Coo
               (subst (λ q. Stands script s (marks_in steps ++ (earlier ++ turn.marks)) turn.coord.table.next.0 B q y.lines y.transaction (turn.coord.works y.transaction.0)) (sym yp)
               (stands-closed script s (marks_in steps ++ (earlier ++ turn.marks)) turn.coord.table.next.0 B y.lines (n + 1) y.transaction (turn.coord.works y.transaction.0) (Some g) idle yl said)),
         );
-        legal = λ later. marks-append (Given script) steps e [] earlier turn.marks later (o.legal (turn.marks ++ later)) (legal later);
-        rest = λ t later. marks-append (Rest script) steps e [] earlier turn.marks later (o.rests (turn.marks ++ later)) (rest t later);
         outs = bare-outs script (marks_in steps ++ (earlier ++ turn.marks)) turn.outs outs;
         owned = λ h. own-none g (turn.coord.works g.0) none;
         sent = bare-all turn.coord turn.outs outs;
@@ -158,12 +185,11 @@ module _ (script : Script) (steps : List Step) (c : Coord) (e : Event) (c1 : Coo
       }
 
   -- and its locks are given back
-  pub closed-does : (turn : CoordTurn) (tail : List Mark) → Each LockMark tail → (y : Session) (B : Block) → ((j : ℕ) → turn.coord.sessions j ≡ (if eqb j s.0 then y else c.sessions j)) → ((j : ℕ) → eqb j g.0 ≡ false → turn.coord.works j ≡ c.works j) → turn.coord.table.next.0 ≡ c1.table.next.0 → y.state.block ≡ B → y.state.pending ≡ pending.Nothing → y.lines ≡ n + 1 → is_busy B pending.Nothing ≡ false
-      → Each (IsOf s.0 g.0) turn.marks → ((later : List Mark) → EachMark (Given script) steps e earlier turn.marks later) → (AreCommandsTold script steps → (later : List Mark) → EachMark (Rest script) steps e earlier turn.marks later) → Said script s (marks_in steps ++ (earlier ++ turn.marks)) (n + 1) (state_in B 0) false (Some g) → Each IsBare turn.outs → (turn.coord.works g.0).command ≡ None → ((k : Cid) (i : Node) (level : Level) → IsAwaited (c.works g.0) k i level → IsSettled (HeardNow steps e) (earlier ++ turn.marks) g k i) → Does script steps c e (behind earlier (record turn { marks = turn.marks ++ tail }))
-  closed-does turn tail locks y B sessions works next yb yp yl idle of legal rest said outs none over =
-      plain-does (record turn { marks = turn.marks ++ tail }) y B sessions works next yb yp yl idle (each_append (IsOf s.0 g.0) turn.marks tail of (lock-of s.0 g.0 tail locks))
-      (λ later. marks-append (Given script) steps e earlier turn.marks tail later (legal (tail ++ later)) (lock-given script steps e (earlier ++ turn.marks) tail later locks))
-      (λ t later. marks-append (Rest script) steps e earlier turn.marks tail later (rest t (tail ++ later)) (lock-rest script steps e (earlier ++ turn.marks) tail later locks))
+  closed-alters : (turn : CoordTurn) (tail : List Mark) → Each LockMark tail → (y : Session) (B : Block) → ((j : ℕ) → turn.coord.sessions j ≡ (if eqb j s.0 then y else c.sessions j)) → ((j : ℕ) → eqb j g.0 ≡ false → turn.coord.works j ≡ c.works j) → turn.coord.table.next.0 ≡ c1.table.next.0 → y.state.block ≡ B → y.state.pending ≡ pending.Nothing → y.lines ≡ n + 1 → is_busy B pending.Nothing ≡ false
+      → Each (IsOf s.0 g.0) turn.marks → Said script s (marks_in steps ++ (earlier ++ turn.marks)) (n + 1) (state_in B 0) false (Some g) → Each IsBare turn.outs → (turn.coord.works g.0).command ≡ None
+      → ((k : Cid) (i : Node) (level : Level) → IsAwaited (c.works g.0) k i level → IsSettled (HeardNow steps e) (earlier ++ turn.marks) g k i) → Alters script steps c e (behind earlier (record turn { marks = turn.marks ++ tail }))
+  closed-alters turn tail locks y B sessions works next yb yp yl idle of said outs none over =
+      plain-alters (record turn { marks = turn.marks ++ tail }) y B sessions works next yb yp yl idle (each_append (IsOf s.0 g.0) turn.marks tail of (lock-of s.0 g.0 tail locks))
       (subst (λ m. Said script s m (n + 1) (state_in B 0) false (Some g)) joined (said-calm script s (marks_in steps ++ (earlier ++ turn.marks)) tail (n + 1) (state_in B 0) false (Some g) said (lock-for s tail locks)))
       outs none (λ k i level a. settled k i (over k i level a))
     where
@@ -176,6 +202,23 @@ module _ (script : Script) (steps : List Step) (c : Coord) (e : Event) (c1 : Coo
         where
           or-true : (a b : Bool) → a ≡ true → (a || b) ≡ true
           or-true a b h = grind arith
+
+  -- what the marks of the turn say stands behind what was said
+  with-marks : (turn : CoordTurn) → Alters script steps c e (behind earlier turn) → ((later : List Mark) → EachMark (Given script) steps e earlier turn.marks later) → (AreCommandsTold script steps → (later : List Mark) → EachMark (Rest script) steps e earlier turn.marks later)
+      → Does script steps c e (behind earlier turn)
+  with-marks turn alters legal rest =
+      record {
+        alters = alters;
+        legal = λ later. marks-append (Given script) steps e [] earlier turn.marks later (o.legal (turn.marks ++ later)) (legal later);
+        rest = λ t later. marks-append (Rest script) steps e [] earlier turn.marks later (o.rests (turn.marks ++ later)) (rest t later);
+      }
+
+  pub closed-does : (turn : CoordTurn) (tail : List Mark) → Each LockMark tail → (y : Session) (B : Block) → ((j : ℕ) → turn.coord.sessions j ≡ (if eqb j s.0 then y else c.sessions j)) → ((j : ℕ) → eqb j g.0 ≡ false → turn.coord.works j ≡ c.works j) → turn.coord.table.next.0 ≡ c1.table.next.0 → y.state.block ≡ B → y.state.pending ≡ pending.Nothing → y.lines ≡ n + 1 → is_busy B pending.Nothing ≡ false
+      → Each (IsOf s.0 g.0) turn.marks → ((later : List Mark) → EachMark (Given script) steps e earlier turn.marks later) → (AreCommandsTold script steps → (later : List Mark) → EachMark (Rest script) steps e earlier turn.marks later) → Said script s (marks_in steps ++ (earlier ++ turn.marks)) (n + 1) (state_in B 0) false (Some g) → Each IsBare turn.outs → (turn.coord.works g.0).command ≡ None → ((k : Cid) (i : Node) (level : Level) → IsAwaited (c.works g.0) k i level → IsSettled (HeardNow steps e) (earlier ++ turn.marks) g k i) → Does script steps c e (behind earlier (record turn { marks = turn.marks ++ tail }))
+  closed-does turn tail locks y B sessions works next yb yp yl idle of legal rest said outs none over =
+      with-marks (record turn { marks = turn.marks ++ tail }) (closed-alters turn tail locks y B sessions works next yb yp yl idle of said outs none over)
+      (λ later. marks-append (Given script) steps e earlier turn.marks tail later (legal (tail ++ later)) (lock-given script steps e (earlier ++ turn.marks) tail later locks))
+      (λ t later. marks-append (Rest script) steps e earlier turn.marks tail later (rest t (tail ++ later)) (lock-rest script steps e (earlier ++ turn.marks) tail later locks))
 
   session-set : (f : Session → Session) (j : ℕ) → with_at c1.sessions (work_of c1 g).session.0 (f (session_of c1 (work_of c1 g).session)) j ≡ (if eqb j s.0 then f x else c.sessions j)
   session-set f j =
@@ -225,27 +268,19 @@ module _ (script : Script) (steps : List Step) (c : Coord) (e : Event) (c1 : Coo
           )
 
   -- REFUSALS
-  pub refuse-does : (turn : Turn) (why : List Mark) (reason : Refused) (B : Block) → turn.table.next.0 ≡ c1.table.next.0 → may_refuse b line reason ≡ true → (after_refused x.state).block ≡ B → is_busy B pending.Nothing ≡ false → state_after b line (told.Refused reason) ≡ state_in B 0 → Each (IsOf s.0 g.0) why → Each (CalmFor s) why → is_ended (marks_in steps ++ (earlier ++ why)) g ≡ false
-      → ((later : List Mark) → EachMark (Given script) steps e earlier why later)
-      → ((later : List Mark) → RestAnswer script (record { steps = steps; event = e; earlier = (earlier ++ why) ++ mark.Abort g ∷ []; later = later }) s (told.Refused reason) → IsCause (record { steps = steps; event = e; earlier = (earlier ++ why) ++ mark.Abort g ∷ []; later = later }) line (level_of b) g (cid_of b) reason)
-      → Each IsBare turn.out.outs → ((later : List Mark) → EachMark (Rest script) steps e earlier why later)
-      → (AreCommandsTold script steps → (later : List Mark) → RestAnswer script (record { steps = steps; event = e; earlier = (earlier ++ why) ++ mark.Abort g ∷ []; later = later }) s (told.Refused reason)) → Does script steps c e (behind earlier (is_refused c1 g turn why reason))
-  refuse-does turn why reason B next may closed idle after of calm running first cause outs wrest trest =
-      subst (λ m. Does script steps c e (behind earlier (record (is_refused c1 g turn why reason) { marks = m }))) (append_assoc why (mark.Abort g ∷ answer_mark c1 (work_of c1 g).session r ∷ []) (release_marks the_coordinator c1.locks g))
-      (closed-does (record (is_refused c1 g turn why reason) { marks = why ++ mark.Abort g ∷ answer_mark c1 (work_of c1 g).session r ∷ [] }) (release_marks the_coordinator c1.locks g) (back-locks c1.locks g) (record x { state = after_refused x.state }) B (session-set (λ z. record z { state = after_refused z.state })) (works-set no_work) next closed refl o.lines idle
-      (each_append (IsOf s.0 g.0) why _ of (refl, (ap (λ (i : SessionId). i.0) home-is, tt))) legal
-      (λ t later. subst (λ i. EachMark (Rest script) steps e earlier (why ++ mark.Abort g ∷ mark.Answer i (session_of c1 i).lines r ∷ []) later) (sym home-is)
-      (marks-append (Rest script) steps e earlier why (mark.Abort g ∷ mark.Answer s (session_of c1 s).lines r ∷ []) later (wrest _) (tt, (trest t later, tt))))
+  pub refuse-alters : (turn : Turn) (why : List Mark) (reason : Refused) (B : Block) → turn.table.next.0 ≡ c1.table.next.0 → (after_refused x.state).block ≡ B → is_busy B pending.Nothing ≡ false → state_after b line (told.Refused reason) ≡ state_in B 0 → Each (IsOf s.0 g.0) why → Each (CalmFor s) why → Each IsBare turn.out.outs
+      → Alters script steps c e (behind earlier (is_refused c1 g turn why reason))
+  refuse-alters turn why reason B next closed idle after of calm outs =
+      subst (λ m. Alters script steps c e (behind earlier (record (is_refused c1 g turn why reason) { marks = m }))) (append_assoc why (mark.Abort g ∷ answer_mark c1 (work_of c1 g).session r ∷ []) (release_marks the_coordinator c1.locks g))
+      (closed-alters (record (is_refused c1 g turn why reason) { marks = why ++ mark.Abort g ∷ answer_mark c1 (work_of c1 g).session r ∷ [] }) (release_marks the_coordinator c1.locks g) (back-locks c1.locks g) (record x { state = after_refused x.state }) B (session-set (λ z. record z { state = after_refused z.state })) (works-set no_work) next closed refl o.lines idle
+      (each_append (IsOf s.0 g.0) why _ of (refl, (ap (λ (i : SessionId). i.0) home-is, tt)))
       (subst (λ i. Said script s (marks_in steps ++ (earlier ++ (why ++ mark.Abort g ∷ mark.Answer i (session_of c1 i).lines r ∷ []))) (n + 1) (state_in B 0) false (Some g)) (sym home-is) said) outs (reset-none no_work refl) (λ k i level a. inr (aborts earlier why g _)))
     where
       r : StmtAnswer
       r = told.Refused reason
 
-      at1 : AtLine script steps e s line n b u (Some g) (earlier ++ why)
-      at1 = at-calm script steps e s line n b u (Some g) earlier why o.at calm
-
       at2 : AtLine script steps e s line n b u (Some g) ((earlier ++ why) ++ mark.Abort g ∷ [])
-      at2 = at-calm script steps e s line n b u (Some g) (earlier ++ why) (mark.Abort g ∷ []) at1 (tt, tt)
+      at2 = at-calm script steps e s line n b u (Some g) (earlier ++ why) (mark.Abort g ∷ []) (at-calm script steps e s line n b u (Some g) earlier why o.at calm) (tt, tt)
 
       number : (session_of c1 s).lines ≡ n + 1
       number = ap (λ (z : Session). z.lines) x-is ∙ o.lines
@@ -259,18 +294,13 @@ module _ (script : Script) (steps : List Step) (c : Coord) (e : Event) (c1 : Coo
           (subst (λ q. Said script s (marks_in steps ++ q) (n + 1) (state_after b line r) false (Some g)) joined
           (answered-now script steps e s line n b u (Some g) ((earlier ++ why) ++ mark.Abort g ∷ []) at2 (session_of c1 s).lines r number))
 
-      point : List Mark → Point
-      point later = record { steps = steps; event = e; earlier = (earlier ++ why) ++ mark.Abort g ∷ []; later = later }
-
-      is : (later : List Mark) → RestAnswer script (point later) s r → IsAnswer script (point later) s b line r
-      is later q =
-          refused-is script (point later) s b line reason may
-          (record { kind = may; g = g; transaction = subst (λ z. Rattle.gx_store.specs.Lines.transaction_of z s (marks_in steps ++ ((earlier ++ why) ++ mark.Abort g ∷ [])) ≡ Some g) at2.said.state (transaction-is script steps e s line n b u (Some g) ((earlier ++ why) ++ mark.Abort g ∷ []) at2 later g o.has refl); aborted = abort-last (earlier ++ why) g; cause = cause later q })
-
-      legal : (later : List Mark) → EachMark (Given script) steps e earlier (why ++ mark.Abort g ∷ answer_mark c1 (work_of c1 g).session r ∷ []) later
-      legal later =
-          subst (λ i. EachMark (Given script) steps e earlier (why ++ mark.Abort g ∷ mark.Answer i (session_of c1 i).lines r ∷ []) later) (sym home-is)
-          (marks-append (Given script) steps e earlier why (mark.Abort g ∷ mark.Answer s (session_of c1 s).lines r ∷ []) later (first _) (
-            λ q. legal-abort script steps e s line n b u (Some g) (earlier ++ why) at1 _ g o.has refl running (may-abort-refusable b line reason may) (answered-self s (session_of c1 s).lines r later),
-            (λ q. legal-answer script steps e s line n b u (Some g) ((earlier ++ why) ++ mark.Abort g ∷ []) at2 later (session_of c1 s).lines r number (is later q), tt),
-          ))
+  pub refuse-does : (turn : Turn) (why : List Mark) (reason : Refused) (B : Block) → turn.table.next.0 ≡ c1.table.next.0 → may_refuse b line reason ≡ true → (after_refused x.state).block ≡ B → is_busy B pending.Nothing ≡ false → state_after b line (told.Refused reason) ≡ state_in B 0 → Each (IsOf s.0 g.0) why → Each (CalmFor s) why → is_ended (marks_in steps ++ (earlier ++ why)) g ≡ false
+      → ((later : List Mark) → EachMark (Given script) steps e earlier why later)
+      → ((later : List Mark) → RestAnswer script (record { steps = steps; event = e; earlier = (earlier ++ why) ++ mark.Abort g ∷ []; later = later }) s (told.Refused reason) → IsCause (record { steps = steps; event = e; earlier = (earlier ++ why) ++ mark.Abort g ∷ []; later = later }) line (level_of b) g (cid_of b) reason)
+      → Each IsBare turn.out.outs → ((later : List Mark) → EachMark (Rest script) steps e earlier why later)
+      → (AreCommandsTold script steps → (later : List Mark) → RestAnswer script (record { steps = steps; event = e; earlier = (earlier ++ why) ++ mark.Abort g ∷ []; later = later }) s (told.Refused reason)) → Does script steps c e (behind earlier (is_refused c1 g turn why reason))
+  refuse-does turn why reason B next may closed idle after of calm running first cause outs wrest trest =
+      with-marks (is_refused c1 g turn why reason) (refuse-alters turn why reason B next closed idle after of calm outs)
+      (λ later. marks-append (Given script) steps e earlier why _ later (first _)
+      (refuse-legal script steps e s g n b u line (earlier ++ why) (at-calm script steps e s line n b u (Some g) earlier why o.at calm) o.has running reason may c1 (work_of c1 g).session home-is lines-is (release_marks the_coordinator c1.locks g) (back-locks c1.locks g) cause later))
+      (λ t later. marks-append (Rest script) steps e earlier why _ later (wrest _) (tt, (subst (λ i. RestAnswer script (record { steps = steps; event = e; earlier = (earlier ++ why) ++ mark.Abort g ∷ []; later = release_marks the_coordinator c1.locks g ++ later }) i (told.Refused reason)) (sym home-is) (trest t _), lock-rest script steps e _ (release_marks the_coordinator c1.locks g) later (back-locks c1.locks g))))

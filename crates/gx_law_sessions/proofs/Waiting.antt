@@ -34,6 +34,7 @@ use Rattle.gx_law_sessions.specs.Rest.{UnlessStart, unless}
 use Rattle.gx_law_sessions.specs.Scanned.{began_from}
 use Rattle.gx_law_sessions.specs.Standing.{HasSnapshot, IsLineOf, IsStanding, Stands, state_in}
 use Rattle.gx_law_sessions.proofs.Stepping.{Holds}
+use Rattle.gx_law_sessions.proofs.Cancelling.{line-of}
 use Rattle.gx_law_sessions.proofs.World.{world-holds}
 
 -- constants that fault in the step in which their statement goes out behind a wait are judged by this crate
@@ -43,11 +44,6 @@ goes-out-there script w k n g there ok A = subst (λ b. unless b A) (sym there) 
 -- THE LINE UNDER WAY
 idle-works : (p : Pending) → p ≡ pending.Nothing → is_working_in p ≡ true → ⊥
 idle-works p e f = grind arith
-
--- what is under way is a command, which has gone out or waits to
-line-of : (script : Script) (k : SessionId) (lines : ℕ) (b : Block) (commands : ℕ) (w : Work) → IsLineOf script k lines b commands w pending.Command → (line : Stmt) × (stmt_of k lines script.lines ≡ Some line) × (is_command (state_in b commands) line ≡ true)
-line-of script k lines b commands w (inl l) = (l.0.stmt, l.2, l.3)
-line-of script k lines b commands w (inr l) = (l.0, l.3, l.4)
 
 held-of : (script : Script) (k : SessionId) (lines : ℕ) (b : Block) (commands : ℕ) (w : Work) (line : Stmt) → IsLineOf script k lines b commands w pending.Command → w.waiting ≡ Some line → w.command ≡ None → stmt_of k lines script.lines ≡ Some line
 held-of script k lines b commands w line (inl l) waits none = absurd (nothing w.command none l.1)

@@ -1,6 +1,6 @@
--- What is left to show of the machine for its runs to be legal histories: what the marks of segments' steps say of rows, and of
--- a command that was gathered, or that a segment failed, what its answer says.
-use Rattle.std.specs.Prelude.{◌≡◌, Bool, true, List, [], ◌∷◌, Some}
+-- What is left to show of the machine for its runs to be legal histories: what the marks of segments' steps say of rows, of a
+-- command that was gathered, or that a segment failed, what its answer says, and of a recheck that whom it names is cancelled.
+use Rattle.std.specs.Prelude.{◌≡◌, Bool, true, List, [], ◌∷◌, ◌++◌, Some}
 use Rattle.gx_ids.specs.declared.ids.Cid.{Cid}
 use Rattle.gx_ids.specs.declared.ids.Gxid.{Gxid}
 use Rattle.gx_ids.specs.declared.ids.Node.{Node}
@@ -19,6 +19,7 @@ use Rattle.gx_store.specs.declared.node.NodeEvent.{NodeEvent}
 use Rattle.gx_store.specs.declared.run.Step.{Step}
 use Rattle.gx_store.specs.Answers.{Tells}
 use Rattle.gx_store.specs.Commands.{RunsCommand}
+use Rattle.gx_store.specs.Legal.{LegalVerdict}
 use Rattle.gx_store.specs.Messages.{Receives}
 use Rattle.gx_store.specs.Ordered.{IsSegment}
 use Rattle.gx_store.specs.Points.{Point, before, starts_by}
@@ -55,7 +56,17 @@ AreSegmentsLegal script w =
     (e : Event) (x : NodeEvent) (fails : Bool) → IsSegment script (node_of e) → at_node w e ≡ Some x → seg_can script (w.segs (node_of e).0) x ≡ true
     → EachMark (Rest script) w.steps e [] (seg_rule script (w.segs (node_of e).0) x fails).marks []
 
+-- whoever a recheck names is cancelled in its step
+abbrev pub IsVerdictLegal : Point → Mark → Type 0
+IsVerdictLegal point (mark.Recheck round own verdict) = LegalVerdict point round verdict
+IsVerdictLegal point _ = Unit {0}
+
+abbrev pub AreVerdictsLegal : List Step → List Step → Type 0
+AreVerdictsLegal before [] = Unit {0}
+AreVerdictsLegal before (s ∷ ss) = EachMark IsVerdictLegal before s.event [] s.marks [] × AreVerdictsLegal (before ++ s ∷ []) ss
+
 -- what is left, for every list of events
 pub record IsRestShown (script : Script) : Type 0 where
   pub commands : (events : List (Event × Bool)) → AreCommandsTold script (world_of script events).steps
   pub segments : (events : List (Event × Bool)) → AreSegmentsLegal script (world_of script events)
+  pub verdicts : (events : List (Event × Bool)) → AreVerdictsLegal [] (world_of script events).steps

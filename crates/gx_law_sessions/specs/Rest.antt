@@ -72,6 +72,7 @@ UnlessStart e A = unless (is_going_out e) A
 
 abbrev pub RestRefusal : Script → Point → SessionId → Refused → Type 0
 RestRefusal script point session (refused.JournalFault node) = Unit {0}
+RestRefusal script point session (refused.Victim round) = Unit {0}
 RestRefusal script point session refused.InFailedBlock = Unit {0}
 RestRefusal script point session refused.NotInBlock = Unit {0}
 RestRefusal script point session reason = UnlessStart point.event (IsCaused script point session reason)

@@ -31,7 +31,7 @@ pub fn history_is_legal_with_the_rest()
 {}
 
 /// Every run is a legal history if this is shown: of the commands that were gathered what their answers say, of those that a
-/// segment failed the cause, and of the marks of segments that they may stand there.
+/// segment failed the cause, of the marks of segments that they may stand there, and of rechecks that whom they name is cancelled.
 pub fn histories_are_legal_once_shown()
     ensures { (script : Script) (events : List (OneEvent × Bool)) → 1 ≤ script.segments → IsRestShown script → IsLegalHistory script (run_of (world_of script events)) }
 {}

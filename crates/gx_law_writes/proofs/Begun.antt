@@ -31,13 +31,14 @@ use Rattle.gx_store.specs.Refusals.{the_coordinator}
 use Rattle.gx_waits.specs.declared.claim.Claim.{Claim}
 use Rattle.gx_waits.specs.declared.object.Object.{Object}
 use Rattle.gx_waits.specs.declared.object.Object.TheVariants.{Relation, Transaction, Tuple}
-use Rattle.gx_rules.specs.AtCoordinator.{coord_can, coord_rule}
+use Rattle.gx_rules.specs.AtCoordinator.{cancels, coord_can, coord_sends, coord_turn, on_event}
+use Rattle.gx_rules.specs.Coordinators.{CoordTurn}
 use Rattle.gx_rules.specs.AtSegment as segment
 use Rattle.gx_rules.specs.AtSegment.{seg_rule}
 use Rattle.gx_rules.specs.Changes.{Change, RowTurn, changes_rows, goes_through, suspended_at, suspends_at, tuple_lock, waits}
 use Rattle.gx_locks.specs.Locks.{Locks}
 use Rattle.gx_rules.specs.Locks.{hold_mark, with_hold}
-use Rattle.gx_rules.specs.Machine.{World, coord_did, new_world, seg_did, world_of}
+use Rattle.gx_rules.specs.Machine.{World, and_cancelled, coord_did, new_world, seg_did, world_of}
 use Rattle.gx_rules.specs.Maps.{with_at}
 use Rattle.gx_rules.specs.Running.{is_granted, suspended_slice, unless_end}
 use Rattle.gx_rules.specs.Segments.{Local, Phase, Seg, SegTurn, Suspended, after_marks, local_of, with_local}
@@ -48,12 +49,17 @@ use Rattle.gx_rules.specs.Visits.{DidStop}
 use Rattle.gx_rules.proofs.Moving.{Ends, Keeps, loop-keeps}
 use Rattle.gx_law_order.proofs.Changing.{change-parts, rows-change, stop-keeps}
 use Rattle.gx_law_order.proofs.Lists.{Each, each_append, each_weaker}
-use Rattle.gx_law_order.proofs.Ordered.{at-both, at_coordinator}
+use Rattle.gx_law_order.proofs.AtCoordinators.{cancel_stays}
+use Rattle.gx_law_order.proofs.Induction.{after_turn, marks-by-event, marks-by-victim}
+use Rattle.gx_law_order.proofs.Moves.{HasNamed}
+use Rattle.gx_law_order.proofs.Ordered.{at-both, at_coordinator, sends-at}
 use Rattle.gx_law_order.proofs.Waiting.{GoesOn, GoesOnAtRow, freed, goes-on-is, going-on}
-use Rattle.gx_law_order.proofs.World.{Knows, marks-last}
+use Rattle.gx_law_order.proofs.More.{marks-last}
+use Rattle.gx_law_order.proofs.World.{Knows}
 use Rattle.gx_law_commit.specs.Standings.{at}
 use Rattle.gx_law_commit.proofs.Everywhere.{Holds}
-use Rattle.gx_law_commit.proofs.Steps.{HeardAt, SaidTo, by-heard, world-keeps}
+use Rattle.gx_law_commit.proofs.Always.{HeardAt, SaidTo, by-heard}
+use Rattle.gx_law_commit.proofs.Steps.{world-keeps}
 use Rattle.gx_law_writes.proofs.Turns.{Continues, IsKeptOrDropped, NoRow, Quiet, Turns, Waited, base, message-turns, resumption-turns}
 
 -- the first command of a transaction that has done no row yet: one that waits for its table, or the next after the last
@@ -357,12 +363,18 @@ module _ (script : Script) (some : 1 ≤ script.segments) where
   none-there begins (mark.Write g c n t r x ∷ ms) e = absurd (one-le-none e.0.1.0)
   none-there begins (m ∷ ms) e = (tt, none-there begins ms e.1)
 
-  coord-begun : (w : World) → Knows script w → Holds script w → HaveBegun w → (e : Event) (x : NodeEvent) (fails : Bool) → coord_can script w.coord x ≡ true → SaidTo w x → HaveBegun (coord_did w e (coord_rule script w.coord x fails))
+  -- a single turn of the coordinator, with what it sends
+  turn-begun : (w : World) → HaveBegun w → (turn : CoordTurn) (clock : ℕ) (steps : List Step) → marks_in steps ≡ marks_in w.steps ++ (coord_sends clock turn).marks → Each (IsAtNode script the_coordinator) (coord_sends clock turn).marks → HaveBegun (after_turn w clock turn steps)
+  turn-begun w q turn clock steps same there =
+      record { marks = subst (Each (IsBegunMark (begins_in w.segs))) (sym same) (each_append (IsBegunMark (begins_in w.segs)) (marks_in w.steps) (coord_sends clock turn).marks q.marks (none-there (begins_in w.segs) (coord_sends clock turn).marks there)) }
+
+  coord-begun : (w : World) → Knows script w → Holds script w → HaveBegun w → (e : Event) (x : NodeEvent) (fails : Bool) → coord_can script w.coord x ≡ true → SaidTo w x → HaveBegun (coord_did w e (coord_turn script w.coord x fails))
   coord-begun w k v q e x fails ok said =
-      record { marks = subst (Each (IsBegunMark (begins_in w.segs))) (sym (marks-last w.steps step)) (each_append (IsBegunMark (begins_in w.segs)) (marks_in w.steps) step.marks q.marks (none-there (begins_in w.segs) step.marks (at_coordinator script some w k.well e x fails))) }
-    where
-      step : Step
-      step = record { stamp = record { clock = clock_after w.coord.clock x; node = the_coordinator }; event = e; marks = (coord_rule script w.coord x fails).marks }
+      turn-begun w q (on_event script w.coord x fails) (clock_after w.coord.clock x) (coord_did w e (coord_turn script w.coord x fails)).steps (marks-by-event script w e x fails) (at_coordinator script some w k.well e x fails)
+
+  cancel-begun : (w : World) → Knows script w → Holds script w → HaveBegun w → (g : Gxid) → HasNamed w.steps w.coord.clock w.coord.rounds g → HaveBegun (and_cancelled w g)
+  cancel-begun w k v q g a =
+      turn-begun w q (cancels w.coord g) w.coord.clock (and_cancelled w g).steps (marks-by-victim w g a) (sends-at script w.coord.sent (cancels w.coord g) w.coord.clock (cancel_stays script some w.coord g k.well.coordinator))
 
   seg-begun : (w : World) → Knows script w → Holds script w → HaveBegun w → (e : Event) (x : NodeEvent) (fails : Bool) (i : ℕ) → IsSegment script (at i) → HeardAt script w e i x → HaveBegun (seg_did w (at i) e (seg_rule script (w.segs i) x fails))
   seg-begun w k v q e x fails i place h =
@@ -403,4 +415,4 @@ module _ (script : Script) (some : 1 ≤ script.segments) where
       new m p = tt
 
   pub world-begun : (es : List (Event × Bool)) → HaveBegun (world_of script es)
-  world-begun = world-keeps script some HaveBegun coord-begun seg-begun (record { marks = tt })
+  world-begun = world-keeps script some HaveBegun coord-begun cancel-begun seg-begun (record { marks = tt })

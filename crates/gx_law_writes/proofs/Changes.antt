@@ -46,7 +46,7 @@ use Rattle.gx_law_commit.specs.Standings.{at}
 use Rattle.gx_law_commit.proofs.Whole.{world-both}
 use Rattle.gx_law_holds.proofs.World.{world-locked}
 use Rattle.gx_law_reads.proofs.Ends.{world-facts}
-use Rattle.gx_law_reads.proofs.Seeing.{world-hold}
+use Rattle.gx_law_order.proofs.Journals.{world-hold}
 use Rattle.gx_law_writes.specs.Changes.{AreLaterTurnsTrue, AreNewTurnsTrue, DoCountsStay, FaultLegal, IsTrueTurn}
 use Rattle.gx_law_writes.proofs.Told.{sending-told}
 use Rattle.gx_law_writes.proofs.Turns.{Changed, Continues, NoRow, resumption-turns}
@@ -213,7 +213,7 @@ module _ (script : Script) (some : 1 ≤ script.segments) (numbered : AreLinesNu
       o = going-on script w (world_well script some es) node.0 g ok
 
       place : IsSegment script (at node.0)
-      place = resumes_there script some w node g (world_well script some es) ok
+      place = resumes_there script w node g (world_well script some es) ok
 
       turn : SegTurn
       turn = resumes (w.segs node.0) g (wait_of (w.segs node.0).locks g) (local_of (w.segs node.0) g).suspended

@@ -17,7 +17,7 @@ use Rattle.gx_law_sessions.proofs.World.{legal-with-rest}
 use Rattle.gx_law_writes.specs.Inserts.{AreInsertsTold, InsertTold, IsInsertTold}
 use Rattle.gx_law_writes.specs.Left.{AreLeftLegal, Left, LeftAnswer}
 use Rattle.gx_law_writes.specs.Writes.{AreWritesLegal, WriteLegal}
-use Rattle.gx_law_writes.proofs.Counted.{world-counted}
+use Rattle.gx_law_writes.proofs.Counted.{inserts-told}
 use Rattle.gx_law_writes.proofs.World.{world-holds}
 
 answer-one : (script : Script) (point : Point) (s : SessionId) (a : StmtAnswer) → IsInsertTold script point s a → LeftAnswer script point s a → RestAnswer script point s a
@@ -48,4 +48,4 @@ all-steps script before [] w i l = tt
 all-steps script before (s ∷ ss) w i l = (all-marks script before s.event [] s.marks [] w.0 i.0 l.0, all-steps script (before ++ s ∷ []) ss w.1 i.1 l.1)
 
 pub legal-with-left : (script : Script) → 1 ≤ script.segments → AreLinesNumbered [] script.lines → (es : List (Event × Bool)) → AreLeftLegal script [] (world_of script es).steps → AreLegalSteps script [] (world_of script es).steps
-legal-with-left script some numbered es left = legal-with-rest script some es (all-steps script [] (world_of script es).steps (world-holds script some numbered es).legal (world-counted script some numbered es).told left)
+legal-with-left script some numbered es left = legal-with-rest script some es (all-steps script [] (world_of script es).steps (world-holds script some numbered es).legal (inserts-told script some numbered es) left)

@@ -12,12 +12,15 @@ pub mod Versions
 pub mod Rows
 pub mod Changing
 pub mod Moves
+pub mod Steps
+pub mod AtSegments
 pub mod World
 pub mod Waiting
 pub mod Walk
 pub mod Counts
 pub mod Progress
 pub mod Answers
+pub mod Always
 pub mod Counted
 pub mod Inserting
 pub mod Left

@@ -33,6 +33,7 @@ use Rattle.gx_rules.specs.Locks.{hold_mark, release_marks, with_hold}
 use Rattle.gx_rules.specs.Machine.{World}
 use Rattle.gx_rules.specs.Maps.{each_below}
 use Rattle.gx_rules.specs.Segments.{Local, Phase, Seg, SegTurn, Suspended, after_marks, local_of, stays, tells, tells_kept}
+use Rattle.gx_rules.proofs.Rounds.{collect-ways}
 use Rattle.gx_rules.specs.Segments.Phase.{Reading, Writing, Prepared, Committed, Forgotten, Aborted}
 use Rattle.gx_rules.specs.Shown.{shown}
 use Rattle.gx_rules.specs.Running.{runs_locked, runs_slice, slice_lock, starts_slice, suspends}
@@ -412,7 +413,10 @@ module _ (script : Script) (s : Seg) where
   message-turns fails (message.CommitPrepared g) = below _ g _ (inl (commit-prepared g fails _))
   message-turns fails (message.Abort g) = below _ g _ (inl (abort g _))
   message-turns fails (message.Forget g) = below _ g _ (inl (forget g _))
-  message-turns fails (message.Collect round) = inl stay
+  message-turns fails (message.Collect round) =
+      collect-ways (Turns script s (message.Collect round)) s round (inl stay)
+      (λ new. inl (record { marks = (tt, tt); answers = λ h. refl; lasts = λ h. refl; nexts = λ h. same-le (next_command (s.locals h)); waits = λ h. inl refl; versions = refl; outs = (tt, tt) }))
+      (λ same graph kept. inl (record { marks = tt; answers = λ h. refl; lasts = λ h. refl; nexts = λ h. same-le (next_command (s.locals h)); waits = λ h. inl refl; versions = refl; outs = (tt, tt) }))
   message-turns fails (message.Answer g r) = inl stay
   message-turns fails (message.Graph round graph) = inl stay
 

@@ -42,6 +42,7 @@ use Rattle.gx_script.specs.declared.state.Block.TheVariants.{Failed, Open, Outsi
 use Rattle.gx_script.specs.declared.state.Pending.{Pending}
 use Rattle.gx_script.specs.declared.state.Pending.TheVariants as pending
 use Rattle.gx_store.specs.declared.answer.Refused.{Refused}
+use Rattle.gx_store.specs.declared.answer.Refused.TheVariants.{Victim}
 use Rattle.gx_store.specs.declared.answer.StmtAnswer.{StmtAnswer}
 use Rattle.gx_store.specs.declared.answer.StmtAnswer.TheVariants as told
 use Rattle.gx_store.specs.declared.mark.Mark.{Mark}
@@ -51,11 +52,12 @@ use Rattle.gx_store.specs.declared.node.NodeEvent.TheVariants as event
 use Rattle.gx_store.specs.Marks.{has_snapshot, is_snapped}
 use Rattle.gx_store.specs.Refusals.{the_coordinator}
 use Rattle.gx_store.specs.Writes.{dist_of}
-use Rattle.gx_rules.specs.AtCoordinator.{Reading, answer_at_commit, answer_mark, answer_of_command, answers, answers_at_once, awaited, begins, behind, command_answer, commits, completes, coord_can, dispatches, ends_in, failure_marks, fault_mark, follows, goes, goes_on, goes_out, is_awaited, is_committed, is_idle, is_nothing, is_refused, kept_at, next_cid, next_line, nodes_in, on_answer, on_done, on_event, on_failed, on_line, on_message, on_status, orders_of, plain_answer_of, reads_by, reads_for, reason_of, refusal_of, resends, rolls_back, starts, starts_line, table_of, takes_done, takes_snapshot, with_done, writers_with, goes_on_locked, if_granted, lock_for, requests, resumes, waits_for}
+use Rattle.gx_rules.specs.AtCoordinator.{Reading, answer_at_commit, answer_mark, answer_of_command, answers, answers_at_once, awaited, awaited_collect, begins, behind, cancels, command_answer, commits, completes, coord_can, dispatches, ends_in, failure_marks, fault_mark, follows, goes, goes_on, goes_out, is_awaited, is_committed, is_idle, is_nothing, is_refused, kept_at, next_cid, next_line, nodes_in, on_answer, on_done, on_event, on_failed, on_line, on_message, on_status, orders_of, plain_answer_of, reads_by, reads_for, reason_of, refusal_of, resends, rolls_back, starts, starts_line, table_of, takes_done, takes_snapshot, with_done, writers_with, goes_on_locked, if_granted, lock_for, requests, resumes, waits_for}
 use Rattle.gx_rules.specs.Coordinators.{Command, Coord, CoordTurn, Session, Work, new_work, no_work, rests, session_of, with_state, with_work, work_of}
 use Rattle.gx_rules.specs.Fits.{fits_part}
 use Rattle.gx_rules.specs.Maps.{with_at}
 use Rattle.gx_rules.specs.Snapshots.{snapshot_of}
+use Rattle.gx_rules.proofs.Rounds.{cancel-ways, graph-ways}
 use Rattle.gx_law_order.proofs.Lines.{Asks, asks}
 use Rattle.gx_law_order.proofs.Lists.{Each, each_append}
 use Rattle.gx_law_order.proofs.Sessions.{Kept, is_nothing_in, is_open_in, stage_of}
@@ -137,7 +139,6 @@ module _ (script : Script) (c : Coord) (x : NodeEvent) where
   abbrev pub AnswerAt : List Mark → Mark → Type 0
   AnswerAt earlier (mark.Answer s n a) = AnswerOk earlier s a
   AnswerAt earlier (mark.Fault g d r i) = IsGoingOut x
-  AnswerAt earlier (mark.Recheck round own verdict) = ⊥
   AnswerAt earlier m = Unit {0}
 
   abbrev pub AnswersOk : List Mark → List Mark → Type 0
@@ -147,13 +148,11 @@ module _ (script : Script) (c : Coord) (x : NodeEvent) where
   abbrev NoAnswer : Mark → Type 0
   NoAnswer (mark.Answer s n a) = ⊥
   NoAnswer (mark.Fault g d r i) = IsGoingOut x
-  NoAnswer (mark.Recheck round own verdict) = ⊥
   NoAnswer _ = Unit {0}
 
   none-one : (earlier : List Mark) (m : Mark) → NoAnswer m → AnswerAt earlier m
   none-one earlier (mark.Answer s n a) e = absurd e
   none-one earlier (mark.Fault g d r i) e = e
-  none-one earlier (mark.Recheck round own verdict) e = absurd e
   none-one earlier m e = tt
 
   none-ok : (earlier ns : List Mark) → Each NoAnswer ns → AnswersOk earlier ns
@@ -560,7 +559,8 @@ module _ (script : Script) (c : Coord) (x : NodeEvent) where
     message-walk i fails envelope is (message.Abort g) told = rest-walk
     message-walk i fails envelope is (message.Forget g) told = rest-walk
     message-walk i fails envelope is (message.Collect round) told = rest-walk
-    message-walk i fails envelope is (message.Graph round graph) told = rest-walk
+    message-walk i fails envelope is (message.Graph round graph) told =
+        graph-ways (Walk []) c i round graph rest-walk (λ noted. record { works = λ h. inl (refl, refl); answers = tt }) (λ noted all. record { works = λ h. inl (refl, refl); answers = (tt, tt) })
 
     again-walk : (i : Node) (o : Option Message) → Walk [] (resends c i o)
     again-walk i None = rest-walk
@@ -665,6 +665,10 @@ module _ (script : Script) (c : Coord) (x : NodeEvent) where
     event-walk going (event.Start s) is fails can = start-walk s (subst IsGoingOut (sym is) tt) (idle-first s _ can) (next_line script c s)
     event-walk going (event.End s) is fails can = end-walk s (session_of c s).state.block
     event-walk going (event.Resend i (Some g)) is fails can = again-walk i (awaited c g i)
-    event-walk going (event.Resend i None) is fails can = rest-walk
+    event-walk going (event.Resend i None) is fails can = again-walk i (awaited_collect c i)
     event-walk going (event.Resume g) is fails can = resume-walk g (subst IsGoingOut (sym is) tt) (going g can)
-    event-walk going event.Round is fails can = rest-walk
+    event-walk going event.Round is fails can = record { works = λ h. inl (refl, refl); answers = tt }
+
+  -- A VICTIM
+  pub cancel-walk : (g : Gxid) → Walk [] (cancels c g)
+  cancel-walk g = cancel-ways (Walk []) c g rest-walk (λ live busy. refused-walk c g.0 (λ h e. refl) [] (on_abort c.table g) [] (Victim c.rounds) tt)

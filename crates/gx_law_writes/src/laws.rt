@@ -4,6 +4,7 @@ ghost use Rattle.gx_store.specs.Language.{AreLinesNumbered};
 ghost use Rattle.gx_ids.specs.declared.ids.Cid.{Cid as OneCid};
 ghost use Rattle.gx_ids.specs.declared.ids.Gxid.{Gxid as OneGxid};
 ghost use Rattle.gx_law_order.specs.Runs.{steps_after};
+ghost use Rattle.gx_law_sessions.specs.Finish.{AreVerdictsLegal};
 ghost use Rattle.gx_meaning.specs.Constants.{rows_of};
 ghost use Rattle.gx_rules.specs.Machine.{after, run_of, world_of};
 ghost use Rattle.gx_script.specs.declared.Script.{Script};
@@ -70,14 +71,14 @@ pub fn inserts_are_told()
 {}
 
 /// A run is a legal history if what SELECTs show, on what commands fault, what segments refuse, and what the answers of commands
-/// that change rows or lock a table say are so.
+/// that change rows or lock a table say are so, and whoever a recheck names is cancelled.
 pub fn history_is_legal_with_what_is_left()
     ensures { (script : Script) (events : List (OneEvent × Bool)) → 1 ≤ script.segments → AreLinesNumbered [] script.lines
         → AreLeftLegal script [] (steps_after script events) → IsLegalHistory script (run_of (world_of script events)) }
 {}
 
-/// Every run of a script that only inserts is a legal history of one store.
+/// Every run of a script that only inserts is a legal history of one store, once it is shown that whoever a recheck names is cancelled.
 pub fn histories_of_inserts_are_legal()
     ensures { (script : Script) (events : List (OneEvent × Bool)) → 1 ≤ script.segments → AreLinesNumbered [] script.lines
-        → AreInserting script.lines → IsLegalHistory script (run_of (world_of script events)) }
+        → AreInserting script.lines → AreVerdictsLegal [] (steps_after script events) → IsLegalHistory script (run_of (world_of script events)) }
 {}

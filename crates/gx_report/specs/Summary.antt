@@ -11,6 +11,7 @@ use Rattle.gx_store.specs.declared.mark.Mark.{Mark}
 use Rattle.gx_store.specs.declared.mark.Mark.TheVariants.{Answer}
 use Rattle.gx_store.specs.declared.run.Run.{Run}
 use Rattle.gx_store.specs.declared.run.Step.{Step}
+use Rattle.gx_report.specs.Text.{stopped_line}
 use Rattle.gx_tree.specs.declared.row.KeyedRow.{KeyedRow}
 use Rattle.gx_tree.specs.declared.value.Value.{Value}
 use Rattle.gx_tree.specs.declared.value.Value.TheVariants.{Int, Text}
@@ -66,3 +67,7 @@ summary_of number script run tables =
     ++ codes ", rows " ++ decimal (length (accounts_in tables))
     ++ codes ", sum " ++ signed_decimal (total_balance (accounts_in tables))
     ++ codes "\n"
+
+-- the same of a run that stopped once all turns were taken, with the accounts as they are then
+abbrev pub stopped_summary_of : ℕ → Script → Run → List (Vec KeyedRow Global) → List ℕ
+stopped_summary_of number script run tables = summary_of number script run tables ++ stopped_line

@@ -87,6 +87,10 @@ tables_text (s ∷ ss) (rows ∷ tables) = table_text s.name rows.items ++ table
 abbrev pub text_of : Script → Run → List (Vec KeyedRow Global) → List ℕ
 text_of script run tables = sessions_text run.steps 0 script.sessions ++ tables_text script.tables tables
 
--- the text of a run that stopped once all turns were taken
+-- the line that says that a run stopped once all turns were taken
+abbrev pub stopped_line : List ℕ
+stopped_line = codes "stopped: turns spent\n"
+
+-- the text of such a run
 abbrev pub stopped_text : Script → Run → List ℕ
-stopped_text script run = sessions_text run.steps 0 script.sessions ++ codes "stopped: turns spent\n"
+stopped_text script run = sessions_text run.steps 0 script.sessions ++ stopped_line

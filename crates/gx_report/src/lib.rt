@@ -16,7 +16,7 @@ mod trace;
 mod words;
 mod worked;
 
-pub use generated::summary;
+pub use generated::{summary, summary_of_stopped};
 pub use tables::{text, text_of_stopped};
 pub use trace::{push_trace, trace_text};
 pub use worked::{all_kinds_are_traced, begin_and_rollback_are_traced};

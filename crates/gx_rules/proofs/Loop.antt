@@ -1,13 +1,12 @@
 -- The loop over rows, taken apart: the rows that were done, one behind the other, and how it ended.
-use Rattle.std.proofs.Common.{◌≡◌, ◌∙◌, ◌⊎◌, inl, inr, ℕ, ◌+◌, Bool, true, false, List, [], ◌∷◌, ◌++◌, ap, refl, sym, subst, arith}
+use Rattle.std.proofs.Common.{◌≡◌, ◌∙◌, inl, inr, ℕ, ◌+◌, Bool, true, false, List, [], ◌∷◌, ap, refl, sym, subst, arith}
 use Rattle.gx_ids.specs.declared.ids.Gxid.{Gxid}
 use Rattle.gx_ids.specs.declared.rid.Rid.{Rid}
-use Rattle.gx_msg.specs.declared.reply.Cause.{Cause}
 use Rattle.gx_rules.specs.Changes.{Change, RowEnd, RowTurn, after_row, does_row, ended, goes_through, is_done, suspended_at, suspends_at}
 use Rattle.gx_rules.specs.Changes.RowEnd.{Failing, Skipped, Waiting, Written}
 use Rattle.gx_rules.specs.Segments.{SegTurn}
 use Rattle.gx_rules.specs.Slices.{Moved}
-use Rattle.gx_rules.specs.Visits.{GoesThrough, IsFailed, IsPath, IsStopped, IsThrough, Visit, end_of, one_if, visited, written_in}
+use Rattle.gx_rules.specs.Visits.{GoesThrough, Visit, end_of, one_if, written_in}
 
 plus-none : (n : ℕ) → n + 0 ≡ n
 plus-none n = omega arith

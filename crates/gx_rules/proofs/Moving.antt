@@ -1,13 +1,11 @@
 -- What every small move of the loop over rows keeps, the whole loop keeps.
-use Rattle.std.proofs.Common.{◌≡◌, ◌∙◌, ◌⊎◌, inl, inr, ℕ, Bool, true, false, List, [], ◌∷◌, ◌++◌, Option, Some, None, ap, refl, sym, subst, if◌then◌else◌}
+use Rattle.std.proofs.Common.{◌≡◌, ◌∙◌, ◌⊎◌, inl, inr, ℕ, Bool, true, false, List, [], ◌∷◌, Option, ap, refl, sym, subst, if◌then◌else◌}
 use Rattle.gx_ids.specs.declared.ids.Gxid.{Gxid}
 use Rattle.gx_ids.specs.declared.rid.Rid.{Rid}
 use Rattle.gx_tree.specs.declared.value.Value.{Value}
-use Rattle.gx_waits.specs.declared.claim.Claim.{Claim}
 use Rattle.gx_locks.specs.Locks.{is_free}
-use Rattle.gx_store.specs.declared.mark.Mark.{Mark}
 use Rattle.gx_store.specs.declared.mark.Mark.TheVariants as mark
-use Rattle.gx_rules.specs.Changes.{Change, RowEnd, RowTurn, does_row, ended, gives_back_if_held, goes_through, is_done, suspended_at, suspends_at, tuple_lock}
+use Rattle.gx_rules.specs.Changes.{Change, RowTurn, does_row, ended, gives_back_if_held, goes_through, is_done, suspended_at, suspends_at, tuple_lock}
 use Rattle.gx_rules.specs.Changes.RowEnd.{Failing, Skipped, Waiting, Written}
 use Rattle.gx_msg.specs.declared.reply.Reply.TheVariants as reply
 use Rattle.gx_rules.specs.Segments.{SegTurn}

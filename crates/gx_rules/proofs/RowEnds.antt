@@ -1,5 +1,5 @@
 -- One row: what was so where it is written, skipped, faulted on or overtaken.
-use Rattle.std.proofs.Common.{◌≡◌, ◌∙◌, ◌⊎◌, inl, inr, ℕ, Bool, true, false, List, [], ◌∷◌, ◌++◌, Option, Some, None, Result, Ok, Err, ap, refl, sym, subst, if◌then◌else◌}
+use Rattle.std.proofs.Common.{◌≡◌, ◌∙◌, ◌⊎◌, inl, inr, Bool, true, false, List, Option, Some, None, Result, Ok, Err, ap, refl, sym, subst, if◌then◌else◌}
 use Rattle.gx_ids.specs.declared.ids.Gxid.{Gxid}
 use Rattle.gx_ids.specs.declared.rid.Rid.{Rid}
 use Rattle.gx_tree.specs.declared.stmt.Level.{Level}
@@ -9,13 +9,13 @@ use Rattle.gx_meaning.specs.declared.fault.ArithFault.{ArithFault}
 use Rattle.gx_msg.specs.declared.reply.Cause.TheVariants.{Serialization}
 use Rattle.gx_store.specs.declared.mark.Mark.TheVariants as mark
 use Rattle.gx_store.specs.Commands.{condition_on}
-use Rattle.gx_rules.specs.Changes.{Change, RowEnd, RowTurn, at_current, changes_shown, does_row, end_lock, ended, faults, is_settled, looked_at, looks_again, new_image, processes, skips, tested, tuple_lock, waits, waits_at, without_tuple, writes}
-use Rattle.gx_rules.specs.Changes.RowEnd.{Failing, Skipped, Waiting, Written}
+use Rattle.gx_rules.specs.Changes.{Change, RowTurn, at_current, changes_shown, does_row, end_lock, ended, is_settled, looked_at, looks_again, new_image, processes, skips, tested, tuple_lock, waits, waits_at, without_tuple, writes}
+use Rattle.gx_rules.specs.Changes.RowEnd.{Failing, Waiting, Written}
 use Rattle.gx_rules.specs.Segments.{Version}
 use Rattle.gx_rules.specs.Shown.{counts, current_of}
 use Rattle.gx_rules.specs.Slices.{Moved, cause_of, is_holding, noted, takes_lock, writes_row}
 use Rattle.gx_locks.specs.Locks.{is_free}
-use Rattle.gx_rules.specs.Visits.{DidFault, DidSkip, DidStop, DidWrite, Does, FaultsAt, IsLeft, IsNow, IsOvertakenAt, IsSettled, IsUnshown, SkipsIt, WaitsAt, WasOvertaken, WritesIt}
+use Rattle.gx_rules.specs.Visits.{Does, FaultsAt, IsNow, IsOvertakenAt, IsSettled, IsUnshown, SkipsIt, WaitsAt, WritesIt}
 
 -- what may have come of a row that is looked at
 record Wrote (m : Moved) (g : Gxid) (k : Change) (rid : Rid) (t : RowTurn) : Type 0 where

@@ -1,5 +1,5 @@
--- What the coordinator does when a session's line starts, when an answer comes, when a session ends, when a message is to be sent
--- again, and when a statement that has waited goes on.
+-- What the coordinator does when a session's line starts, when an answer or a graph comes, when a session ends, when a message is to
+-- be sent again, when a statement that has waited goes on, and when a round of the detector begins.
 use Rattle.std.specs.Prelude.{ℕ, ◌+◌, ◌==◌, nat_le, Bool, true, false, not, if◌then◌else◌, ◌&&◌, ◌||◌, List, [], ◌∷◌, ◌++◌, map, fold, is_some, option_map, Some, None, Result, Ok, Err}
 use Rattle.std.specs.declared.option.Option.{Option}
 use Rattle.gx_ids.specs.declared.ids.Cid.{Cid}
@@ -16,7 +16,7 @@ use Rattle.gx_tree.specs.declared.value.Value.{Value}
 use Rattle.gx_dsnap.specs.declared.snapshot.Snapshot.{Snapshot}
 use Rattle.gx_dtx.specs.Nodes.{has, with_node, without}
 use Rattle.gx_dtx.specs.Rules.{Turn, awaited_order, begun, enlisted, is_deciding, on_abort, on_commit, on_reply, with_live}
-use Rattle.gx_dtx.specs.Table.{Table, horizon_of, xmin_of}
+use Rattle.gx_dtx.specs.Table.{Table, find_txn, horizon_of, xmin_of}
 use Rattle.gx_dtx.specs.Orders.{message_of}
 use Rattle.gx_dtx.specs.declared.order.Order.{Order}
 use Rattle.gx_dtx.specs.declared.outcome.Outcome.{Outcome}
@@ -62,9 +62,10 @@ use Rattle.gx_locks.specs.Locks.{is_free, is_ready, resumed, wait_of}
 use Rattle.gx_modes.specs.declared.modes.Mode.TheVariants.{AccessShare, RowExclusive}
 use Rattle.gx_waits.specs.declared.claim.Claim.{Claim}
 use Rattle.gx_waits.specs.declared.object.Object.TheVariants.{Relation}
-use Rattle.gx_rules.specs.Coordinators.{Command, Coord, CoordTurn, Session, Work, new_work, no_work, rests, session_of, with_session, with_state, with_work, work_of}
+use Rattle.gx_rules.specs.Coordinators.{Command, Coord, CoordTurn, Session, Work, joined, new_work, no_work, rests, session_of, with_session, with_state, with_work, work_of}
 use Rattle.gx_rules.specs.Fits.{fits_part}
 use Rattle.gx_rules.specs.Locks.{hold_mark, release_marks, released, wait_mark, with_hold, with_wait}
+use Rattle.gx_rules.specs.Rounds.{awaits_graph, begins_round, can_begin, is_live, on_graph, victims_at}
 use Rattle.gx_meaning.specs.Merged.{merged_answer}
 use Rattle.gx_rules.specs.Sending.{clock_after, counted_all, numbered}
 use Rattle.gx_rules.specs.Snapshots.{snapshot_of}
@@ -383,6 +384,7 @@ on_answer c g i fails r = on_status c g i r fails
 
 abbrev pub on_message : Coord → Node → Bool → Message → CoordTurn
 on_message c from fails (message.Answer g r) = on_answer c g from fails r
+on_message c from fails (message.Graph round graph) = on_graph c from round graph
 on_message c from fails _ = rests c
 
 -- MESSAGES SENT AGAIN
@@ -406,6 +408,10 @@ abbrev pub resends : Coord → Node → Option Message → CoordTurn
 resends c i None = rests c
 resends c i (Some told) = record { coord = c; marks = []; outs = record { node = i; message = told } ∷ []; item = None }
 
+-- what asks a segment for its graph, where that is awaited
+abbrev pub awaited_collect : Coord → Node → Option Message
+awaited_collect c i = if awaits_graph c i then Some (message.Collect c.rounds) else None
+
 -- RESUMPTIONS
 -- A statement whose lock is free takes it and goes out.
 abbrev pub resumes : Script → Coord → Gxid → Option Claim → Option Stmt → CoordTurn
@@ -414,14 +420,15 @@ resumes script c g (Some wanted) (Some line) =
     (goes_on_locked script (with_work (record c { locks = resumed c.locks g (Some wanted) }) g (record (work_of c g) { waiting = None })) g line)
 resumes script c g _ _ = rests c
 
--- THE RULE
+-- WHAT AN EVENT DOES BY ITSELF
 abbrev pub on_event : Script → Coord → NodeEvent → Bool → CoordTurn
 on_event script c (node.Deliver from envelope) fails = on_message c from fails envelope.message
 on_event script c (node.Resume g) fails = resumes script c g (wait_of c.locks g) (work_of c g).waiting
 on_event script c (node.Start s) fails = starts script c s (next_line script c s)
 on_event script c (node.End s) fails = ends_in c s (session_of c s).state.block
 on_event script c (node.Resend i (Some g)) fails = resends c i (awaited c g i)
-on_event script c _ fails = rests c
+on_event script c (node.Resend i None) fails = resends c i (awaited_collect c i)
+on_event script c node.Round fails = begins_round script c
 
 -- the marks of sendings stand behind the others
 abbrev pub coord_sends : ℕ → CoordTurn → CoordTurn
@@ -431,10 +438,37 @@ coord_sends clock turn =
       marks = turn.marks ++ numbered turn.coord.sent turn.outs;
     }
 
+abbrev pub coord_turn : Script → Coord → NodeEvent → Bool → CoordTurn
+coord_turn script c event fails = coord_sends (clock_after c.clock event) (on_event script c event fails)
+
+-- VICTIMS
+abbrev pub is_under_way : Work → Bool
+is_under_way w = is_some w.command || is_some w.waiting
+
+-- a transaction may be cancelled while it is active and a statement of it is under way or waits
+abbrev pub may_cancel : Coord → Gxid → Bool
+may_cancel c g = is_live (find_txn c.table g) && is_under_way (work_of c g)
+
+-- The victim's statement is refused with the last round that began, in which it was named.
+abbrev pub cancels : Coord → Gxid → CoordTurn
+cancels c g = if may_cancel c g then is_refused c g (on_abort c.table g) [] (refused.Victim c.rounds) else rests c
+
+-- a victim's turn belongs to the event that named it, so the clock stays
+abbrev pub cancel_turn : Coord → Gxid → CoordTurn
+cancel_turn c g = coord_sends c.clock (cancels c g)
+
+abbrev pub and_cancels : CoordTurn → Gxid → CoordTurn
+and_cancels turn g = joined turn (cancel_turn turn.coord g)
+
+-- victims one behind the other, each wholly before the next
+abbrev pub and_cancels_all : List Gxid → CoordTurn → CoordTurn
+and_cancels_all victims turn = fold and_cancels turn victims
+
+-- THE RULE
 -- The coordinator's rule: from its data, the event and whether its journal fails to take an item to the new data, the marks,
--- the messages and the item. Rounds aren't built yet.
+-- the messages and the item. Behind a recheck its victims are cancelled in the same event; behind any other event nobody is.
 abbrev pub coord_rule : Script → Coord → NodeEvent → Bool → CoordTurn
-coord_rule script c event fails = coord_sends (clock_after c.clock event) (on_event script c event fails)
+coord_rule script c event fails = and_cancels_all (victims_at c event) (coord_turn script c event fails)
 
 -- WHAT IS ADMITTED
 abbrev pub is_nothing : Pending → Bool
@@ -460,11 +494,13 @@ abbrev pub is_segment : Script → Node → Bool
 is_segment script i = nat_le 1 i.0 && nat_le i.0 script.segments
 
 -- A delivery is from a segment, a line starts where its session is idle, a session ends that is idle in a block without a line
--- left, what is sent again has an awaited answer, and whoever resumes has a wait that meets no hold.
+-- left, what is sent again has an awaited answer, whoever resumes has a wait that meets no hold, and a round begins where the
+-- detector is on and none runs.
 abbrev pub coord_can : Script → Coord → NodeEvent → Bool
 coord_can script c (node.Deliver from envelope) = is_segment script from
 coord_can script c (node.Resume g) = is_ready c.locks.holds (wait_of c.locks g)
 coord_can script c (node.Start s) = is_idle (session_of c s) && is_left (next_line script c s)
 coord_can script c (node.End s) = is_idle (session_of c s) && (not (is_left (next_line script c s)) && is_in_block (session_of c s).state.block)
 coord_can script c (node.Resend i (Some g)) = is_some (awaited c g i)
-coord_can script c _ = false
+coord_can script c (node.Resend i None) = awaits_graph c i
+coord_can script c node.Round = can_begin script c

@@ -8,14 +8,18 @@ use Rattle.gx_tree.specs.declared.stmt.Level.{Level}
 use Rattle.gx_dsnap.specs.Gxids.{is_below}
 use Rattle.gx_dsnap.specs.declared.snapshot.Snapshot.{Snapshot}
 use Rattle.gx_waits.specs.declared.claim.Claim.{Claim}
+use Rattle.gx_waits.specs.declared.graph.LocalGraph.{LocalGraph}
+use Rattle.gx_locks.specs.Graphs.{graph_at}
 use Rattle.gx_locks.specs.Locks.{wait_of}
 use Rattle.gx_msg.specs.declared.item.JournalItem.{JournalItem}
 use Rattle.gx_msg.specs.declared.item.JournalItem.TheVariants as item
 use Rattle.gx_msg.specs.declared.message.Message.{Message}
 use Rattle.gx_msg.specs.declared.message.Message.TheVariants as message
+use Rattle.gx_msg.specs.declared.message.Out.{Out}
 use Rattle.gx_msg.specs.declared.reply.Reply.{Reply}
 use Rattle.gx_msg.specs.declared.reply.Reply.TheVariants as answer
 use Rattle.gx_script.specs.declared.Script.{Script}
+use Rattle.gx_store.specs.Refusals.{the_coordinator}
 use Rattle.gx_store.specs.declared.mark.Mark.{Mark}
 use Rattle.gx_store.specs.declared.mark.Mark.TheVariants as mark
 use Rattle.gx_store.specs.declared.node.NodeEvent.{NodeEvent}
@@ -128,6 +132,29 @@ on_forget s g l Aborted = stays s
 on_forget s g l (Forgotten committed) = tells s g answer.Forgotten
 on_forget s g l _ = forgets s g l
 
+-- COLLECT
+-- A round that is new is told the graph of this moment, which is kept; the last one is told the kept graph again; an older one is
+-- nothing.
+abbrev pub graph_out : ℕ → LocalGraph → Out
+graph_out round graph = record { node = the_coordinator; message = message.Graph round graph }
+
+abbrev pub reports : Seg → ℕ → LocalGraph → SegTurn
+reports s round graph =
+    record {
+      seg = record s { round = round; graph = Some graph };
+      marks = mark.Report s.node round graph ∷ [];
+      outs = graph_out round graph ∷ [];
+      item = None;
+    }
+
+abbrev pub reports_again : Seg → ℕ → Option LocalGraph → SegTurn
+reports_again s round None = stays s
+reports_again s round (Some graph) = record { seg = s; marks = []; outs = graph_out round graph ∷ []; item = None }
+
+abbrev pub on_collect : Seg → ℕ → SegTurn
+on_collect s round =
+    if nat_lt s.round round then reports s round (graph_at s.locks) else (if s.round == round then reports_again s round s.graph else stays s)
+
 -- ALL MESSAGES
 -- of a transaction below the horizon nothing is done
 abbrev pub unless_below : Seg → Gxid → SegTurn → SegTurn
@@ -147,6 +174,7 @@ on_message script s fails (message.Commit g) =
 on_message script s fails (message.CommitPrepared g) = unless_below s g (on_commit_prepared s g fails (local_of s g) (local_of s g).phase)
 on_message script s fails (message.Abort g) = unless_below s g (on_abort s g (local_of s g) (local_of s g).phase)
 on_message script s fails (message.Forget g) = unless_below s g (on_forget s g (local_of s g) (local_of s g).phase)
+on_message script s fails (message.Collect round) = on_collect s round
 on_message script s fails _ = stays s
 
 -- RESUMPTIONS

@@ -1,5 +1,5 @@
 -- What the coordinator holds, as plain data.
-use Rattle.std.specs.Prelude.{ℕ, List, [], None}
+use Rattle.std.specs.Prelude.{ℕ, List, [], ◌++◌, None}
 use Rattle.std.specs.declared.option.Option.{Option}
 use Rattle.gx_ids.specs.declared.ids.Cid.{Cid}
 use Rattle.gx_ids.specs.declared.ids.Gxid.{Gxid}
@@ -62,7 +62,7 @@ new_session = record { state = idle_outside; lines = 0; transaction = record { 0
 
 -- The coordinator: its transactions' statuses, what else it knows of them by gxid, the sessions, its locks, how many rounds of the
 -- detector were begun, so the last one's number, and while that one runs a place for each segment with the graph that it has
--- reported, if any (no round yet; the detector begins them), how many messages it has sent to each segment, and its clock.
+-- reported, if any, how many messages it has sent to each segment, and its clock.
 pub record Coord : Type 0 where
   pub table : Table
   pub works : ℕ → Work
@@ -111,3 +111,7 @@ pub record CoordTurn : Type 0 where
 
 abbrev pub rests : Coord → CoordTurn
 rests c = record { coord = c; marks = []; outs = []; item = None }
+
+-- a turn, and one that starts where it has led
+abbrev pub joined : CoordTurn → CoordTurn → CoordTurn
+joined turn next = record { coord = next.coord; marks = turn.marks ++ next.marks; outs = turn.outs ++ next.outs; item = turn.item }

@@ -12,12 +12,14 @@ pub mod Visits
 pub mod Fits
 pub mod AtSegment
 pub mod Coordinators
+pub mod Rounds
 pub mod AtCoordinator
 pub mod Machine
 pub mod System
 pub mod Rows
 pub mod Expected
 pub mod WaitRuns
+pub mod RoundRuns
 pub mod ChangeRuns
 pub mod UpdateRuns
 pub mod Last

@@ -2,6 +2,7 @@
 -- number of times, or never.
 use Rattle.std.specs.Prelude.{ℕ, ◌==◌, Bool, true, false, if◌then◌else◌, ◌&&◌, List, [], ◌∷◌, ◌++◌, Some, None}
 use Rattle.std.specs.declared.option.Option.{Option}
+use Rattle.gx_ids.specs.declared.ids.Gxid.{Gxid}
 use Rattle.gx_ids.specs.declared.ids.Node.{Node}
 use Rattle.gx_msg.specs.declared.item.JournalItem.{JournalItem}
 use Rattle.gx_msg.specs.declared.message.Envelope.{Envelope}
@@ -17,7 +18,7 @@ use Rattle.gx_store.specs.declared.run.Step.{Step}
 use Rattle.gx_store.specs.Journals.{is_same_node}
 use Rattle.gx_store.specs.Refusals.{the_coordinator}
 use Rattle.gx_locks.specs.Locks.{is_ready, wait_of}
-use Rattle.gx_rules.specs.AtCoordinator.{coord_can, coord_rule, is_segment}
+use Rattle.gx_rules.specs.AtCoordinator.{cancel_turn, coord_can, coord_rule, is_segment}
 use Rattle.gx_rules.specs.AtSegment.{seg_rule}
 use Rattle.gx_rules.specs.Coordinators.{Coord, CoordTurn, new_coordinator}
 use Rattle.gx_rules.specs.Maps.{with_at}
@@ -104,13 +105,30 @@ noted w at clock e marks =
 abbrev pub coord_did : World → Event → CoordTurn → World
 coord_did w e turn = record (noted w the_coordinator turn.coord.clock e turn.marks) { coord = turn.coord }
 
+-- A victim's turn stands in the coordinator's last step, behind the turns that have made it.
+abbrev pub with_more : List Step → List Mark → List Step
+with_more [] marks = []
+with_more (s ∷ []) marks = record s { marks = s.marks ++ marks } ∷ []
+with_more (s ∷ t ∷ ss) marks = s ∷ with_more (t ∷ ss) marks
+
+abbrev pub coord_more : World → CoordTurn → World
+coord_more w turn =
+    record w { coord = turn.coord; steps = with_more w.steps turn.marks; sent = posted the_coordinator turn.coord.clock turn.marks w.sent }
+
+abbrev pub and_cancelled : World → Gxid → World
+and_cancelled w g = coord_more w (cancel_turn w.coord g)
+
 abbrev pub seg_did : World → Node → Event → SegTurn → World
 seg_did w i e turn = record (noted w i turn.seg.clock e turn.marks) { segs = with_at w.segs i.0 turn.seg }
 
+-- by what the coordinator does in one event: its whole rule, or the event by itself
+abbrev pub does_by : (Coord → NodeEvent → Bool → CoordTurn) → Script → World → Event → Node → Bool → Option NodeEvent → World
+does_by rule script w e at fails None = w
+does_by rule script w e at fails (Some here) =
+    if is_same_node at the_coordinator then coord_did w e (rule w.coord here fails) else seg_did w at e (seg_rule script (w.segs at.0) here fails)
+
 abbrev pub does : Script → World → Event → Node → Bool → Option NodeEvent → World
-does script w e at fails None = w
-does script w e at fails (Some here) =
-    if is_same_node at the_coordinator then coord_did w e (coord_rule script w.coord here fails) else seg_did w at e (seg_rule script (w.segs at.0) here fails)
+does script = does_by (coord_rule script) script
 
 -- One event; what isn't admitted doesn't happen. `fails` says whether the node's journal fails to take an item.
 abbrev pub happens : Script → World → Event → Bool → World

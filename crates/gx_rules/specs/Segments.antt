@@ -79,9 +79,8 @@ pub record Version : Type 0 where
   pub image : Option (List Value)
 
 -- A segment: the horizon, the transactions by gxid, all versions in the order in which they were written, its locks, the last
--- round of the detector that asked for a graph there (0 before the first) and the graph that it was told (none yet; the detector
--- makes both), how many messages it has sent, and its clock. What stands below the horizon counts as ended; nothing is dropped
--- here.
+-- round of the detector that asked for a graph there (0 before the first) and the graph that it was told, how many messages it has
+-- sent, and its clock. What stands below the horizon counts as ended; nothing is dropped here.
 pub record Seg : Type 0 where
   pub node : Node
   pub horizon : Gxid

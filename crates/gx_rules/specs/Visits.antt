@@ -1,5 +1,5 @@
 -- How a command that changes rows has gone through them: what it has made of each, and how it stands behind them.
-use Rattle.std.specs.Prelude.{◌≡◌, ◌⊎◌, ℕ, ◌+◌, Bool, true, false, not, ◌||◌, List, [], ◌∷◌, ◌++◌, Some, None, Ok, Err}
+use Rattle.std.specs.Prelude.{◌≡◌, ◌⊎◌, ℕ, ◌+◌, Bool, true, false, List, [], ◌∷◌, ◌++◌, Some, None, Ok, Err}
 use Rattle.std.specs.declared.option.Option.{Option}
 use Rattle.gx_ids.specs.declared.ids.Gxid.{Gxid}
 use Rattle.gx_ids.specs.declared.rid.Rid.{Rid}
@@ -13,10 +13,9 @@ use Rattle.gx_msg.specs.declared.reply.Reply.TheVariants as reply
 use Rattle.gx_locks.specs.Locks.{is_free}
 use Rattle.gx_store.specs.declared.mark.Mark.TheVariants as mark
 use Rattle.gx_store.specs.Commands.{condition_on}
-use Rattle.gx_store.specs.Marks.{is_same_gxid}
 use Rattle.gx_rules.specs.Changes.{Change, RowEnd, RowTurn, does_row, end_lock, ended, gives_back_if_held, is_done, is_settled, new_image, suspended_at, suspends_at, tuple_lock, waits}
 use Rattle.gx_rules.specs.Changes.RowEnd.{Failing, Skipped, Waiting, Written}
-use Rattle.gx_rules.specs.Segments.{Seg, SegTurn, Version}
+use Rattle.gx_rules.specs.Segments.{SegTurn, Version}
 use Rattle.gx_rules.specs.Shown.{counts, current_of}
 use Rattle.gx_rules.specs.Slices.{Moved, answers, cause_of, is_holding, noted, takes_lock, writes_row}
 

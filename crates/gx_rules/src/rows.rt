@@ -2,6 +2,7 @@
 
 ghost use Rattle.gx_rules.specs.ChangeRuns.{KeepsImages, RefusesChanged, SecondWaits, SkipsGone, changed_row_run, gone_rows_run, old_images_run, second_update_run};
 ghost use Rattle.gx_rules.specs.Expected.{CommitsByOne, FinishesLost, KeepsSnapshot, ReadsBetween, RefusesPromise, RunsOnce, between, kept_run, lost, one_phase, refused_run, repeated};
+ghost use Rattle.gx_rules.specs.RoundRuns.{AwaitsEach, CancelsBoth, CancelsYounger, DecidesOver, DropsTheRound, FindsNobody, GathersReports, ReportsItsWait, TakesItsOwnGraphs};
 ghost use Rattle.gx_rules.specs.WaitRuns.{GivesBackInOrder, IsHeldUp, WaitsForForget, WaitsForShare, lost_forget_run, share_lock_run, waiting_run};
 
 /// A block that has written at one segment commits there at once: nothing is promised or decided, and both segments that
@@ -75,4 +76,49 @@ pub fn changed_row_is_refused()
 /// A repeatable-read block reads the images of its snapshot, whoever updates and deletes their rows.
 pub fn snapshot_shows_old_images()
     ensures { KeepsImages old_images_run }
+{}
+
+/// Two blocks that ask for each other's table wait for ever: a round cancels the younger, and the other one goes on.
+pub fn crosswise_locks()
+    ensures { CancelsYounger }
+{}
+
+/// Of two deadlocks at once each loses its younger transaction in one step, one wholly behind the other.
+pub fn two_deadlocks_in_one_round()
+    ensures { CancelsBoth }
+{}
+
+/// A round cancels nobody where somebody waits for one that can go on.
+pub fn round_without_a_deadlock()
+    ensures { FindsNobody }
+{}
+
+/// A graph counts for the round that asked for it, alone.
+pub fn late_graph_changes_nothing()
+    ensures { TakesItsOwnGraphs }
+{}
+
+/// A round is decided once every segment has reported in it.
+pub fn every_segment_reports()
+    ensures { AwaitsEach }
+{}
+
+/// A round is decided over the coordinator's own graph and all reports together.
+pub fn deadlock_over_two_nodes()
+    ensures { GathersReports }
+{}
+
+/// Nobody is cancelled where one of those who wait for each other has been told to commit.
+pub fn committing_drops_the_round()
+    ensures { DropsTheRound }
+{}
+
+/// A segment reports whom a slice waits for.
+pub fn slice_waits_in_a_report()
+    ensures { ReportsItsWait }
+{}
+
+/// What is decided over some edges.
+pub fn verdicts_over_edges()
+    ensures { DecidesOver }
 {}

@@ -31,7 +31,7 @@ use Rattle.gx_segment.specs.Moves.{HasMoved, order_turn}
 use Rattle.gx_segment.specs.declared.done.Done.{Done}
 use Rattle.gx_segment.proofs.Following.{follows-change_of}
 use Rattle.gx_segment.proofs.Moving.{IsHeld-moved}
-use Rattle.gx_segment.proofs.Standing.{goes_on-stands}
+use Rattle.gx_segment.proofs.Standing.{Fixed, goes_on-stands}
 
 out-answer_of : (g : Gxid) (r : Option Reply) → to_coordinator (answer_of g r) ≡ outs_in g r
 out-answer_of g None = refl
@@ -92,7 +92,7 @@ pub HasDone-progressed : (tables : List Schema) (held : Held) (m : Moved) (g : G
 HasDone-progressed tables held m g w row progress done is d =
     subst (λ (x : Done). HasDone tables held m.seg.horizon x (goes_on m g w row)) (sym d) (record {
       held = is.agrees;
-      horizon = sym (goes_on-stands m g w row).horizon;
+      horizon = sym (ap (λ (x : Fixed). x.horizon) (goes_on-stands m g w row));
       marks = is.marks;
       outs = replies-answer_of g progress.reply ∙ sym is.outs;
     })

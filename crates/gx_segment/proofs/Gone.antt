@@ -20,43 +20,24 @@ use Rattle.gx_segment.specs.Done.{HasDone, to_coordinator}
 use Rattle.gx_segment.specs.Steps.{HasGone, HasStepped, IsSegment}
 use Rattle.gx_segment.specs.declared.done.Done.{Done}
 use Rattle.gx_segment.specs.declared.segment.Segment.{Segment}
+use Rattle.gx_segment.specs.Reports.{report_behind}
+use Rattle.gx_segment.specs.declared.collecting.LastReport.{LastReport}
+use Rattle.gx_segment.proofs.Aside.{IsHeld-aside}
 use Rattle.gx_segment.proofs.Keeping.{event-keeps}
 
--- what is held doesn't speak of messages and clocks
-held-sends : (tables : List Schema) (held : Held) (s : Seg) (sent clock : ℕ) → IsHeld tables held s → IsHeld tables held (record s { sent = sent; clock = clock })
-held-sends tables held s sent clock is = record {
-  horizon = is.horizon;
-  locals = is.locals;
-  kept = is.kept;
-  dropped = is.dropped;
-  holders = is.holders;
-  writes = is.writes;
-  wrote = is.wrote;
-  committed = is.committed;
-  unaborted = is.unaborted;
-  came = is.came;
-  writers = record { low = is.writers.low; own = is.writers.own };
-  typed = is.typed;
-  locks = is.locks;
-  owned = is.owned;
-  waits = record {
-    standing = is.waits.standing;
-    right = λ g w e. let right = is.waits.right g w e in record { alive = right.alive; open_here = right.open_here; came = right.came; reads = right.reads; right = right.right; new = right.new; room = right.room };
-  };
-}
-
-module _ (was : Before) (event : NodeEvent) (now : Held) (low : Gxid) (sent sent' clock clock' : ℕ) (before after : Shelf) (done : Done) (out : NodeOut) where
+module _ (was : Before) (event : NodeEvent) (now : Held) (low : Gxid) (last : LastReport) (sent sent' clock clock' : ℕ) (before after : Shelf) (done : Done) (out : NodeOut) where
   abbrev turn : SegTurn
   turn = on_event was.script was.seg event done.fails
 
-  pub HasGone-made : HasDone was.script.tables now low done turn → Took before after done.fails turn.item → sent ≡ was.seg.sent → clock ≡ was.seg.clock → clock' ≡ clock_after clock event → out.marks ≡ done.marks ++ numbered (λ node. sent) (to_coordinator done.answer) → out.outs ≡ to_coordinator done.answer → out.clock ≡ clock' → sent' ≡ sent + length (to_coordinator done.answer) → HasGone was event now low sent' clock' before after out
-  HasGone-made is took count time ticks marks outs told counted =
+  pub HasGone-made : HasDone was.script.tables now low done turn → last ≡ report_behind was.seg event → Took before after done.fails turn.item → sent ≡ was.seg.sent → clock ≡ was.seg.clock → clock' ≡ clock_after clock event → out.marks ≡ done.marks ++ numbered (λ node. sent) (to_coordinator done.answer) → out.outs ≡ to_coordinator done.answer → out.clock ≡ clock' → sent' ≡ sent + length (to_coordinator done.answer) → HasGone was event now low last sent' clock' before after out
+  HasGone-made is kept took count time ticks marks outs told counted =
       let keeps = event-keeps was.script was.seg event done.fails in
       let same : sent ≡ turn.seg.sent = count ∙ sym keeps.sent in
       record {
         fails = done.fails;
-        held = held-sends was.script.tables now turn.seg (turn.seg.sent + length turn.outs) (clock_after was.seg.clock event) is.held;
+        held = IsHeld-aside was.script.tables now turn.seg turn.seg.round turn.seg.graph (turn.seg.sent + length turn.outs) (clock_after was.seg.clock event) is.held;
         horizon = is.horizon;
+        report = kept ∙ sym keeps.report;
         sent = counted ∙ ap (λ (n : ℕ). n + length (to_coordinator done.answer)) same ∙ ap (λ (os : List Out). turn.seg.sent + length os) is.outs;
         clock = ticks ∙ ap (λ (n : ℕ). clock_after n event) time;
         told = told;
@@ -72,10 +53,10 @@ module _ (was : Before) (event : NodeEvent) (now : Held) (low : Gxid) (sent sent
 abbrev before_of : Script → Seg → Before
 before_of script s = record { script = script; seg = s }
 
-pub HasStepped-made : (old new : Segment) (s : Seg) (event : NodeEvent) (before after : Shelf) (out : NodeOut) (script : Script) → script ≡ old.script.value → IsSegment old s → HasGone (before_of script s) event new.held new.horizon new.sent new.clock before after out → new.node ≡ old.node → new.script ≡ old.script → new.spent ≡ false → HasStepped old new s event before after out
+pub HasStepped-made : (old new : Segment) (s : Seg) (event : NodeEvent) (before after : Shelf) (out : NodeOut) (script : Script) → script ≡ old.script.value → IsSegment old s → HasGone (before_of script s) event new.held new.horizon new.report new.sent new.clock before after out → new.node ≡ old.node → new.script ≡ old.script → new.spent ≡ false → HasStepped old new s event before after out
 HasStepped-made old new s event before after out script e is gone node same usable =
-    let g : HasGone (before_of old.script.value s) event new.held new.horizon new.sent new.clock before after out =
-    subst (λ (x : Script). HasGone (before_of x s) event new.held new.horizon new.sent new.clock before after out) e gone in
+    let g : HasGone (before_of old.script.value s) event new.held new.horizon new.report new.sent new.clock before after out =
+    subst (λ (x : Script). HasGone (before_of x s) event new.held new.horizon new.report new.sent new.clock before after out) e gone in
     let keeps = event-keeps old.script.value s event g.fails in
     record {
       fails = g.fails;
@@ -83,6 +64,7 @@ HasStepped-made old new s event before after out script e is gone node same usab
         node = node ∙ is.node ∙ sym keeps.node;
         held = subst (λ (x : Arc Script Global). IsHeld x.value.tables new.held (seg_rule old.script.value s event g.fails).seg) (sym same) g.held;
         horizon = g.horizon;
+        report = g.report;
         sent = g.sent;
         clock = g.clock;
       };

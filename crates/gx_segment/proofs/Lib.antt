@@ -1,4 +1,6 @@
+pub mod Aside
 pub mod Below
+pub mod Told
 pub mod Doing
 pub mod Final
 pub mod Following

@@ -11,6 +11,8 @@ use Rattle.gx_rules.specs.Segments.{Seg}
 use Rattle.gx_slices.specs.Agrees.{IsHeld}
 use Rattle.gx_slices.specs.declared.held.Held.{Held}
 use Rattle.gx_segment.specs.Before.{Before}
+use Rattle.gx_segment.specs.Reports.{report_in}
+use Rattle.gx_segment.specs.declared.collecting.LastReport.{LastReport}
 use Rattle.gx_segment.specs.declared.segment.Segment.{Segment}
 
 -- the segment holds what the rule's data says
@@ -18,6 +20,7 @@ pub record IsSegment (segment : Segment) (s : Seg) : Type 0 where
   pub node : segment.node ≡ s.node
   pub held : IsHeld segment.script.value.tables segment.held s
   pub horizon : segment.horizon ≡ s.horizon
+  pub report : segment.report ≡ report_in s
   pub sent : segment.sent ≡ s.sent
   pub clock : segment.clock ≡ s.clock
 
@@ -42,10 +45,11 @@ pub record HasStepped (old new : Segment) (s : Seg) (event : NodeEvent) (before 
   pub took : Took before after fails (seg_rule old.script.value s event fails).item
 
 -- the same of a segment's parts
-pub record HasGone (was : Before) (event : NodeEvent) (now : Held) (low : Gxid) (count time : ℕ) (before after : Shelf) (out : NodeOut) : Type 0 where
+pub record HasGone (was : Before) (event : NodeEvent) (now : Held) (low : Gxid) (last : LastReport) (count time : ℕ) (before after : Shelf) (out : NodeOut) : Type 0 where
   pub fails : Bool
   pub held : IsHeld was.script.tables now (seg_rule was.script was.seg event fails).seg
   pub horizon : low ≡ (seg_rule was.script was.seg event fails).seg.horizon
+  pub report : last ≡ report_in (seg_rule was.script was.seg event fails).seg
   pub sent : count ≡ (seg_rule was.script was.seg event fails).seg.sent
   pub clock : time ≡ (seg_rule was.script was.seg event fails).seg.clock
   pub told : out.clock ≡ time

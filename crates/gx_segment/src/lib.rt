@@ -1,6 +1,7 @@
 //! A segment: what comes by a link changes it by its rule.
 #![tactic(auto)]
 
+pub mod collecting;
 mod commands;
 mod done;
 mod entries;
@@ -14,4 +15,5 @@ mod starting;
 mod stepping;
 mod waits;
 
+pub use collecting::LastReport;
 pub use segment::Segment;

@@ -1,5 +1,5 @@
 // What comes to a segment, message by message.
-ghost use Rattle.std.specs.Prelude.{◌≡◌, true, IfOk};
+ghost use Rattle.std.specs.Prelude.{◌≡◌, true, IfOk, OnOk};
 ghost use Rattle.gx_outside.specs.Shelves.{IsLater};
 ghost use Rattle.gx_node.specs.Orders.{Took};
 ghost use Rattle.gx_rules.specs.AtSegment.{on_event, on_message};
@@ -7,7 +7,9 @@ ghost use Rattle.gx_rules.specs.Machine.{seg_can};
 ghost use Rattle.gx_slices.specs.Agrees.{IsHeld};
 ghost use Rattle.gx_segment.specs.Before.{Before};
 ghost use Rattle.gx_segment.specs.Done.{HasDone};
+ghost use Rattle.gx_segment.specs.Reports.{report_after, report_behind, report_in};
 
+use crate::collecting::{LastReport, collect};
 use crate::done::{Done, nothing};
 use crate::executing::exec;
 use crate::ordering::take;
@@ -29,6 +31,7 @@ pub(crate) fn take_event<J: Journal, G: Gate>(
     script: &Script,
     held: &mut Held,
     horizon: &mut Gxid,
+    report: &mut LastReport,
     event: NodeEvent,
     journal: &mut J,
     gate: &G,
@@ -38,8 +41,10 @@ pub(crate) fn take_event<J: Journal, G: Gate>(
     requires script { script.now ≡ was.script }
     requires held { IsHeld was.script.tables held.old was.seg }
     requires horizon { horizon.old ≡ was.seg.horizon }
+    requires report { report.old ≡ report_in was.seg }
     requires admitted { seg_can was.script was.seg event ≡ true }
     ensures done { IfOk result (λ done. HasDone was.script.tables held.new horizon.new done (on_event was.script was.seg event done.fails)) }
+    ensures report { OnOk result (report.new ≡ report_behind was.seg event) }
     ensures took { IfOk result (λ done. Took (J.shelf journal.old) (J.shelf journal.new) done.fails (on_event was.script was.seg event done.fails).item) }
     ensures later { IsLater (J.shelf journal.old) (J.shelf journal.new) }
 {
@@ -51,6 +56,7 @@ pub(crate) fn take_event<J: Journal, G: Gate>(
                 script,
                 held,
                 horizon,
+                report,
                 envelope.message,
                 journal,
                 gate,
@@ -67,6 +73,7 @@ fn take_message<J: Journal, G: Gate>(
     script: &Script,
     held: &mut Held,
     horizon: &mut Gxid,
+    report: &mut LastReport,
     message: Message,
     journal: &mut J,
     gate: &G,
@@ -76,7 +83,9 @@ fn take_message<J: Journal, G: Gate>(
     requires script { script.now ≡ was.script }
     requires held { IsHeld was.script.tables held.old was.seg }
     requires horizon { horizon.old ≡ was.seg.horizon }
+    requires report { report.old ≡ report_in was.seg }
     ensures done { IfOk result (λ done. HasDone was.script.tables held.new horizon.new done (on_message was.script was.seg done.fails message)) }
+    ensures report { OnOk result (report.new ≡ report_after was.seg message) }
     ensures took { IfOk result (λ done. Took (J.shelf journal.old) (J.shelf journal.new) done.fails (on_message was.script was.seg done.fails message).item) }
     ensures later { IsLater (J.shelf journal.old) (J.shelf journal.new) }
 {
@@ -117,7 +126,7 @@ fn take_message<J: Journal, G: Gate>(
         }
         Message::Abort(gxid) => take(alloc, node, held, *horizon, gxid, Order::Abort, journal),
         Message::Forget(gxid) => take(alloc, node, held, *horizon, gxid, Order::Forget, journal),
-        Message::Collect(_) => Ok(nothing(alloc)),
+        Message::Collect(round) => collect(alloc, node, held, report, round),
         Message::Answer(_, _reply) => Ok(nothing(alloc)),
         Message::Graph(_, _graph) => Ok(nothing(alloc)),
     }

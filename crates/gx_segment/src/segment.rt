@@ -6,6 +6,7 @@ ghost use Rattle.gx_rules.specs.Sending.{heard_in};
 ghost use Rattle.gx_rules.specs.Shown.{shown};
 ghost use Rattle.gx_segment.specs.Steps.{HasStepped, IsSegment, nobody, no_command};
 
+use crate::collecting::LastReport;
 use crate::stepping::step_on;
 use gx_dsnap::Snapshot;
 use gx_ids::{Cid, Gxid, Mem, Node, OutOfMemory, Table};
@@ -19,9 +20,9 @@ use std::alloc::Global;
 use std::collections::{BTreeMap, BTreeSet};
 use std::sync::Arc;
 
-/// A segment of a script: the rows that are placed there, the transactions that have come to it, and their locks. The horizon is that of
-/// the rows' store, which doesn't tell it. Once memory has run out in a step the segment is spent, and answers the same from
-/// then on.
+/// A segment of a script: the rows that are placed there, the transactions that have come to it, their locks, and what it has told
+/// the last round. The horizon is that of the rows' store, which doesn't tell it. Once memory has run out in a step the segment is
+/// spent, and answers the same from then on.
 #[derive(Drop)]
 pub struct Segment {
     alloc: Global,
@@ -29,6 +30,7 @@ pub struct Segment {
     pub script: Arc<Script, Global>,
     pub held: Held,
     pub horizon: Gxid,
+    pub report: LastReport,
     pub sent: u64,
     pub clock: u64,
     pub spent: bool,
@@ -53,6 +55,7 @@ impl Segment {
             script,
             held,
             horizon: Gxid(0),
+            report: LastReport::new(),
             sent: 0,
             clock: 0,
             spent: false,
@@ -90,6 +93,7 @@ impl Segment {
             &self.script,
             &mut self.held,
             &mut self.horizon,
+            &mut self.report,
             &mut self.sent,
             &mut self.clock,
             event,

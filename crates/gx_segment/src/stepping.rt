@@ -5,8 +5,10 @@ ghost use Rattle.gx_rules.specs.Machine.{seg_can};
 ghost use Rattle.gx_rules.specs.Sending.{heard_in};
 ghost use Rattle.gx_slices.specs.Agrees.{IsHeld};
 ghost use Rattle.gx_segment.specs.Before.{Before};
+ghost use Rattle.gx_segment.specs.Reports.{report_in};
 ghost use Rattle.gx_segment.specs.Steps.{HasGone};
 
+use crate::collecting::LastReport;
 use crate::messages::take_event;
 use crate::sending::send;
 use gx_ids::{Gxid, Mem, Node};
@@ -23,6 +25,7 @@ pub(crate) fn step_on<J: Journal, G: Gate>(
     script: &Script,
     held: &mut Held,
     horizon: &mut Gxid,
+    report: &mut LastReport,
     sent: &mut u64,
     clock: &mut u64,
     event: NodeEvent,
@@ -34,17 +37,20 @@ pub(crate) fn step_on<J: Journal, G: Gate>(
     requires script { script.now ≡ was.script }
     requires held { IsHeld was.script.tables held.old was.seg }
     requires horizon { horizon.old ≡ was.seg.horizon }
+    requires report { report.old ≡ report_in was.seg }
     requires admitted { seg_can was.script was.seg event ≡ true }
     requires sent { sent.old ≡ was.seg.sent }
     requires clock { clock.old ≡ was.seg.clock }
     requires numbers { sent.old < 2 ^ 62 }
     requires early { clock.old < 2 ^ 62 }
     requires heard { heard_in event < 2 ^ 62 }
-    ensures gone { IfOk result (λ out. HasGone was event held.new horizon.new sent.new clock.new (J.shelf journal.old) (J.shelf journal.new) out) }
+    ensures gone { IfOk result (λ out. HasGone was event held.new horizon.new report.new sent.new clock.new (J.shelf journal.old) (J.shelf journal.new) out) }
     ensures later { IsLater (J.shelf journal.old) (J.shelf journal.new) }
 {
     *clock = clock_behind(*clock, heard(&event));
-    let done = take_event(alloc, node, script, held, horizon, event, journal, gate)?;
+    let done = take_event(
+        alloc, node, script, held, horizon, report, event, journal, gate,
+    )?;
     let out = send(alloc, done, sent, *clock)?;
     Ok(out)
 }

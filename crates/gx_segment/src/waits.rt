@@ -1,13 +1,15 @@
 // Who waits at a segment.
-ghost use Rattle.std.specs.Prelude.{◌≡◌, ◌==◌, not, length, None};
+ghost use Rattle.std.specs.Prelude.{◌≡◌, ◌==◌, not, length, None, IfOk};
 ghost use Rattle.std.specs.List.{list_any};
 ghost use Rattle.gx_locks.specs.Claims.{is_of};
+ghost use Rattle.gx_locks.specs.Graphs.{graph_at};
 ghost use Rattle.gx_locks.specs.Locks.{is_ready, least_with, ready_ones, wait_of};
 ghost use Rattle.gx_rules.specs.Segments.{Seg};
 ghost use Rattle.gx_segment.specs.Steps.{IsSegment};
 
 use crate::segment::Segment;
-use gx_ids::Gxid;
+use gx_ids::{Gxid, Mem};
+use gx_waits::LocalGraph;
 
 impl Segment {
     /// The least transaction whose wait here is ready.
@@ -44,5 +46,14 @@ impl Segment {
         ensures { result ≡ not (length s.locks.waits == 0) }
     {
         !self.held.locks.waits().is_empty()
+    }
+
+    /// The edges from the waits here to the holds that they meet.
+    pub fn graph(&self) -> Mem<LocalGraph>
+        ghost s: { Seg }
+        requires { IsSegment self.now s }
+        ensures { IfOk result (λ graph. graph ≡ graph_at s.locks) }
+    {
+        self.held.locks.graph()
     }
 }

@@ -5,7 +5,7 @@ use Rattle.std.specs.Io.KnownBytes.{Appends}
 use Rattle.gx_outside.specs.Causes.{Rose, WritesPrefix}
 use Rattle.gx_store.specs.declared.run.Run.{Run}
 use Rattle.gx_told.specs.declared.attempt.Attempt.{Attempt}
-use Rattle.gx_told.specs.declared.attempt.Attempt.TheVariants.{Done, Stopped, Stuck, Usage, Refused, ReadFault, TooLarge, NotBuilt, OutOfMemory}
+use Rattle.gx_told.specs.declared.attempt.Attempt.TheVariants.{Done, Stopped, Stuck, Usage, Refused, ReadFault, TooLarge, OutOfMemory}
 use Rattle.gx_told.specs.declared.report.Report.{Report}
 
 -- the line that says how the program is used
@@ -32,7 +32,6 @@ status_in Usage = 2
 status_in (Refused text) = 3
 status_in ReadFault = 4
 status_in TooLarge = 9
-status_in NotBuilt = 10
 status_in (OutOfMemory run) = 6
 
 -- the text that tells it; none where memory ran out
@@ -44,7 +43,6 @@ text_in (Refused text) = text.items
 text_in Usage = usage
 text_in ReadFault = codes "read fault\n"
 text_in TooLarge = codes "too large\n"
-text_in NotBuilt = codes "not built\n"
 text_in (OutOfMemory run) = []
 
 -- it came to an end, or else memory ran out

@@ -11,6 +11,5 @@ pub enum Attempt {
     Refused(Vec<u8>),
     ReadFault,
     TooLarge,
-    NotBuilt,
     OutOfMemory(Run),
 }

@@ -9,3 +9,4 @@ pub mod Standing
 pub mod Told
 pub mod Turns
 pub mod Nexts
+pub mod Lengths

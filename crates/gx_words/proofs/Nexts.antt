@@ -6,11 +6,11 @@ use Rattle.gx_words.specs.Work.{head_text, load_text, pair_text, pairs_from, bat
 use Rattle.gx_words.specs.declared.transfer.Transfer.{Transfer}
 use Rattle.std.specs.Prelude.{slice_index}
 
-pairs-suc : (at more : ℕ) → pairs_from at (suc more) ≡ codes ", " ++ pair_text (at + 1) ++ pairs_from (at + 1) more
+pub pairs-suc : (at more : ℕ) → pairs_from at (suc more) ≡ codes ", " ++ pair_text (at + 1) ++ pairs_from (at + 1) more
 unfolding pairs_from
 pairs-suc at more = refl
 
-pairs-none : (at : ℕ) → pairs_from at 0 ≡ []
+pub pairs-none : (at : ℕ) → pairs_from at 0 ≡ []
 unfolding pairs_from
 pairs-none at = refl
 
@@ -78,11 +78,11 @@ pub length-words_of : (number : ℕ) → length (words_of number) ≡ 2400
 unfolding words_of
 length-words_of number = length-words plus_plus 2400 (seeded number)
 
-batches-suc : (more : ℕ) (words : List ℕ) → batches_text (suc more) words ≡ batch_text (take 24 words) ++ batches_text more (drop 24 words)
+pub batches-suc : (more : ℕ) (words : List ℕ) → batches_text (suc more) words ≡ batch_text (take 24 words) ++ batches_text more (drop 24 words)
 unfolding batches_text
 batches-suc more words = refl
 
-batches-none : (words : List ℕ) → batches_text 0 words ≡ []
+pub batches-none : (words : List ℕ) → batches_text 0 words ≡ []
 unfolding batches_text
 batches-none words = refl
 

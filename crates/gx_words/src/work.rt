@@ -1,5 +1,5 @@
 // The whole text.
-ghost use Rattle.std.specs.Prelude.{◌≡◌, IfOk};
+ghost use Rattle.std.specs.Prelude.{◌≡◌, ◌≤◌, IfOk, length};
 ghost use Rattle.gx_words.specs.Work.{work_text};
 
 use crate::batches::push_batches;
@@ -10,7 +10,8 @@ use std::alloc::Global;
 
 /// The generated script of a number.
 pub fn generate(alloc: Global, number: u64) -> Mem<Vec<u8>>
-    ensures { IfOk result (λ text. text.items ≡ work_text number) }
+    ensures text { IfOk result (λ text. text.items ≡ work_text number) }
+    ensures short { IfOk result (λ text. length text.items ≤ 160000) }
 {
     let words = words_of(alloc, number)?;
     let mut text = Vec::new(alloc);

@@ -138,7 +138,7 @@ module _ (script : Script) (some : 1 ≤ script.segments) (w : machine.World) (g
 
       by_test : (b : Bool) → is_same_node n the_coordinator ≡ b → (if b then coord_can script w.coord (node.Resume g) else seg_can script (w.segs n.0) (node.Resume g)) ≡ true → n.0 ≤ script.segments
       by_test true same c = least n same
-      by_test false away c = (resumes_there script some w n g good c).1
+      by_test false away c = (resumes_there script w n g good c).1
   few-by (event.Start s) h c = omega arith
   few-by (event.End s) h c = omega arith
   few-by (event.Resend i g) h c = omega arith

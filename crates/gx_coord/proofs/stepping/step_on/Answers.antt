@@ -1,11 +1,55 @@
-use Rattle.std.proofs.Common.{◌∙◌, ap, length}
+use Rattle.std.proofs.Common.{◌≤◌, ◌<◌, ◌+◌, ◌^◌, ◌∙◌, ℕ, All, ap, length, subst, sym}
+use Rattle.std.specs.Global.{Vec}
+use Rattle.gx_node.specs.Orders.{Took}
+use Rattle.gx_script.specs.declared.Script.{Script}
+use Rattle.gx_rules.specs.AtCoordinator.{coord_turn, on_event}
+use Rattle.gx_rules.specs.Coordinators.{CoordTurn}
+use Rattle.gx_rules.specs.Rounds.{victims_at}
 use Rattle.gx_coord.specs.Books.{coord_of}
+use Rattle.gx_coord.proofs.Cancelled.{item-stays, stayed-trans}
 use Rattle.gx_coord.proofs.Gone.{links-sent}
+use Rattle.gx_coord.proofs.Stepped.{framed-stayed, step-is, turned-sound}
+use Rattle.gx_coord.proofs.Turned.{script-same}
 use Rattle.gx_coord.proofs.stepping.step_on.Goals as goal
 
-pub send-requires-clause-links : goal.send-requires-clause-links
-send-requires-clause-links g c =
+pub send_and_cancel-requires-clause-some : goal.send_and_cancel-requires-clause-some
+send_and_cancel-requires-clause-some g c = subst (λ (s : Script). 1 ≤ s.segments) (sym (script-same _ _ c.in_ok-turned.ensures.turn.framed)) c.requires.language.some_segments
+
+pub send_and_cancel-requires-clause-sound : goal.send_and_cancel-requires-clause-sound
+send_and_cancel-requires-clause-sound g c =
+    turned-sound c.args.coord.now c.take_event.new.coord c.deref.result.now c.args.event c.in_ok-turned.turned.fails _ _ (c.deref.ensures ∙ c.in_ok-script.ensures) c.in_ok-turned.ensures.turn c.requires.language.some_segments c.requires.sound c.take_event.ensures.small c.requires.admitted
+
+pub send_and_cancel-requires-clause-sent : goal.send_and_cancel-requires-clause-sent
+send_and_cancel-requires-clause-sent g c =
+    let turn = c.in_ok-turned.ensures.turn in
+    ap (λ v. length v.items) turn.framed.sent ∙ c.requires.links ∙ ap (λ (s : Script). s.segments + 1) (sym (script-same _ _ turn.framed))
+
+pub send_and_cancel-requires-clause-numbers : goal.send_and_cancel-requires-clause-numbers
+send_and_cancel-requires-clause-numbers g c = subst (λ (v : Vec ℕ). All (λ n. n < 2 ^ 62) v.items) (sym c.in_ok-turned.ensures.turn.framed.sent) c.requires.numbers
+
+pub send_and_cancel-requires-clause-links : goal.send_and_cancel-requires-clause-links
+send_and_cancel-requires-clause-links g c =
     let old = c.args.coord.now in
     let turn = c.in_ok-turned.ensures.turn in
     links-sent c.deref.result.now old.script.value (coord_of old) c.args.event c.in_ok-turned.turned.fails _ _ (c.deref.ensures ∙ c.in_ok-script.ensures) c.requires.sound c.requires.language.some_segments c.in_ok-turned.ensures.outs
     (ap (λ v. length v.items) turn.framed.sent ∙ c.requires.links)
+
+pub returns-clause-gone : goal.returns-clause-gone
+returns-clause-gone g c =
+    let old = c.args.coord.now in
+    let fails = c.in_ok-turned.turned.fails in
+    let e = c.in_ok-turned.ensures in
+    let same = c.deref.ensures ∙ c.in_ok-script.ensures in
+    let is =
+        step-is old c.take_event.new.coord c.send_and_cancel.new.coord c.deref.result.now c.args.event fails c.clock_after-clock.result _ _ _ _ _ _ same c.new-marks.ensures.empty c.clock_after-clock.ensures e.turn e.outs e.victims c.in_ok-out.ensures.turn in
+    record {
+      fails = fails;
+      small = c.take_event.ensures.small;
+      coord = ap (λ (t : CoordTurn). t.coord) is;
+      stayed = stayed-trans _ _ _ (framed-stayed _ _ e.turn.framed) c.in_ok-out.ensures.stayed;
+      marks = ap (λ (t : CoordTurn). t.marks) is;
+      outs = ap (λ (t : CoordTurn). t.outs) is;
+      clock = c.in_ok-out.ensures.clock;
+      took = subst (λ item. Took _ _ fails item) (sym (item-stays (victims_at (coord_of old) c.args.event) (coord_turn old.script.value (coord_of old) c.args.event fails)))
+          (subst (λ (s : Script). Took _ _ fails (on_event s (coord_of old) c.args.event fails).item) same e.took);
+    }

@@ -4,4 +4,4 @@ use Rattle.gx_law_answers.proofs.Whole.{filled, keyed}
 use Rattle.gx_law_answers.proofs.laws.every_run_is_a_legal_history.Goals as goal
 
 pub returns : goal.returns
-returns c = λ script events some numbered inserts. legal script some numbered (keyed script inserts) (snapshots-one script some) (filled script inserts) events
+returns c = λ script events some numbered inserts cancelled. legal script some numbered (keyed script inserts) (snapshots-one script some) (filled script inserts) cancelled events

@@ -1,4 +1,4 @@
-use Rattle.gx_law_sessions.proofs.World.{all-legal}
+use Rattle.gx_law_sessions.proofs.Remaining.{all-legal}
 use Rattle.gx_law_sessions.proofs.histories.histories_are_legal_once_shown.Goals as goal
 
 pub returns : goal.returns

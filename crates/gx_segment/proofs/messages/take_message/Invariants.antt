@@ -5,3 +5,6 @@ ghost-exec g a = g.was
 
 abbrev pub ghost-take : goal.ghost-take
 ghost-take g a = g.was
+
+abbrev pub ghost-collect : goal.ghost-collect
+ghost-collect g a = g.was

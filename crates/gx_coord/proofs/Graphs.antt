@@ -1,0 +1,97 @@
+-- The detector and the rule say the same of rounds.
+use Rattle.std.proofs.Common.{◌≡◌, ◌≤◌, ◌∙◌, ℕ, ◌+◌, ◌==◌, ◌&&◌, List, [], ◌∷◌, Option, Some, None, Bool, true, if◌then◌else◌, refl, sym, subst, ap, arith, filter, map}
+use Rattle.std.proofs.Math.Path.{fun_ext}
+use Rattle.std.proofs.lemmas.Bool.{and_parts, eqb-true}
+use Rattle.std.proofs.lemmas.Bool.Decides.{nat_tests}
+use Rattle.std.specs.Prelude.{is_none, nat_le, option_map, replicate}
+use Rattle.gx_ids.specs.declared.ids.Gxid.{Gxid}
+use Rattle.gx_ids.specs.declared.ids.Node.{Node}
+use Rattle.gx_detect.specs.Reports as own
+use Rattle.gx_detect.specs.Reports.{IsSegment}
+use Rattle.gx_detect.specs.Rounds as awaited
+use Rattle.gx_detect.specs.Rounds.{Rounds, started}
+use Rattle.gx_detect.specs.Verdicts.{verdict_of}
+use Rattle.gx_dtx.specs.Table as table
+use Rattle.gx_dtx.specs.Table.{Table}
+use Rattle.gx_dtx.specs.declared.phase.Phase.{Phase}
+use Rattle.gx_dtx.specs.declared.phase.Phase.TheVariants.{Active, Preparing, CommittingOne, CommittingTwo, Ended, Aborting}
+use Rattle.gx_dtx.specs.declared.txn.Txn.{Txn}
+use Rattle.gx_locks.specs.Graphs.{graph_at}
+use Rattle.gx_script.specs.declared.Script.{Script}
+use Rattle.gx_waits.specs.declared.graph.LocalGraph.{LocalGraph}
+use Rattle.gx_rules.specs.AtCoordinator.{is_segment}
+use Rattle.gx_rules.specs.Coordinators as rule
+use Rattle.gx_rules.specs.Rounds.{active_in, awaits_graph, begins_round, is_active, is_report, lacks, lacks_from, noted_in, on_graph, once_all, verdict_at, victims_on_graph, victims_once_all, with_report}
+use Rattle.gx_rules.proofs.Rounds.{graph-ways}
+use Rattle.gx_coord.specs.Books.{coord_of}
+use Rattle.gx_coord.specs.declared.coord.Coord.{Coord}
+
+lacks_from-same : (k : ℕ) (reports : List (Option LocalGraph)) (i : Node) → own.lacks_from k reports i ≡ lacks_from k reports i
+lacks_from-same k [] i = refl
+lacks_from-same k (r ∷ rs) i = ap (λ b. if i.0 == k then is_none r else b) (lacks_from-same (k + 1) rs i)
+
+pub lacks-same : (reports : Option (List (Option LocalGraph))) (i : Node) → awaited.lacks reports i ≡ lacks reports i
+lacks-same None i = refl
+lacks-same (Some reports) i = lacks_from-same 1 reports i
+
+pub noted-same : (reports : Option (List (Option LocalGraph))) (graph : LocalGraph) → option_map (λ rs. own.noted rs graph) reports ≡ noted_in reports graph
+noted-same None graph = refl
+noted-same (Some reports) graph = refl
+
+active-phase : (p : Phase) → table.is_active p ≡ is_active p
+active-phase Active = refl
+active-phase (Preparing a b) = refl
+active-phase (CommittingOne a) = refl
+active-phase (CommittingTwo a) = refl
+active-phase (Ended a) = refl
+active-phase (Aborting a) = refl
+
+pub active-same : (d : Table) → table.active_of d ≡ active_in d
+active-same d = ap (λ (f : Phase → Bool). map (λ (e : Gxid × Txn). e.0) (filter (λ e. f e.1.phase) d.txns)) (fun_ext active-phase)
+
+-- a graph sends nothing, and the journal takes nothing
+pub graph-quiet : (c : rule.Coord) (from : Node) (round : ℕ) (graph : LocalGraph) → ((on_graph c from round graph).outs ≡ []) × ((on_graph c from round graph).item ≡ None)
+graph-quiet c from round graph = graph-ways (λ turn. (turn.outs ≡ []) × (turn.item ≡ None)) c from round graph (refl, refl) (λ r. (refl, refl)) (λ r a. (refl, refl))
+
+-- CALLS ON THE DETECTOR
+pub begun-is : (k : Coord) (d : Rounds) (script : Script) → d ≡ started k.detector → k.detector.segments ≡ script.segments → coord_of (record k { detector = d }) ≡ (begins_round script (coord_of k)).coord
+begun-is k d script e s =
+    ap (λ (x : Rounds). coord_of (record k { detector = x })) e
+    ∙ ap (λ n. record (coord_of k) { rounds = k.detector.begun + 1; reports = Some (replicate n None) }) s
+
+heard-is : (d : Rounds) (round : ℕ) (graph : LocalGraph) → (round == d.begun) ≡ true → awaited.heard d round graph ≡ record d { reports = option_map (λ rs. own.noted rs graph) d.reports }
+heard-is d round graph e = ap (λ b. if b then record d { reports = option_map (λ rs. own.noted rs graph) d.reports } else d) e
+
+pub noted-segments : (k d : Rounds) (round : ℕ) (graph : LocalGraph) → (round == k.begun) ≡ true → d ≡ awaited.heard k round graph → d.segments ≡ k.segments
+noted-segments k d round graph e h = ap (λ (x : Rounds). x.segments) (h ∙ heard-is k round graph e)
+
+pub noted-is : (k : Coord) (d : Rounds) (round : ℕ) (graph : LocalGraph) → (round == k.detector.begun) ≡ true → d ≡ awaited.heard k.detector round graph → coord_of (record k { detector = d }) ≡ with_report (coord_of k) graph
+noted-is k d round graph e h =
+    ap (λ (x : Rounds). coord_of (record k { detector = x })) (h ∙ heard-is k.detector round graph e)
+    ∙ ap (λ rs. record (coord_of k) { reports = rs }) (noted-same k.detector.reports graph)
+
+pub verdict-is : (k : Coord) (graph : LocalGraph) (active : List Gxid) → graph ≡ graph_at k.locks → active ≡ active_in k.dtx → verdict_of (awaited.gathered k.detector graph) active ≡ verdict_at (coord_of k)
+verdict-is k graph active e h =
+    ap (λ g. verdict_of (awaited.gathered k.detector g) active) e
+    ∙ ap (λ gs. verdict_of (awaited.gathered k.detector (graph_at k.locks)) gs) h
+
+-- WHO SENDS A GRAPH
+pub segment-is : (script : Script) (segments : ℕ) (i : Node) → is_segment script i ≡ true → segments ≡ script.segments → IsSegment segments i
+segment-is script segments i e s = let a = bounds i.0 script.segments segments e s in record { from_one = a.0; within = a.1 }
+  where
+    bounds : (a n m : ℕ) → (nat_le 1 a && nat_le a n) ≡ true → m ≡ n → (1 ≤ a) × (a ≤ m)
+    bounds a n m e s = grind (arith, nat_tests)
+
+pub report-segment : (c : rule.Coord) (from : Node) (round : ℕ) (graph : LocalGraph) (segments : ℕ) → is_report c from round graph ≡ true → IsSegment segments from → IsSegment segments graph.node
+report-segment c from round graph segments e h =
+    subst (λ n. IsSegment segments (record { 0 = n })) (sym (eqb-true graph.node.0 from.0 (and_parts (graph.node.0 == from.0) ((round == c.rounds) && awaits_graph c from) e).0)) h
+
+pub report-round : (c : rule.Coord) (from : Node) (round : ℕ) (graph : LocalGraph) → is_report c from round graph ≡ true → (round == c.rounds) ≡ true
+report-round c from round graph e = (and_parts (round == c.rounds) (awaits_graph c from) (and_parts (graph.node.0 == from.0) ((round == c.rounds) && awaits_graph c from) e).1).0
+
+-- the turn of a graph that is taken
+pub taken-is : (c k : rule.Coord) (from : Node) (round : ℕ) (graph : LocalGraph) → is_report c from round graph ≡ true → k ≡ with_report c graph → once_all k ≡ on_graph c from round graph
+taken-is c k from round graph e h = ap once_all h ∙ sym (ap (λ b. if b then once_all (with_report c graph) else rule.rests c) e)
+
+pub taken-victims : (c k : rule.Coord) (from : Node) (round : ℕ) (graph : LocalGraph) → is_report c from round graph ≡ true → k ≡ with_report c graph → victims_once_all k ≡ victims_on_graph c from round graph
+taken-victims c k from round graph e h = ap victims_once_all h ∙ sym (ap (λ b. if b then victims_once_all (with_report c graph) else []) e)

@@ -1,0 +1,76 @@
+-- A step: the event's turn, and behind it its victims'.
+use Rattle.std.proofs.Common.{◌≡◌, ◌≤◌, ◌∙◌, ℕ, List, [], ◌++◌, Bool, true, None, sym, subst, ap, length, slice_index}
+use Rattle.gx_ids.specs.declared.ids.Gxid.{Gxid}
+use Rattle.gx_msg.specs.declared.message.Out.{Out}
+use Rattle.gx_script.specs.declared.Script.{Script}
+use Rattle.gx_store.specs.declared.mark.Mark.{Mark}
+use Rattle.gx_store.specs.declared.node.NodeEvent.{NodeEvent}
+use Rattle.gx_rules.specs.AtCoordinator.{and_cancels_all, coord_can, coord_rule, coord_sends, coord_turn, on_event}
+use Rattle.gx_rules.specs.Coordinators as rule
+use Rattle.gx_rules.specs.Rounds.{victims_at}
+use Rattle.gx_rules.specs.Sending.{clock_after, counted_all, numbered}
+use Rattle.gx_coord.specs.Books.{IsFramed, coord_of}
+use Rattle.gx_coord.specs.Sound.{IsSmall, IsSound}
+use Rattle.gx_coord.specs.Steps.{HasStayed}
+use Rattle.gx_coord.specs.Turns.{IsTurn, so_far}
+use Rattle.gx_coord.specs.declared.coord.Coord.{Coord}
+use Rattle.gx_coord.proofs.Cancelled.{without-item}
+use Rattle.gx_coord.proofs.Stays.{sent-sound, turn-sound}
+use Rattle.gx_coord.proofs.Turned.{script-same}
+
+pub step-is : (old mid new : Coord) (p : Script) (x : NodeEvent) (fails : Bool) (clock : ℕ) (before marks after : List Mark) (more outs : List Out) (victims : List Gxid)
+    → p ≡ old.script.value → before ≡ [] → clock ≡ clock_after old.clock x
+    → IsTurn old mid before marks (on_event p (coord_of old) x fails) → more ≡ (on_event p (coord_of old) x fails).outs → victims ≡ victims_at (coord_of old) x
+    → so_far (coord_of new) after outs ≡ and_cancels_all victims (coord_sends clock (so_far (coord_of mid) marks more))
+    → so_far (coord_of new) after outs ≡ record (coord_rule old.script.value (coord_of old) x fails) { item = None }
+step-is old mid new p x fails clock before marks after more outs victims same none now turn is named e =
+    e
+    ∙ ap (λ gs. and_cancels_all gs (coord_sends clock (so_far (coord_of mid) marks more))) named
+    ∙ ap (λ k. all (coord_sends k (so_far (coord_of mid) marks more))) now
+    ∙ ap (λ c. all (coord_sends at (so_far c marks more))) turn.coord
+    ∙ ap (λ ms. all (coord_sends at (so_far u.coord ms more))) (turn.marks ∙ ap (λ ms. ms ++ u.marks) none)
+    ∙ ap (λ os. all (coord_sends at (so_far u.coord u.marks os))) is
+    ∙ without-item (victims_at (coord_of old) x) (coord_turn p (coord_of old) x fails)
+    ∙ ap (λ (s : Script). record (coord_rule s (coord_of old) x fails) { item = None }) same
+  where
+    u : rule.CoordTurn
+    u = on_event p (coord_of old) x fails
+
+    at : ℕ
+    at = clock_after old.clock x
+
+    all : rule.CoordTurn → rule.CoordTurn
+    all turn = and_cancels_all (victims_at (coord_of old) x) turn
+
+pub framed-stayed : (old mid : Coord) → IsFramed old mid → HasStayed old mid
+framed-stayed old mid f = record { script = f.script; places = f.places; count = f.count; links = ap (λ v. length v.items) f.sent; segments = f.segments }
+
+-- what the event leaves is sound
+pub turned-sound : (old mid : Coord) (p : Script) (x : NodeEvent) (fails : Bool) (before marks : List Mark) → p ≡ old.script.value → IsTurn old mid before marks (on_event p (coord_of old) x fails)
+    → 1 ≤ old.script.value.segments → IsSound old.script.value (coord_of old) → IsSmall x → coord_can old.script.value (coord_of old) x ≡ true → IsSound mid.script.value (coord_of mid)
+turned-sound old mid p x fails before marks same turn some h small ok =
+    subst (λ (s : Script). IsSound s (coord_of mid)) (sym (script-same old mid turn.framed))
+    (subst (λ (c : rule.Coord). IsSound old.script.value c) (sym (turn.coord ∙ ap (λ (s : Script). (on_event s (coord_of old) x fails).coord) same))
+    (turn-sound old.script.value (coord_of old) some h x fails small ok))
+
+-- what is sent keeps it so
+pub sent-on : (old mid : Coord) (clock : ℕ) (outs : List Out) → HasStayed old mid → coord_of mid ≡ record (coord_of old) { sent = counted_all (slice_index old.sent.items) outs; clock = clock } → IsSound old.script.value (coord_of old) → IsSound mid.script.value (coord_of mid)
+sent-on old mid clock outs stayed e h =
+    subst (λ (s : Script). IsSound s (coord_of mid)) (sym (ap (λ a. a.value) stayed.script))
+    (subst (λ (c : rule.Coord). IsSound old.script.value c) (sym e) (sent-sound old.script.value (so_far (coord_of old) [] outs) clock h))
+
+-- messages are sent, and then the victims' turns come
+pub finish-is : (old mid new : Coord) (clock : ℕ) (marks sent after told : List Mark) (slice items more outs said : List Out) (gs victims : List Gxid)
+    → slice ≡ items → items ≡ more → gs ≡ victims → told ≡ after → said ≡ outs
+    → coord_of mid ≡ record (coord_of old) { sent = counted_all (slice_index old.sent.items) slice; clock = clock }
+    → sent ≡ marks ++ numbered (slice_index old.sent.items) slice
+    → so_far (coord_of new) after outs ≡ and_cancels_all gs (so_far (coord_of mid) sent items)
+    → so_far (coord_of new) told said ≡ and_cancels_all victims (coord_sends clock (so_far (coord_of old) marks more))
+finish-is old mid new clock marks sent after told slice items more outs said gs victims s v g m o c n e =
+    ap (λ ms. so_far (coord_of new) ms said) m
+    ∙ ap (λ os. so_far (coord_of new) after os) o
+    ∙ e
+    ∙ ap (λ (xs : List Gxid). and_cancels_all xs (so_far (coord_of mid) sent items)) g
+    ∙ ap (λ os. and_cancels_all victims (so_far (coord_of mid) sent os)) v
+    ∙ ap (λ k. and_cancels_all victims (so_far k sent more)) (c ∙ ap (λ os. record (coord_of old) { sent = counted_all (slice_index old.sent.items) os; clock = clock }) (s ∙ v))
+    ∙ ap (λ ms. and_cancels_all victims (so_far (record (coord_of old) { sent = counted_all (slice_index old.sent.items) more; clock = clock }) ms more)) (n ∙ ap (λ os. marks ++ numbered (slice_index old.sent.items) os) (s ∙ v))

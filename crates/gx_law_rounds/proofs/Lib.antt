@@ -1,0 +1,15 @@
+pub mod Silent
+pub mod Calls
+pub mod AtCoordinators
+pub mod AtSegments
+pub mod Sendings
+pub mod Steps
+pub mod Places
+pub mod Rounded
+pub mod Heard
+pub mod World
+pub mod Walks
+pub mod Asking
+pub mod Reporting
+pub mod Reports
+pub mod Firsts

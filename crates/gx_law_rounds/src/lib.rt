@@ -1,0 +1,4 @@
+//! The detector's rounds: laws over the rules of both nodes.
+#![tactic(auto)]
+
+pub mod runs;
