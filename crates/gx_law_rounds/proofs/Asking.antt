@@ -6,7 +6,8 @@ use Rattle.std.specs.List.{list_all, range_with_len}
 use Rattle.std.specs.Prelude.{is_none, is_some, map}
 use Rattle.gx_ids.specs.declared.ids.Gxid.{Gxid}
 use Rattle.gx_ids.specs.declared.ids.Node.{Node}
-use Rattle.gx_detect.specs.Rounds.{are_all, collects}
+use Rattle.gx_detect.specs.Rounds.{are_all, collects, lacks}
+use Rattle.gx_detect.specs.Reports.{lacks_from}
 use Rattle.gx_meaning.specs.Plan.{nodes_from}
 use Rattle.gx_msg.specs.declared.message.Envelope.{Envelope}
 use Rattle.gx_msg.specs.declared.message.Message.{Message}
@@ -30,7 +31,7 @@ use Rattle.gx_rules.specs.AtSegment as segment
 use Rattle.gx_rules.specs.AtSegment.{on_collect, reports, reports_again, seg_rule, seg_sends}
 use Rattle.gx_rules.specs.Coordinators.{Coord, CoordTurn, rests}
 use Rattle.gx_rules.specs.Machine.{World, seg_can, world_of}
-use Rattle.gx_rules.specs.Rounds.{awaits_graph, begins_round, is_report, lacks, lacks_from, noted_in, on_graph, once_all, rechecks, victims_at, with_report}
+use Rattle.gx_rules.specs.Rounds.{awaits_graph, begins_round, is_report, noted_in, on_graph, once_all, rechecks, victims_at, with_report}
 use Rattle.gx_rules.specs.Segments.{Seg, SegTurn}
 use Rattle.gx_rules.specs.Sending.{clock_after, counted, numbered}
 use Rattle.gx_rules.proofs.Rounds.{collect-ways, graph-ways}
@@ -353,10 +354,10 @@ module _ (script : Script) (some : 1 ≤ script.segments) (w : World) (good : We
 module _ (script : Script) (some : 1 ≤ script.segments) where
   pub world-asks : (es : List (Event × Bool)) → EachStep (StepAsks script) [] (world_of script es).steps
   world-asks =
-      at-steps script some (λ w. Unit {0}) (λ es. tt) (StepAsks script) (λ w good r k e x fails t ok. coord-asks script some w good r e x fails t ok)
+      at-steps script some (λ w. Unit {0}) (λ es. tt) (StepAsks script) (λ w good r k e x fails t ok ordered. coord-asks script some w good r e x fails t ok)
       (λ w good r k e x fails i place t ok. seg-asks script some w good r e x fails i place t ok)
 
   pub world-ends : (es : List (Event × Bool)) → EachStep (Ends script) [] (world_of script es).steps
   world-ends =
-      at-steps script some (λ w. Unit {0}) (λ es. tt) (Ends script) (λ w good r k e x fails t ok. coord-ends script some w good r e x fails t ok)
+      at-steps script some (λ w. Unit {0}) (λ es. tt) (Ends script) (λ w good r k e x fails t ok ordered. coord-ends script some w good r e x fails t ok)
       (λ w good r k e x fails i place t ok. seg-ends script some w good r e x fails i place t ok)

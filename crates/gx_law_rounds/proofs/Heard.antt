@@ -5,8 +5,8 @@ use Rattle.std.proofs.lemmas.Bool.Decides.{nat_tests}
 use Rattle.std.specs.Option.{option_or}
 use Rattle.std.specs.Prelude.{map, unwrap_or}
 use Rattle.gx_ids.specs.declared.ids.Node.{Node}
-use Rattle.gx_detect.specs.Reports.{noted}
-use Rattle.gx_detect.specs.Rounds.{are_all}
+use Rattle.gx_detect.specs.Reports.{lacks_from, noted}
+use Rattle.gx_detect.specs.Rounds.{are_all, lacks}
 use Rattle.gx_meaning.specs.Plan.{nodes_from}
 use Rattle.gx_msg.specs.declared.message.Message.{Message}
 use Rattle.gx_msg.specs.declared.message.Message.TheVariants as message
@@ -22,7 +22,7 @@ use Rattle.gx_waits.specs.declared.graph.LocalGraph.{LocalGraph}
 use Rattle.gx_rules.specs.AtCoordinator.{coord_sends}
 use Rattle.gx_rules.specs.Coordinators.{Coord, CoordTurn, rests}
 use Rattle.gx_rules.specs.Machine.{World}
-use Rattle.gx_rules.specs.Rounds.{awaits_graph, is_report, lacks, lacks_from, noted_in, on_graph, once_all, rechecks, with_report}
+use Rattle.gx_rules.specs.Rounds.{awaits_graph, is_report, noted_in, on_graph, once_all, rechecks, with_report}
 use Rattle.gx_law_order.proofs.More.{marks-last}
 use Rattle.gx_law_order.proofs.Sent.{at}
 use Rattle.gx_law_rounds.specs.Held.{first_graph, graph_by}

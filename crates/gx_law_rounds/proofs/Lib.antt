@@ -13,3 +13,8 @@ pub mod Asking
 pub mod Reporting
 pub mod Reports
 pub mod Firsts
+pub mod Starts
+pub mod Closing
+pub mod Active
+pub mod Rechecks
+pub mod Whole

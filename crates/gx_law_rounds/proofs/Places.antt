@@ -7,7 +7,7 @@ use Rattle.std.specs.Prelude.{is_none, is_some, map, replicate, unwrap_or}
 use Rattle.gx_ids.specs.declared.ids.Node.{Node}
 use Rattle.gx_detect.specs.Reports.{noted_from}
 use Rattle.gx_meaning.specs.Plan.{nodes_from}
-use Rattle.gx_rules.specs.Rounds.{lacks_from}
+use Rattle.gx_detect.specs.Reports.{lacks_from}
 use Rattle.gx_waits.specs.declared.graph.LocalGraph.{LocalGraph}
 use Rattle.gx_law_order.proofs.Sent.{at}
 

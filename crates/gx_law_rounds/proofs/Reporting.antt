@@ -170,5 +170,5 @@ module _ (script : Script) (some : 1 ≤ script.segments) (w : World) (good : We
 -- ALL STEPS
 pub world-sends-noted : (script : Script) → 1 ≤ script.segments → (es : List (Event × Bool)) → EachStep SendsNoted [] (world_of script es).steps
 world-sends-noted script some =
-    at-steps script some (λ w. Unit {0}) (λ es. tt) SendsNoted (λ w good r k e x fails t ok. coord-sends-noted script some w good r e x fails t ok)
+    at-steps script some (λ w. Unit {0}) (λ es. tt) SendsNoted (λ w good r k e x fails t ok ordered. coord-sends-noted script some w good r e x fails t ok)
     (λ w good r k e x fails i place t ok. seg-sends-noted script some w good r e x fails i place)

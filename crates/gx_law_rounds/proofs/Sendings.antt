@@ -16,7 +16,7 @@ use Rattle.gx_store.specs.Schedule.{message_in, sent_message}
 use Rattle.gx_law_order.proofs.Letters.{same_node}
 use Rattle.gx_law_order.proofs.Sent.{sent_count-append, sent_in-last}
 
-test-self : (n : Node) → is_same_node n n ≡ true
+pub test-self : (n : Node) → is_same_node n n ≡ true
 test-self n = grind (arith, nat_tests)
 
 -- IN A STEP

@@ -5,7 +5,7 @@ use Rattle.std.proofs.lemmas.Bool.Decides.{nat_tests}
 use Rattle.std.specs.Prelude.{is_none, is_some, map, replicate}
 use Rattle.gx_ids.specs.declared.ids.Gxid.{Gxid}
 use Rattle.gx_ids.specs.declared.ids.Node.{Node}
-use Rattle.gx_detect.specs.Rounds.{are_all}
+use Rattle.gx_detect.specs.Rounds.{are_all, lacks}
 use Rattle.gx_locks.specs.Graphs.{graph_at}
 use Rattle.gx_meaning.specs.Plan.{nodes_from}
 use Rattle.gx_msg.specs.declared.message.Envelope.{Envelope}
@@ -33,7 +33,7 @@ use Rattle.gx_rules.specs.AtSegment as segment
 use Rattle.gx_rules.specs.AtSegment.{on_collect, reports, reports_again, seg_rule, seg_sends}
 use Rattle.gx_rules.specs.Coordinators.{Coord, CoordTurn, rests}
 use Rattle.gx_rules.specs.Machine.{World, and_cancelled, coord_did, new_world, seg_can, seg_did, with_more, world_of}
-use Rattle.gx_rules.specs.Rounds.{awaits_graph, begins_round, can_begin, lacks, on_graph}
+use Rattle.gx_rules.specs.Rounds.{awaits_graph, begins_round, can_begin, on_graph}
 use Rattle.gx_rules.specs.Segments.{Seg, SegTurn, stays}
 use Rattle.gx_rules.specs.Sending.{clock_after, numbered}
 use Rattle.gx_rules.proofs.Rounds.{collect-ways}
