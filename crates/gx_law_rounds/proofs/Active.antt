@@ -1,14 +1,13 @@
 -- Who is active by the marks is whom the coordinator holds active, in every run.
-use Rattle.std.proofs.Common.{◌≡◌, ◌≤◌, ◌<◌, ◌⊎◌, inl, inr, ℕ, ◌+◌, List, [], ◌∷◌, ◌++◌, Option, Some, None, Bool, true, false, not, refl, sym, subst, ap, ◌∙◌, if◌then◌else◌, ◌&&◌, ◌||◌, arith, eqb}
-use Rattle.std.proofs.lemmas.Bool.{and_from, and_parts, eqb-true, false_from_ne_true, or_left, or_right}
+use Rattle.std.proofs.Common.{◌≡◌, ◌≤◌, ◌<◌, ◌⊎◌, inl, inr, ℕ, ◌+◌, List, [], ◌∷◌, ◌++◌, Option, Some, None, Bool, true, false, not, refl, sym, subst, ap, ◌∙◌, if◌then◌else◌, ◌&&◌, arith, eqb}
+use Rattle.std.proofs.lemmas.Bool.{eqb-true, false_from_ne_true, or_left, or_right}
 use Rattle.std.proofs.lemmas.Bool.Decides.{nat_tests}
 use Rattle.std.proofs.lemmas.List.{append_assoc}
 use Rattle.std.specs.Prelude.{Contains, cond, filter, map, nat_le}
 use Rattle.gx_lemmas.proofs.Numbers.{eqb-self}
-use Rattle.gx_lemmas.proofs.Options.{some-same}
 use Rattle.gx_lemmas.proofs.Tests.{or-cases, true-false}
 use Rattle.gx_ids.specs.declared.ids.Gxid.{Gxid}
-use Rattle.gx_dtx.specs.Table.{Table, find_txn}
+use Rattle.gx_dtx.specs.Table.{find_txn}
 use Rattle.gx_dtx.specs.declared.phase.Phase.{Phase as Status}
 use Rattle.gx_dtx.specs.declared.phase.Phase.TheVariants as status
 use Rattle.gx_dtx.specs.declared.txn.Txn.{Txn}
@@ -29,7 +28,7 @@ use Rattle.gx_waits.proofs.Members.{Has, contains_from_has, has_from_contains}
 use Rattle.gx_rules.specs.AtCoordinator.{cancels, coord_sends, coord_turn, on_event}
 use Rattle.gx_rules.specs.AtSegment.{seg_rule}
 use Rattle.gx_rules.specs.Coordinators.{CoordTurn}
-use Rattle.gx_rules.specs.Machine.{Letter, World, and_cancelled, coord_did, new_world, seg_did, world_of}
+use Rattle.gx_rules.specs.Machine.{World, and_cancelled, coord_did, seg_did, world_of}
 use Rattle.gx_rules.specs.Rounds.{active_in, is_active, is_live}
 use Rattle.gx_rules.specs.Sending.{clock_after, numbered}
 use Rattle.gx_law_order.specs.Numbers.{AreStartsNumbered}

@@ -56,7 +56,7 @@ use Rattle.gx_law_order.proofs.Ends.{begun-finds}
 use Rattle.gx_law_order.proofs.Lines.{begun-whole}
 use Rattle.gx_law_order.proofs.Stages.{At, IsWhole, changed-at, gx, left_of, txn-at}
 use Rattle.gx_law_order.proofs.Statuses.{Moves, Stage, Turned, reply-turns, stage}
-use Rattle.gx_law_order.proofs.Statuses.Stage.{Absent, Closing, Dropped, Finished, Live}
+use Rattle.gx_law_order.proofs.Statuses.Stage.{Absent, Closing, Live}
 
 -- the transaction is on its way to a commit
 abbrev pub IsClosing : Table → ℕ → Type 0

@@ -20,8 +20,8 @@ use Rattle.gx_store.specs.declared.mark.Mark.{Mark}
 use Rattle.gx_store.specs.declared.mark.Mark.TheVariants as mark
 use Rattle.gx_store.specs.declared.run.Step.{Step}
 use Rattle.gx_store.specs.Journals.{is_same_node}
-use Rattle.gx_store.specs.Messages.{IsSending, IsSent, Receives, ReceivesAt}
-use Rattle.gx_store.specs.Ordered.{AreOrdered, IsDelivery, IsEventAt, IsLink, IsOrderedStep}
+use Rattle.gx_store.specs.Messages.{IsSent, Receives, ReceivesAt}
+use Rattle.gx_store.specs.Ordered.{AreOrdered, IsEventAt, IsLink, IsOrderedStep}
 use Rattle.gx_store.specs.Points.{Point}
 use Rattle.gx_store.specs.Refusals.{the_coordinator}
 use Rattle.gx_store.specs.Rounds.{AreReportsOf, IsReportOf}
@@ -225,7 +225,7 @@ module _ (script : Script) (point : Point) (s : Step) (is : s.event ≡ point.ev
           inr (
             e.0,
             subst (λ x. Receives point.steps x segment the_coordinator (Told graph)) (ap (λ (y : Step). y.event) (sym e.1) ∙ is)
-            (subst (λ q. Receives q r.step.event segment the_coordinator (Told graph)) (seam r.place e.0) received),
+                (subst (λ q. Receives q r.step.event segment the_coordinator (Told graph)) (seam r.place e.0) received),
           )
 
   not-before : (graph : LocalGraph) (r : FoundAt segment round [] all graph) (k : ℕ) (other : LocalGraph) → ReceivesAt point k segment the_coordinator (Told other) → k < r.place → ⊥

@@ -1,9 +1,7 @@
 -- A round ends with what its definition asks: the coordinator's own graph of the moment, each segment's first, who is active, and the verdict.
-use Rattle.std.proofs.Common.{◌≡◌, ◌≤◌, ℕ, ◌+◌, List, [], ◌∷◌, ◌++◌, Option, Some, None, Bool, true, false, refl, sym, subst, ap, ◌∙◌, ◌==◌, ◌&&◌, if◌then◌else◌, append-nil}
+use Rattle.std.proofs.Common.{◌≡◌, ◌≤◌, ℕ, List, [], ◌∷◌, ◌++◌, Option, Some, None, Bool, true, false, refl, sym, subst, ap, ◌∙◌, ◌==◌, if◌then◌else◌, append-nil}
 use Rattle.std.proofs.lemmas.Bool.{and_parts}
-use Rattle.std.proofs.lemmas.List.{append_assoc}
 use Rattle.std.specs.Prelude.{map}
-use Rattle.gx_lemmas.proofs.Numbers.{same-of}
 use Rattle.gx_ids.specs.declared.ids.Gxid.{Gxid}
 use Rattle.gx_ids.specs.declared.ids.Node.{Node}
 use Rattle.gx_detect.proofs.Computed.{is_verdict_of}
@@ -19,7 +17,7 @@ use Rattle.gx_store.specs.declared.mark.Mark.TheVariants as mark
 use Rattle.gx_store.specs.declared.node.NodeEvent.{NodeEvent}
 use Rattle.gx_store.specs.declared.node.NodeEvent.TheVariants as here
 use Rattle.gx_store.specs.declared.run.Step.{Step}
-use Rattle.gx_store.specs.Ordered.{AreOrdered, IsSegment}
+use Rattle.gx_store.specs.Ordered.{AreOrdered}
 use Rattle.gx_store.specs.Points.{Point, before, marks_in}
 use Rattle.gx_store.specs.Refusals.{the_coordinator}
 use Rattle.gx_store.specs.Rounds.{AreRechecksIn, AreReportsOf, IsGraphAt, IsRecheck, is_active}
@@ -27,7 +25,7 @@ use Rattle.gx_store.specs.Schedule.{round_count}
 use Rattle.gx_waits.specs.LocalGraph.{edges_of}
 use Rattle.gx_waits.specs.declared.graph.LocalGraph.{LocalGraph}
 use Rattle.gx_waits.specs.declared.verdict.Verdict.{Verdict}
-use Rattle.gx_rules.specs.AtCoordinator.{and_cancels, and_cancels_all, awaited_collect, cancel_turn, cancels, coord_can, coord_rule, coord_sends, on_event, resends}
+use Rattle.gx_rules.specs.AtCoordinator.{and_cancels, and_cancels_all, awaited_collect, cancel_turn, cancels, coord_can, coord_rule, coord_sends, resends}
 use Rattle.gx_rules.specs.AtSegment.{seg_rule, seg_sends}
 use Rattle.gx_rules.specs.Coordinators.{Coord, CoordTurn, rests}
 use Rattle.gx_rules.specs.Machine.{World, world_of}
@@ -38,7 +36,6 @@ use Rattle.gx_rules.proofs.Turns.{cancels_all-each}
 use Rattle.gx_law_order.proofs.Induction.{IsThere}
 use Rattle.gx_law_order.proofs.Lists.{Each, each_append}
 use Rattle.gx_law_order.proofs.Ordered.{Well}
-use Rattle.gx_law_order.proofs.Sent.{at}
 use Rattle.gx_law_order.proofs.World.{world_knows}
 use Rattle.gx_law_commit.proofs.Always.{world-holds}
 use Rattle.gx_law_holds.specs.Marked.{AreLocksMarked}
@@ -50,9 +47,9 @@ use Rattle.gx_law_rounds.proofs.AtSegments.{seg-ways}
 use Rattle.gx_law_rounds.proofs.Firsts.{reports-of}
 use Rattle.gx_law_rounds.proofs.Heard.{Brings, fits, same-count, taken}
 use Rattle.gx_law_rounds.proofs.Reports.{graph-is}
-use Rattle.gx_law_rounds.proofs.Rounded.{AreFirst, Rounded, first_now}
+use Rattle.gx_law_rounds.proofs.Rounded.{AreFirst, Rounded}
 use Rattle.gx_law_rounds.proofs.Silent.{NoRecheck, no-recheck, sends-no-recheck}
-use Rattle.gx_law_rounds.proofs.Walks.{at-steps, coord_step, seg_step}
+use Rattle.gx_law_rounds.proofs.Walks.{at-steps, coord_step}
 use Rattle.gx_law_rounds.proofs.World.{brings-it, turn-rounded}
 
 -- MARKS THAT END NO ROUND, OR ONE

@@ -1,5 +1,5 @@
 -- Each report is of the moment at which it is made, since a node's locks are those that stand by the marks.
-use Rattle.std.proofs.Common.{◌≡◌, ◌≤◌, ◌<◌, ℕ, List, [], ◌∷◌, ◌++◌, Bool, true, false, refl, sym, subst, ap, ◌∙◌, nat_lt, append-nil}
+use Rattle.std.proofs.Common.{◌≡◌, ◌≤◌, ◌<◌, ℕ, List, [], ◌∷◌, ◌++◌, Bool, true, sym, subst, nat_lt, append-nil}
 use Rattle.gx_lemmas.proofs.Numbers.{lt-of}
 use Rattle.gx_ids.specs.declared.ids.Gxid.{Gxid}
 use Rattle.gx_ids.specs.declared.ids.Node.{Node}
@@ -20,13 +20,12 @@ use Rattle.gx_store.specs.Ordered.{IsSegment}
 use Rattle.gx_store.specs.Points.{Point, marks_in}
 use Rattle.gx_store.specs.Refusals.{the_coordinator}
 use Rattle.gx_store.specs.Rounds.{AreReports, IsGraphAt, IsReport, last_round}
-use Rattle.gx_store.specs.Waits.{holds_at, waits_at}
+use Rattle.gx_store.specs.Waits.{waits_at}
 use Rattle.gx_waits.specs.Claim.{AreEdges}
-use Rattle.gx_waits.specs.declared.graph.LocalGraph.{LocalGraph}
-use Rattle.gx_rules.specs.AtCoordinator.{and_cancels, cancel_turn, cancels, coord_can, coord_rule, coord_sends, coord_turn, on_event}
+use Rattle.gx_rules.specs.AtCoordinator.{and_cancels, cancel_turn, cancels, coord_can, coord_rule, coord_turn, on_event}
 use Rattle.gx_rules.specs.AtSegment.{graph_out, reports, seg_rule, seg_sends}
 use Rattle.gx_rules.specs.Coordinators.{CoordTurn}
-use Rattle.gx_rules.specs.Machine.{World, seg_can, world_of}
+use Rattle.gx_rules.specs.Machine.{World, world_of}
 use Rattle.gx_rules.specs.Rounds.{victims_at}
 use Rattle.gx_rules.specs.Segments.{Seg, SegTurn}
 use Rattle.gx_rules.specs.Sending.{clock_after, numbered}
@@ -41,7 +40,7 @@ use Rattle.gx_law_holds.proofs.World.{world-locked}
 use Rattle.gx_law_rounds.specs.Steps.{EachStep, StepReports}
 use Rattle.gx_law_rounds.proofs.AtCoordinators.{AreWorksOfOne, IsQuiet, cancel-quiet}
 use Rattle.gx_law_rounds.proofs.AtSegments.{seg-ways}
-use Rattle.gx_law_rounds.proofs.Rounded.{CoordMade, Rounded}
+use Rattle.gx_law_rounds.proofs.Rounded.{Rounded}
 use Rattle.gx_law_rounds.proofs.Silent.{NoReport, no-report, sends-no-report}
 use Rattle.gx_law_rounds.proofs.Walks.{at-steps}
 use Rattle.gx_law_rounds.proofs.World.{made-turn, turn-rounded}
