@@ -15,6 +15,9 @@ pub mod Reports
 pub mod Firsts
 pub mod Starts
 pub mod Closing
+pub mod Asked
+pub mod Told
+pub mod Listed
 pub mod Active
 pub mod Rechecks
 pub mod Whole
