@@ -43,11 +43,14 @@ pub record IsGone (c : Coord) (marks : List Mark) (g : Gxid) : Type 0 where
   pub refused : Contains marks (mark.Answer (work_of c g).session number (told.Refused (Victim c.rounds)))
 
 -- ONE OF THEM
+abbrev refused : Coord → Gxid → CoordTurn
+refused c g = is_refused c g (on_abort c.table g) [] (Victim c.rounds)
+
 abbrev refusal : Coord → Gxid → CoordTurn
-refusal c g = coord_sends c.clock (is_refused c g (on_abort c.table g) [] (Victim c.rounds))
+refusal c g = coord_sends c.clock (refused c g)
 
 cancels-now : (c : Coord) (g : Gxid) → may_cancel c g ≡ true → cancel_turn c g ≡ refusal c g
-cancels-now c g e = ap (λ (b : Bool). coord_sends c.clock (if b then is_refused c g (on_abort c.table g) [] (Victim c.rounds) else rests c)) e
+cancels-now c g e = ap (λ (b : Bool). coord_sends c.clock (if b then refused c g else rests c)) e
 
 -- what it leaves of the others
 record Leaves (c d : Coord) (g : Gxid) : Type 0 where
@@ -87,7 +90,7 @@ refusal-gone c g =
     answer = mark.Answer (work_of c g).session (session_of c (work_of c g).session).lines (told.Refused (Victim c.rounds))
 
     behind : List Mark
-    behind = release_marks the_coordinator c.locks g ++ numbered (is_refused c g (on_abort c.table g) [] (Victim c.rounds)).coord.sent (on_abort c.table g).out.outs
+    behind = release_marks the_coordinator c.locks g ++ numbered (refused c g).coord.sent (on_abort c.table g).out.outs
 
     rest : List Mark
     rest = answer ∷ behind
@@ -124,9 +127,6 @@ ends-none : (c : Coord) (g : Gxid) → Each NoRecheck (cancel_turn c g).marks
 ends-none c g =
     cancel-ways (λ (t : CoordTurn). Each NoRecheck (t.marks ++ numbered t.coord.sent t.outs)) c g tt
     (λ live busy. (tt, (tt, each_append NoRecheck (release_marks the_coordinator c.locks g) _ (each-released NoRecheck the_coordinator c.locks g (λ claim. tt)) (sends-no-recheck (refused c g).coord.sent (refused c g).outs))))
-  where
-    abbrev refused : Coord → Gxid → CoordTurn
-    refused c g = is_refused c g (on_abort c.table g) [] (Victim c.rounds)
 
 pub all-end-none : (gs : List Gxid) (c : Coord) → Each NoRecheck (victims_marks c gs)
 all-end-none [] c = tt

@@ -49,7 +49,7 @@ module _ (script : Script) (some : 1 ≤ script.segments) (rounds : (es : List (
   pub world-cancels : (es : List (Event × Bool)) → AreVerdictsLegal [] (world_of script es).steps
   world-cancels es =
       verdicts-once script [] (world_of script es).steps (rounds es)
-      (at-steps script some (IsReady script) ready (LegalOnce script) (λ w good r k e x fails t ok. coord-legal script w k e r x fails) (λ w good r k e x fails i place t ok. seg-legal script w k e x fails i) es)
+      (at-steps script some (IsReady script) ready (LegalOnce script) (λ w good r k e x fails t ok ordered. coord-legal script w k e r x fails) (λ w good r k e x fails i place t ok. seg-legal script w k e x fails i) es)
 
   law : (es : List (Event × Bool)) (before later : List Mark) → marks_in (world_of script es).steps ≡ before ++ later → IsStuckBlocked before
   law es before later split = is-stuck-blocked before (behind-front IsFair [] before later (subst (EachBehind IsFair []) split (run-fair script some es)))

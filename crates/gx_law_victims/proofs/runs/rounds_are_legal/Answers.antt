@@ -1,4 +1,4 @@
-use Rattle.gx_law_rounds.proofs.Legal.{world-rounds}
+use Rattle.gx_law_rounds.proofs.Whole.{world-rounds}
 use Rattle.gx_law_victims.proofs.World.{world-legal}
 use Rattle.gx_law_victims.proofs.runs.rounds_are_legal.Goals as goal
 

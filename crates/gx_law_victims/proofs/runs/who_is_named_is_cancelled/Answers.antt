@@ -1,4 +1,4 @@
-use Rattle.gx_law_rounds.proofs.Legal.{world-rounds}
+use Rattle.gx_law_rounds.proofs.Whole.{world-rounds}
 use Rattle.gx_law_victims.proofs.World.{world-cancels}
 use Rattle.gx_law_victims.proofs.runs.who_is_named_is_cancelled.Goals as goal
 
