@@ -1,5 +1,5 @@
 -- A transaction whose commands run was started by the session that the coordinator has for it.
-use Rattle.std.proofs.Common.{◌≡◌, ◌⊎◌, inl, inr, ℕ, ◌+◌, List, [], ◌∷◌, ◌++◌, Option, Some, None, Bool, true, false, refl, sym, subst, ap, ◌∙◌, if◌then◌else◌, ◌==◌}
+use Rattle.std.proofs.Common.{◌≡◌, inl, inr, ℕ, ◌+◌, List, [], ◌∷◌, ◌++◌, Option, Some, None, Bool, true, false, refl, sym, subst, ap, ◌∙◌, if◌then◌else◌, ◌==◌}
 use Rattle.gx_ids.specs.declared.ids.Gxid.{Gxid}
 use Rattle.gx_ids.specs.declared.ids.SessionId.{SessionId}
 use Rattle.gx_script.specs.declared.Script.{Script}
@@ -20,20 +20,18 @@ use Rattle.gx_law_order.proofs.Statuses.Stage.{Live}
 use Rattle.gx_law_sessions.specs.Scanned.{began_from}
 use Rattle.gx_law_sessions.specs.Standing.{IsSession, IsStanding, is_busy}
 
-abbrev begun : SessionId → ℕ → Option (SessionId × ℕ)
-begun k first = Some (k, first)
+abbrev session_in : Option (SessionId × ℕ) → Option SessionId
+session_in None = None
+session_in (Some began) = Some began.0
 
 -- where it began tells its session
 session-began : (before ms : List Mark) (g : Gxid) (k : SessionId) (first : ℕ) → began_from before ms g ≡ Some (k, first) → session_of ms g ≡ Some k
 session-began before [] g k first e = absurd (cc)
 session-began before (mark.Start h s ∷ ms) g k first e = by_test (h.0 == g.0) e (session-began (before ++ mark.Start h s ∷ []) ms g k first)
   where
-    same : (n : ℕ) → begun s n ≡ begun k first → Some s ≡ Some k
-    same n q = cc
-
     by_test : (b : Bool) → (if b then Some (s, answer_count s before + 1) else began_from (before ++ mark.Start h s ∷ []) ms g) ≡ Some (k, first)
         → (began_from (before ++ mark.Start h s ∷ []) ms g ≡ Some (k, first) → session_of ms g ≡ Some k) → (if b then Some s else session_of ms g) ≡ Some k
-    by_test true e later = same (answer_count s before + 1) e
+    by_test true e later = ap session_in e
     by_test false e later = later e
 session-began before (m ∷ ms) g k first e = session-began (before ++ m ∷ []) ms g k first e
 

@@ -1,15 +1,13 @@
 -- Victims one behind the other: what each of their turns leaves of the others, and that all of them are cancelled.
-use Rattle.std.proofs.Common.{◌≡◌, ℕ, List, [], ◌∷◌, ◌++◌, Option, Bool, true, false, refl, sym, subst, ap, ◌∙◌, if◌then◌else◌, ◌&&◌, ◌||◌, eqb, append_assoc, append-nil}
+use Rattle.std.proofs.Common.{◌≡◌, ℕ, List, [], ◌∷◌, ◌++◌, Option, Bool, true, false, refl, sym, subst, ap, ◌∙◌, if◌then◌else◌, ◌&&◌, eqb, append_assoc, append-nil}
 use Rattle.std.proofs.lemmas.Bool.{or_left, or_right}
 use Rattle.std.proofs.lemmas.List.Elements.{Contains-append_left, Contains-append_right, Contains-push}
 use Rattle.std.specs.List.{Contains}
 use Rattle.gx_lemmas.proofs.Numbers.{eqb-self}
 use Rattle.gx_ids.specs.declared.ids.Gxid.{Gxid}
-use Rattle.gx_ids.specs.declared.ids.SessionId.{SessionId}
 use Rattle.gx_dtx.specs.Rules.{abort_found, on_abort}
 use Rattle.gx_dtx.specs.Table.{find_txn}
 use Rattle.gx_dtx.specs.declared.txn.Txn.{Txn}
-use Rattle.gx_msg.specs.declared.message.Out.{Out}
 use Rattle.gx_store.specs.declared.answer.Refused.TheVariants.{Victim}
 use Rattle.gx_store.specs.declared.answer.StmtAnswer.TheVariants as told
 use Rattle.gx_store.specs.declared.mark.Mark.{Mark}
@@ -22,7 +20,7 @@ use Rattle.gx_rules.specs.Locks.{release_marks}
 use Rattle.gx_rules.specs.Rounds.{is_live}
 use Rattle.gx_rules.specs.Sending.{numbered}
 use Rattle.gx_rules.proofs.Rounds.{cancel-ways}
-use Rattle.gx_law_order.proofs.Lists.{Each, each_append, each_weaker}
+use Rattle.gx_law_order.proofs.Lists.{Each, each_append}
 use Rattle.gx_law_order.proofs.Past.{aborted-append}
 use Rattle.gx_law_order.proofs.Releases.{each-released}
 use Rattle.gx_law_order.proofs.Stages.{At, IsWhole, changed-at, left_of}

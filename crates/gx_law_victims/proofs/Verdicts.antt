@@ -11,9 +11,7 @@ use Rattle.gx_dtx.specs.Table.{find_txn}
 use Rattle.gx_dtx.specs.declared.phase.Phase.{Phase}
 use Rattle.gx_dtx.specs.declared.txn.Txn.{Txn}
 use Rattle.gx_locks.specs.Graphs.{graph_at}
-use Rattle.gx_msg.specs.declared.message.Envelope.{Envelope}
 use Rattle.gx_msg.specs.declared.message.Message.{Message}
-use Rattle.gx_msg.specs.declared.message.Message.TheVariants as message
 use Rattle.gx_script.specs.declared.Script.{Script}
 use Rattle.gx_waits.specs.LocalGraph.{edges_of}
 use Rattle.gx_waits.specs.declared.graph.LocalGraph.{LocalGraph}
@@ -24,12 +22,9 @@ use Rattle.gx_store.specs.declared.event.Event.{Event}
 use Rattle.gx_store.specs.declared.mark.Mark.{Mark}
 use Rattle.gx_store.specs.declared.mark.Mark.TheVariants as mark
 use Rattle.gx_store.specs.declared.node.NodeEvent.{NodeEvent}
-use Rattle.gx_store.specs.declared.node.NodeEvent.TheVariants as here
-use Rattle.gx_store.specs.declared.run.Step.{Step}
 use Rattle.gx_store.specs.Legal.{IsCancelled}
 use Rattle.gx_store.specs.Marks.{session_of}
 use Rattle.gx_store.specs.Points.{Point, marks_in}
-use Rattle.gx_store.specs.Refusals.{the_coordinator}
 use Rattle.gx_store.specs.Rounds.{AreRechecksIn, AreRounds, IsRecheck}
 use Rattle.gx_rules.specs.AtCoordinator.{and_cancels_all, awaited_collect, coord_rule, coord_sends, is_under_way, may_cancel, resends}
 use Rattle.gx_rules.specs.AtSegment.{seg_rule, seg_sends}
@@ -49,12 +44,11 @@ use Rattle.gx_law_sessions.specs.Standing.{AreSessions}
 use Rattle.gx_law_commit.proofs.Everywhere.{Holds}
 use Rattle.gx_law_holds.specs.Marked.{AreLocksMarked}
 use Rattle.gx_law_holds.specs.Waiting.{EachBehind}
-use Rattle.gx_law_rounds.proofs.AtCoordinators.{IsQuiet, coord-ways}
+use Rattle.gx_law_rounds.proofs.AtCoordinators.{coord-ways}
 use Rattle.gx_law_rounds.proofs.AtSegments.{seg-ways}
 use Rattle.gx_law_rounds.proofs.Rounded.{Rounded}
 use Rattle.gx_law_rounds.proofs.Sendings.{message-is}
 use Rattle.gx_law_rounds.proofs.Silent.{NoRecheck, no-recheck, sends-no-recheck}
-use Rattle.gx_law_blocked.specs.Gathered.{AreNoted}
 use Rattle.gx_law_blocked.specs.Reports.{IsStuckBlocked}
 use Rattle.gx_law_blocked.proofs.Fair.{IsFair}
 use Rattle.gx_law_blocked.proofs.FirstReports.{AreSentOnce, one-reports}
@@ -153,11 +147,8 @@ module _ (script : Script) (w : World) (k : IsReady script w) (e : Event) where
   round-legal : (graph : LocalGraph) (clock : ℕ) (verdict : Verdict) → IsLegal (and_cancels_all (victims_in verdict) (ended (with_report w.coord graph) clock verdict)).marks
   round-legal graph clock Nothing = λ r. (tt, tt)
   round-legal graph clock (Dropped g) = λ r. (tt, tt)
-  round-legal graph clock (Victims victims) = with-victims turn victims (λ r. (
-    all-cancelled w.coord.rounds more victims refl (may-be r.0)
-        (all-gone victims turn.coord whole (apart w.coord.rounds (graph_at w.coord.locks) victims more r.0) (may-be r.0)),
-    none-named (mark.Recheck w.coord.rounds (graph_at w.coord.locks) (Victims victims) ∷ []) more [] (all-end-none victims turn.coord),
-  ))
+  round-legal graph clock (Victims victims) =
+      with-victims turn victims (λ r. (all-cancelled w.coord.rounds more victims refl (may-be r.0) (gone r.0), none-named (mark.Recheck w.coord.rounds (graph_at w.coord.locks) (Victims victims) ∷ []) more [] (all-end-none victims turn.coord)))
     where
       turn : CoordTurn
       turn = ended (with_report w.coord graph) clock (Victims victims)
@@ -170,6 +161,11 @@ module _ (script : Script) (w : World) (k : IsReady script w) (e : Event) where
 
       may-be : IsRecheck script (At more) w.coord.rounds (graph_at w.coord.locks) (Victims victims) → Each (λ g. may_cancel w.coord g ≡ true) victims
       may-be is = may w.coord.rounds (graph_at w.coord.locks) victims more is
+
+      gone : IsRecheck script (At more) w.coord.rounds (graph_at w.coord.locks) (Victims victims) → Each (IsGone w.coord more) victims
+      gone is =
+          each_weaker (IsGone turn.coord more) (IsGone w.coord more) (λ g k. record { aborted = k.aborted; number = k.number; refused = k.refused }) victims
+          (all-gone victims turn.coord whole (apart w.coord.rounds (graph_at w.coord.locks) victims more is) (may-be is))
 
   -- A STEP OF THE COORDINATOR
   graph-legal : (from : Node) (round clock : ℕ) (graph : LocalGraph) → IsLegal (and_cancels_all (victims_on_graph w.coord from round graph) (coord_sends clock (on_graph w.coord from round graph))).marks

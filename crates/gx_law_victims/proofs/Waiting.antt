@@ -1,5 +1,5 @@
 -- Whoever waits somewhere, and hasn't aborted, may be cancelled: it is live, and a statement of it waits or is under way.
-use Rattle.std.proofs.Common.{◌≡◌, ◌≤◌, ◌⊎◌, inl, inr, ℕ, List, Option, Some, None, Bool, true, false, refl, sym, subst, ap, ◌∙◌, ◌==◌, ◌||◌, ◌&&◌, arith}
+use Rattle.std.proofs.Common.{◌≡◌, ◌≤◌, ◌⊎◌, inl, inr, ℕ, Option, Some, None, Bool, true, false, refl, sym, subst, ap, ◌==◌, ◌&&◌, arith}
 use Rattle.std.proofs.lemmas.Bool.{or_left, or_right}
 use Rattle.std.proofs.lemmas.Bool.Decides.{nat_tests}
 use Rattle.std.specs.List.{list_any}
@@ -15,7 +15,6 @@ use Rattle.gx_locks.specs.Claims.{is_of}
 use Rattle.gx_locks.specs.Locks.{wait_of}
 use Rattle.gx_waits.specs.declared.claim.Claim.{Claim}
 use Rattle.gx_script.specs.declared.Script.{Script}
-use Rattle.gx_store.specs.declared.mark.Mark.{Mark}
 use Rattle.gx_store.specs.Marks.{is_aborted}
 use Rattle.gx_store.specs.Points.{marks_in}
 use Rattle.gx_store.specs.Refusals.{the_coordinator}
@@ -24,7 +23,6 @@ use Rattle.gx_rules.specs.Coordinators.{Command, Work, work_of}
 use Rattle.gx_rules.specs.Machine.{World}
 use Rattle.gx_rules.specs.Rounds.{is_active, is_live}
 use Rattle.gx_law_order.proofs.Sent.{at}
-use Rattle.gx_law_order.proofs.Stages.{gx}
 use Rattle.gx_law_order.proofs.Statuses.{stage, stage_in}
 use Rattle.gx_law_order.proofs.Statuses.Stage.{Live as LiveStage}
 use Rattle.gx_law_order.proofs.Waiting.{has-slice, has-statement}

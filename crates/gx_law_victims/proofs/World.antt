@@ -7,7 +7,7 @@ use Rattle.gx_store.specs.declared.mark.Mark.{Mark}
 use Rattle.gx_store.specs.declared.run.Step.{Step}
 use Rattle.gx_store.specs.Points.{marks_in}
 use Rattle.gx_store.specs.Rounds.{AreRechecksIn, AreRounds}
-use Rattle.gx_rules.specs.Machine.{World, world_of}
+use Rattle.gx_rules.specs.Machine.{world_of}
 use Rattle.gx_law_order.proofs.World.{world_knows}
 use Rattle.gx_law_sessions.specs.Finish.{AreVerdictsLegal, IsVerdictLegal}
 use Rattle.gx_law_sessions.specs.Rest.{EachMark}
