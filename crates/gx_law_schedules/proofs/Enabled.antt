@@ -146,7 +146,7 @@ module _ (script : Script) (some : 1 ≤ script.segments) (es : List (Event × B
       on : (a n k : ℕ) → a + suc n ≤ k + 1 → a + 1 + n ≤ k + 1
       on a n k h = omega arith
 
-  all-segments : Each (λ (i : Node). is_segment script i ≡ true) (segments_of script)
+  pub all-segments : Each (λ (i : Node). is_segment script i ≡ true) (segments_of script)
   all-segments = segments-are 1 script.segments (same 1) (first script.segments)
     where
       same : (a : ℕ) → a ≤ a
