@@ -1,5 +1,5 @@
 -- What is enabled of rounds is told by what the coordinator holds of them.
-use Rattle.std.proofs.Common.{◌≡◌, ◌≤◌, ℕ, zero, suc, ◌+◌, List, [], ◌∷◌, Option, None, Some, Bool, true, false, refl, sym, subst, ap, ◌∙◌, ◌&&◌, ◌||◌, not, arith}
+use Rattle.std.proofs.Common.{◌≡◌, ◌≤◌, ℕ, zero, suc, ◌+◌, List, [], Option, None, Some, Bool, true, false, refl, sym, ap, ◌∙◌, ◌&&◌, ◌||◌, not, arith}
 use Rattle.std.proofs.lemmas.Bool.Decides.{nat_tests}
 use Rattle.std.specs.List.{list_all, list_any}
 use Rattle.std.specs.Prelude.{is_some, map, nat_le}
