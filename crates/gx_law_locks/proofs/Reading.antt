@@ -26,7 +26,6 @@ use Rattle.gx_script.specs.declared.state.Pending.TheVariants as pending
 use Rattle.gx_store.proofs.Exclusive.{holds_from-append}
 use Rattle.gx_store.proofs.Marks.{is_snapped-append}
 use Rattle.gx_store.proofs.Runs.{marks_in-push, starts_in-push}
-use Rattle.gx_store.specs.Journals.{is_same_node}
 use Rattle.gx_store.specs.Lines.{BlockState, Failed, InBlock, Outside, cid_of, state_of, stmt_of, transaction_of}
 use Rattle.gx_store.specs.Locks.{HasGoneOut, LocksWhileReading}
 use Rattle.gx_store.specs.Marks.{answer_count, is_begun, is_same_session, is_snapped, started_after}
