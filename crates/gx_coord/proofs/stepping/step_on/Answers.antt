@@ -41,7 +41,7 @@ returns-clause-gone g c =
     let e = c.in_ok-turned.ensures in
     let same = c.deref.ensures ∙ c.in_ok-script.ensures in
     let is =
-        step-is old c.take_event.new.coord c.send_and_cancel.new.coord c.deref.result.now c.args.event fails c.clock_after-clock.result _ _ _ _ _ _ same c.new-marks.ensures.items c.clock_after-clock.ensures e.turn e.outs e.victims c.in_ok-out.ensures.turn in
+    step-is old c.take_event.new.coord c.send_and_cancel.new.coord c.deref.result.now c.args.event fails c.clock_after-clock.result _ _ _ _ _ _ same c.new-marks.ensures.items c.clock_after-clock.ensures e.turn e.outs e.victims c.in_ok-out.ensures.turn in
     record {
       fails = fails;
       small = c.take_event.ensures.small;
