@@ -3,6 +3,7 @@ pub mod Answers
 pub mod Doing
 pub mod Events
 pub mod Gathered
+pub mod Graphs
 pub mod Journals
 pub mod Laws
 pub mod Links
