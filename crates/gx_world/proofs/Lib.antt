@@ -2,8 +2,8 @@ pub mod Alike
 pub mod Answers
 pub mod Doing
 pub mod Events
+pub mod EachNode
 pub mod Gathered
-pub mod Graphs
 pub mod Journals
 pub mod Laws
 pub mod Links

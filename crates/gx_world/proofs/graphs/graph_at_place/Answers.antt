@@ -1,5 +1,5 @@
 use Rattle.std.proofs.Common.{◌+◌, ◌∙◌, arith}
-use Rattle.gx_law_runs.proofs.Rounds.{graph-there}
+use Rattle.gx_law_runs.proofs.Detecting.{graph-there}
 use Rattle.gx_world.proofs.Answers.{if_ok}
 use Rattle.gx_world.proofs.graphs.graph_at_place.Goals as goal
 

@@ -1,5 +1,5 @@
 use Rattle.std.proofs.Common.{◌∙◌}
-use Rattle.gx_law_runs.proofs.Rounds.{graph-here}
+use Rattle.gx_law_runs.proofs.Detecting.{graph-here}
 use Rattle.gx_world.proofs.Answers.{if_ok}
 use Rattle.gx_world.proofs.graphs.graph_here.Goals as goal
 

@@ -1,7 +1,7 @@
 use Rattle.gx_store.specs.Cancelled.{wait_graph}
 use Rattle.gx_store.specs.Points.{marks_in}
 use Rattle.gx_store.specs.Refusals.{the_coordinator}
-use Rattle.gx_world.proofs.Graphs.{one-more}
+use Rattle.gx_world.proofs.EachNode.{one-more}
 use Rattle.gx_world.proofs.graphs.graphs.Goals as goal
 
 pub loop-place-preserved : goal.loop-place-preserved
