@@ -33,7 +33,7 @@ use Rattle.gx_law_runs.specs.Replays.{world_behind}
 use Rattle.gx_law_runs.proofs.Reaching.{by-events, replayed, rows-of-all}
 use Rattle.gx_law_victims.specs.Legal.{AreRoundsLegal}
 use Rattle.gx_law_victims.proofs.World.{world-cancels, world-legal}
-use Rattle.gx_law_rounds.proofs.Legal.{world-rounds}
+use Rattle.gx_law_rounds.proofs.Whole.{world-rounds}
 use Rattle.gx_world.specs.declared.network.Network.{Network}
 use Rattle.gx_world.specs.Networks.{IsNetwork}
 
