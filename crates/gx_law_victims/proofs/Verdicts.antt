@@ -1,5 +1,5 @@
 -- Whoever a round names is cancelled in the step that ends it.
-use Rattle.std.proofs.Common.{◌≡◌, ℕ, List, [], ◌∷◌, ◌++◌, Option, None, Some, Bool, true, false, refl, sym, subst, ap, ◌∙◌, if◌then◌else◌, append-nil, arith}
+use Rattle.std.proofs.Common.{◌≡◌, ℕ, List, [], ◌∷◌, ◌++◌, Option, None, Some, Bool, true, false, sym, subst, ap, ◌∙◌, if◌then◌else◌, append-nil, arith}
 use Rattle.std.proofs.lemmas.Bool.{and_parts}
 use Rattle.std.proofs.lemmas.List.Elements.{All-cons, All-nil}
 use Rattle.std.specs.Prelude.{All}
@@ -105,21 +105,19 @@ module _ (script : Script) (w : World) (k : IsReady script w) (e : Event) where
         victims (each-waits script (At later) (edges_of (own ∷ is.reports)) [] victims victims-here)
 
   -- who is gone was cancelled
-  is-cancelled : (round : ℕ) (later : List Mark) (g : Gxid) → round ≡ w.coord.rounds → may_cancel w.coord g ≡ true → IsGone w.coord later g → IsCancelled (At (later ++ [])) round g
-  is-cancelled round later g same can gone =
-      subst (λ ms. IsCancelled (At ms) round g) (sym (append-nil later))
-      (subst (λ n. IsCancelled (At later) n g) (sym same)
-      (record {
-        aborted = gone.aborted;
-        session = (work_of w.coord g).session;
-        number = gone.number;
-        of = subst (λ ms. session_of ms g ≡ Some (work_of w.coord g).session) (sym (append-nil marks)) (session-is script w.coord w.steps k.knows.kept k.sessions g (live-stage (find_txn w.coord.table g) (and_parts (is_live (find_txn w.coord.table g)) (is_under_way (work_of w.coord g)) can).0));
-        refused = gone.refused;
-      }))
+  session-there : (g : Gxid) → may_cancel w.coord g ≡ true → session_of (marks ++ []) g ≡ Some (work_of w.coord g).session
+  session-there g can =
+      subst (λ ms. session_of ms g ≡ Some (work_of w.coord g).session) (sym (append-nil marks))
+      (session-is script w.coord w.steps k.knows.kept k.sessions g (live-stage (find_txn w.coord.table g) (and_parts (is_live (find_txn w.coord.table g)) (is_under_way (work_of w.coord g)) can).0))
 
-  all-cancelled : (round : ℕ) (later : List Mark) (gs : List Gxid) → round ≡ w.coord.rounds → Each (λ g. may_cancel w.coord g ≡ true) gs → Each (IsGone w.coord later) gs → All (IsCancelled (At (later ++ [])) round) gs
-  all-cancelled round later [] same can gone = All-nil (IsCancelled (At (later ++ [])) round)
-  all-cancelled round later (g ∷ gs) same can gone = All-cons (IsCancelled (At (later ++ [])) round) g gs (is-cancelled round later g same can.0 gone.0) (all-cancelled round later gs same can.1 gone.1)
+  is-cancelled : (later : List Mark) (g : Gxid) → may_cancel w.coord g ≡ true → IsGone w.coord later g → IsCancelled (At (later ++ [])) w.coord.rounds g
+  is-cancelled later g can gone =
+      subst (λ ms. IsCancelled (At ms) w.coord.rounds g) (sym (append-nil later))
+      (record { aborted = gone.aborted; session = (work_of w.coord g).session; number = gone.number; of = session-there g can; refused = gone.refused })
+
+  all-cancelled : (later : List Mark) (gs : List Gxid) → Each (λ g. may_cancel w.coord g ≡ true) gs → Each (IsGone w.coord later) gs → All (IsCancelled (At (later ++ [])) w.coord.rounds) gs
+  all-cancelled later [] can gone = All-nil (IsCancelled (At (later ++ [])) w.coord.rounds)
+  all-cancelled later (g ∷ gs) can gone = All-cons (IsCancelled (At (later ++ [])) w.coord.rounds) g gs (is-cancelled later g can.0 gone.0) (all-cancelled later gs can.1 gone.1)
 
   -- A STEP
   -- if its rounds' ends are as defined, whoever it names is cancelled
@@ -148,7 +146,8 @@ module _ (script : Script) (w : World) (k : IsReady script w) (e : Event) where
   round-legal graph clock Nothing = λ r. (tt, tt)
   round-legal graph clock (Dropped g) = λ r. (tt, tt)
   round-legal graph clock (Victims victims) =
-      with-victims turn victims (λ r. (all-cancelled w.coord.rounds more victims refl (may-be r.0) (gone r.0), none-named (mark.Recheck w.coord.rounds (graph_at w.coord.locks) (Victims victims) ∷ []) more [] (all-end-none victims turn.coord)))
+      with-victims turn victims
+      (λ r. (all-cancelled more victims (may-be r.0) (gone r.0), none-named (mark.Recheck w.coord.rounds (graph_at w.coord.locks) (Victims victims) ∷ []) more [] (all-end-none victims turn.coord)))
     where
       turn : CoordTurn
       turn = ended (with_report w.coord graph) clock (Victims victims)

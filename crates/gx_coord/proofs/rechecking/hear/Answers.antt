@@ -1,4 +1,4 @@
-use Rattle.std.proofs.Common.{◌∙◌, ap, sym}
+use Rattle.std.proofs.Common.{◌∙◌, sym}
 use Rattle.gx_coord.specs.Books.{coord_of}
 use Rattle.std.proofs.lemmas.Result.{IfOk-weaker}
 use Rattle.gx_coord.proofs.Graphs.{report-round, report-segment, taken-victims}
