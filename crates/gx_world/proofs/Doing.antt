@@ -30,7 +30,7 @@ use Rattle.gx_world.specs.Turns.{IsFit, IsNext}
 use Rattle.gx_world.specs.Worlds.{HasTaken}
 use Rattle.gx_world.proofs.Alike.{AreAlike, does-alike, does-steps, replayed-alike, stands-alike, step-event, step_of, turned-round}
 use Rattle.gx_world.proofs.Events.{admitted-here, few-here, happens-here, heard-within, next-here, taken}
-use Rattle.gx_world.proofs.Room.{below, network-room}
+use Rattle.gx_world.proofs.Room.{below, few-rounds, network-room}
 
 -- where the machine stands is told by the network's own run
 own-run : (script : Script) (steps : List Step) (new : Network) → script ≡ new.script.value → steps ≡ new.run.steps → Stands script (world_behind script steps) new → Stands new.script.value (world_behind new.script.value new.run.steps) new
@@ -117,7 +117,7 @@ module _ (old : Network) (is : IsNetwork old) (usable : old.spent ≡ false) (e 
   heard-at few = below refl (heard-within old.script.value old.run.steps room now refl here e there) few
 
   pub room-at : length old.run.steps < 2 ^ 40 → HasRoom old
-  room-at few = network-room old.script.value old.run.steps old (is.stands usable) room few
+  room-at few = network-room old.script.value old.run.steps old (is.stands usable) room (few-rounds old.script.value old.run.steps is.language.some_segments is.reached) few
 
   leads : (new : Network) (before after : List Shelf) (m : HasMoved old.script.value now e (node_of e) here new before after) → (happens old.script.value now e m.fails).steps ≡ old.run.steps ++ step_of old.script.value now e (node_of e) m.fails here ∷ []
   leads new before after m = ap (λ (x : machine.World). x.steps) (happens-here old.script.value now e here there admitted m.fails) ∙ does-steps old.script.value now e (node_of e) m.fails here

@@ -31,6 +31,9 @@ use Rattle.std.specs.declared.alloc.Global.{Global}
 use Rattle.std.specs.declared.vec.Vec.{Vec}
 use Rattle.gx_law_runs.specs.Replays.{world_behind}
 use Rattle.gx_law_runs.proofs.Reaching.{by-events, replayed, rows-of-all}
+use Rattle.gx_law_victims.specs.Legal.{AreRoundsLegal}
+use Rattle.gx_law_victims.proofs.World.{world-cancels, world-legal}
+use Rattle.gx_law_rounds.proofs.Whole.{world-rounds}
 use Rattle.gx_world.specs.declared.network.Network.{Network}
 use Rattle.gx_world.specs.Networks.{IsNetwork}
 
@@ -56,13 +59,16 @@ module _ (script : Script) (network : Network) (is : IsNetwork network) (of : ne
   pub run-blocked : DoStayBlocked (marks_in network.run.steps)
   run-blocked = by-events script network.run.steps reached (λ ss. DoStayBlocked (marks_in ss)) (run-stays-blocked script language.some_segments)
 
+  pub run-rounds : AreRoundsLegal script network.run.steps
+  run-rounds = by-events script network.run.steps reached (AreRoundsLegal script) (world-legal script language.some_segments (world-rounds script language.some_segments))
+
   pub run-system : IsSystemRun script network.run
   run-system = by-events script network.run.steps reached (λ ss. IsSystemRun script (record { steps = ss })) (world_follows script language.some_segments)
 
   pub run-legal : AreInsertsWhole script.tables script.lines → IsLegalHistory script network.run
   run-legal inserts =
       by-events script network.run.steps reached (λ ss. IsLegalHistory script (record { steps = ss }))
-      (legal script language.some_segments language.numbers (keyed script inserts) (snapshots-one script language.some_segments) (filled script inserts))
+      (legal script language.some_segments language.numbers (keyed script inserts) (snapshots-one script language.some_segments) (filled script inserts) (world-cancels script language.some_segments (world-rounds script language.some_segments)))
 
   pub run-tables : (tables : List (Vec KeyedRow Global)) → AreRowsOfAll 0 (world_behind script network.run.steps) tables → AreFinalFrom 0 (marks_in network.run.steps) tables
   run-tables tables rows =

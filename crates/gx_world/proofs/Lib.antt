@@ -2,6 +2,7 @@ pub mod Alike
 pub mod Answers
 pub mod Doing
 pub mod Events
+pub mod EachNode
 pub mod Gathered
 pub mod Journals
 pub mod Laws

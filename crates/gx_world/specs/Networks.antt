@@ -53,11 +53,12 @@ pub record IsNetwork (network : Network) : Type 0 where
   pub reached : IsReached network.script.value network.run.steps
   pub stands : network.spent ≡ false → Stands network.script.value (world_behind network.script.value network.run.steps) network
 
--- no number lacks room: clocks, the numbers of messages, and the next transaction's
+-- no number lacks room: clocks, the numbers of messages and of rounds, and the next transaction's
 pub record HasRoom (network : Network) : Type 0 where
   pub clock : network.coord.clock < 2 ^ 62
   pub sent : All (λ n. n < 2 ^ 62) network.coord.sent.items
   pub next : network.coord.dtx.next.0 < 2 ^ 62
+  pub rounds : network.coord.detector.begun < 2 ^ 62
   pub segments : All (λ s. (s.clock < 2 ^ 62) × (s.sent < 2 ^ 62)) network.segments.items
 
 -- what an event at a node made of the machine, and of that node's journal

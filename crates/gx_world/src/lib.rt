@@ -3,6 +3,7 @@
 
 mod admitting;
 mod arriving;
+mod graphs;
 pub mod letters;
 mod looking;
 mod making;

@@ -1,25 +1,29 @@
-ghost use Rattle.std.specs.Prelude.{◌≡◌, ◌<◌, ◌^◌, true, false, [], IfOk, IsErr, OnOk, OnErr, length, map, option_copied, option_map};
+ghost use Rattle.std.specs.Prelude.{◌≡◌, ◌<◌, ◌^◌, ◌∷◌, true, false, [], IfOk, IsErr, OnOk, OnErr, length, map, option_copied, option_map};
 ghost use Rattle.std.specs.Option.{option_to_list};
 ghost use Rattle.gx_store.specs.Whole.{AreInsertsWhole};
 ghost use Rattle.gx_law_blocked.specs.Blocked.{DoStayBlocked};
 ghost use Rattle.gx_law_locks.specs.Legal.{AreLocksLegal};
 ghost use Rattle.gx_law_commit.specs.Told.{DoStepsTell};
 ghost use Rattle.gx_law_runs.specs.Reached.{IsReached};
+ghost use Rattle.gx_law_victims.specs.Legal.{AreRoundsLegal};
 ghost use Rattle.gx_rules.specs.AtCoordinator.{is_unfinished_there};
 ghost use Rattle.gx_ids.specs.declared.ids.SessionId.{SessionId as Id};
 ghost use Rattle.gx_law_runs.specs.Replays.{coordinator_after, is_admitted};
 ghost use Rattle.gx_rules.specs.System.{IsSystemRun};
+ghost use Rattle.gx_store.specs.Cancelled.{wait_graph};
 ghost use Rattle.gx_store.specs.Language.{IsScript};
 ghost use Rattle.gx_store.specs.Ordered.{AreOrdered, sent_in};
 ghost use Rattle.gx_store.specs.Points.{marks_in, marks_of};
 ghost use Rattle.gx_store.specs.Protocol.{DoStepsFollow};
+ghost use Rattle.gx_store.specs.Refusals.{the_coordinator};
 ghost use Rattle.gx_store.specs.Runs.{IsLegalHistory};
-ghost use Rattle.gx_store.specs.Schedule.{is_any_wait, resumptions, sent_message};
+ghost use Rattle.gx_store.specs.Schedule.{is_any_wait, resumptions, segments_of, sent_message};
 ghost use Rattle.gx_store.specs.View.{AreFinalFrom};
 ghost use Rattle.gx_store.specs.declared.event.Event.TheVariants.{Resume};
 ghost use Rattle.gx_world.specs.Worlds.{AreLater, HasStepped};
 
 use crate::admitting::can;
+use crate::graphs::graphs;
 use crate::looking::{is_unfinished, message, sent};
 use crate::network::Network;
 use crate::tables::tables;
@@ -30,6 +34,7 @@ use gx_outside::{Gate, Journal};
 use gx_script::Script;
 use gx_store::{Event, Run};
 use gx_tree::KeyedRow;
+use gx_waits::LocalGraph;
 use std::alloc::Global;
 use std::marker::Model;
 
@@ -156,6 +161,7 @@ impl World {
         ensures tells { OnOk result (DoStepsTell [] self.new.run.steps) }
         ensures locks { OnOk result (AreLocksLegal self.old.script self.new.run.steps) }
         ensures blocked { OnOk result (DoStayBlocked (marks_in self.new.run.steps)) }
+        ensures rounds { OnOk result (AreRoundsLegal self.old.script self.new.run.steps) }
         ensures ordered { OnOk result (AreOrdered self.old.script [] self.new.run.steps) }
         ensures system { OnOk result (IsSystemRun self.old.script self.new.run) }
         ensures unspent { OnOk result (self.new.spent ≡ false) }
@@ -177,6 +183,17 @@ impl World {
             return Err(OutOfMemory);
         }
         tables(&self.network)
+    }
+
+    /// Who waits for whom at the end of the run: a graph for each node, from the coordinator on.
+    pub fn graphs(&self) -> Mem<Vec<LocalGraph>>
+        ensures value { IfOk result (λ graphs. graphs.items ≡ map (wait_graph (marks_in self.now.run.steps)) (the_coordinator ∷ segments_of self.now.script)) }
+        ensures spent { self.now.spent ≡ true → IsErr result }
+    {
+        if self.network.spent {
+            return Err(OutOfMemory);
+        }
+        graphs(&self.network)
     }
 
     /// The run, when nothing more is to be done.

@@ -1,6 +1,6 @@
 use Rattle.std.proofs.Common.{ap, ◌∙◌}
 use Rattle.gx_world.proofs.Answers.{always_ok}
-use Rattle.gx_world.proofs.Laws.{run-blocked, run-follows, run-legal, run-locks, run-ordered, run-system, run-tells}
+use Rattle.gx_world.proofs.Laws.{run-blocked, run-follows, run-legal, run-locks, run-ordered, run-rounds, run-system, run-tells}
 use Rattle.gx_world.proofs.world.World.step.Goals as goal
 
 pub returns-clause-legal : goal.returns-clause-legal
@@ -17,6 +17,9 @@ returns-clause-locks g c = always_ok c.step.result _ (run-locks _ c.step.new.sel
 
 pub returns-clause-blocked : goal.returns-clause-blocked
 returns-clause-blocked g c = always_ok c.step.result _ (run-blocked _ c.step.new.self c.step.ensures.is (ap (λ a. a.value) c.step.ensures.script ∙ ap (λ w. w.script) c.self.view_is))
+
+pub returns-clause-rounds : goal.returns-clause-rounds
+returns-clause-rounds g c = always_ok c.step.result _ (run-rounds _ c.step.new.self c.step.ensures.is (ap (λ a. a.value) c.step.ensures.script ∙ ap (λ w. w.script) c.self.view_is))
 
 pub returns-clause-ordered : goal.returns-clause-ordered
 returns-clause-ordered g c = always_ok c.step.result _ (run-ordered _ c.step.new.self c.step.ensures.is (ap (λ a. a.value) c.step.ensures.script ∙ ap (λ w. w.script) c.self.view_is))

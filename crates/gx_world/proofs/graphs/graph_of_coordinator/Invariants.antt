@@ -1,0 +1,4 @@
+use Rattle.gx_world.proofs.graphs.graph_of_coordinator.Given as goal
+
+abbrev pub ghost-graph : goal.ghost-graph
+ghost-graph g a = g.c
