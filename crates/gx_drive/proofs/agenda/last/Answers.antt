@@ -1,0 +1,12 @@
+use Rattle.std.proofs.Common.{[], ◌∙◌}
+use Rattle.gx_drive.proofs.Answers.{if_ok}
+use Rattle.gx_drive.proofs.Enabled.{end-first, past-ends}
+use Rattle.gx_drive.proofs.agenda.last.Goals as goal
+
+pub returns-in-Some-clause-first : goal.returns-in-Some-clause-first
+returns-in-Some-clause-first c = end-first _ [] [] [] _ _ c.in-Some.ensures.first
+
+pub returns-in-None-clause-first : goal.returns-in-None-clause-first
+returns-in-None-clause-first c =
+    if_ok c.next_round.result _ _ c.next_round.ensures.first
+    (λ event e. e ∙ past-ends c.args.world.now.script c.args.world.now.run.steps _ c.in-None.ensures.first)
