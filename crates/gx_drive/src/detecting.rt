@@ -95,7 +95,7 @@ pub(crate) fn next_round(world: &World) -> Mem<Option<Event>>
 }
 
 fn begun(begins: bool) -> Option<Event>
-    ensures { option_to_list result ≡ (if begins then Round ∷ [] else []) }
+    ensures is { option_to_list result ≡ (if begins then Round ∷ [] else []) }
     ensures due { IfSome result (λ event. event ≡ Round) }
 {
     if begins { Some(Event::Round) } else { None }

@@ -82,12 +82,7 @@ fn push_option(event: Option<Event>, events: &mut Vec<Event>) -> Mem<()>
 }
 
 // What is sent again.
-fn push_resends(
-    agenda: &Agenda,
-    world: &World,
-    running: bool,
-    events: &mut Vec<Event>,
-) -> Mem<()>
+fn push_resends(agenda: &Agenda, world: &World, running: bool, events: &mut Vec<Event>) -> Mem<()>
     requires usable { world.now.spent ≡ false }
     requires language { IsScript world.now.script }
     requires reached { IsReached world.now.script world.now.run.steps }
