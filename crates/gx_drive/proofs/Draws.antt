@@ -90,13 +90,21 @@ module _ (script : Script) (steps : List Step) where
       again : List Event
       again = map (λ g. Resend segment (Some g)) (filter (may_resend steps segment) (gxids_of (marks_in steps)))
 
-      again-due : AreDue again
-      again-due = all-map (IsDue script steps) (λ g. Resend segment (Some g)) (λ g. tt) (filter (may_resend steps segment) (gxids_of (marks_in steps)))
+      all-again : AreDue again
+      all-again = all-map (IsDue script steps) (λ g. Resend segment (Some g)) (λ g. tt) (filter (may_resend steps segment) (gxids_of (marks_in steps)))
 
       by : (quiet graph : Bool) → AreDue (if quiet then again ++ (if graph then Resend segment None ∷ [] else []) else [])
-      by true true = all-append (IsDue script steps) again (Resend segment None ∷ []) again-due (tt, tt)
-      by true false = all-append (IsDue script steps) again [] again-due tt
+      by true true = all-append (IsDue script steps) again (Resend segment None ∷ []) all-again (tt, tt)
+      by true false = all-append (IsDue script steps) again [] all-again tt
       by false graph = tt
+
+  -- and so is what is sent again first
+  pub again-due : (e : Event) → e ∷ [] ≡ first_of (flat_map (resends script steps) (segments_of script)) → IsDue script steps e
+  again-due e first = by (flat_map (resends script steps) (segments_of script)) (all-nodes (IsDue script steps) (resends script steps) 1 script.segments (λ i low high. resends-due i)) first
+    where
+      by : (xs : List Event) → AreDue xs → e ∷ [] ≡ first_of xs → IsDue script steps e
+      by [] all is = absurd (cc)
+      by (x ∷ xs) all is = let same : x ≡ e = cc in subst (IsDue script steps) same all.0
 
   rounds-due : AreDue (rounds script steps)
   rounds-due = by (script.detector && (not (is_round_running steps) && is_any_wait script (marks_in steps)))

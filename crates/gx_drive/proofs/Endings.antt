@@ -1,8 +1,16 @@
 -- How a run may end, by what its steps say.
-use Rattle.std.proofs.Common.{◌≡◌, ◌<◌, ℕ, List, [], Bool, true, false, refl, subst, arith, length, if◌then◌else◌, sym}
+use Rattle.std.proofs.Common.{◌≡◌, ◌<◌, ℕ, List, [], ◌∷◌, Bool, true, false, refl, subst, arith, length, if◌then◌else◌, sym}
+use Rattle.std.specs.Prelude.{◌↔◌, Contains, map}
+use Rattle.gx_waits.specs.Closed.{IsStuck}
+use Rattle.gx_waits.specs.LocalGraph.{edges_of}
 use Rattle.gx_waits.specs.declared.graph.LocalGraph.{LocalGraph}
+use Rattle.gx_waits.specs.declared.placed_edge.PlacedEdge.{PlacedEdge}
+use Rattle.gx_detect.specs.Reduce.{kept_edges}
 use Rattle.gx_script.specs.declared.Script.{Script}
-use Rattle.gx_store.specs.Schedule.{enabled, is_any_unfinished}
+use Rattle.gx_store.specs.Cancelled.{wait_graph}
+use Rattle.gx_store.specs.Points.{marks_in}
+use Rattle.gx_store.specs.Refusals.{the_coordinator}
+use Rattle.gx_store.specs.Schedule.{enabled, is_any_unfinished, segments_of}
 use Rattle.gx_store.specs.declared.run.Step.{Step}
 use Rattle.gx_drive.specs.Ends.{AreStuckWaits, IsEnd}
 use Rattle.gx_drive.specs.declared.end.End.{End}
@@ -65,4 +73,13 @@ module _ (script : Script) (steps : List Step) (turns : ℕ) where
     spent = (λ e. stuck-turns graphs e, λ t. apart (length steps) turns left t.all);
     stuck = (λ h. record { left = left; unfinished = some; nothing = nothing }, λ t. (graphs, refl));
     waits = λ others e. subst (AreStuckWaits script steps) (same-graphs graphs others e) waits;
+  }
+
+-- what reducing the waits of all nodes leaves
+module _ (script : Script) (steps : List Step) where
+  pub reduced-are : (graphs rest : List LocalGraph) → graphs ≡ map (wait_graph (marks_in steps)) (the_coordinator ∷ segments_of script) → ((e : PlacedEdge) → Contains (edges_of rest) e ↔ IsStuck (edges_of graphs) e)
+      → (test : PlacedEdge → Bool) × (rest ≡ map (kept_edges test) graphs) → AreStuckWaits script steps rest
+  reduced-are graphs rest is left kept = record {
+    edges = subst (λ (gs : List LocalGraph). (e : PlacedEdge) → Contains (edges_of rest) e ↔ IsStuck (edges_of gs) e) is left;
+    order = subst (λ (gs : List LocalGraph). (test : PlacedEdge → Bool) × (rest ≡ map (kept_edges test) gs)) is kept;
   }

@@ -12,14 +12,15 @@ use Rattle.gx_store.specs.declared.node.NodeEvent.{NodeEvent}
 use Rattle.gx_store.specs.declared.run.Step.{Step}
 use Rattle.gx_store.specs.Journals.{is_same_node}
 use Rattle.gx_store.specs.Ordered.{IsSegment}
+use Rattle.gx_store.specs.Points.{marks_in}
 use Rattle.gx_store.specs.Refusals.{the_coordinator}
-use Rattle.gx_store.specs.Schedule.{is_graph_awaited, is_graph_received, is_round, is_round_running, recheck_count, round_count}
+use Rattle.gx_store.specs.Schedule.{is_any_wait, is_graph_awaited, is_round, is_round_running, recheck_count, round_count, rounds}
 use Rattle.gx_rules.specs.AtCoordinator.{coord_rule, is_segment}
 use Rattle.gx_rules.specs.AtSegment.{seg_rule}
 use Rattle.gx_rules.specs.Machine.{World, after, at_node, can, coord_did, does, happens, new_world, node_of, seg_did, world_of}
 use Rattle.gx_law_runs.specs.Reached.{IsReached}
 use Rattle.gx_law_runs.specs.Replays.{is_admitted}
-use Rattle.gx_law_runs.proofs.Detecting.{graph-awaited, may-begin}
+use Rattle.gx_law_runs.proofs.Detecting.{graph-awaited, may-begin, rounds-now}
 use Rattle.gx_law_runs.proofs.Reaching.{by-events}
 use Rattle.gx_agenda.specs.Awaited.{AreNoGraphsBefore}
 
@@ -65,7 +66,10 @@ module _ (script : Script) (off : script.detector ≡ false) where
 
 module _ (script : Script) (steps : List Step) (some : 1 ≤ script.segments) (is : IsReached script steps) where
   pub none-runs : script.detector ≡ false → false ≡ is_round_running steps
-  none-runs off = sym (ap (nat_lt (recheck_count steps)) (by-events script steps is (λ ss. round_count ss ≡ 0) (λ es. after-none script off es new_world refl)))
+  none-runs off = below-none (recheck_count steps) ∙ sym (ap (nat_lt (recheck_count steps)) (by-events script steps is (λ ss. round_count ss ≡ 0) (λ es. after-none script off es new_world refl)))
+    where
+      below-none : (n : ℕ) → false ≡ nat_lt n 0
+      below-none n = grind (arith, nat_tests)
 
   -- with one
   pub runs-unless : (b : Bool) → script.detector ≡ true → b ≡ not (is_admitted script steps event.Round) → b ≡ is_round_running steps
@@ -85,9 +89,23 @@ module _ (script : Script) (steps : List Step) (some : 1 ≤ script.segments) (i
   pub awaited-as-admitted : (b : Bool) (segment : Node) → IsSegment script segment → b ≡ is_admitted script steps (event.Resend segment None) → b ≡ is_graph_awaited steps segment
   awaited-as-admitted b segment there e = e ∙ sym (graph-awaited script steps some is segment (is-there segment there))
 
--- without a round no graph is awaited
-pub none-awaited : (steps : List Step) (segment : Node) → is_round_running steps ≡ false → is_graph_awaited steps segment ≡ false
-none-awaited steps segment none = ap (λ b. b && not (is_graph_received [] segment (round_count steps) steps)) none
+  -- THE NEXT ROUND
+  off-from : (a : Bool) → true ≡ not a → a ≡ false
+  off-from true e = e
+  off-from false e = refl
+
+  on-from : (a : Bool) → false ≡ not a → a ≡ true
+  on-from true e = refl
+  on-from false e = e
+
+  pub no-round : true ≡ not (is_admitted script steps event.Round) → [] ≡ rounds script steps
+  no-round e =
+      sym (rounds-now script steps some is ∙ ap (λ b. if b && is_any_wait script (marks_in steps) then event.Round ∷ [] else []) (off-from (is_admitted script steps event.Round) e))
+
+  pub next-round : (b : Bool) → false ≡ not (is_admitted script steps event.Round) → b ≡ is_any_wait script (marks_in steps) → (if b then event.Round ∷ [] else []) ≡ rounds script steps
+  next-round b e waits =
+      ap (λ c. if c then event.Round ∷ [] else []) waits
+      ∙ sym (rounds-now script steps some is ∙ ap (λ c. if c && is_any_wait script (marks_in steps) then event.Round ∷ [] else []) (on-from (is_admitted script steps event.Round) e))
 
 -- BY SEGMENT
 module _ (script : Script) (steps : List Step) where

@@ -85,6 +85,7 @@ impl Agenda {
     // The first line, or else what is last in order.
     fn begun(&self, world: &World) -> Mem<Option<Event>>
         requires usable { world.now.spent ≡ false }
+        requires language { IsScript world.now.script }
         requires reached { IsReached world.now.script world.now.run.steps }
         requires agreed { IsAgreed world.now.script world.now.run.steps self.now }
         ensures first { IfOk result (λ event. option_to_list event ≡ first_of (starts world.now.script world.now.run.steps ++ ends world.now.script world.now.run.steps
@@ -112,6 +113,7 @@ impl Agenda {
 // The first end of a session, or else the next round.
 fn last(world: &World) -> Mem<Option<Event>>
     requires usable { world.now.spent ≡ false }
+    requires language { IsScript world.now.script }
     requires reached { IsReached world.now.script world.now.run.steps }
     ensures first { IfOk result (λ event. option_to_list event ≡ first_of (ends world.now.script world.now.run.steps ++ rounds world.now.script world.now.run.steps)) }
     ensures due { IfOk result (λ event. IfSome event (IsDue world.now.script world.now.run.steps)) }

@@ -4,6 +4,7 @@ ghost use Rattle.std.specs.Option.{option_to_list};
 ghost use Rattle.gx_agenda.specs.Awaited.{IsFirstGraph};
 ghost use Rattle.gx_law_runs.specs.Reached.{IsReached};
 ghost use Rattle.gx_law_runs.specs.Replays.{is_admitted};
+ghost use Rattle.gx_store.specs.Language.{IsScript};
 ghost use Rattle.gx_store.specs.Ordered.{IsSegment};
 ghost use Rattle.gx_store.specs.Schedule.{is_graph_awaited, is_round_running, rounds};
 ghost use Rattle.gx_store.specs.declared.event.Event.TheVariants.{Resend, Round};
@@ -35,6 +36,7 @@ fn begins_none(world: &World) -> Mem<bool>
 
 // Whether a segment's graph is awaited, where it is known whether a round runs.
 pub(crate) fn is_graph_awaited(world: &World, segment: Node, running: bool) -> Mem<bool>
+    requires language { IsScript world.now.script }
     requires reached { IsReached world.now.script world.now.run.steps }
     requires there { IsSegment world.now.script segment }
     requires running { running ≡ is_round_running world.now.run.steps }
@@ -59,6 +61,7 @@ fn has_no_graph(world: &World, segment: Node) -> Mem<bool>
 
 // The first segment whose graph is awaited. While no round runs it looks at no segment.
 pub(crate) fn first_graph(world: &World) -> Mem<Option<Node>>
+    requires language { IsScript world.now.script }
     requires reached { IsReached world.now.script world.now.run.steps }
     ensures { IfOk result (IsFirstGraph world.now.script world.now.run.steps) }
 {
@@ -71,6 +74,7 @@ pub(crate) fn first_graph(world: &World) -> Mem<Option<Node>>
 }
 
 fn first_awaited(world: &World, running: bool) -> Mem<Option<Node>>
+    requires language { IsScript world.now.script }
     requires reached { IsReached world.now.script world.now.run.steps }
     requires running { running ≡ is_round_running world.now.run.steps }
     ensures { IfOk result (IsFirstGraph world.now.script world.now.run.steps) }
@@ -86,12 +90,16 @@ fn first_awaited(world: &World, running: bool) -> Mem<Option<Node>>
 // The next round, where somebody waits and none runs.
 pub(crate) fn next_round(world: &World) -> Mem<Option<Event>>
     requires usable { world.now.spent ≡ false }
+    requires language { IsScript world.now.script }
     requires reached { IsReached world.now.script world.now.run.steps }
     ensures first { IfOk result (λ event. option_to_list event ≡ rounds world.now.script world.now.run.steps) }
     ensures due { IfOk result (λ event. IfSome event (IsDue world.now.script world.now.run.steps)) }
 {
-    let none = begins_none(world)?;
-    Ok(begun(!none && world.any_wait()))
+    if begins_none(world)? {
+        Ok(None)
+    } else {
+        Ok(begun(world.any_wait()))
+    }
 }
 
 fn begun(begins: bool) -> Option<Event>
