@@ -8,10 +8,10 @@ use Rattle.gx_drive.proofs.agenda.last.Goals as goal
 
 pub returns-in-Some-clause-first : goal.returns-in-Some-clause-first
 returns-in-Some-clause-first c =
-    end-first _ [] [] [] _ _ (subst (λ (o : Option Event). option_to_list o ≡ first_of (ends c.args.world.now.script c.args.world.now.run.steps)) c.in-Some.is c.in_ok-first_end.ensures.first)
+    end-first _ [] [] [] _ _ (subst (λ (o : Option Event). option_to_list o ≡ first_of (ends c.args.world.now.script c.args.world.now.run.steps)) c.in-Some.is c.in_ok-event.ensures.first)
 
 pub returns-in-None-clause-first : goal.returns-in-None-clause-first
 returns-in-None-clause-first c =
     if_ok c.next_round.result _ _ c.next_round.ensures.first
     (λ event e. e ∙ past-ends c.args.world.now.script c.args.world.now.run.steps _
-    (subst (λ (o : Option Event). option_to_list o ≡ first_of (ends c.args.world.now.script c.args.world.now.run.steps)) c.in-None.is c.in_ok-first_end.ensures.first))
+    (subst (λ (o : Option Event). option_to_list o ≡ first_of (ends c.args.world.now.script c.args.world.now.run.steps)) c.in-None.is c.in_ok-event.ensures.first))
