@@ -1,5 +1,5 @@
 -- The end of a run that can't go on.
-use Rattle.std.proofs.Common.{◌≡◌, ◌<◌, ℕ, List, [], ◌∷◌, Bool, true, false, refl, subst, arith, length, if◌then◌else◌, sym}
+use Rattle.std.proofs.Common.{◌≡◌, ◌<◌, ℕ, List, [], ◌∷◌, Bool, true, false, refl, subst, arith, length}
 use Rattle.std.specs.Prelude.{◌↔◌, Contains, map}
 use Rattle.gx_waits.specs.Closed.{IsStuck}
 use Rattle.gx_waits.specs.LocalGraph.{edges_of}
@@ -13,7 +13,6 @@ use Rattle.gx_store.specs.Refusals.{the_coordinator}
 use Rattle.gx_store.specs.Schedule.{enabled, is_any_unfinished, segments_of}
 use Rattle.gx_store.specs.declared.run.Step.{Step}
 use Rattle.gx_drive.specs.Ends.{AreStuckWaits, IsEnd}
-use Rattle.gx_drive.specs.declared.end.End.{End}
 use Rattle.gx_drive.specs.declared.end.End.TheVariants.{Done, Stuck, Turns}
 
 never : {A : Type 0} (b : Bool) → b ≡ true → b ≡ false → A

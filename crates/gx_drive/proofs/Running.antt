@@ -17,7 +17,7 @@ use Rattle.gx_store.specs.Refusals.{the_coordinator}
 use Rattle.gx_store.specs.Schedule.{is_any_wait, is_graph_awaited, is_round, is_round_running, recheck_count, round_count, rounds}
 use Rattle.gx_rules.specs.AtCoordinator.{coord_rule, is_segment}
 use Rattle.gx_rules.specs.AtSegment.{seg_rule}
-use Rattle.gx_rules.specs.Machine.{World, after, at_node, can, coord_did, does, happens, new_world, node_of, seg_did, world_of}
+use Rattle.gx_rules.specs.Machine.{World, after, at_node, can, coord_did, does, happens, new_world, node_of, seg_did}
 use Rattle.gx_law_runs.specs.Reached.{IsReached}
 use Rattle.gx_law_runs.specs.Replays.{is_admitted}
 use Rattle.gx_law_runs.proofs.Detecting.{graph-awaited, may-begin, rounds-now}
