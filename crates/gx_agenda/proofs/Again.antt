@@ -1,5 +1,5 @@
 -- All that is sent again to a segment, by the awaited answers that a map holds of it.
-use Rattle.std.proofs.Common.{◌≡◌, ℕ, zero, suc, ◌+◌, ◌<◌, Bool, true, false, cond, not, ◌&&◌, List, [], ◌∷◌, map, Option, Some, None, refl, sym, ap, ◌∙◌, subst, arith}
+use Rattle.std.proofs.Common.{◌≡◌, ℕ, zero, suc, ◌+◌, ◌<◌, Bool, true, false, cond, if◌then◌else◌, not, ◌&&◌, List, [], ◌∷◌, ◌++◌, append_assoc, map, Option, Some, None, refl, sym, ap, ◌∙◌, subst, arith}
 use Rattle.std.proofs.lemmas.Bool.Decides.{nat_tests}
 use Rattle.std.proofs.lemmas.Cmp.{nat_cmp_total, on_total, then_total}
 use Rattle.std.proofs.lemmas.List.Elements.{filter_agree}
@@ -23,7 +23,7 @@ use Rattle.gx_store.specs.declared.event.Event.TheVariants.{Resend}
 use Rattle.gx_store.specs.declared.run.Step.{Step}
 use Rattle.gx_store.specs.Marks.{start_count}
 use Rattle.gx_store.specs.Points.{marks_in}
-use Rattle.gx_store.specs.Schedule.{may_resend, resends}
+use Rattle.gx_store.specs.Schedule.{is_graph_awaited, may_resend, resends}
 use Rattle.gx_agenda.specs.declared.asked.Asked.{Asked}
 use Rattle.gx_agenda.specs.declared.expected.Expected.{Expected}
 use Rattle.gx_agenda.specs.declared.request.Request.{Request}
@@ -32,7 +32,7 @@ use Rattle.gx_agenda.specs.Requests.{is_of, request_cmp, resend_of}
 use Rattle.gx_agenda.proofs.FirstAsked.{gxid-within}
 use Rattle.gx_agenda.proofs.Lists.{same_from, same_number}
 use Rattle.gx_agenda.proofs.Numbered.{IsNumbered, entry, numbered}
-use Rattle.gx_agenda.proofs.Resending.{due-again, may-asked, resends-row}
+use Rattle.gx_agenda.proofs.Resending.{asks, due-again, graph, may-asked, resends-parts}
 
 request-total : IsTotalOrder request_cmp
 request-total = then_total (on_total (λ (r : Request). r.segment.0) nat_cmp_total) (on_total (λ (r : Request). r.gxid.0) nat_cmp_total)
@@ -98,7 +98,7 @@ module _ (script : Script) (steps : List Step) (segment : Node) (known : Asked) 
       by None is rest = ap put is ∙ rest ∙ sym (ap passing (sym (same first) ∙ ap is_some is))
       by (Some v) is rest = ap put is ∙ ap (λ xs. again (record { 0 = first }) ∷ xs) rest ∙ sym (ap passing (sym (same first) ∙ ap is_some is))
 
-  module _ (fit : IsResendable script steps segment) (asks : AreAsked steps known) (sorted : IsStrictlySortedBy request_cmp (keys_of known.due.entries)) where
+  module _ (fit : IsResendable script steps segment) (asked : AreAsked steps known) (sorted : IsStrictlySortedBy request_cmp (keys_of known.due.entries)) where
     abbrev of_segment : List (Request × Expected)
     of_segment = filter (λ e. is_of segment e.0) known.due.entries
 
@@ -117,7 +117,7 @@ module _ (script : Script) (steps : List Step) (segment : Node) (known : Asked) 
         by true is =
             let same = same-request segment k is in
             let some : is_some (due_at known segment k.gxid) ≡ true = ap (λ r. is_some (get request_cmp known.due r)) (sym same) ∙ ap is_some (sym (found k ∙ ap (λ b. cond b (get request_cmp known.due k) None) is)) ∙ there in
-            let w = gxid-within k.gxid 1 (start_count (marks_in steps)) (fit.begun k.gxid (may-asked steps segment k.gxid (sym (due-again steps known asks segment k.gxid) ∙ some))) in
+            let w = gxid-within k.gxid 1 (start_count (marks_in steps)) (fit.begun k.gxid (may-asked steps segment k.gxid (sym (due-again steps known asked segment k.gxid) ∙ some))) in
             record { number = k.gxid.0; is = same; low = w.0; high = w.1 }
         by false off = absurd (never (sym (ap is_some (found k ∙ ap (λ b. cond b (get request_cmp known.due k) None) off)) ∙ there))
           where
@@ -127,11 +127,20 @@ module _ (script : Script) (steps : List Step) (segment : Node) (known : Asked) 
     finds : (n : ℕ) → find (at n) ≡ known_at n
     finds n = found (at n) ∙ ap (λ b. cond b (known_at n) None) (same_number segment.0)
 
-    pub resends-listed : map (λ (e : Request × Expected). resend_of e.0) of_segment ≡ resends script steps segment
-    resends-listed =
+    pub asks-listed : map (λ (e : Request × Expected). resend_of e.0) of_segment ≡ asks script steps segment
+    asks-listed =
         ap (map (λ (e : Request × Expected). resend_of e.0))
         (numbered request-total at (λ m n. request-rises segment.0 m n) known_at 1 (start_count (marks_in steps)) of_segment
         (subst (IsStrictlySortedBy request_cmp) (sym (keys-filter (is_of segment) known.due.entries)) (IsStrictlySortedBy-filter request_cmp (is_of segment) (keys_of known.due.entries) sorted))
         within (λ n low high. finds n))
-        ∙ again-listed (may_resend steps segment) (λ n. due-again steps known asks segment (record { 0 = n })) 1 (start_count (marks_in steps))
-        ∙ sym (resends-row script steps segment fit)
+        ∙ again-listed (may_resend steps segment) (λ n. due-again steps known asked segment (record { 0 = n })) 1 (start_count (marks_in steps))
+
+    -- and the graph behind them
+    pub resends-listed : (old one two : List Event) (awaited : Bool) → one ≡ old ++ map (λ (e : Request × Expected). resend_of e.0) of_segment → two ≡ one ++ (if awaited then Resend segment None ∷ [] else [])
+        → awaited ≡ is_graph_awaited steps segment → two ≡ old ++ resends script steps segment
+    resends-listed old one two awaited first second told =
+        second
+        ∙ ap (λ xs. xs ++ (if awaited then Resend segment None ∷ [] else [])) (first ∙ ap (λ xs. old ++ xs) asks-listed)
+        ∙ ap (λ b. old ++ asks script steps segment ++ (if b then Resend segment None ∷ [] else [])) told
+        ∙ append_assoc old (asks script steps segment) (graph script steps segment)
+        ∙ ap (λ xs. old ++ xs) (sym (resends-parts script steps segment fit.quiet))

@@ -60,64 +60,55 @@ module _ {X : Type 0} (test : Gxid → Bool) (f : Gxid → X) (g : Gxid) (passes
           ap put (fails (test (record { 0 = first })) refl apart) ∙ more in_rest.0 in_rest.1
 
 -- ALL NODES
-pub flat_map-alike : {X : Type 0} (f g : Node → List X) (first count : ℕ) → ((s : Node) → first ≤ s.0 → s.0 < first + count → f s ≡ g s) → flat_map f (nodes_from first count) ≡ flat_map g (nodes_from first count)
-flat_map-alike f g first zero alike = refl
-flat_map-alike f g first (suc count) alike =
-    ap (λ ys. ys ++ flat_map f (nodes_from (first + 1) count)) (alike (record { 0 = first }) (at first) (below first count))
-    ∙ ap (λ ys. g (record { 0 = first }) ++ ys) (flat_map-alike f g (first + 1) count (λ s low high. alike s (less first s.0 low) (more first count s.0 high)))
-  where
-    at : (n : ℕ) → n ≤ n
-    at n = omega arith
+less : (first n : ℕ) → first + 1 ≤ n → first ≤ n
+less first n low = omega arith
 
-    below : (n count : ℕ) → n < n + suc count
-    below n count = omega arith
+more : (first count n : ℕ) → n < first + 1 + count → n < first + suc count
+more first count n high = omega arith
 
-    less : (first n : ℕ) → first + 1 ≤ n → first ≤ n
-    less first n low = omega arith
+module _ {X : Type 0} (f : Node → List X) where
+  -- nothing stands at any node
+  pub nodes-empty : (first count : ℕ) → ((s : Node) → first ≤ s.0 → s.0 < first + count → f s ≡ []) → flat_map f (nodes_from first count) ≡ []
+  nodes-empty first zero none = refl
+  nodes-empty first (suc count) none =
+      ap (λ ys. ys ++ flat_map f (nodes_from (first + 1) count)) (none (record { 0 = first }) (omega arith) (omega arith))
+      ∙ nodes-empty (first + 1) count (λ s low high. none s (less first s.0 low) (more first count s.0 high))
 
-    more : (first count n : ℕ) → n < first + 1 + count → n < first + suc count
-    more first count n high = omega arith
+  -- the first node at which anything stands
+  module _ (s : Node) (x : X) (there : take 1 (f s) ≡ x ∷ []) where
+    before-others : (xs ys : List X) → take 1 xs ≡ x ∷ [] → take 1 (xs ++ ys) ≡ x ∷ []
+    before-others [] ys e = absurd (cc)
+    before-others (z ∷ zs) ys e = e
+
+    pub first-node : (first count : ℕ) → first ≤ s.0 → s.0 < first + count → ((t : Node) → first ≤ t.0 → t.0 < s.0 → f t ≡ []) → take 1 (flat_map f (nodes_from first count)) ≡ x ∷ []
+    first-node first zero low high none = absurd (omega arith)
+    first-node first (suc count) low high none = ⊎_elim here (later (first-node (first + 1) count)) (cases_eq first s.0)
+      where
+        rest : List X
+        rest = flat_map f (nodes_from (first + 1) count)
+
+        here : first ≡ s.0 → take 1 (f (record { 0 = first }) ++ rest) ≡ x ∷ []
+        here same =
+            let is : record { 0 = first } ≡ s = ap (λ n. record { 0 = n }) same in
+            before-others (f (record { 0 = first })) rest (ap (λ t. take 1 (f t)) is ∙ there)
+
+        under : first ≢ s.0 → first < s.0
+        under apart = let w = within_first first s.0 count apart low high in omega (arith, w.0)
+
+        later : (first + 1 ≤ s.0 → s.0 < first + 1 + count → ((t : Node) → first + 1 ≤ t.0 → t.0 < s.0 → f t ≡ []) → take 1 rest ≡ x ∷ []) → first ≢ s.0 → take 1 (f (record { 0 = first }) ++ rest) ≡ x ∷ []
+        later further apart =
+            let w : (first + 1 ≤ s.0) × (s.0 < first + 1 + count) = within_first first s.0 count apart low high in
+            ap (λ ys. take 1 (ys ++ rest)) (none (record { 0 = first }) (omega arith) (under apart))
+            ∙ further w.0 w.1 (λ t after below. none t (less first t.0 after) below)
 
 module _ {X : Type 0} (test : Node → Gxid → Bool) (f : Node → Gxid → X) (drawn : ℕ) where
   -- what passes at a node
   abbrev pub row : Node → List X
   row s = map (f s) (filter (test s) (gxids_from 1 drawn))
 
-  row-none : (s : Node) → ((g : Gxid) → test s g ≡ false) → row s ≡ []
+  pub row-none : (s : Node) → ((g : Gxid) → test s g ≡ false) → row s ≡ []
   row-none s none = ap (map (f s)) (none-passes (test s) (gxids_from 1 drawn) none)
 
-  pub rows-none : (first count : ℕ) → ((s : Node) (g : Gxid) → test s g ≡ false) → flat_map row (nodes_from first count) ≡ []
-  rows-none first zero none = refl
-  rows-none first (suc count) none =
-      ap (λ ys. ys ++ flat_map row (nodes_from (first + 1) count)) (row-none (record { 0 = first }) (none (record { 0 = first })))
-      ∙ rows-none (first + 1) count none
-
-  -- the least that passes
-  pub record IsLeast (s : Node) (g : Gxid) : Type 0 where
-    pub passes : test s g ≡ true
-    pub drawn_there : (1 ≤ g.0) × (g.0 < 1 + drawn)
-    pub nodes : (t : Node) (h : Gxid) → test t h ≡ true → s.0 ≤ t.0
-    pub gxids : (h : Gxid) → test s h ≡ true → g.0 ≤ h.0
-
-  module _ (s : Node) (g : Gxid) (least : IsLeast s g) where
-    pub first-row : (first count : ℕ) → first ≤ s.0 → s.0 < first + count → take 1 (flat_map row (nodes_from first count)) ≡ f s g ∷ []
-    first-row first zero low high = absurd (omega arith)
-    first-row first (suc count) low high = ⊎_elim here (later (first-row (first + 1) count)) (cases_eq first s.0)
-      where
-        rest : List X
-        rest = flat_map row (nodes_from (first + 1) count)
-
-        here : first ≡ s.0 → take 1 (row (record { 0 = first }) ++ rest) ≡ f s g ∷ []
-        here same =
-            let is : record { 0 = first } ≡ s = ap (λ n. record { 0 = n }) same in
-            ap (λ t. take 1 (row t ++ rest)) is ∙ first-listed (test s) (f s) g least.passes least.gxids 1 drawn rest least.drawn_there.0 least.drawn_there.1
-
-        none : first ≢ s.0 → (h : Gxid) (b : Bool) → test (record { 0 = first }) h ≡ b → b ≡ false
-        none apart h true e = let over : s.0 ≤ first = least.nodes (record { 0 = first }) h e in absurd (apart (omega arith))
-        none apart h false e = refl
-
-        later : (first + 1 ≤ s.0 → s.0 < first + 1 + count → take 1 rest ≡ f s g ∷ []) → first ≢ s.0 → take 1 (row (record { 0 = first }) ++ rest) ≡ f s g ∷ []
-        later more apart =
-            let in_rest : (first + 1 ≤ s.0) × (s.0 < first + 1 + count) = within_first first s.0 count apart low high in
-            ap (λ ys. take 1 (ys ++ rest)) (row-none (record { 0 = first }) (λ h. none apart h (test (record { 0 = first }) h) refl))
-            ∙ more in_rest.0 in_rest.1
+  -- the first that passes there, before others
+  pub first-in-row : (s : Node) (g : Gxid) (ys : List X) → test s g ≡ true → ((h : Gxid) → test s h ≡ true → g.0 ≤ h.0) → (1 ≤ g.0) × (g.0 < 1 + drawn) → take 1 (row s ++ ys) ≡ f s g ∷ []
+  first-in-row s g ys passes least there = first-listed (test s) (f s) g passes least 1 drawn ys there.0 there.1

@@ -1,5 +1,5 @@
 -- What is awaited after steps, and when the first of it is what is sent again.
-use Rattle.std.specs.Prelude.{◌≡◌, ◌==◌, ◌&&◌, if◌then◌else◌, not, true, false, is_some, List, [], length, None, Some, Option, option_map, unwrap_or}
+use Rattle.std.specs.Prelude.{◌≡◌, ℕ, ◌<◌, ◌==◌, ◌&&◌, if◌then◌else◌, not, true, false, is_some, List, [], length, None, Some, Option, option_map, unwrap_or}
 use Rattle.std.specs.BTreeMap.{BTreeMap, get}
 use Rattle.std.specs.List.{filter, list_any}
 use Rattle.gx_ids.specs.declared.ids.Gxid.{Gxid}
@@ -64,13 +64,21 @@ abbrev pub told_in : List Step → Event → Option Message
 told_in steps (Receive from to number) = sent_message from to number steps
 told_in steps _ = None
 
--- there is nothing to do for a segment but to send again what is asked of transactions
+-- nothing is left on a segment's links, and what is asked of it is asked of transactions that have begun
 pub record IsResendable (script : Script) (steps : List Step) (segment : Node) : Type 0 where
   pub quiet : is_quiet script steps segment ≡ true
-  pub graph : is_graph_awaited steps segment ≡ false
   pub begun : (g : Gxid) → is_some (schedule.asked steps segment g) ≡ true → list_any (λ h. is_same_gxid h g) (gxids_of (marks_in steps)) ≡ true
 
 -- so it is for all segments, and nothing is asked elsewhere
 pub record AreResendable (script : Script) (steps : List Step) : Type 0 where
   pub each : (segment : Node) → IsSegment script segment → IsResendable script steps segment
   pub there : (segment : Node) (g : Gxid) → is_some (schedule.asked steps segment g) ≡ true → IsSegment script segment
+
+-- no graph is awaited of a segment below a number
+abbrev pub AreNoGraphsBefore : Script → List Step → ℕ → Type 0
+AreNoGraphsBefore script steps number = (segment : Node) → IsSegment script segment → segment.0 < number → is_graph_awaited steps segment ≡ false
+
+-- the first segment whose graph is awaited, if there is one
+abbrev pub IsFirstGraph : Script → List Step → Option Node → Type 0
+IsFirstGraph script steps None = (segment : Node) → IsSegment script segment → is_graph_awaited steps segment ≡ false
+IsFirstGraph script steps (Some first) = IsSegment script first × (is_graph_awaited steps first ≡ true) × AreNoGraphsBefore script steps first.0

@@ -1,5 +1,5 @@
 -- Requests in order, and the event that repeats one.
-use Rattle.std.specs.Prelude.{◌==◌, Bool, Some}
+use Rattle.std.specs.Prelude.{◌==◌, nat_lt, Bool, true, Option, None, Some}
 use Rattle.std.specs.declared.cmp.Ordering.{Ordering}
 use Rattle.std.specs.Ordering.{nat_cmp, ordering_then}
 use Rattle.gx_ids.specs.declared.ids.Node.{Node}
@@ -13,6 +13,11 @@ request_cmp a b = ordering_then (nat_cmp a.segment.0 b.segment.0) (nat_cmp a.gxi
 
 abbrev pub resend_of : Request → Event
 resend_of request = Resend request.segment (Some request.gxid)
+
+-- the segment stands before the request's, or there is no request
+abbrev pub is_before : Node → Option Request → Bool
+is_before segment None = true
+is_before segment (Some request) = nat_lt segment.0 request.segment.0
 
 abbrev pub is_of : Node → Request → Bool
 is_of segment request = request.segment.0 == segment.0

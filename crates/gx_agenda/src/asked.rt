@@ -8,16 +8,16 @@ ghost use Rattle.gx_script.specs.declared.Script.{Script};
 ghost use Rattle.gx_store.specs.declared.run.Step.{Step};
 ghost use Rattle.gx_store.specs.Journals.{is_same_node};
 ghost use Rattle.gx_store.specs.Marks.{is_same_gxid};
-ghost use Rattle.gx_store.specs.Schedule.{asked_by, first_of, is_about, resends, segments_of, unless_answered};
-ghost use Rattle.gx_agenda.specs.declared.expected.Expected.{Expected as OneExpected};
+ghost use Rattle.gx_store.specs.Schedule.{asked_by, first_of, is_about, is_graph_awaited, resends, segments_of, unless_answered};
 ghost use Rattle.gx_agenda.specs.declared.request.Request.{Request as OneRequest};
-ghost use Rattle.gx_agenda.specs.Awaited.{AreAsked, AreAwaited, AreResendable, IsIndexed, IsResendable, due_of, expected_at, told_in, waits_in};
+ghost use Rattle.gx_agenda.specs.Awaited.{AreAsked, AreAwaited, AreResendable, IsFirstGraph, IsIndexed, IsResendable, due_of, expected_at, told_in, waits_in};
 ghost use Rattle.gx_agenda.specs.Expected.{expected_of, unless_met};
 ghost use Rattle.gx_agenda.specs.Following.{Follows, FollowsOrders, unless_told};
-ghost use Rattle.gx_agenda.specs.Requests.{is_of, request_cmp, resend_of};
+ghost use Rattle.gx_agenda.specs.Requests.{request_cmp};
 
 use crate::expected::{Expected, expected_answer, is_met_by, transaction_of};
 use crate::request::Request;
+use crate::resends::{earlier, first_key, push_graph, push_requests, resend};
 use gx_ids::{Gxid, Mem, Node, Seq};
 use gx_msg::{Message, Reply};
 use gx_store::{Event, Mark, Step};
@@ -57,21 +57,28 @@ impl Asked {
         self.note_waits(step.marks.as_slice())
     }
 
-    /// The first answer that may be asked for again, by segment and then by transaction.
-    pub fn first(&self) -> Option<Request>
-        ensures { (script : Script) (steps : List Step) → AreAsked steps self.now → AreResendable script steps
-            → option_to_list (option_map resend_of result) ≡ first_of (flat_map (resends script steps) (segments_of script)) }
+    /// What is sent again first, by segment: there by transaction, and the graph last. Told is the first segment whose graph is
+    /// awaited, if there is one.
+    pub fn first(&self, graph: Option<Node>) -> Option<Event>
+        ensures { (script : Script) (steps : List Step) → AreAsked steps self.now → AreResendable script steps → IsFirstGraph script steps graph
+            → option_to_list result ≡ first_of (flat_map (resends script steps) (segments_of script)) }
     {
-        first_key(&self.due)
+        let asked = first_key(&self.due);
+        match graph {
+            Some(segment) => earlier(segment, asked),
+            None => resend(asked),
+        }
     }
 
-    /// Adds all that is sent again to a segment, by transaction, where nothing else is to be done for it.
-    pub fn push_resends(&self, events: &mut Vec<Event>, segment: Node) -> Mem<()>
+    /// Adds all that is sent again to a segment on whose links nothing is left: by transaction, and the graph last, of which it is
+    /// told whether it is awaited.
+    pub fn push_resends(&self, events: &mut Vec<Event>, segment: Node, graph: bool) -> Mem<()>
         requires { segment.0 < 255 }
         ensures { OnOk result ((script : Script) (steps : List Step) → AreAsked steps self.now → IsResendable script steps segment
-            → events.new.items ≡ events.old.items ++ resends script steps segment) }
+            → graph ≡ is_graph_awaited steps segment → events.new.items ≡ events.old.items ++ resends script steps segment) }
     {
-        push_requests(&self.due, segment, events)
+        push_requests(&self.due, segment, events)?;
+        push_graph(segment, graph, events)
     }
 
     // A step has sent or answered what it did.
@@ -229,42 +236,4 @@ impl Asked {
             None => false,
         }
     }
-}
-
-// The least request.
-fn first_key(pending: &BTreeMap<Request, Expected>) -> Option<Request>
-    ensures found { IfSome result (λ first. IsSome (get request_cmp pending.now first)) }
-    ensures least { IfSome result (λ first. IsLowerBound request_cmp pending.now first) }
-    ensures none { IfNone result (pending.now.entries ≡ []) }
-{
-    let (request, _) = pending.first_key_value()?;
-    Some(*request)
-}
-
-// Adds the resends of a segment's requests, which lie side by side.
-fn push_requests(
-    pending: &BTreeMap<Request, Expected>,
-    segment: Node,
-    events: &mut Vec<Event>,
-) -> Mem<()>
-    requires { segment.0 < 255 }
-    ensures all { OnOk result (events.new.items ≡ events.old.items
-        ++ map (λ (e : OneRequest × OneExpected). resend_of e.0) (filter (λ (e : OneRequest × OneExpected). is_of segment e.0) pending.now.entries)) }
-    ensures ordered { IsOrdered request_cmp pending.now }
-{
-    let least = Request {
-        segment,
-        gxid: Gxid(0),
-    };
-    let behind = Request {
-        segment: Node(segment.0 + 1),
-        gxid: Gxid(0),
-    };
-    for (request, _) in pending.range(least..behind) {
-        events.push(Event::Resend {
-            segment: request.segment,
-            gxid: Some(request.gxid),
-        })?;
-    }
-    Ok(())
 }

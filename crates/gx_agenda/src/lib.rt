@@ -11,6 +11,7 @@ mod making;
 mod places;
 pub mod queue;
 pub mod request;
+mod resends;
 pub mod standing;
 mod waits;
 

@@ -20,6 +20,10 @@ pub if_ok : {A E : Type 0} (r : Result A E) (P Q : A → Type 0) → IfOk r P �
 if_ok (Ok a) P Q h f = f a h
 if_ok (Err e) P Q h f = tt
 
+pub both_if_ok : {A E : Type 0} (r : Result A E) (P Q R : A → Type 0) → IfOk r P → IfOk r Q → ((a : A) → P a → Q a → R a) → IfOk r R
+both_if_ok (Ok a) P Q R h k f = f a h k
+both_if_ok (Err e) P Q R h k f = tt
+
 pub if_some : {A : Type 0} (o : Option A) (P Q : A → Type 0) → IfSome o P → ((a : A) → P a → Q a) → IfSome o Q
 if_some None P Q h f = tt
 if_some (Some a) P Q h f = f a h

@@ -1,4 +1,4 @@
--- Where no node does anything by itself the awaited answers are all that is to be sent again.
+-- Where no node does anything by itself all that is awaited may be sent again.
 use Rattle.std.proofs.Common.{◌≡◌, ◌≤◌, inl, inr, ℕ, ◌-◌, ◌==◌, List, [], ◌∷◌, ◌++◌, Option, Some, None, Bool, true, false, if◌then◌else◌, ◌&&◌, refl, sym, ap, ◌∙◌, subst, arith, length}
 use Rattle.std.proofs.lemmas.Bool.{eqb-true}
 use Rattle.std.proofs.lemmas.List.Elements.{recursion_from_All}
@@ -18,14 +18,12 @@ use Rattle.gx_store.specs.Marks.{is_same_gxid}
 use Rattle.gx_store.specs.Ordered.{AreOrdered, IsAtNode, IsLink, IsSegment}
 use Rattle.gx_store.specs.Points.{marks_in}
 use Rattle.gx_store.specs.Refusals.{the_coordinator}
-use Rattle.gx_store.specs.Schedule.{asked, asked_by, asked_from, at_segment, first_of, gxids_of, is_about, is_graph_awaited, is_quiet, left_on, resumptions, segments_of, unless_answered}
+use Rattle.gx_store.specs.Schedule.{asked, asked_by, asked_from, at_segment, first_of, gxids_of, is_about, is_quiet, left_on, resumptions, segments_of, unless_answered}
 use Rattle.gx_rules.specs.AtCoordinator.{awaited}
 use Rattle.gx_rules.specs.Machine.{world_of}
 use Rattle.gx_law_order.proofs.Ordered.{world_well}
 use Rattle.gx_law_schedules.proofs.Awaited.{world-asks}
 use Rattle.gx_law_schedules.proofs.Enabled.{unknown-none}
-use Rattle.gx_law_schedules.proofs.Room.{world-stays}
-use Rattle.gx_law_schedules.proofs.Waits.{no-graph}
 use Rattle.gx_law_runs.specs.Reached.{IsReached}
 use Rattle.gx_law_runs.proofs.Reaching.{by-events}
 use Rattle.gx_agenda.specs.Awaited.{AreResendable, IsResendable}
@@ -95,7 +93,6 @@ module _ (script : Script) (some : 1 ≤ script.segments) (steps : List Step) (i
   resendable-at segment quiet =
       record {
         quiet = quiet;
-        graph = by-events script steps is (λ ss. is_graph_awaited ss segment ≡ false) (λ es. no-graph (world_of script es).steps (world-stays script some es).rounds segment);
         begun = begun segment;
       }
 

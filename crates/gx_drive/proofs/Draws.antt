@@ -1,7 +1,5 @@
--- Whatever may happen is due and admitted, so whatever is first of it, or drawn.
-use Rattle.std.proofs.Common.{◌≡◌, ◌≤◌, ◌<◌, ℕ, zero, suc, ◌+◌, List, [], ◌∷◌, ◌++◌, Bool, true, false, ◌&&◌, ◌||◌, cond, if◌then◌else◌, not, inl, inr, Option, None, Some, refl, sym, ap, ◌∙◌, subst, append-nil, arith, slice_get}
-use Rattle.std.proofs.lemmas.List.Elements.{filter-append}
-use Rattle.std.proofs.lemmas.List.Folds.{list_all-append}
+-- Whatever is enabled is due and admitted, so whatever is first of it, or drawn.
+use Rattle.std.proofs.Common.{◌≡◌, ◌≤◌, ◌<◌, ℕ, zero, suc, ◌+◌, List, [], ◌∷◌, ◌++◌, Bool, true, false, ◌&&◌, if◌then◌else◌, not, inl, inr, Option, None, Some, refl, sym, ap, subst, arith, slice_get}
 use Rattle.std.proofs.lemmas.Option.{same_Some}
 use Rattle.std.specs.List.{AllByRecursion, flat_map, list_all, list_any, range_with_len}
 use Rattle.std.specs.Option.{option_to_list}
@@ -16,13 +14,12 @@ use Rattle.gx_store.specs.declared.run.Step.{Step}
 use Rattle.gx_store.specs.Ordered.{IsLink, IsSegment, sent_in}
 use Rattle.gx_store.specs.Points.{marks_in}
 use Rattle.gx_store.specs.Refusals.{the_coordinator}
-use Rattle.gx_store.specs.Schedule.{at_segment, enabled, ends, first_of, gxids_of, is_any_unfinished, is_any_wait, is_graph_awaited, is_left, is_next, is_quiet, is_ready, is_round, is_round_running, is_to_end, left_on, may_resend, resends, resumptions, rounds, segments_of, sessions_of, starts, waits_of}
+use Rattle.gx_store.specs.Schedule.{at_segment, enabled, ends, first_of, gxids_of, is_any_unfinished, is_any_wait, is_graph_awaited, is_left, is_next, is_quiet, is_ready, is_round_running, is_to_end, left_on, may_resend, resends, resumptions, rounds, segments_of, sessions_of, starts, waits_of}
 use Rattle.gx_store.specs.Waits.{holds_at}
 use Rattle.gx_law_runs.specs.Reached.{IsReached}
 use Rattle.gx_law_runs.specs.Replays.{is_admitted}
-use Rattle.gx_law_runs.proofs.Reaching.{admitted-but-rounds, by-events}
-use Rattle.gx_drive.specs.Agrees.{IsDue, moves_of}
-use Rattle.gx_drive.specs.Chosen.{possible}
+use Rattle.gx_law_runs.proofs.Reaching.{all-are-admitted, by-events}
+use Rattle.gx_drive.specs.Agrees.{IsDue}
 use Rattle.gx_drive.specs.Ordered.{IsFirst}
 use Rattle.gx_drive.proofs.Firsts.{first-none}
 
@@ -68,66 +65,69 @@ passes-at p (y ∷ ys) zero x all there = subst (λ z. p z ≡ true) (same_Some 
 passes-at p (y ∷ ys) (suc k) x all there = passes-at p ys k x (and-second (p y) (list_all p ys) all) there
 
 module _ (script : Script) (steps : List Step) where
-  -- it is due, and no round
-  abbrev IsPlain : Event → Type 0
-  IsPlain e = IsDue script steps e × (is_round e ≡ false)
+  abbrev AreDue : List Event → Type 0
+  AreDue events = AllByRecursion (IsDue script steps) events
 
-  abbrev ArePlain : List Event → Type 0
-  ArePlain events = AllByRecursion IsPlain events
-
-  receipt-plain : (from to : Node) → IsLink script from to → ArePlain (first_of (left_on script steps from to))
-  receipt-plain from to link = by (filter (is_left script steps from to) (range_with_len 1 (sent_in from to steps))) refl
+  receipt-due : (from to : Node) → IsLink script from to → AreDue (first_of (left_on script steps from to))
+  receipt-due from to link = by (filter (is_left script steps from to) (range_with_len 1 (sent_in from to steps))) refl
     where
-      by : (ns : List ℕ) → left_on script steps from to ≡ map (Receive from to) ns → ArePlain (first_of (map (Receive from to) ns))
+      by : (ns : List ℕ) → left_on script steps from to ≡ map (Receive from to) ns → AreDue (first_of (map (Receive from to) ns))
       by [] is = tt
-      by (n ∷ ns) is = (((link, ap first_of is), refl), tt)
+      by (n ∷ ns) is = ((link, ap first_of is), tt)
 
-  resumptions-plain : (node : Node) → ArePlain (resumptions (marks_in steps) node)
-  resumptions-plain node =
-      all-first IsPlain _ (all-map IsPlain (Resume node) (λ g. (tt, refl)) (filter (λ g. list_any (is_ready (holds_at (marks_in steps) node)) (waits_of (marks_in steps) node g)) (gxids_of (marks_in steps))))
+  resumptions-due : (node : Node) → AreDue (resumptions (marks_in steps) node)
+  resumptions-due node =
+      all-first (IsDue script steps) _ (all-map (IsDue script steps) (Resume node) (λ g. tt) (filter (λ g. list_any (is_ready (holds_at (marks_in steps) node)) (waits_of (marks_in steps) node g)) (gxids_of (marks_in steps))))
 
-  segment-plain : (segment : Node) → IsSegment script segment → ArePlain (at_segment script steps segment)
-  segment-plain segment there =
-      all-first IsPlain _
-      (all-append IsPlain (resumptions (marks_in steps) segment) (first_of (left_on script steps the_coordinator segment)) (resumptions-plain segment) (receipt-plain the_coordinator segment (inl (refl, there))))
+  segment-due : (segment : Node) → IsSegment script segment → AreDue (at_segment script steps segment)
+  segment-due segment there =
+      all-first (IsDue script steps) _
+      (all-append (IsDue script steps) (resumptions (marks_in steps) segment) (first_of (left_on script steps the_coordinator segment)) (resumptions-due segment) (receipt-due the_coordinator segment (inl (refl, there))))
 
-  resends-plain : (segment : Node) → ArePlain (resends script steps segment)
-  resends-plain segment = by (is_quiet script steps segment) (is_graph_awaited steps segment)
+  resends-due : (segment : Node) → AreDue (resends script steps segment)
+  resends-due segment = by (is_quiet script steps segment) (is_graph_awaited steps segment)
     where
       again : List Event
       again = map (λ g. Resend segment (Some g)) (filter (may_resend steps segment) (gxids_of (marks_in steps)))
 
-      again-plain : ArePlain again
-      again-plain = all-map IsPlain (λ g. Resend segment (Some g)) (λ g. (tt, refl)) (filter (may_resend steps segment) (gxids_of (marks_in steps)))
+      all-again : AreDue again
+      all-again = all-map (IsDue script steps) (λ g. Resend segment (Some g)) (λ g. tt) (filter (may_resend steps segment) (gxids_of (marks_in steps)))
 
-      by : (quiet graph : Bool) → ArePlain (if quiet then again ++ (if graph then Resend segment None ∷ [] else []) else [])
-      by true true = all-append IsPlain again (Resend segment None ∷ []) again-plain ((tt, refl), tt)
-      by true false = all-append IsPlain again [] again-plain tt
+      by : (quiet graph : Bool) → AreDue (if quiet then again ++ (if graph then Resend segment None ∷ [] else []) else [])
+      by true true = all-append (IsDue script steps) again (Resend segment None ∷ []) all-again (tt, tt)
+      by true false = all-append (IsDue script steps) again [] all-again tt
       by false graph = tt
 
-  plain-kept : (xs : List Event) → ArePlain xs → filter (λ event. not (is_round event)) xs ≡ xs
-  plain-kept [] all = refl
-  plain-kept (x ∷ xs) all =
-      ap (λ (b : Bool). cond (not b) (x ∷ filter (λ event. not (is_round event)) xs) (filter (λ event. not (is_round event)) xs)) all.0.1
-      ∙ ap (λ (ys : List Event). x ∷ ys) (plain-kept xs all.1)
+  -- and so is what is sent again first
+  pub again-due : (e : Event) → e ∷ [] ≡ first_of (flat_map (resends script steps) (segments_of script)) → IsDue script steps e
+  again-due e first = by (flat_map (resends script steps) (segments_of script)) (all-nodes (IsDue script steps) (resends script steps) 1 script.segments (λ i low high. resends-due i)) first
+    where
+      by : (xs : List Event) → AreDue xs → e ∷ [] ≡ first_of xs → IsDue script steps e
+      by [] all is = absurd (cc)
+      by (x ∷ xs) all is = let same : x ≡ e = cc in subst (IsDue script steps) same all.0
 
-  -- all that is enabled up to the rounds
-  abbrev up_to_rounds : List Event
-  up_to_rounds = moves_of script steps ++ flat_map (resends script steps) (segments_of script) ++ starts script steps ++ ends script steps
+  rounds-due : AreDue (rounds script steps)
+  rounds-due = by (script.detector && (not (is_round_running steps) && is_any_wait script (marks_in steps)))
+    where
+      by : (b : Bool) → AreDue (if b then Round ∷ [] else [])
+      by true = (tt, tt)
+      by false = tt
 
-  all-plain : ArePlain up_to_rounds
-  all-plain =
-      all-append IsPlain (from ++ at ++ here ++ again ++ starts script steps) (ends script steps)
-      (all-append IsPlain (from ++ at ++ here ++ again) (starts script steps)
-      (all-append IsPlain (from ++ at ++ here) again
-      (all-append IsPlain (from ++ at) here
-      (all-append IsPlain from at
-      (all-nodes IsPlain (λ segment. first_of (left_on script steps segment the_coordinator)) 1 script.segments (λ i low high. receipt-plain i the_coordinator (inr ((low, within i.0 script.segments high), refl))))
-      (all-nodes IsPlain (at_segment script steps) 1 script.segments (λ i low high. segment-plain i (low, within i.0 script.segments high))))
-      (resumptions-plain the_coordinator))
-      (all-nodes IsPlain (resends script steps) 1 script.segments (λ i low high. resends-plain i)))
-      (all-map IsPlain (λ line. Start line.session) (λ line. (tt, refl)) (filter (is_next steps) script.lines)))
-      (all-map IsPlain End (λ session. (tt, refl)) (filter (is_to_end script steps) (sessions_of script)))
+  all-due : AreDue (enabled script steps)
+  all-due =
+      all-append (IsDue script steps) (from ++ at ++ here ++ again ++ starts script steps ++ ends script steps) (rounds script steps)
+      (all-append (IsDue script steps) (from ++ at ++ here ++ again ++ starts script steps) (ends script steps)
+      (all-append (IsDue script steps) (from ++ at ++ here ++ again) (starts script steps)
+      (all-append (IsDue script steps) (from ++ at ++ here) again
+      (all-append (IsDue script steps) (from ++ at) here
+      (all-append (IsDue script steps) from at
+      (all-nodes (IsDue script steps) (λ segment. first_of (left_on script steps segment the_coordinator)) 1 script.segments (λ i low high. receipt-due i the_coordinator (inr ((low, within i.0 script.segments high), refl))))
+      (all-nodes (IsDue script steps) (at_segment script steps) 1 script.segments (λ i low high. segment-due i (low, within i.0 script.segments high))))
+      (resumptions-due the_coordinator))
+      (all-nodes (IsDue script steps) (resends script steps) 1 script.segments (λ i low high. resends-due i)))
+      (all-map (IsDue script steps) (λ line. Start line.session) (λ line. tt) (filter (is_next steps) script.lines)))
+      (all-map (IsDue script steps) End (λ session. tt) (filter (is_to_end script steps) (sessions_of script))))
+      rounds-due
     where
       from : List Event
       from = flat_map (λ segment. first_of (left_on script steps segment the_coordinator)) (segments_of script)
@@ -144,57 +144,31 @@ module _ (script : Script) (steps : List Step) where
       within : (a n : ℕ) → a < 1 + n → a ≤ n
       within a n h = omega (arith, h)
 
-  no-round-left : filter (λ event. not (is_round event)) (rounds script steps) ≡ []
-  no-round-left = by (script.detector && (not (is_round_running steps) && is_any_wait script (marks_in steps)))
-    where
-      by : (b : Bool) → filter (λ event. not (is_round event)) (if b then Round ∷ [] else []) ≡ []
-      by true = refl
-      by false = refl
+  pub drawn-due : (k : ℕ) (e : Event) → slice_get (enabled script steps) k ≡ Some e → IsDue script steps e
+  drawn-due k e there = at-place (IsDue script steps) (enabled script steps) k e all-due there
 
-  -- rounds stand last, so without them the rest is left
-  pub possible-is : possible script steps ≡ up_to_rounds
-  possible-is =
-      filter-append (λ event. not (is_round event)) up_to_rounds (rounds script steps)
-      ∙ ap (λ xs. xs ++ filter (λ event. not (is_round event)) (rounds script steps)) (plain-kept up_to_rounds all-plain)
-      ∙ ap (λ ys. up_to_rounds ++ ys) no-round-left
-      ∙ append-nil up_to_rounds
-
-  plain-there : (k : ℕ) (e : Event) → slice_get (possible script steps) k ≡ Some e → IsPlain e
-  plain-there k e there = at-place IsPlain up_to_rounds k e all-plain (ap (λ es. slice_get es k) (sym possible-is) ∙ there)
-
-  pub drawn-due : (k : ℕ) (e : Event) → slice_get (possible script steps) k ≡ Some e → IsDue script steps e
-  drawn-due k e there = (plain-there k e there).0
-
-  pub drawn-is : (o : Option Event) (k : ℕ) → o ≡ slice_get (possible script steps) k → IfSome o (λ e. slice_get (possible script steps) k ≡ Some e)
+  pub drawn-is : (o : Option Event) (k : ℕ) → o ≡ slice_get (enabled script steps) k → IfSome o (λ e. slice_get (enabled script steps) k ≡ Some e)
   drawn-is None k is = tt
   drawn-is (Some e) k is = sym is
 
   -- WHAT IS FIRST
-  pub first-is : (o : Option Event) → is_any_unfinished script steps ≡ true → option_to_list o ≡ first_of (possible script steps) → IfSome o (IsFirst script steps)
+  pub first-is : (o : Option Event) → is_any_unfinished script steps ≡ true → option_to_list o ≡ first_of (enabled script steps) → IfSome o (IsFirst script steps)
   first-is None unfinished first = tt
   first-is (Some e) unfinished first = record { unfinished = unfinished; first = sym first }
 
-  pub first-nothing : (o : Option Event) → option_to_list o ≡ first_of (possible script steps) → IfNone o (possible script steps ≡ [])
-  first-nothing None first = first-none (possible script steps) (sym first)
+  pub first-nothing : (o : Option Event) → option_to_list o ≡ first_of (enabled script steps) → IfNone o (enabled script steps ≡ [])
+  first-nothing None first = first-none (enabled script steps) (sym first)
   first-nothing (Some e) first = tt
 
-  -- a round, or admitted
-  abbrev may : Event → Bool
-  may x = is_round x || is_admitted script steps x
-
   module _ (some : 1 ≤ script.segments) (is : IsReached script steps) where
-    all-may : list_all may (enabled script steps) ≡ true
-    all-may = by-events script steps is (λ ss. list_all (λ x. is_round x || is_admitted script ss x) (enabled script ss) ≡ true) (admitted-but-rounds script some)
-
-    pub drawn-admitted : (k : ℕ) (e : Event) → slice_get (possible script steps) k ≡ Some e → is_admitted script steps e ≡ true
+    pub drawn-admitted : (k : ℕ) (e : Event) → slice_get (enabled script steps) k ≡ Some e → is_admitted script steps e ≡ true
     drawn-admitted k e there =
-        sym (ap (λ b. b || is_admitted script steps e) (plain-there k e there).1)
-        ∙ passes-at may up_to_rounds k e (and-first (list_all may up_to_rounds) (list_all may (rounds script steps)) (sym (list_all-append may up_to_rounds (rounds script steps)) ∙ all-may))
-        (ap (λ es. slice_get es k) (sym possible-is) ∙ there)
+        passes-at (is_admitted script steps) (enabled script steps) k e
+        (by-events script steps is (λ ss. list_all (is_admitted script ss) (enabled script ss) ≡ true) (all-are-admitted script some)) there
 
-    pub first-admitted : (o : Option Event) → option_to_list o ≡ first_of (possible script steps) → IfSome o (λ e. is_admitted script steps e ≡ true)
+    pub first-admitted : (o : Option Event) → option_to_list o ≡ first_of (enabled script steps) → IfSome o (λ e. is_admitted script steps e ≡ true)
     first-admitted None first = tt
-    first-admitted (Some e) first = drawn-admitted 0 e (place (possible script steps) (sym first))
+    first-admitted (Some e) first = drawn-admitted 0 e (place (enabled script steps) (sym first))
       where
         place : (xs : List Event) → first_of xs ≡ e ∷ [] → slice_get xs 0 ≡ Some e
         place [] h = absurd (cc)

@@ -1,11 +1,12 @@
--- What is first of all that may happen, piece by piece.
-use Rattle.std.proofs.Common.{◌≡◌, ◌≤◌, List, [], ◌∷◌, ◌++◌, sym, refl, ap, ◌∙◌}
+-- What is first of all that is enabled, piece by piece.
+use Rattle.std.proofs.Common.{◌≡◌, ◌≤◌, List, [], ◌∷◌, ◌++◌, Bool, true, false, if◌then◌else◌, ◌&&◌, not, sym, refl, ap, ◌∙◌}
 use Rattle.gx_ids.specs.declared.ids.SessionId.{SessionId}
 use Rattle.gx_script.specs.declared.Script.{Script}
 use Rattle.gx_store.specs.declared.event.Event.{Event}
 use Rattle.gx_store.specs.declared.event.Event.TheVariants as event
 use Rattle.gx_store.specs.declared.run.Step.{Step}
-use Rattle.gx_store.specs.Schedule.{first_of, is_to_end}
+use Rattle.gx_store.specs.Points.{marks_in}
+use Rattle.gx_store.specs.Schedule.{first_of, is_any_wait, is_round_running, is_to_end, rounds}
 use Rattle.gx_rules.specs.Machine.{world_of}
 use Rattle.gx_law_sessions.proofs.World.{sessions-stand}
 use Rattle.gx_law_schedules.proofs.Sessions.{end-alike}
@@ -17,25 +18,35 @@ use Rattle.gx_law_runs.proofs.Telling.{can-told}
 use Rattle.gx_drive.proofs.Firsts.{first-none, some-first}
 
 -- WHAT IS FIRST
-module _ (e : Event) (moves again starts ends : List Event) where
-  pub start-first : e ∷ [] ≡ first_of starts → e ∷ [] ≡ first_of (starts ++ ends)
-  start-first h = some-first e starts ends h
+module _ (e : Event) (moves again starts ends rounds : List Event) where
+  pub end-first : e ∷ [] ≡ first_of ends → e ∷ [] ≡ first_of (ends ++ rounds)
+  end-first h = some-first e ends rounds h
 
-  pub resend-first : e ∷ [] ≡ first_of again → e ∷ [] ≡ first_of (again ++ starts ++ ends)
-  resend-first h = some-first e (again ++ starts) ends (some-first e again starts h)
+  pub start-first : e ∷ [] ≡ first_of starts → e ∷ [] ≡ first_of (starts ++ ends ++ rounds)
+  start-first h = some-first e (starts ++ ends) rounds (some-first e starts ends h)
 
-  pub move-first : e ∷ [] ≡ first_of moves → e ∷ [] ≡ first_of (moves ++ again ++ starts ++ ends)
-  move-first h = some-first e (moves ++ again ++ starts) ends (some-first e (moves ++ again) starts (some-first e moves again h))
+  pub resend-first : e ∷ [] ≡ first_of again → e ∷ [] ≡ first_of (again ++ starts ++ ends ++ rounds)
+  resend-first h = some-first e (again ++ starts ++ ends) rounds (some-first e (again ++ starts) ends (some-first e again starts h))
+
+  pub move-first : e ∷ [] ≡ first_of moves → e ∷ [] ≡ first_of (moves ++ again ++ starts ++ ends ++ rounds)
+  move-first h = some-first e (moves ++ again ++ starts ++ ends) rounds (some-first e (moves ++ again ++ starts) ends (some-first e (moves ++ again) starts (some-first e moves again h)))
 
 -- behind nothing
-pub past-starts : (starts ends : List Event) → [] ≡ first_of starts → first_of ends ≡ first_of (starts ++ ends)
-past-starts starts ends none = sym (ap (λ xs. first_of (xs ++ ends)) (first-none starts (sym none)))
+pub past-ends : (script : Script) (steps : List Step) (ends : List Event) → [] ≡ first_of ends → rounds script steps ≡ first_of (ends ++ rounds script steps)
+past-ends script steps ends none = by (script.detector && (not (is_round_running steps) && is_any_wait script (marks_in steps))) ∙ sym (ap (λ xs. first_of (xs ++ rounds script steps)) (first-none ends (sym none)))
+  where
+    by : (b : Bool) → (if b then event.Round ∷ [] else []) ≡ first_of (if b then event.Round ∷ [] else [])
+    by true = refl
+    by false = refl
 
-pub past-resends : (again starts ends : List Event) → [] ≡ first_of again → first_of (starts ++ ends) ≡ first_of (again ++ starts ++ ends)
-past-resends again starts ends none = sym (ap (λ xs. first_of (xs ++ starts ++ ends)) (first-none again (sym none)))
+pub past-starts : (starts ends rounds : List Event) → [] ≡ first_of starts → first_of (ends ++ rounds) ≡ first_of (starts ++ ends ++ rounds)
+past-starts starts ends rounds none = sym (ap (λ xs. first_of (xs ++ ends ++ rounds)) (first-none starts (sym none)))
 
-pub past-moves : (moves again starts ends : List Event) → [] ≡ first_of moves → first_of (again ++ starts ++ ends) ≡ first_of (moves ++ again ++ starts ++ ends)
-past-moves moves again starts ends none = sym (ap (λ xs. first_of (xs ++ again ++ starts ++ ends)) (first-none moves (sym none)))
+pub past-resends : (again starts ends rounds : List Event) → [] ≡ first_of again → first_of (starts ++ ends ++ rounds) ≡ first_of (again ++ starts ++ ends ++ rounds)
+past-resends again starts ends rounds none = sym (ap (λ xs. first_of (xs ++ starts ++ ends ++ rounds)) (first-none again (sym none)))
+
+pub past-moves : (moves again starts ends rounds : List Event) → [] ≡ first_of moves → first_of (again ++ starts ++ ends ++ rounds) ≡ first_of (moves ++ again ++ starts ++ ends ++ rounds)
+past-moves moves again starts ends rounds none = sym (ap (λ xs. first_of (xs ++ again ++ starts ++ ends ++ rounds)) (first-none moves (sym none)))
 
 -- a session is to be ended where the machine admits its end
 pub end-admitted : (script : Script) → 1 ≤ script.segments → (steps : List Step) → IsReached script steps → (session : SessionId)

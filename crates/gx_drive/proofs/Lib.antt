@@ -11,3 +11,5 @@ pub mod Answers
 pub mod Pushed
 pub mod Draws
 pub mod Words
+pub mod Endings
+pub mod Running

@@ -45,8 +45,10 @@ module _ (p : SessionId → Bool) where
       none = omega (arith, past)
 
 -- piece behind piece
-pub pieces : (a b c d e f none one two three four five six : List Event) → none ≡ [] → one ≡ none ++ a → two ≡ one ++ b → three ≡ two ++ c → four ≡ three ++ d → five ≡ four ++ e → six ≡ five ++ f
-    → six ≡ a ++ b ++ c ++ d ++ e ++ f
-pieces a b c d e f none one two three four five six empty first second third fourth fifth last =
+pub pieces : (a b c d e f g none one two three four five six seven : List Event) → none ≡ [] → one ≡ none ++ a → two ≡ one ++ b → three ≡ two ++ c → four ≡ three ++ d → five ≡ four ++ e → six ≡ five ++ f → seven ≡ six ++ g
+    → seven ≡ a ++ b ++ c ++ d ++ e ++ f ++ g
+pieces a b c d e f g none one two three four five six seven empty first second third fourth fifth sixth last =
     last
-    ∙ ap (λ xs. xs ++ f) (fifth ∙ ap (λ xs. xs ++ e) (fourth ∙ ap (λ xs. xs ++ d) (third ∙ ap (λ xs. xs ++ c) (second ∙ ap (λ xs. xs ++ b) (first ∙ ap (λ xs. xs ++ a) empty)))))
+    ∙ ap (λ xs. xs ++ g)
+    (sixth
+    ∙ ap (λ xs. xs ++ f) (fifth ∙ ap (λ xs. xs ++ e) (fourth ∙ ap (λ xs. xs ++ d) (third ∙ ap (λ xs. xs ++ c) (second ∙ ap (λ xs. xs ++ b) (first ∙ ap (λ xs. xs ++ a) empty))))))

@@ -10,10 +10,10 @@ ghost use Rattle.gx_store.specs.Language.{IsScript};
 ghost use Rattle.gx_store.specs.declared.event.Event.TheVariants.{Receive};
 ghost use Rattle.gx_store.specs.declared.run.Step.{Step as OneStep};
 ghost use Rattle.gx_store.specs.Ordered.{IsLink};
-ghost use Rattle.gx_store.specs.Schedule.{ends, first_of, left_on, resends, segments_of, starts};
+ghost use Rattle.gx_store.specs.Schedule.{enabled, ends, first_of, left_on, resends, rounds, segments_of, starts};
 ghost use Rattle.gx_drive.specs.Agrees.{IsAgreed, IsDue, moves_of};
-ghost use Rattle.gx_drive.specs.Chosen.{possible};
 
+use crate::detecting::{first_graph, next_round};
 use crate::ends::first_end;
 use crate::moves::first_move;
 use gx_agenda::{Asked, Cursors, Queue};
@@ -48,13 +48,14 @@ impl Agenda {
         })
     }
 
-    /// The first that may happen; none where nothing may.
+    /// The first that is enabled; none where nothing is. While no round of the detector runs, it costs nothing more than without one
+    /// until nothing else is enabled.
     pub fn first(&self, world: &World) -> Mem<Option<Event>>
         requires usable { world.now.spent ≡ false }
         requires language { IsScript world.now.script }
         requires reached { IsReached world.now.script world.now.run.steps }
         requires agreed { IsAgreed world.now.script world.now.run.steps self.now }
-        ensures first { IfOk result (λ event. option_to_list event ≡ first_of (possible world.now.script world.now.run.steps)) }
+        ensures first { IfOk result (λ event. option_to_list event ≡ first_of (enabled world.now.script world.now.run.steps)) }
         ensures due { IfOk result (λ event. IfSome event (IsDue world.now.script world.now.run.steps)) }
     {
         match first_move(&self.cursors, world) {
@@ -71,29 +72,29 @@ impl Agenda {
         requires agreed { IsAgreed world.now.script world.now.run.steps self.now }
         requires none { first_of (moves_of world.now.script world.now.run.steps) ≡ [] }
         ensures first { IfOk result (λ event. option_to_list event ≡ first_of (flat_map (resends world.now.script world.now.run.steps) (segments_of world.now.script)
-            ++ starts world.now.script world.now.run.steps ++ ends world.now.script world.now.run.steps)) }
+            ++ starts world.now.script world.now.run.steps ++ ends world.now.script world.now.run.steps ++ rounds world.now.script world.now.run.steps)) }
         ensures due { IfOk result (λ event. IfSome event (IsDue world.now.script world.now.run.steps)) }
     {
-        match self.asked.first() {
-            Some(request) => Ok(Some(Event::Resend {
-                segment: request.segment,
-                gxid: Some(request.gxid),
-            })),
+        let graph = first_graph(world)?;
+        match self.asked.first(graph) {
+            Some(event) => Ok(Some(event)),
             None => self.begun(world),
         }
     }
 
-    // The first line, or else the first end of a session.
+    // The first line, or else what is last in order.
     fn begun(&self, world: &World) -> Mem<Option<Event>>
         requires usable { world.now.spent ≡ false }
+        requires language { IsScript world.now.script }
         requires reached { IsReached world.now.script world.now.run.steps }
         requires agreed { IsAgreed world.now.script world.now.run.steps self.now }
-        ensures first { IfOk result (λ event. option_to_list event ≡ first_of (starts world.now.script world.now.run.steps ++ ends world.now.script world.now.run.steps)) }
+        ensures first { IfOk result (λ event. option_to_list event ≡ first_of (starts world.now.script world.now.run.steps ++ ends world.now.script world.now.run.steps
+            ++ rounds world.now.script world.now.run.steps)) }
         ensures due { IfOk result (λ event. IfSome event (IsDue world.now.script world.now.run.steps)) }
     {
         match self.queue.first() {
             Some(session) => Ok(Some(Event::Start(session))),
-            None => first_end(world),
+            None => last(world),
         }
     }
 
@@ -106,6 +107,20 @@ impl Agenda {
         deliver(&mut self.cursors, step);
         self.queue.note(step)?;
         self.asked.note(step, told)
+    }
+}
+
+// The first end of a session, or else the next round.
+fn last(world: &World) -> Mem<Option<Event>>
+    requires usable { world.now.spent ≡ false }
+    requires language { IsScript world.now.script }
+    requires reached { IsReached world.now.script world.now.run.steps }
+    ensures first { IfOk result (λ event. option_to_list event ≡ first_of (ends world.now.script world.now.run.steps ++ rounds world.now.script world.now.run.steps)) }
+    ensures due { IfOk result (λ event. IfSome event (IsDue world.now.script world.now.run.steps)) }
+{
+    match first_end(world)? {
+        Some(event) => Ok(Some(event)),
+        None => next_round(world),
     }
 }
 

@@ -1,7 +1,9 @@
-//! The drivers of a script in a fixed order and by a seed: each does one of what may happen, until no session is unfinished, its turns are spent, or nothing may happen.
+//! The drivers of a script in a fixed order and by a seed: each does one of what is enabled, until no session is unfinished, its turns
+//! are spent, or nothing is enabled.
 #![tactic(auto)]
 
 pub mod agenda;
+mod detecting;
 mod drawing;
 pub mod end;
 mod ends;
@@ -10,6 +12,7 @@ mod listing;
 mod moves;
 pub mod ordered;
 pub mod seeded;
+mod stuck;
 mod turn;
 
 pub use agenda::Agenda;

@@ -1,4 +1,4 @@
-// All that may happen, point by point in the order of the schedule.
+// All that is enabled, point by point in the order of the schedule.
 ghost use Rattle.std.specs.Prelude.{◌≡◌, ◌<◌, ◌++◌, ◌==◌, ◌∷◌, [], false, length, IfOk, OnOk, if◌then◌else◌};
 ghost use Rattle.std.specs.List.{flat_map};
 ghost use Rattle.std.specs.Option.{option_to_list};
@@ -7,12 +7,12 @@ ghost use Rattle.gx_law_runs.specs.Reached.{IsReached};
 ghost use Rattle.gx_store.specs.Language.{IsScript};
 ghost use Rattle.gx_store.specs.Ordered.{IsLink, IsSegment};
 ghost use Rattle.gx_store.specs.Refusals.{the_coordinator};
-ghost use Rattle.gx_store.specs.Schedule.{at_segment, ends, first_of, is_quiet, is_to_end, left_on, resends, segments_of};
+ghost use Rattle.gx_store.specs.Schedule.{at_segment, enabled, ends, first_of, is_quiet, is_round_running, is_to_end, left_on, resends, segments_of};
 ghost use Rattle.gx_store.specs.declared.event.Event.TheVariants.{End};
 ghost use Rattle.gx_drive.specs.Agrees.{IsAgreed};
-ghost use Rattle.gx_drive.specs.Chosen.{possible};
 
 use crate::agenda::Agenda;
+use crate::detecting::{is_graph_awaited, is_round_running, next_round};
 use crate::ends::end_of;
 use crate::links::delivery;
 use crate::moves::{resumption, segment_move};
@@ -23,22 +23,25 @@ use gx_world::World;
 use std::alloc::Global;
 
 impl Agenda {
-    /// All that may happen, in the order of the schedule. It looks once at each link and each node, at each answer that is awaited of a segment on whose links nothing is left, at
-    /// each line that is its session's next, and at each session.
-    pub fn possible(&self, alloc: Global, world: &World) -> Mem<Vec<Event>>
+    /// All that is enabled, in the order of the schedule. It looks once at each link and each node, at each answer that is awaited of a
+    /// segment on whose links nothing is left, at each line that is its session's next, and at each session; and where the detector
+    /// is on and no round runs, once more at each node until somebody waits.
+    pub fn enabled(&self, alloc: Global, world: &World) -> Mem<Vec<Event>>
         requires usable { world.now.spent ≡ false }
         requires language { IsScript world.now.script }
         requires reached { IsReached world.now.script world.now.run.steps }
         requires agreed { IsAgreed world.now.script world.now.run.steps self.now }
-        ensures { IfOk result (λ events. events.items ≡ possible world.now.script world.now.run.steps) }
+        ensures { IfOk result (λ events. events.items ≡ enabled world.now.script world.now.run.steps) }
     {
         let mut events = Vec::new(alloc);
         push_from(&self.cursors, world, &mut events)?;
         push_segment_moves(&self.cursors, world, &mut events)?;
         push_option(resumption(world, Node(0)), &mut events)?;
-        push_resends(self, world, &mut events)?;
+        let running = is_round_running(world)?;
+        push_resends(self, world, running, &mut events)?;
         self.queue.push_starts(&mut events)?;
         push_ends(world, &mut events)?;
+        push_option(next_round(world)?, &mut events)?;
         Ok(events)
     }
 }
@@ -79,15 +82,16 @@ fn push_option(event: Option<Event>, events: &mut Vec<Event>) -> Mem<()>
 }
 
 // What is sent again.
-fn push_resends(agenda: &Agenda, world: &World, events: &mut Vec<Event>) -> Mem<()>
+fn push_resends(agenda: &Agenda, world: &World, running: bool, events: &mut Vec<Event>) -> Mem<()>
     requires usable { world.now.spent ≡ false }
     requires language { IsScript world.now.script }
     requires reached { IsReached world.now.script world.now.run.steps }
     requires agreed { IsAgreed world.now.script world.now.run.steps agenda.now }
+    requires running { running ≡ is_round_running world.now.run.steps }
     ensures { OnOk result (events.new.items ≡ events.old.items ++ flat_map (resends world.now.script world.now.run.steps) (segments_of world.now.script)) }
 {
     for number in 1..world.script().segments + 1 {
-        push_resends_to(agenda, world, Node(number), events)?;
+        push_resends_to(agenda, world, Node(number), running, events)?;
     }
     Ok(())
 }
@@ -97,18 +101,21 @@ fn push_resends_to(
     agenda: &Agenda,
     world: &World,
     segment: Node,
+    running: bool,
     events: &mut Vec<Event>,
 ) -> Mem<()>
     requires usable { world.now.spent ≡ false }
     requires language { IsScript world.now.script }
     requires reached { IsReached world.now.script world.now.run.steps }
     requires agreed { IsAgreed world.now.script world.now.run.steps agenda.now }
+    requires running { running ≡ is_round_running world.now.run.steps }
     requires there { IsSegment world.now.script segment }
     requires few { segment.0 < 255 }
     ensures { OnOk result (events.new.items ≡ events.old.items ++ resends world.now.script world.now.run.steps segment) }
 {
     if is_quiet(&agenda.cursors, world, segment) {
-        agenda.asked.push_resends(events, segment)?;
+        let graph = is_graph_awaited(world, segment, running)?;
+        agenda.asked.push_resends(events, segment, graph)?;
     }
     Ok(())
 }

@@ -8,14 +8,15 @@ ghost use Rattle.gx_drive.specs.declared.end.End.TheVariants.{Done, Turns};
 
 use crate::agenda::Agenda;
 use crate::end::End;
+use crate::stuck::stuck;
 use crate::turn::{next_event, turn};
 use gx_ids::Mem;
 use gx_outside::{Gate, Journal};
 use gx_world::World;
 use std::alloc::Global;
 
-/// Runs a new world by the ordered schedule: it does the first that may happen at each turn, until no session is unfinished, so
-/// many turns were taken, or nothing may happen. The journals are those of the coordinator and 16 segments, and hold
+/// Runs a new world by the ordered schedule: it does the first that is enabled at each turn, until no session is unfinished, so
+/// many turns were taken, or nothing is enabled. The journals are those of the coordinator and 16 segments, and hold
 /// nothing. Besides the step itself a turn costs the logarithm of what is under way, and a look at each link, node and session until
 /// one has what is first.
 pub fn run_ordered<J: Journal, G: Gate>(
@@ -44,7 +45,8 @@ pub fn run_ordered<J: Journal, G: Gate>(
             return Ok(End::Done);
         }
         let Some(event) = next_event(world, &agenda)? else {
-            return Ok(End::Stuck);
+            let end = stuck(alloc, world, turns)?;
+            return Ok(end);
         };
         turn(world, &mut agenda, journals, gate, event)?;
     }

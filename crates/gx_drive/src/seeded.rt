@@ -8,6 +8,7 @@ use crate::agenda::Agenda;
 use crate::drawing::{drawn_event, generator_of};
 use crate::end::End;
 use crate::ordered::{end_of, is_unfinished};
+use crate::stuck::stuck;
 use crate::turn::turn;
 use gx_ids::Mem;
 use gx_outside::{Gate, Journal};
@@ -15,10 +16,10 @@ use gx_world::World;
 use rand_core::utils::NextWord;
 use std::alloc::Global;
 
-/// Runs a new world by a seed, until no session is unfinished, so many turns were taken, or nothing may happen: at each turn it draws
-/// a word of the generator and does the event whose place among all that may happen is what is left of the word by their number. The
-/// journals are those of the coordinator and 16 segments, and hold nothing. Besides the step itself a turn costs a list of what may
-/// happen: a look at each link, node and session, and what it holds.
+/// Runs a new world by a seed, until no session is unfinished, so many turns were taken, or nothing is enabled: at each turn it draws
+/// a word of the generator and does the event whose place among all that is enabled is what is left of the word by their number. The
+/// journals are those of the coordinator and 16 segments, and hold nothing. Besides the step itself a turn costs a list of what is
+/// enabled: a look at each link, node and session, and what it holds.
 pub fn run_seeded<J: Journal, G: Gate>(
     alloc: Global,
     world: &mut World,
@@ -48,7 +49,8 @@ pub fn run_seeded<J: Journal, G: Gate>(
         }
         let word = generator.next_word();
         let Some(event) = drawn_event(alloc, world, &agenda, word)? else {
-            return Ok(End::Stuck);
+            let end = stuck(alloc, world, turns)?;
+            return Ok(end);
         };
         turn(world, &mut agenda, journals, gate, event)?;
     }

@@ -1,14 +1,13 @@
-// One turn: an event that may happen is done.
+// One turn: an event that is enabled is done.
 ghost use Rattle.std.specs.Prelude.{◌≡◌, ◌<◌, ◌^◌, ◌++◌, ◌∷◌, [], List, Some, true, false, IfNone, IfOk, IfSome, OnOk, length, map, option_copied};
 ghost use Rattle.gx_agenda.specs.Awaited.{told_in};
-ghost use Rattle.gx_store.specs.Schedule.{is_any_unfinished};
+ghost use Rattle.gx_store.specs.Schedule.{enabled, is_any_unfinished};
 ghost use Rattle.gx_outside.specs.Shelves.{Shelf};
 ghost use Rattle.gx_law_runs.specs.Reached.{IsReached};
 ghost use Rattle.gx_law_runs.specs.Replays.{is_admitted};
 ghost use Rattle.gx_store.specs.Language.{IsScript};
 ghost use Rattle.gx_store.specs.declared.run.Step.{Step as OneStep};
 ghost use Rattle.gx_drive.specs.Agrees.{HasTurned, IsAgreed, IsDue, IsNoMore};
-ghost use Rattle.gx_drive.specs.Chosen.{possible};
 ghost use Rattle.gx_drive.specs.Ordered.{AreFailuresFew, IsFirst};
 
 use crate::agenda::Agenda;
@@ -18,7 +17,7 @@ use gx_outside::{Gate, Journal};
 use gx_store::Event;
 use gx_world::World;
 
-// What is first, where a session is unfinished; none where nothing may happen.
+// What is first, where a session is unfinished; none where nothing is enabled.
 pub(crate) fn next_event(world: &World, agenda: &Agenda) -> Mem<Option<Event>>
     requires usable { world.now.spent ≡ false }
     requires language { IsScript world.now.script }
@@ -28,7 +27,7 @@ pub(crate) fn next_event(world: &World, agenda: &Agenda) -> Mem<Option<Event>>
     ensures first { IfOk result (λ event. IfSome event (IsFirst world.now.script world.now.run.steps)) }
     ensures due { IfOk result (λ event. IfSome event (IsDue world.now.script world.now.run.steps)) }
     ensures admitted { IfOk result (λ event. IfSome event (λ e. is_admitted world.now.script world.now.run.steps e ≡ true)) }
-    ensures stuck { IfOk result (λ event. IfNone event (possible world.now.script world.now.run.steps ≡ [])) }
+    ensures stuck { IfOk result (λ event. IfNone event (enabled world.now.script world.now.run.steps ≡ [])) }
 {
     agenda.first(world)
 }

@@ -4,9 +4,9 @@ use Rattle.gx_drive.proofs.Enabled.{past-starts, start-first}
 use Rattle.gx_drive.proofs.agenda.Agenda.begun.Goals as goal
 
 pub returns-in-Some-clause-first : goal.returns-in-Some-clause-first
-returns-in-Some-clause-first c = start-first _ [] [] _ _ (c.in-Some.ensures c.args.world.now.script c.args.world.now.run.steps c.requires.agreed.queue)
+returns-in-Some-clause-first c = start-first _ [] [] _ _ _ (c.in-Some.ensures c.args.world.now.script c.args.world.now.run.steps c.requires.agreed.queue)
 
 pub returns-in-None-clause-first : goal.returns-in-None-clause-first
 returns-in-None-clause-first c =
-    if_ok c.first_end.result _ _ c.first_end.ensures.first
-    (λ event e. e ∙ past-starts _ _ (c.in-None.ensures c.args.world.now.script c.args.world.now.run.steps c.requires.agreed.queue))
+    if_ok c.last.result _ _ c.last.ensures.first
+    (λ event e. e ∙ past-starts _ _ _ (c.in-None.ensures c.args.world.now.script c.args.world.now.run.steps c.requires.agreed.queue))

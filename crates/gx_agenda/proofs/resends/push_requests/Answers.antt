@@ -3,7 +3,7 @@ use Rattle.gx_agenda.specs.declared.expected.Expected.{Expected}
 use Rattle.gx_agenda.specs.declared.request.Request.{Request}
 use Rattle.gx_agenda.specs.Requests.{resend_of}
 use Rattle.gx_agenda.proofs.Again.{between-of}
-use Rattle.gx_agenda.proofs.asked.push_requests.Goals as goal
+use Rattle.gx_agenda.proofs.resends.push_requests.Goals as goal
 
 pub loop-request-init : goal.loop-request-init
 loop-request-init c =

@@ -3,7 +3,7 @@ use Rattle.std.specs.List.{filter}
 use Rattle.gx_agenda.specs.declared.expected.Expected.{Expected}
 use Rattle.gx_agenda.specs.declared.request.Request.{Request}
 use Rattle.gx_agenda.specs.Requests.{is_of, resend_of}
-use Rattle.gx_agenda.proofs.asked.push_requests.Given as goal
+use Rattle.gx_agenda.proofs.resends.push_requests.Given as goal
 
 abbrev pub invariant-loop-request : goal.invariant-loop-request
 invariant-loop-request l =

@@ -1,0 +1,30 @@
+// How a run ends that can't go on.
+ghost use Rattle.std.specs.Prelude.{◌≡◌, ◌<◌, [], true, IfOk, length};
+ghost use Rattle.gx_store.specs.Schedule.{enabled, is_any_unfinished};
+ghost use Rattle.gx_drive.specs.Ends.{AreStuckWaits, IsEnd};
+
+use crate::end::End;
+use gx_detect::reduce;
+use gx_ids::{Mem, Seq};
+use gx_waits::LocalGraph;
+use gx_world::World;
+use std::alloc::Global;
+
+// The end of a run that can't go on, with the waits that are stuck.
+pub(crate) fn stuck(alloc: Global, world: &World, _turns: u64) -> Mem<End>
+    requires left { length world.now.run.steps < _turns }
+    requires unfinished { is_any_unfinished world.now.script world.now.run.steps ≡ true }
+    requires nothing { enabled world.now.script world.now.run.steps ≡ [] }
+    ensures { IfOk result (IsEnd world.now.script world.now.run.steps _turns) }
+{
+    let graphs = stuck_waits(alloc, world)?;
+    Ok(End::Stuck(Seq::from_vec(graphs)))
+}
+
+// Which waits are stuck, a graph for each node.
+fn stuck_waits(alloc: Global, world: &World) -> Mem<Vec<LocalGraph>>
+    ensures { IfOk result (λ graphs. AreStuckWaits world.now.script world.now.run.steps graphs.items) }
+{
+    let graphs = world.graphs()?;
+    reduce(alloc, graphs.as_slice())
+}
