@@ -21,6 +21,10 @@ wait_line node edge =
 abbrev pub wait_lines : LocalGraph → List ℕ
 wait_lines graph = flat_map (wait_line graph.node) (in_order edge_order graph.edges)
 
+-- a line, and behind it the edges of graphs
+abbrev pub waits_behind : List ℕ → List LocalGraph → List ℕ
+waits_behind line graphs = line ++ flat_map wait_lines graphs
+
 -- the run is stuck, and these edges are, a graph for each node
 abbrev pub stuck_lines : List LocalGraph → List ℕ
-stuck_lines graphs = codes "stopped: stuck\n" ++ flat_map wait_lines graphs
+stuck_lines graphs = waits_behind (codes "stopped: stuck\n") graphs

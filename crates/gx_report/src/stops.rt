@@ -20,7 +20,18 @@ pub fn push_turns_spent(text: &mut Vec<u8>) -> Mem<()>
 pub fn push_stuck(alloc: Global, text: &mut Vec<u8>, graphs: &[LocalGraph]) -> Mem<()>
     ensures { OnOk result (text.new.items ≡ text.old.items ++ of.stuck_lines graphs.now) }
 {
-    push_bytes(text, b"stopped: stuck\n")?;
+    push_waits_behind(alloc, text, b"stopped: stuck\n", graphs)
+}
+
+fn push_waits_behind(
+    alloc: Global,
+    text: &mut Vec<u8>,
+    line: &[u8],
+    graphs: &[LocalGraph],
+) -> Mem<()>
+    ensures { OnOk result (text.new.items ≡ text.old.items ++ of.waits_behind line.now graphs.now) }
+{
+    push_bytes(text, line)?;
     for graph in graphs {
         push_waits(alloc, text, graph)?;
     }

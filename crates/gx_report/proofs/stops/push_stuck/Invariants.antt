@@ -1,8 +1,0 @@
-use Rattle.std.proofs.Common.{◌≡◌, ◌++◌, take}
-use Rattle.std.specs.List.{flat_map}
-use Rattle.std.specs.Prelude.{codes}
-use Rattle.gx_report.specs.Stops.{wait_lines}
-use Rattle.gx_report.proofs.stops.push_stuck.Given as goal
-
-abbrev pub invariant-loop-graph : goal.invariant-loop-graph
-invariant-loop-graph l = l.text.items ≡ l.initial.text.items ++ codes "stopped: stuck\n" ++ flat_map wait_lines (take l.graph-index l.graphs)
