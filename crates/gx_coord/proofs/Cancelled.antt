@@ -1,5 +1,5 @@
 -- Victims one behind the other: what each makes of the coordinator, and how the numbers of messages grow.
-use Rattle.std.proofs.Common.{◌≡◌, ◌≤◌, ◌<◌, ◌∙◌, ℕ, zero, suc, ◌+◌, List, [], ◌∷◌, ◌++◌, Bool, true, false, All, None, refl, sym, subst, ap, if◌then◌else◌, arith, drop, eqb, get_or, le_refl, length, slice_index}
+use Rattle.std.proofs.Common.{◌≡◌, ◌≤◌, ◌<◌, ◌^◌, ◌∙◌, ℕ, zero, suc, ◌+◌, List, [], ◌∷◌, ◌++◌, Bool, true, false, All, None, refl, sym, subst, ap, if◌then◌else◌, arith, drop, eqb, get_or, le_refl, length, slice_index}
 use Rattle.std.proofs.lemmas.Bool.{eqb-true}
 use Rattle.std.proofs.lemmas.List.{append_assoc, length-append}
 use Rattle.std.proofs.Math.Seq.{drop-append_seam}
@@ -109,8 +109,8 @@ module _ (old mid : Coord) (sent : Vec ℕ) (g : Gxid) (before marks after : Lis
       record { script = turn.framed.script; places = turn.framed.places; count = turn.framed.count; links = l ∙ ap (λ v. length v.items) turn.framed.sent; segments = turn.framed.segments }
 
 -- ALL VICTIMS
-pub stayed-trans : (old mid new : Coord) → HasStayed old mid → HasStayed mid new → HasStayed old new
-stayed-trans old mid new a b = record { script = b.script ∙ a.script; places = b.places ∙ a.places; count = b.count ∙ a.count; links = b.links ∙ a.links; segments = b.segments ∙ a.segments }
+pub stayed-trans : (old mid late : Coord) → HasStayed old mid → HasStayed mid late → HasStayed old late
+stayed-trans old mid late a b = record { script = b.script ∙ a.script; places = b.places ∙ a.places; count = b.count ∙ a.count; links = b.links ∙ a.links; segments = b.segments ∙ a.segments }
 
 pub stayed-refl : (k : Coord) → HasStayed k k
 stayed-refl k = record { script = refl; places = refl; count = refl; links = refl; segments = refl }

@@ -1,9 +1,9 @@
 -- The detector and the rule say the same of rounds.
-use Rattle.std.proofs.Common.{◌≡◌, ◌≤◌, ◌∙◌, ℕ, ◌+◌, ◌==◌, ◌&&◌, List, [], ◌∷◌, Option, Some, None, Bool, true, if◌then◌else◌, refl, sym, subst, ap, arith, filter, map}
+use Rattle.std.proofs.Common.{◌≡◌, ◌≤◌, ◌∙◌, ℕ, ◌+◌, ◌==◌, ◌&&◌, List, [], Option, Some, None, Bool, true, if◌then◌else◌, refl, sym, subst, ap, arith, filter, map}
 use Rattle.std.proofs.Math.Path.{fun_ext}
 use Rattle.std.proofs.lemmas.Bool.{and_parts, eqb-true}
 use Rattle.std.proofs.lemmas.Bool.Decides.{nat_tests}
-use Rattle.std.specs.Prelude.{is_none, nat_le, option_map, replicate}
+use Rattle.std.specs.Prelude.{nat_le, option_map, replicate}
 use Rattle.gx_ids.specs.declared.ids.Gxid.{Gxid}
 use Rattle.gx_ids.specs.declared.ids.Node.{Node}
 use Rattle.gx_detect.specs.Reports as own
@@ -21,18 +21,10 @@ use Rattle.gx_script.specs.declared.Script.{Script}
 use Rattle.gx_waits.specs.declared.graph.LocalGraph.{LocalGraph}
 use Rattle.gx_rules.specs.AtCoordinator.{is_segment}
 use Rattle.gx_rules.specs.Coordinators as rule
-use Rattle.gx_rules.specs.Rounds.{active_in, awaits_graph, begins_round, is_active, is_report, lacks, lacks_from, noted_in, on_graph, once_all, verdict_at, victims_on_graph, victims_once_all, with_report}
+use Rattle.gx_rules.specs.Rounds.{active_in, awaits_graph, begins_round, is_active, is_report, noted_in, on_graph, verdict_at, victims_on_graph, victims_once_all, with_report}
 use Rattle.gx_rules.proofs.Rounds.{graph-ways}
 use Rattle.gx_coord.specs.Books.{coord_of}
 use Rattle.gx_coord.specs.declared.coord.Coord.{Coord}
-
-lacks_from-same : (k : ℕ) (reports : List (Option LocalGraph)) (i : Node) → own.lacks_from k reports i ≡ lacks_from k reports i
-lacks_from-same k [] i = refl
-lacks_from-same k (r ∷ rs) i = ap (λ b. if i.0 == k then is_none r else b) (lacks_from-same (k + 1) rs i)
-
-pub lacks-same : (reports : Option (List (Option LocalGraph))) (i : Node) → awaited.lacks reports i ≡ lacks reports i
-lacks-same None i = refl
-lacks-same (Some reports) i = lacks_from-same 1 reports i
 
 pub noted-same : (reports : Option (List (Option LocalGraph))) (graph : LocalGraph) → option_map (λ rs. own.noted rs graph) reports ≡ noted_in reports graph
 noted-same None graph = refl
@@ -89,9 +81,6 @@ report-segment c from round graph segments e h =
 pub report-round : (c : rule.Coord) (from : Node) (round : ℕ) (graph : LocalGraph) → is_report c from round graph ≡ true → (round == c.rounds) ≡ true
 report-round c from round graph e = (and_parts (round == c.rounds) (awaits_graph c from) (and_parts (graph.node.0 == from.0) ((round == c.rounds) && awaits_graph c from) e).1).0
 
--- the turn of a graph that is taken
-pub taken-is : (c k : rule.Coord) (from : Node) (round : ℕ) (graph : LocalGraph) → is_report c from round graph ≡ true → k ≡ with_report c graph → once_all k ≡ on_graph c from round graph
-taken-is c k from round graph e h = ap once_all h ∙ sym (ap (λ b. if b then once_all (with_report c graph) else rule.rests c) e)
-
+-- whom a graph that is taken names
 pub taken-victims : (c k : rule.Coord) (from : Node) (round : ℕ) (graph : LocalGraph) → is_report c from round graph ≡ true → k ≡ with_report c graph → victims_once_all k ≡ victims_on_graph c from round graph
 taken-victims c k from round graph e h = ap victims_once_all h ∙ sym (ap (λ b. if b then victims_once_all (with_report c graph) else []) e)

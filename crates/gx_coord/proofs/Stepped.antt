@@ -2,6 +2,8 @@
 use Rattle.std.proofs.Common.{◌≡◌, ◌≤◌, ◌∙◌, ℕ, List, [], ◌++◌, Bool, true, None, sym, subst, ap, length, slice_index}
 use Rattle.gx_ids.specs.declared.ids.Gxid.{Gxid}
 use Rattle.gx_msg.specs.declared.message.Out.{Out}
+use Rattle.gx_node.specs.Orders.{Took}
+use Rattle.gx_outside.specs.Shelves.{Shelf}
 use Rattle.gx_script.specs.declared.Script.{Script}
 use Rattle.gx_store.specs.declared.mark.Mark.{Mark}
 use Rattle.gx_store.specs.declared.node.NodeEvent.{NodeEvent}
@@ -14,7 +16,7 @@ use Rattle.gx_coord.specs.Sound.{IsSmall, IsSound}
 use Rattle.gx_coord.specs.Steps.{HasStayed}
 use Rattle.gx_coord.specs.Turns.{IsTurn, so_far}
 use Rattle.gx_coord.specs.declared.coord.Coord.{Coord}
-use Rattle.gx_coord.proofs.Cancelled.{without-item}
+use Rattle.gx_coord.proofs.Cancelled.{item-stays, without-item}
 use Rattle.gx_coord.proofs.Stays.{sent-sound, turn-sound}
 use Rattle.gx_coord.proofs.Turned.{script-same}
 
@@ -41,6 +43,12 @@ step-is old mid new p x fails clock before marks after more outs victims same no
 
     all : rule.CoordTurn → rule.CoordTurn
     all turn = and_cancels_all (victims_at (coord_of old) x) turn
+
+-- the victims' turns leave the journal alone
+pub took-is : (k : Coord) (p : Script) (x : NodeEvent) (fails : Bool) {before after : Shelf} → p ≡ k.script.value → Took before after fails (on_event p (coord_of k) x fails).item → Took before after fails (coord_rule k.script.value (coord_of k) x fails).item
+took-is k p x fails {before = before} {after = after} same took =
+    subst (λ item. Took before after fails item) (sym (item-stays (victims_at (coord_of k) x) (coord_turn k.script.value (coord_of k) x fails)))
+    (subst (λ (s : Script). Took before after fails (on_event s (coord_of k) x fails).item) same took)
 
 pub framed-stayed : (old mid : Coord) → IsFramed old mid → HasStayed old mid
 framed-stayed old mid f = record { script = f.script; places = f.places; count = f.count; links = ap (λ v. length v.items) f.sent; segments = f.segments }

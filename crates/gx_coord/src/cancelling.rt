@@ -11,6 +11,7 @@ ghost use Rattle.gx_coord.specs.Turns.{IsTurn, is_active as is_active_status, so
 
 use crate::coord::Coord;
 use crate::replies::refuse;
+use crate::rounds::last_round;
 use crate::sending::number;
 use gx_dtx::Status;
 use gx_ids::{Gxid, Mem, Seq};
@@ -57,7 +58,8 @@ fn cancel(alloc: Global, coord: &mut Coord, gxid: Gxid, marks: &mut Vec<Mark>) -
     ensures outs { IfOk result (λ outs. outs ≡ (turns.cancels (coord_of coord.old) gxid).outs) }
 {
     if may_cancel(coord, gxid) {
-        refuse(coord, gxid, Refused::Victim(coord.detector.round()), marks)
+        let round = last_round(coord);
+        refuse(coord, gxid, Refused::Victim(round), marks)
     } else {
         Ok(Seq::new(alloc))
     }

@@ -8,7 +8,7 @@ ghost use Rattle.gx_coord.specs.Books.{IsFramed, coord_of};
 ghost use Rattle.gx_coord.specs.Turns.{IsTurn};
 
 use crate::coord::Coord;
-use crate::rounds::awaits_graph;
+use crate::rounds::{awaits_graph, last_round};
 use gx_ids::{Duplicate, Gxid, Mem, Node, Seq};
 use gx_store::Mark;
 use gx_waits::{LocalGraph, Verdict};
@@ -18,7 +18,7 @@ use std::alloc::Global;
 fn is_report(coord: &Coord, from: Node, round: u64, graph: &LocalGraph) -> bool
     ensures { result ≡ rounds.is_report (coord_of coord.now) from round graph.now }
 {
-    graph.node == from && (round == coord.detector.round() && awaits_graph(coord, from))
+    graph.node == from && (round == last_round(coord) && awaits_graph(coord, from))
 }
 
 // The graph is noted; the answer is whether every segment has now reported.
@@ -48,6 +48,13 @@ fn active(coord: &Coord) -> Mem<Vec<Gxid>>
     ensures { IfOk result (λ active. active.items ≡ rounds.active_in coord.now.dtx) }
 {
     coord.dtx.active()
+}
+
+// Who waits for whom at the coordinator.
+pub(crate) fn own_graph(coord: &Coord) -> Mem<LocalGraph>
+    ensures { IfOk result (λ graph. graph ≡ graph_at coord.now.locks) }
+{
+    coord.locks.graph()
 }
 
 // The verdict over the coordinator's own graph and all reports, which ends the round.
@@ -87,8 +94,8 @@ fn recheck(alloc: Global, coord: &mut Coord, marks: &mut Vec<Mark>) -> Mem<Seq<G
     ensures turn { OnOk result (IsTurn coord.old coord.new marks.old.items marks.new.items (rounds.rechecks (coord_of coord.old))) }
     ensures victims { IfOk result (λ victims. victims ≡ rounds.victims_in (rounds.verdict_at (coord_of coord.old))) }
 {
-    let round = coord.detector.round();
-    let own = coord.locks.graph()?;
+    let round = last_round(coord);
+    let own = own_graph(coord)?;
     let verdict = decide(coord, own.copy(alloc)?)?;
     push_recheck(alloc, marks, round, own, &verdict)?;
     Ok(victims_of(alloc, verdict))

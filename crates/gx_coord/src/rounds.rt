@@ -18,6 +18,13 @@ pub(crate) fn can_begin(coord: &Coord) -> bool
     coord.script.detector && coord.detector.idle()
 }
 
+// The number of the last round that began.
+pub(crate) fn last_round(coord: &Coord) -> u64
+    ensures { result ≡ (coord_of coord.now).rounds }
+{
+    coord.detector.round()
+}
+
 // The next round begins, and asks each segment for its graph.
 pub(crate) fn begin_round(script: &Script, coord: &mut Coord) -> Mem<Seq<Out>>
     requires segments { coord.old.detector.segments ≡ script.now.segments }
@@ -43,7 +50,7 @@ pub(crate) fn collect_again(alloc: Global, coord: &Coord, node: Node) -> Mem<Seq
     ensures { IfOk result (λ outs. outs ≡ (turns.resends (coord_of coord.now) node (turns.awaited_collect (coord_of coord.now) node)).outs) }
 {
     if awaits_graph(coord, node) {
-        one_out(alloc, node, Message::Collect(coord.detector.round()))
+        one_out(alloc, node, Message::Collect(last_round(coord)))
     } else {
         Ok(Seq::new(alloc))
     }

@@ -1,6 +1,5 @@
 //! Laws of every run, whatever the network loses, repeats, delays and reorders, and whichever appends fail.
 ghost use Rattle.std.specs.Prelude.{◌≡◌, ◌≤◌, Bool, List, []};
-ghost use Rattle.gx_law_answers.specs.Cancelled.{AreVictimsCancelled};
 ghost use Rattle.gx_law_answers.specs.Earned.{AreAnswersEarned};
 ghost use Rattle.gx_store.specs.Whole.{AreInsertsWhole};
 ghost use Rattle.gx_meaning.specs.Answer.{ArePartsOf, answer_of};
@@ -45,16 +44,15 @@ pub fn segments_marks_are_legal()
 {}
 
 /// Every run is a legal history of one store without segments, whatever the network does and whichever appends fail: for scripts
-/// whose INSERTs have tuples, each with a value for the distribution column, which no UPDATE sets; and once it is shown that whoever a
-/// recheck names is cancelled in its step.
+/// whose INSERTs have tuples, each with a value for the distribution column, which no UPDATE sets.
 pub fn every_run_is_a_legal_history()
     ensures { (script : Script) (events : List (OneEvent × Bool)) → 1 ≤ script.segments → AreLinesNumbered [] script.lines → AreInsertsWhole script.tables script.lines
-        → AreVictimsCancelled script → IsLegalHistory script (run_of (world_of script events)) }
+        → IsLegalHistory script (run_of (world_of script events)) }
 {}
 
-/// So is every run of the system of nodes, once the same is shown.
+/// So is every run of the system of nodes.
 pub fn every_system_run_is_a_legal_history()
-    ensures { (script : Script) (run : OneRun) → 1 ≤ script.segments → AreLinesNumbered [] script.lines → AreInsertsWhole script.tables script.lines → AreVictimsCancelled script
+    ensures { (script : Script) (run : OneRun) → 1 ≤ script.segments → AreLinesNumbered [] script.lines → AreInsertsWhole script.tables script.lines
         → IsSystemRun script run → IsLegalHistory script run }
 {}
 

@@ -112,14 +112,14 @@ module _ (before : List Mark) (edges : List PlacedEdge) (blocked : IsBlocked bef
   stands : (e : PlacedEdge) → Has e edges → Stands (waits_at before e.node) (holds_at before e.node) e.edge
   stands e h = stands-of (waits_at before e.node) (holds_at before e.node) e.edge (each_from_all (StandsAt before) edges blocked.standing e h)
 
-  active : (e : PlacedEdge) → Has e edges → (is_active before e.edge.waiter ≡ true) × (is_active before e.edge.holder ≡ true)
+  pub active : (e : PlacedEdge) → Has e edges → (is_active before e.edge.waiter ≡ true) × (is_active before e.edge.holder ≡ true)
   active e h = each_from_all (λ placed. (is_active before placed.edge.waiter ≡ true) × (is_active before placed.edge.holder ≡ true)) edges blocked.active e h
 
   -- who is named waits somewhere
-  waiter : (e : PlacedEdge) → Has e edges → is_waiting before e.node e.edge.waiter ≡ true
+  pub waiter : (e : PlacedEdge) → Has e edges → is_waiting before e.node e.edge.waiter ≡ true
   waiter e h = waiter-waits before e.node e.edge (stands e h)
 
-  holder : (e : PlacedEdge) → Has e edges → (node : Node) × (is_waiting before node e.edge.holder ≡ true)
+  pub holder : (e : PlacedEdge) → Has e edges → (node : Node) × (is_waiting before node e.edge.holder ≡ true)
   holder e h =
       let f = has_from_any (λ f. f.edge.waiter ≡ e.edge.holder) edges (each_from_all (λ x. Waits edges x.edge.holder) edges blocked.closed.holders_wait e h) in
       (f.0.node, subst (λ g. is_waiting before f.0.node g ≡ true) f.2 (waiter f.0 f.1))

@@ -26,7 +26,6 @@ use Rattle.gx_script.specs.declared.state.Pending.TheVariants as pending
 use Rattle.gx_store.proofs.Exclusive.{holds_from-append}
 use Rattle.gx_store.proofs.Marks.{is_snapped-append}
 use Rattle.gx_store.proofs.Runs.{marks_in-push, starts_in-push}
-use Rattle.gx_store.specs.Journals.{is_same_node}
 use Rattle.gx_store.specs.Lines.{BlockState, Failed, InBlock, Outside, cid_of, state_of, stmt_of, transaction_of}
 use Rattle.gx_store.specs.Locks.{HasGoneOut, LocksWhileReading}
 use Rattle.gx_store.specs.Marks.{answer_count, is_begun, is_same_session, is_snapped, started_after}
@@ -558,7 +557,7 @@ module _ (script : Script) (some : 1 ≤ script.segments) where
             other-held w met e next next_met _ marks-are starts-are k [] (coord_turn script w.coord x fails).marks g d.line (Home g) refl (λ s home. subst (λ j. is_same_session j k ≡ false) (sym home) q) (still-held w met e k [] (none k) tt tt tt) body xs ys split
 
     -- the session whose line starts
-    module _ (s : SessionId) (is : x ≡ here.Start s) (idle : is_nothing (session_of w.coord s).state.pending ≡ true) (asked : Stmt) (next : next_line script w.coord s ≡ Some asked) where
+    module _ (s : SessionId) (is : x ≡ here.Start s) (idle : is_nothing (session_of w.coord s).state.pending ≡ true) (asked : Stmt) (is_next : next_line script w.coord s ≡ Some asked) where
       abbrev own_txn : Gxid
       own_txn = (session_of w.coord s).transaction
 
@@ -569,7 +568,7 @@ module _ (script : Script) (some : 1 ≤ script.segments) where
       counts = idle-counts script s (marks_in w.steps) w.coord.table.next.0 (session_of w.coord s).state.block (session_of w.coord s).state.pending (session_of w.coord s).lines own_txn (work_of w.coord own_txn) _ idle (stands.stands)
 
       line-is : (ms : List Mark) (line : Stmt) → answer_count s ms ≡ answer_count s (marks_in w.steps) → stmt_of s (answer_count s ms + 1) script.lines ≡ Some line → line ≡ asked
-      line-is ms line same l = some-same line asked (sym l ∙ ap (λ i. stmt_of s (i + 1) script.lines) (same ∙ counts) ∙ next)
+      line-is ms line same l = some-same line asked (sym l ∙ ap (λ i. stmt_of s (i + 1) script.lines) (same ∙ counts) ∙ is_next)
 
       -- before all marks
       first-says : Says w met e s [] own_txn asked
@@ -579,7 +578,7 @@ module _ (script : Script) (some : 1 ≤ script.segments) where
           run = subst (λ m. Runs script s m (starts_in s w.steps + starts_by s e) line g c) (append-nil (marks_in w.steps)) r
 
           in-block : IsInBlock (marks_in w.steps) (session_of w.coord s).state.block own_txn (work_of w.coord own_txn) g c
-          in-block = idle-block script s (marks_in w.steps) w.coord.table.next.0 (session_of w.coord s).state.block (session_of w.coord s).state.pending (session_of w.coord s).lines own_txn (work_of w.coord own_txn) _ _ asked line g c idle next stands.stands run
+          in-block = idle-block script s (marks_in w.steps) w.coord.table.next.0 (session_of w.coord s).state.block (session_of w.coord s).state.pending (session_of w.coord s).lines own_txn (work_of w.coord own_txn) _ _ asked line g c idle is_next stands.stands run
 
           live : stage_of w.coord g.0 ≡ Live
           live = subst (λ (j : Gxid). stage_of w.coord j.0 ≡ Live) (sym in-block.txn) ((met.knows.kept.placed s.0).free in-block.stands (nothing-in (session_of w.coord s).state.pending idle))

@@ -1,20 +1,18 @@
 -- Whom the steps ask for their graphs, and which rounds they end.
-use Rattle.std.proofs.Common.{◌≡◌, ◌≤◌, ◌<◌, ℕ, zero, suc, ◌+◌, List, [], ◌∷◌, ◌++◌, Option, Some, None, Bool, true, false, not, refl, sym, subst, ap, ◌∙◌, if◌then◌else◌, ◌==◌, ◌&&◌, arith, append-nil}
-use Rattle.std.proofs.lemmas.Bool.{and_parts, eqb-true}
-use Rattle.std.proofs.lemmas.Bool.Decides.{nat_tests}
+use Rattle.std.proofs.Common.{◌≡◌, ◌≤◌, ◌<◌, ℕ, zero, suc, ◌+◌, List, [], ◌∷◌, ◌++◌, Option, Some, None, Bool, true, false, refl, sym, subst, ap, ◌∙◌, if◌then◌else◌, ◌==◌, ◌&&◌, arith, append-nil}
+use Rattle.std.proofs.lemmas.Bool.{and_parts}
 use Rattle.std.specs.List.{list_all, range_with_len}
 use Rattle.std.specs.Prelude.{is_none, is_some, map}
 use Rattle.gx_ids.specs.declared.ids.Gxid.{Gxid}
 use Rattle.gx_ids.specs.declared.ids.Node.{Node}
-use Rattle.gx_detect.specs.Rounds.{are_all, collects}
+use Rattle.gx_detect.specs.Rounds.{are_all, lacks}
+use Rattle.gx_detect.specs.Reports.{lacks_from}
 use Rattle.gx_meaning.specs.Plan.{nodes_from}
-use Rattle.gx_msg.specs.declared.message.Envelope.{Envelope}
 use Rattle.gx_msg.specs.declared.message.Message.{Message}
 use Rattle.gx_msg.specs.declared.message.Message.TheVariants as message
 use Rattle.gx_msg.specs.declared.message.Out.{Out}
 use Rattle.gx_script.specs.declared.Script.{Script}
 use Rattle.gx_store.specs.declared.event.Event.{Event}
-use Rattle.gx_store.specs.declared.event.Event.TheVariants as event
 use Rattle.gx_store.specs.declared.mark.Mark.{Mark}
 use Rattle.gx_store.specs.declared.mark.Mark.TheVariants as mark
 use Rattle.gx_store.specs.declared.node.NodeEvent.{NodeEvent}
@@ -23,15 +21,13 @@ use Rattle.gx_store.specs.declared.run.Step.{Step}
 use Rattle.gx_store.specs.Ordered.{IsSegment}
 use Rattle.gx_store.specs.Refusals.{the_coordinator}
 use Rattle.gx_store.specs.Rounds.{Asks, Ends, collects_in, is_complete_behind, rechecks_in}
-use Rattle.gx_store.specs.Schedule.{is_graph_awaited, is_graph_received, is_round_running, round_count, segments_of}
+use Rattle.gx_store.specs.Schedule.{is_graph_received, round_count, segments_of}
 use Rattle.gx_waits.specs.declared.graph.LocalGraph.{LocalGraph}
-use Rattle.gx_rules.specs.AtCoordinator.{and_cancels, and_cancels_all, awaited_collect, cancel_turn, cancels, coord_can, coord_rule, coord_sends, coord_turn, on_event, resends}
-use Rattle.gx_rules.specs.AtSegment as segment
-use Rattle.gx_rules.specs.AtSegment.{on_collect, reports, reports_again, seg_rule, seg_sends}
+use Rattle.gx_rules.specs.AtCoordinator.{and_cancels, and_cancels_all, awaited_collect, cancel_turn, cancels, coord_can, coord_rule, coord_sends, coord_turn, resends}
+use Rattle.gx_rules.specs.AtSegment.{reports, seg_rule, seg_sends}
 use Rattle.gx_rules.specs.Coordinators.{Coord, CoordTurn, rests}
 use Rattle.gx_rules.specs.Machine.{World, seg_can, world_of}
-use Rattle.gx_rules.specs.Rounds.{awaits_graph, begins_round, is_report, lacks, lacks_from, noted_in, on_graph, once_all, rechecks, victims_at, with_report}
-use Rattle.gx_rules.specs.Segments.{Seg, SegTurn}
+use Rattle.gx_rules.specs.Rounds.{awaits_graph, begins_round, is_report, noted_in, on_graph, once_all, rechecks, victims_at, with_report}
 use Rattle.gx_rules.specs.Sending.{clock_after, counted, numbered}
 use Rattle.gx_rules.proofs.Rounds.{collect-ways, graph-ways}
 use Rattle.gx_rules.proofs.Turns.{cancels_all-each}
@@ -42,7 +38,6 @@ use Rattle.gx_law_order.proofs.Sent.{at}
 use Rattle.gx_law_rounds.specs.Held.{first_graph}
 use Rattle.gx_law_rounds.specs.Steps.{EachStep, StepAsks}
 use Rattle.gx_law_rounds.proofs.AtCoordinators.{AreWorksOfOne, HearsNone, IsQuiet, cancel-quiet, coord-ways}
-use Rattle.gx_law_rounds.proofs.AtSegments as segments
 use Rattle.gx_law_rounds.proofs.AtSegments.{seg-ways}
 use Rattle.gx_law_rounds.proofs.Heard.{Brings, fits, not-taken, same-count, taken}
 use Rattle.gx_law_rounds.proofs.Places.{all-is, lacks-within}
@@ -353,10 +348,10 @@ module _ (script : Script) (some : 1 ≤ script.segments) (w : World) (good : We
 module _ (script : Script) (some : 1 ≤ script.segments) where
   pub world-asks : (es : List (Event × Bool)) → EachStep (StepAsks script) [] (world_of script es).steps
   world-asks =
-      at-steps script some (λ w. Unit {0}) (λ es. tt) (StepAsks script) (λ w good r k e x fails t ok. coord-asks script some w good r e x fails t ok)
+      at-steps script some (λ w. Unit {0}) (λ es. tt) (StepAsks script) (λ w good r k e x fails t ok ordered. coord-asks script some w good r e x fails t ok)
       (λ w good r k e x fails i place t ok. seg-asks script some w good r e x fails i place t ok)
 
   pub world-ends : (es : List (Event × Bool)) → EachStep (Ends script) [] (world_of script es).steps
   world-ends =
-      at-steps script some (λ w. Unit {0}) (λ es. tt) (Ends script) (λ w good r k e x fails t ok. coord-ends script some w good r e x fails t ok)
+      at-steps script some (λ w. Unit {0}) (λ es. tt) (Ends script) (λ w good r k e x fails t ok ordered. coord-ends script some w good r e x fails t ok)
       (λ w good r k e x fails i place t ok. seg-ends script some w good r e x fails i place t ok)

@@ -1,6 +1,6 @@
 -- What the coordinator's rule leaves of rounds: all but a graph, a round's beginning and its requests sent again changes nothing that
 -- is held of them.
-use Rattle.std.proofs.Common.{◌≡◌, ℕ, List, [], ◌∷◌, ◌++◌, Option, Some, None, Result, Ok, Err, Bool, true, false, refl, sym, subst, if◌then◌else◌, ◌==◌, ◌&&◌, eqb}
+use Rattle.std.proofs.Common.{◌≡◌, ℕ, List, [], ◌∷◌, Option, Some, None, Result, Ok, Err, Bool, true, false, refl, sym, subst, if◌then◌else◌, ◌==◌, ◌&&◌, eqb}
 use Rattle.gx_ids.specs.declared.ids.Cid.{Cid}
 use Rattle.gx_ids.specs.declared.ids.Gxid.{Gxid}
 use Rattle.gx_ids.specs.declared.ids.Node.{Node}
@@ -45,14 +45,14 @@ use Rattle.gx_store.specs.Writes.{dist_of}
 use Rattle.gx_locks.specs.Locks.{Locks, is_free, resumed, wait_of}
 use Rattle.gx_waits.specs.declared.claim.Claim.{Claim}
 use Rattle.gx_waits.specs.declared.graph.LocalGraph.{LocalGraph}
-use Rattle.gx_rules.specs.AtCoordinator.{answer_mark, answers, answers_at_once, awaited, awaited_collect, begins, behind, cancels, command_order, commits, completes, dispatches, ends_in, failure_marks, fault_mark, follows, goes, goes_on, goes_on_locked, goes_out, if_granted, is_awaited, is_committed, is_refused, lock_for, next_cid, on_answer, on_done, on_event, on_failed, on_line, on_message, on_status, order_of, order_to, orders_of, reads_by, reads_for, reason_of, requests, resends, resumes, rolls_back, starts, starts_line, status_order, table_of, takes_done, takes_snapshot, unless_kept, waits_for, Reading}
-use Rattle.gx_rules.specs.Coordinators.{Command, Coord, CoordTurn, Work, new_work, no_work, rests, session_of, with_session, with_state, with_work, work_of}
+use Rattle.gx_rules.specs.AtCoordinator.{answer_mark, answers, answers_at_once, awaited_collect, begins, behind, cancels, command_order, commits, completes, dispatches, ends_in, failure_marks, fault_mark, follows, goes, goes_on, goes_on_locked, if_granted, is_awaited, is_committed, is_refused, lock_for, next_cid, on_answer, on_done, on_event, on_failed, on_line, on_message, on_status, order_to, orders_of, reads_by, reads_for, reason_of, requests, resends, resumes, rolls_back, starts, starts_line, status_order, table_of, takes_done, Reading}
+use Rattle.gx_rules.specs.Coordinators.{Command, Coord, CoordTurn, Work, new_work, no_work, rests, session_of, with_state, with_work, work_of}
 use Rattle.gx_rules.specs.Fits.{fits_part}
-use Rattle.gx_rules.specs.Locks.{hold_mark, release_marks, released, with_hold}
+use Rattle.gx_rules.specs.Locks.{hold_mark, release_marks, with_hold}
 use Rattle.gx_rules.specs.Maps.{with_at}
 use Rattle.gx_rules.specs.Rounds.{begins_round, on_graph}
 use Rattle.gx_rules.proofs.Rounds.{cancel-ways}
-use Rattle.gx_law_order.proofs.Lists.{Each, each_append, each_map}
+use Rattle.gx_law_order.proofs.Lists.{Each, each_append}
 use Rattle.gx_law_order.proofs.Releases.{each-released}
 use Rattle.gx_law_rounds.proofs.Calls.{abort-own, commit-own, reply-own}
 use Rattle.gx_law_rounds.proofs.Silent.{AreOfOne, OfOne, Silent, order-of-one}

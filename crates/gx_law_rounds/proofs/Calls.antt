@@ -1,19 +1,18 @@
 -- What a transaction's calls send is of that transaction.
-use Rattle.std.proofs.Common.{ℕ, List, [], ◌∷◌, Option, Some, None, Bool, true, false, if◌then◌else◌, ◌==◌}
+use Rattle.std.proofs.Common.{List, [], ◌∷◌, Option, Some, None, Bool, true, false, if◌then◌else◌}
 use Rattle.gx_ids.specs.declared.ids.Gxid.{Gxid}
 use Rattle.gx_ids.specs.declared.ids.Node.{Node}
 use Rattle.gx_dtx.specs.Nodes.{to_each, without}
 use Rattle.gx_dtx.specs.declared.change.Change.{Change}
-use Rattle.gx_dtx.specs.Rules.{abort_found, aborts, commit_found, commits, decides, ends_committed, finishes, forgets, gives_up, is_awaited, on_abort, on_commit, on_reply, prepares, refuses, reply_found, stays, takes}
+use Rattle.gx_dtx.specs.Rules.{abort_found, aborts, commit_found, commits, ends_committed, finishes, forgets, gives_up, is_awaited, on_abort, on_commit, on_reply, prepares, refuses, reply_found, stays, takes}
 use Rattle.gx_dtx.specs.Table.{Table, find_txn}
 use Rattle.gx_dtx.specs.declared.phase.Phase.{Phase}
-use Rattle.gx_dtx.specs.declared.phase.Phase.TheVariants.{Active, Preparing, CommittingOne, CommittingTwo, Ended, Aborting}
+use Rattle.gx_dtx.specs.declared.phase.Phase.TheVariants.{Preparing, CommittingOne, CommittingTwo, Ended, Aborting}
 use Rattle.gx_dtx.specs.declared.txn.Txn.{Txn}
 use Rattle.gx_msg.specs.declared.message.Message.{Message}
 use Rattle.gx_msg.specs.declared.message.Message.TheVariants as message
 use Rattle.gx_msg.specs.declared.reply.Reply.{Reply}
 use Rattle.gx_msg.specs.declared.reply.Reply.TheVariants as reply
-use Rattle.gx_law_order.proofs.Lists.{each_map}
 use Rattle.gx_law_rounds.proofs.Silent.{AreOfOne, OfOne}
 
 abbrev Own : Change → Type 0

@@ -20,8 +20,8 @@ use Rattle.gx_store.specs.declared.mark.Mark.{Mark}
 use Rattle.gx_store.specs.declared.mark.Mark.TheVariants as mark
 use Rattle.gx_store.specs.declared.run.Step.{Step}
 use Rattle.gx_store.specs.Journals.{is_same_node}
-use Rattle.gx_store.specs.Messages.{IsSending, IsSent, Receives, ReceivesAt}
-use Rattle.gx_store.specs.Ordered.{AreOrdered, IsDelivery, IsEventAt, IsLink, IsOrderedStep}
+use Rattle.gx_store.specs.Messages.{IsSent, Receives, ReceivesAt}
+use Rattle.gx_store.specs.Ordered.{AreOrdered, IsEventAt, IsLink, IsOrderedStep}
 use Rattle.gx_store.specs.Points.{Point}
 use Rattle.gx_store.specs.Refusals.{the_coordinator}
 use Rattle.gx_store.specs.Rounds.{AreReportsOf, IsReportOf}
@@ -45,7 +45,7 @@ module _ (segment : Node) (round : ℕ) where
 
   found-at : (before ss : List Step) (graph : LocalGraph) → first_graph before segment round ss ≡ Some graph → FoundAt before ss graph
   found-at before [] graph e = absurd (cc)
-  found-at before (s ∷ ss) graph e = by_here (graph_by before segment round s.event) refl e
+  found-at before (s ∷ ss) graph e = by_here (graph_by before segment round s.event) refl e (λ q. found-at (before ++ s ∷ []) ss graph q)
     where
       never : (k : ℕ) → k < 0 → ⊥
       never k h = omega arith
@@ -56,10 +56,11 @@ module _ (segment : Node) (round : ℕ) where
       here : (x : Step) (o : Option LocalGraph) → s ≡ x → graph_by before segment round s.event ≡ o → graph_by (before ++ []) segment round x.event ≡ o
       here x o same f = ap (λ q. graph_by q segment round x.event) (append-nil before) ∙ ap (λ (y : Step). graph_by before segment round y.event) (sym same) ∙ f
 
-      by_here : (o : Option LocalGraph) → graph_by before segment round s.event ≡ o → option_or o (first_graph (before ++ s ∷ []) segment round ss) ≡ Some graph → FoundAt before (s ∷ ss) graph
-      by_here (Some g) f e = record { place = 0; step = s; at = refl; by = here s (Some graph) refl (f ∙ e); none = λ k x q h. absurd (never k h) }
-      by_here None f e =
-          let r = found-at (before ++ s ∷ []) ss graph e in
+      by_here : (o : Option LocalGraph) → graph_by before segment round s.event ≡ o → option_or o (first_graph (before ++ s ∷ []) segment round ss) ≡ Some graph
+          → (first_graph (before ++ s ∷ []) segment round ss ≡ Some graph → FoundAt (before ++ s ∷ []) ss graph) → FoundAt before (s ∷ ss) graph
+      by_here (Some g) f e rest = record { place = 0; step = s; at = refl; by = here s (Some graph) refl (f ∙ e); none = λ k x q h. absurd (never k h) }
+      by_here None f e rest =
+          let r = rest e in
           record {
             place = suc r.place;
             step = r.step;
@@ -91,28 +92,28 @@ record IsInMarks (to : Node) (number : ℕ) (m : Message) (ms : List Mark) : Typ
 
 marks-hold : (to : Node) (number : ℕ) (m : Message) (ms : List Mark) → message_in to number ms ≡ Some m → IsInMarks to number m ms
 marks-hold to number m [] e = absurd (cc)
-marks-hold to number m (mark.Sent t k told ∷ ms) e = by_test (is_same_node t to && (k == number)) refl e
+marks-hold to number m (mark.Sent t k told ∷ ms) e = by_test (is_same_node t to && (k == number)) refl e (λ q. marks-hold to number m ms q)
   where
-    by_test : (b : Bool) → (is_same_node t to && (k == number)) ≡ b → (if b then Some told else message_in to number ms) ≡ Some m → IsInMarks to number m (mark.Sent t k told ∷ ms)
-    by_test true f e =
+    by_test : (b : Bool) → (is_same_node t to && (k == number)) ≡ b → (if b then Some told else message_in to number ms) ≡ Some m
+        → (message_in to number ms ≡ Some m → IsInMarks to number m ms) → IsInMarks to number m (mark.Sent t k told ∷ ms)
+    by_test true f e rest =
         let z = and_parts (is_same_node t to) (k == number) f in
         record {
           place = 0;
           at = ap (λ n. Some (mark.Sent n k told)) (same_node t to z.0) ∙ ap (λ n. Some (mark.Sent to n told)) (eqb-true k number z.1) ∙ ap (λ x. Some (mark.Sent to number x)) (some-same told m e);
         }
-    by_test false f e = let r = marks-hold to number m ms e in record { place = suc r.place; at = r.at }
+    by_test false f e rest = let r = rest e in record { place = suc r.place; at = r.at }
 marks-hold to number m (x ∷ ms) e = let r = marks-hold to number m ms e in record { place = suc r.place; at = r.at }
 
 steps-hold : (from to : Node) (number : ℕ) (m : Message) (ss : List Step) → sent_message from to number ss ≡ Some m → IsSent ss from to number m
 steps-hold from to number m [] e = absurd (cc)
-steps-hold from to number m (s ∷ ss) e = by_node (is_same_node s.stamp.node from) refl (message_in to number s.marks) refl
+steps-hold from to number m (s ∷ ss) e = by_node (is_same_node s.stamp.node from) refl (message_in to number s.marks) refl (λ q. steps-hold from to number m ss q)
   where
     here : (o : Option Message) → is_same_node s.stamp.node from ≡ true → message_in to number s.marks ≡ Some m → IsSent (s ∷ ss) from to number m
     here o q f = let r = marks-hold to number m s.marks f in record { step = 0; mark = r.place; sending = record { sender = s; at = refl; node = same_node s.stamp.node from q; sent = r.at } }
 
-    further : sent_message from to number ss ≡ Some m → IsSent (s ∷ ss) from to number m
-    further f =
-        let r = steps-hold from to number m ss f in
+    further : IsSent ss from to number m → IsSent (s ∷ ss) from to number m
+    further r =
         record { step = suc r.step; mark = r.mark; sending = record { sender = r.sending.sender; at = r.sending.at; node = r.sending.node; sent = r.sending.sent } }
 
     own-first : (x : Message) → is_same_node s.stamp.node from ≡ true → message_in to number s.marks ≡ Some x → x ≡ m
@@ -124,10 +125,10 @@ steps-hold from to number m (s ∷ ss) e = by_node (is_same_node s.stamp.node fr
     other-later : is_same_node s.stamp.node from ≡ false → sent_message from to number ss ≡ Some m
     other-later q = grind (arith, nat_tests, e)
 
-    by_node : (b : Bool) → is_same_node s.stamp.node from ≡ b → (o : Option Message) → message_in to number s.marks ≡ o → IsSent (s ∷ ss) from to number m
-    by_node true q (Some x) f = here (Some x) q (f ∙ ap Some (own-first x q f))
-    by_node true q None f = further (own-later q f)
-    by_node false q o f = further (other-later q)
+    by_node : (b : Bool) → is_same_node s.stamp.node from ≡ b → (o : Option Message) → message_in to number s.marks ≡ o → (sent_message from to number ss ≡ Some m → IsSent ss from to number m) → IsSent (s ∷ ss) from to number m
+    by_node true q (Some x) f rest = here (Some x) q (f ∙ ap Some (own-first x q f))
+    by_node true q None f rest = further (rest (own-later q f))
+    by_node false q o f rest = further (rest (other-later q))
 
 -- THE RECEIPT
 module _ (script : Script) (all : List Step) (ordered : AreOrdered script [] all) (segment : Node) (one : 1 ≤ segment.0) (round : ℕ) where
@@ -224,7 +225,7 @@ module _ (script : Script) (point : Point) (s : Step) (is : s.event ≡ point.ev
           inr (
             e.0,
             subst (λ x. Receives point.steps x segment the_coordinator (Told graph)) (ap (λ (y : Step). y.event) (sym e.1) ∙ is)
-            (subst (λ q. Receives q r.step.event segment the_coordinator (Told graph)) (seam r.place e.0) received),
+                (subst (λ q. Receives q r.step.event segment the_coordinator (Told graph)) (seam r.place e.0) received),
           )
 
   not-before : (graph : LocalGraph) (r : FoundAt segment round [] all graph) (k : ℕ) (other : LocalGraph) → ReceivesAt point k segment the_coordinator (Told other) → k < r.place → ⊥
@@ -267,7 +268,7 @@ module _ (f : Node → Option LocalGraph) where
 
   each-there : (k n : ℕ) → list_all is_some (map f (nodes_from k n)) ≡ true → (i : ℕ) (graph : LocalGraph) → slice_get (filter_map (λ report. report) (map f (nodes_from k n))) i ≡ Some graph → f (at (k + i)) ≡ Some graph
   each-there k zero e i graph q = absurd (cc)
-  each-there k (suc n) e i graph q = by_first (f (at k)) refl e i q
+  each-there k (suc n) e i graph q = by_first (f (at k)) refl e i q (λ a j g. each-there (k + 1) n a j graph g)
     where
       first : (k : ℕ) → k ≡ k + 0
       first k = omega arith
@@ -275,10 +276,11 @@ module _ (f : Node → Option LocalGraph) where
       next : (k i : ℕ) → k + 1 + i ≡ k + suc i
       next k i = omega arith
 
-      by_first : (o : Option LocalGraph) → f (at k) ≡ o → (is_some o && list_all is_some (map f (nodes_from (k + 1) n))) ≡ true → (i : ℕ) → slice_get (filter_map (λ report. report) (o ∷ map f (nodes_from (k + 1) n))) i ≡ Some graph → f (at (k + i)) ≡ Some graph
-      by_first None h e i q = absurd (cc)
-      by_first (Some x) h e zero q = ap (λ j. f (at j)) (sym (first k)) ∙ h ∙ q
-      by_first (Some x) h e (suc i) q = ap (λ j. f (at j)) (sym (next k i)) ∙ each-there (k + 1) n e i graph q
+      by_first : (o : Option LocalGraph) → f (at k) ≡ o → (is_some o && list_all is_some (map f (nodes_from (k + 1) n))) ≡ true → (i : ℕ) → slice_get (filter_map (λ report. report) (o ∷ map f (nodes_from (k + 1) n))) i ≡ Some graph
+          → (list_all is_some (map f (nodes_from (k + 1) n)) ≡ true → (i : ℕ) → slice_get (filter_map (λ report. report) (map f (nodes_from (k + 1) n))) i ≡ Some graph → f (at (k + 1 + i)) ≡ Some graph) → f (at (k + i)) ≡ Some graph
+      by_first None h e i q later = absurd (cc)
+      by_first (Some x) h e zero q later = ap (λ j. f (at j)) (sym (first k)) ∙ h ∙ q
+      by_first (Some x) h e (suc i) q later = ap (λ j. f (at j)) (sym (next k i)) ∙ later e i q
 
 pub reports-of : (script : Script) (point : Point) (s : Step) → s.event ≡ point.event → AreOrdered script [] (point.steps ++ s ∷ []) → (round : ℕ) (reports : List (Option LocalGraph))
     → reports ≡ map (λ i. first_graph [] i round (point.steps ++ s ∷ [])) (nodes_from 1 script.segments) → list_all is_some reports ≡ true → AreReportsOf script point round (filter_map (λ report. report) reports)

@@ -1,19 +1,16 @@
 -- A graph that comes to the coordinator: it changes the first graphs as it changes the reports.
-use Rattle.std.proofs.Common.{◌≡◌, ◌≤◌, ◌<◌, ℕ, ◌+◌, List, [], ◌∷◌, ◌++◌, Option, Some, None, Bool, true, false, refl, sym, subst, ap, ◌∙◌, if◌then◌else◌, cond, ◌==◌, ◌&&◌, arith}
-use Rattle.std.proofs.lemmas.Bool.{and_parts, eqb-true}
+use Rattle.std.proofs.Common.{◌≡◌, ◌≤◌, ◌<◌, ℕ, ◌+◌, List, [], ◌∷◌, ◌++◌, Option, Some, None, Bool, true, false, refl, sym, ap, ◌∙◌, if◌then◌else◌, ◌==◌, ◌&&◌, arith}
+use Rattle.std.proofs.lemmas.Bool.{and_parts}
 use Rattle.std.proofs.lemmas.Bool.Decides.{nat_tests}
 use Rattle.std.specs.Option.{option_or}
 use Rattle.std.specs.Prelude.{map, unwrap_or}
 use Rattle.gx_ids.specs.declared.ids.Node.{Node}
-use Rattle.gx_detect.specs.Reports.{noted}
-use Rattle.gx_detect.specs.Rounds.{are_all}
+use Rattle.gx_detect.specs.Reports.{lacks_from, noted}
+use Rattle.gx_detect.specs.Rounds.{are_all, lacks}
 use Rattle.gx_meaning.specs.Plan.{nodes_from}
-use Rattle.gx_msg.specs.declared.message.Message.{Message}
-use Rattle.gx_msg.specs.declared.message.Message.TheVariants as message
 use Rattle.gx_script.specs.declared.Script.{Script}
 use Rattle.gx_store.specs.declared.event.Event.{Event}
 use Rattle.gx_store.specs.declared.mark.Mark.{Mark}
-use Rattle.gx_store.specs.declared.mark.Mark.TheVariants as mark
 use Rattle.gx_store.specs.declared.run.Step.{Step}
 use Rattle.gx_store.specs.Journals.{is_same_node}
 use Rattle.gx_store.specs.Points.{marks_in}
@@ -22,14 +19,12 @@ use Rattle.gx_waits.specs.declared.graph.LocalGraph.{LocalGraph}
 use Rattle.gx_rules.specs.AtCoordinator.{coord_sends}
 use Rattle.gx_rules.specs.Coordinators.{Coord, CoordTurn, rests}
 use Rattle.gx_rules.specs.Machine.{World}
-use Rattle.gx_rules.specs.Rounds.{awaits_graph, is_report, lacks, lacks_from, noted_in, on_graph, once_all, rechecks, with_report}
-use Rattle.gx_law_order.proofs.More.{marks-last}
+use Rattle.gx_rules.specs.Rounds.{awaits_graph, is_report, noted_in, on_graph, once_all, rechecks, with_report}
 use Rattle.gx_law_order.proofs.Sent.{at}
 use Rattle.gx_law_rounds.specs.Held.{first_graph, graph_by}
 use Rattle.gx_law_rounds.proofs.Places.{lacks-none, map-same, noted-is, with_first}
 use Rattle.gx_law_rounds.proofs.Rounded.{AreFirst, CoordMade, IsRunning, Rounded, first_now, running}
-use Rattle.gx_law_rounds.proofs.Silent.{NoRecheck}
-use Rattle.gx_law_rounds.proofs.Steps.{bit, first-last, none-ends, rechecks-more, rechecks_of, rounds-last}
+use Rattle.gx_law_rounds.proofs.Steps.{bit, first-last, rechecks-more, rechecks_of, rounds-last}
 
 -- the event brings this graph from the segment
 pub record Brings (w : World) (e : Event) (from : Node) (round : ℕ) (graph : LocalGraph) : Type 0 where

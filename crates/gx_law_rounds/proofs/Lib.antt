@@ -13,3 +13,11 @@ pub mod Asking
 pub mod Reporting
 pub mod Reports
 pub mod Firsts
+pub mod Starts
+pub mod Closing
+pub mod Asked
+pub mod Told
+pub mod Listed
+pub mod Active
+pub mod Rechecks
+pub mod Whole

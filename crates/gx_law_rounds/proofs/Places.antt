@@ -1,13 +1,13 @@
 -- The coordinator's places for reports, as a function of the segments.
-use Rattle.std.proofs.Common.{◌≡◌, ◌≤◌, ◌<◌, ℕ, zero, suc, ◌+◌, List, [], ◌∷◌, Option, Some, None, Bool, true, false, refl, sym, subst, ap, ◌∙◌, if◌then◌else◌, cond, ◌==◌, ◌&&◌, arith, eqb}
-use Rattle.std.proofs.lemmas.Bool.{eq-eqb, eqb-true}
+use Rattle.std.proofs.Common.{◌≡◌, ◌≤◌, ◌<◌, ℕ, zero, suc, ◌+◌, ◌∷◌, Option, Some, None, Bool, true, false, refl, sym, ap, ◌∙◌, if◌then◌else◌, ◌==◌, ◌&&◌, arith}
+use Rattle.std.proofs.lemmas.Bool.{eqb-true}
 use Rattle.std.proofs.lemmas.Bool.Decides.{nat_tests}
 use Rattle.std.specs.List.{list_all}
 use Rattle.std.specs.Prelude.{is_none, is_some, map, replicate, unwrap_or}
 use Rattle.gx_ids.specs.declared.ids.Node.{Node}
 use Rattle.gx_detect.specs.Reports.{noted_from}
 use Rattle.gx_meaning.specs.Plan.{nodes_from}
-use Rattle.gx_rules.specs.Rounds.{lacks_from}
+use Rattle.gx_detect.specs.Reports.{lacks_from}
 use Rattle.gx_waits.specs.declared.graph.LocalGraph.{LocalGraph}
 use Rattle.gx_law_order.proofs.Sent.{at}
 

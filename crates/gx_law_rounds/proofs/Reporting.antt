@@ -1,14 +1,10 @@
 -- What segments report: each graph is taken where it is asked for, once a round, and sent as it was noted.
-use Rattle.std.proofs.Common.{◌≡◌, ◌≤◌, ◌<◌, ℕ, ◌+◌, List, [], ◌∷◌, ◌++◌, Option, Some, None, Bool, true, false, refl, sym, subst, ap, ◌∙◌, if◌then◌else◌, ◌==◌, ◌&&◌, nat_lt, arith, append-nil}
+use Rattle.std.proofs.Common.{◌≡◌, ◌≤◌, ℕ, ◌+◌, List, [], ◌∷◌, ◌++◌, Some, None, Bool, true, false, sym, ap, ◌∙◌, if◌then◌else◌, ◌==◌, ◌&&◌}
 use Rattle.std.proofs.lemmas.Bool.{eqb-true}
-use Rattle.std.proofs.lemmas.Bool.Decides.{nat_tests}
-use Rattle.std.proofs.lemmas.List.{append_assoc}
-use Rattle.gx_lemmas.proofs.Numbers.{eqb-self, lt-of}
+use Rattle.gx_lemmas.proofs.Numbers.{eqb-self}
 use Rattle.gx_ids.specs.declared.ids.Gxid.{Gxid}
 use Rattle.gx_ids.specs.declared.ids.Node.{Node}
 use Rattle.gx_locks.specs.Graphs.{graph_at}
-use Rattle.gx_locks.specs.Locks.{Locks}
-use Rattle.gx_msg.specs.declared.message.Envelope.{Envelope}
 use Rattle.gx_msg.specs.declared.message.Message.{Message}
 use Rattle.gx_msg.specs.declared.message.Message.TheVariants as message
 use Rattle.gx_msg.specs.declared.message.Out.{Out}
@@ -17,18 +13,15 @@ use Rattle.gx_store.specs.declared.event.Event.{Event}
 use Rattle.gx_store.specs.declared.mark.Mark.{Mark}
 use Rattle.gx_store.specs.declared.mark.Mark.TheVariants as mark
 use Rattle.gx_store.specs.declared.node.NodeEvent.{NodeEvent}
-use Rattle.gx_store.specs.declared.node.NodeEvent.TheVariants as here
-use Rattle.gx_store.specs.declared.run.Step.{Step}
-use Rattle.gx_store.specs.Messages.{Receives}
 use Rattle.gx_store.specs.Ordered.{IsSegment}
 use Rattle.gx_store.specs.Points.{marks_in}
 use Rattle.gx_store.specs.Refusals.{the_coordinator}
 use Rattle.gx_store.specs.Rounds.{SendNoted, last_report}
 use Rattle.gx_waits.specs.declared.graph.LocalGraph.{LocalGraph}
-use Rattle.gx_rules.specs.AtCoordinator.{and_cancels, and_cancels_all, awaited_collect, cancel_turn, cancels, coord_can, coord_rule, coord_sends, coord_turn, on_event, resends}
-use Rattle.gx_rules.specs.AtSegment.{on_collect, reports, reports_again, seg_rule, seg_sends}
-use Rattle.gx_rules.specs.Coordinators.{Coord, CoordTurn}
-use Rattle.gx_rules.specs.Machine.{World, seg_can, world_of}
+use Rattle.gx_rules.specs.AtCoordinator.{and_cancels, awaited_collect, cancel_turn, cancels, coord_can, coord_rule, coord_sends, coord_turn, resends}
+use Rattle.gx_rules.specs.AtSegment.{reports, reports_again, seg_rule, seg_sends}
+use Rattle.gx_rules.specs.Coordinators.{CoordTurn}
+use Rattle.gx_rules.specs.Machine.{World, world_of}
 use Rattle.gx_rules.specs.Rounds.{awaits_graph, begins_round, victims_at}
 use Rattle.gx_rules.specs.Segments.{Seg, SegTurn}
 use Rattle.gx_rules.specs.Sending.{clock_after, counted, numbered}
@@ -41,7 +34,6 @@ use Rattle.gx_law_order.proofs.Places.{collects-each}
 use Rattle.gx_law_order.proofs.Sent.{at}
 use Rattle.gx_law_rounds.specs.Steps.{EachStep, SendsNoted}
 use Rattle.gx_law_rounds.proofs.AtCoordinators.{AreWorksOfOne, IsQuiet, cancel-quiet, coord-ways}
-use Rattle.gx_law_rounds.proofs.AtSegments as segments
 use Rattle.gx_law_rounds.proofs.AtSegments.{seg-ways}
 use Rattle.gx_law_rounds.proofs.Rounded.{Rounded}
 use Rattle.gx_law_rounds.proofs.Silent.{AreOfOne, OfOne, Silent}
@@ -170,5 +162,5 @@ module _ (script : Script) (some : 1 ≤ script.segments) (w : World) (good : We
 -- ALL STEPS
 pub world-sends-noted : (script : Script) → 1 ≤ script.segments → (es : List (Event × Bool)) → EachStep SendsNoted [] (world_of script es).steps
 world-sends-noted script some =
-    at-steps script some (λ w. Unit {0}) (λ es. tt) SendsNoted (λ w good r k e x fails t ok. coord-sends-noted script some w good r e x fails t ok)
+    at-steps script some (λ w. Unit {0}) (λ es. tt) SendsNoted (λ w good r k e x fails t ok ordered. coord-sends-noted script some w good r e x fails t ok)
     (λ w good r k e x fails i place t ok. seg-sends-noted script some w good r e x fails i place)

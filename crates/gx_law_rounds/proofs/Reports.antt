@@ -1,8 +1,9 @@
--- Each report is of the moment at which it is made, where a node's locks are those that stand by the marks.
-use Rattle.std.proofs.Common.{◌≡◌, ◌≤◌, ◌<◌, ℕ, List, [], ◌∷◌, ◌++◌, Bool, true, false, refl, sym, subst, ap, ◌∙◌, nat_lt, append-nil}
+-- Each report is of the moment at which it is made, since a node's locks are those that stand by the marks.
+use Rattle.std.proofs.Common.{◌≡◌, ◌≤◌, ◌<◌, ℕ, List, [], ◌∷◌, ◌++◌, Bool, true, sym, subst, nat_lt, append-nil}
 use Rattle.gx_lemmas.proofs.Numbers.{lt-of}
 use Rattle.gx_ids.specs.declared.ids.Gxid.{Gxid}
 use Rattle.gx_ids.specs.declared.ids.Node.{Node}
+use Rattle.gx_locks.proofs.Edges.{are_edges}
 use Rattle.gx_locks.specs.Graphs.{graph_at}
 use Rattle.gx_locks.specs.Locks.{Locks}
 use Rattle.gx_msg.specs.declared.message.Envelope.{Envelope}
@@ -19,13 +20,12 @@ use Rattle.gx_store.specs.Ordered.{IsSegment}
 use Rattle.gx_store.specs.Points.{Point, marks_in}
 use Rattle.gx_store.specs.Refusals.{the_coordinator}
 use Rattle.gx_store.specs.Rounds.{AreReports, IsGraphAt, IsReport, last_round}
-use Rattle.gx_store.specs.Waits.{holds_at, waits_at}
+use Rattle.gx_store.specs.Waits.{waits_at}
 use Rattle.gx_waits.specs.Claim.{AreEdges}
-use Rattle.gx_waits.specs.declared.graph.LocalGraph.{LocalGraph}
-use Rattle.gx_rules.specs.AtCoordinator.{and_cancels, cancel_turn, cancels, coord_can, coord_rule, coord_sends, coord_turn, on_event}
+use Rattle.gx_rules.specs.AtCoordinator.{and_cancels, cancel_turn, cancels, coord_can, coord_rule, coord_turn, on_event}
 use Rattle.gx_rules.specs.AtSegment.{graph_out, reports, seg_rule, seg_sends}
 use Rattle.gx_rules.specs.Coordinators.{CoordTurn}
-use Rattle.gx_rules.specs.Machine.{World, seg_can, world_of}
+use Rattle.gx_rules.specs.Machine.{World, world_of}
 use Rattle.gx_rules.specs.Rounds.{victims_at}
 use Rattle.gx_rules.specs.Segments.{Seg, SegTurn}
 use Rattle.gx_rules.specs.Sending.{clock_after, numbered}
@@ -35,10 +35,12 @@ use Rattle.gx_law_order.proofs.Induction.{IsReceipt, IsThere, from-coordinator}
 use Rattle.gx_law_order.proofs.Lists.{Each, each_append}
 use Rattle.gx_law_order.proofs.Ordered.{Well}
 use Rattle.gx_law_order.proofs.Sent.{at}
+use Rattle.gx_law_holds.specs.Marked.{AreLocksMarked, IsMarked}
+use Rattle.gx_law_holds.proofs.World.{world-locked}
 use Rattle.gx_law_rounds.specs.Steps.{EachStep, StepReports}
 use Rattle.gx_law_rounds.proofs.AtCoordinators.{AreWorksOfOne, IsQuiet, cancel-quiet}
 use Rattle.gx_law_rounds.proofs.AtSegments.{seg-ways}
-use Rattle.gx_law_rounds.proofs.Rounded.{CoordMade, Rounded}
+use Rattle.gx_law_rounds.proofs.Rounded.{Rounded}
 use Rattle.gx_law_rounds.proofs.Silent.{NoReport, no-report, sends-no-report}
 use Rattle.gx_law_rounds.proofs.Walks.{at-steps}
 use Rattle.gx_law_rounds.proofs.World.{made-turn, turn-rounded}
@@ -66,69 +68,65 @@ and-unreported turn g a =
     q : IsQuiet turn.coord (cancels turn.coord g)
     q = cancel-quiet turn.coord g a.works
 
--- a segment's locks are those that stand by the marks
-pub record IsTrue (marks : List Mark) (node : Node) (locks : Locks) : Type 0 where
-  pub holds : locks.holds ≡ holds_at marks node
-  pub waits : locks.waits ≡ waits_at marks node
+-- the graph of locks that stand by the marks has the edges that stand
+pub graph-is : (marks : List Mark) (node : Node) (locks : Locks) → IsMarked marks node locks → locks.node ≡ node → IsGraphAt marks node (graph_at locks)
+graph-is marks node locks f own =
+    record {
+      place = own;
+      edges = subst (λ h. AreEdges (waits_at marks node) h (graph_at locks).edges) f.holds (subst (λ u. AreEdges u locks.holds (graph_at locks).edges) f.waits (are_edges locks.waits locks.holds));
+    }
 
--- the graph of locks has the edges that they make
-module _ (edges-are : (locks : Locks) → AreEdges locks.waits locks.holds (graph_at locks).edges) where
-  pub graph-is : (marks : List Mark) (node : Node) (locks : Locks) → IsTrue marks node locks → locks.node ≡ node → IsGraphAt marks node (graph_at locks)
-  graph-is marks node locks f own =
-      record { place = own; edges = subst (λ h. AreEdges (waits_at marks node) h (graph_at locks).edges) f.holds (subst (λ u. AreEdges u locks.holds (graph_at locks).edges) f.waits (edges-are locks)) }
+module _ (script : Script) (some : 1 ≤ script.segments) (w : World) (good : Well script w) (r : Rounded script w) (e : Event) where
+  pub coord-reports : (x : NodeEvent) (fails : Bool) → IsThere script w e the_coordinator x → coord_can script w.coord x ≡ true → AreReports w.steps e [] (coord_rule script w.coord x fails).marks
+  coord-reports x fails t ok =
+      no-reports w.steps e [] (coord_rule script w.coord x fails).marks
+      (cancels_all-each IsUnreported and-unreported (victims_at w.coord x) (coord_turn script w.coord x fails)
+      (record {
+        marks = each_append NoReport turn.marks (numbered turn.coord.sent turn.outs) (made-turn script some w good r e x fails t ok).marks (sends-no-report turn.coord.sent turn.outs);
+        works = (turn-rounded script some w good r e x fails t ok).coord.works;
+      })).marks
+    where
+      turn : CoordTurn
+      turn = on_event script w.coord x fails
 
-  module _ (script : Script) (some : 1 ≤ script.segments) (w : World) (good : Well script w) (r : Rounded script w) (e : Event) where
-    pub coord-reports : (x : NodeEvent) (fails : Bool) → IsThere script w e the_coordinator x → coord_can script w.coord x ≡ true → AreReports w.steps e [] (coord_rule script w.coord x fails).marks
-    coord-reports x fails t ok =
-        no-reports w.steps e [] (coord_rule script w.coord x fails).marks
-        (cancels_all-each IsUnreported and-unreported (victims_at w.coord x) (coord_turn script w.coord x fails)
-        (record {
-          marks = each_append NoReport turn.marks (numbered turn.coord.sent turn.outs) (made-turn script some w good r e x fails t ok).marks (sends-no-report turn.coord.sent turn.outs);
-          works = (turn-rounded script some w good r e x fails t ok).coord.works;
-        })).marks
+  module _ (x : NodeEvent) (fails : Bool) (i : ℕ) (place : IsSegment script (at i)) (t : IsThere script w e (at i) x) (locks : IsMarked (marks_in w.steps) (at i) (w.segs i).locks) where
+    abbrev s : Seg
+    s = w.segs i
+
+    abbrev clock : ℕ
+    clock = clock_after s.clock x
+
+    abbrev Reported : SegTurn → Type 0
+    Reported turn = AreReports w.steps e [] (seg_sends clock turn).marks
+
+    -- where it stands, before the mark of its sending
+    abbrev At : ℕ → Point
+    At round = record { steps = w.steps; event = e; earlier = []; later = numbered (λ node. s.sent) (graph_out round (graph_at s.locks) ∷ []) }
+
+    new-report : (from : Node) (envelope : Envelope) (round : ℕ) → x ≡ here.Deliver from envelope → envelope.message ≡ message.Collect round → nat_lt s.round round ≡ true → Reported (reports s round (graph_at s.locks))
+    new-report from envelope round is told newer = (subst (λ n. IsReport (At round) n round (graph_at s.locks)) (sym (good.names i)) reported, tt)
       where
-        turn : CoordTurn
-        turn = on_event script w.coord x fails
+        there : IsReceipt script w e (at i) from envelope
+        there = subst (IsThere script w e (at i)) is t
 
-    module _ (x : NodeEvent) (fails : Bool) (i : ℕ) (place : IsSegment script (at i)) (t : IsThere script w e (at i) x) (locks : IsTrue (marks_in w.steps) (at i) (w.segs i).locks) where
-      abbrev s : Seg
-      s = w.segs i
+        reported : IsReport (At round) (at i) round (graph_at s.locks)
+        reported =
+            record {
+              asked = subst (Receives w.steps e the_coordinator (at i)) told (subst (λ n. Receives w.steps e n (at i) envelope.message) (from-coordinator script i from place.0 there.link) there.received);
+              newest = subst (λ ms. last_round (at i) 0 ms < round) (sym (append-nil (marks_in w.steps))) (subst (λ n. n < round) (r.segments i place.0).round (lt-of s.round round newer));
+              tells = subst (λ ms. IsGraphAt ms (at i) (graph_at s.locks)) (sym (append-nil (marks_in w.steps))) (graph-is (marks_in w.steps) (at i) s.locks locks (r.segments i place.0).own);
+            }
 
-      abbrev clock : ℕ
-      clock = clock_after s.clock x
+    pub seg-reports : AreReports w.steps e [] (seg_rule script s x fails).marks
+    seg-reports =
+        seg-ways script s Reported x fails
+        (λ turn q.
+        no-reports w.steps e [] (seg_sends clock turn).marks
+        (each_append NoReport turn.marks (numbered (λ node. turn.seg.sent) turn.outs) (no-report turn.marks q.marks) (sends-no-report (λ node. turn.seg.sent) turn.outs)))
+        (λ from envelope round is told. collect-ways Reported s round tt (λ newer. new-report from envelope round is told newer) (λ same graph kept. tt))
 
-      abbrev Reported : SegTurn → Type 0
-      Reported turn = AreReports w.steps e [] (seg_sends clock turn).marks
-
-      -- where it stands, before the mark of its sending
-      abbrev At : ℕ → Point
-      At round = record { steps = w.steps; event = e; earlier = []; later = numbered (λ node. s.sent) (graph_out round (graph_at s.locks) ∷ []) }
-
-      new-report : (from : Node) (envelope : Envelope) (round : ℕ) → x ≡ here.Deliver from envelope → envelope.message ≡ message.Collect round → nat_lt s.round round ≡ true → Reported (reports s round (graph_at s.locks))
-      new-report from envelope round is told newer = (subst (λ n. IsReport (At round) n round (graph_at s.locks)) (sym (good.names i)) reported, tt)
-        where
-          there : IsReceipt script w e (at i) from envelope
-          there = subst (IsThere script w e (at i)) is t
-
-          reported : IsReport (At round) (at i) round (graph_at s.locks)
-          reported =
-              record {
-                asked = subst (Receives w.steps e the_coordinator (at i)) told (subst (λ n. Receives w.steps e n (at i) envelope.message) (from-coordinator script i from place.0 there.link) there.received);
-                newest = subst (λ ms. last_round (at i) 0 ms < round) (sym (append-nil (marks_in w.steps))) (subst (λ n. n < round) (r.segments i place.0).round (lt-of s.round round newer));
-                tells = subst (λ ms. IsGraphAt ms (at i) (graph_at s.locks)) (sym (append-nil (marks_in w.steps))) (graph-is (marks_in w.steps) (at i) s.locks locks (r.segments i place.0).own);
-              }
-
-      pub seg-reports : AreReports w.steps e [] (seg_rule script s x fails).marks
-      seg-reports =
-          seg-ways script s Reported x fails
-          (λ turn q.
-          no-reports w.steps e [] (seg_sends clock turn).marks
-          (each_append NoReport turn.marks (numbered (λ node. turn.seg.sent) turn.outs) (no-report turn.marks q.marks) (sends-no-report (λ node. turn.seg.sent) turn.outs)))
-          (λ from envelope round is told. collect-ways Reported s round tt (λ newer. new-report from envelope round is told newer) (λ same graph kept. tt))
-
-  -- ALL STEPS
-  pub world-reports : (script : Script) → 1 ≤ script.segments → ((es : List (Event × Bool)) (i : ℕ) → 1 ≤ i → IsTrue (marks_in (world_of script es).steps) (at i) ((world_of script es).segs i).locks)
-      → (es : List (Event × Bool)) → EachStep StepReports [] (world_of script es).steps
-  world-reports script some locks =
-      at-steps script some (λ w. (i : ℕ) → 1 ≤ i → IsTrue (marks_in w.steps) (at i) (w.segs i).locks) locks StepReports (λ w good r k e x fails t ok. coord-reports script some w good r e x fails t ok)
-      (λ w good r k e x fails i place t ok. seg-reports script some w good r e x fails i place t (k i place.0))
+-- ALL STEPS
+pub world-reports : (script : Script) → 1 ≤ script.segments → (es : List (Event × Bool)) → EachStep StepReports [] (world_of script es).steps
+world-reports script some =
+    at-steps script some AreLocksMarked (λ es. (world-locked script some es).marked) StepReports (λ w good r k e x fails t ok ordered. coord-reports script some w good r e x fails t ok)
+    (λ w good r k e x fails i place t ok. seg-reports script some w good r e x fails i place t (k.segments i place.0))

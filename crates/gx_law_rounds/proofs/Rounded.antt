@@ -1,5 +1,5 @@
 -- What the nodes hold of rounds, as an invariant of the machine, and what a turn has to make for it to hold on.
-use Rattle.std.proofs.Common.{◌≡◌, ◌≤◌, ◌<◌, ℕ, ◌+◌, List, [], ◌∷◌, ◌++◌, Option, Some, None, Bool, true, false, refl, sym, subst, ap, ◌∙◌, arith}
+use Rattle.std.proofs.Common.{◌≡◌, ◌≤◌, ◌<◌, ℕ, ◌+◌, List, [], ◌∷◌, ◌++◌, Option, Some, None, false, sym, subst, ap, ◌∙◌, arith}
 use Rattle.std.specs.Prelude.{map}
 use Rattle.gx_ids.specs.declared.ids.Node.{Node}
 use Rattle.gx_detect.specs.Rounds.{are_all}
@@ -16,7 +16,7 @@ use Rattle.gx_store.specs.Journals.{is_same_node}
 use Rattle.gx_store.specs.Points.{marks_in}
 use Rattle.gx_store.specs.Refusals.{the_coordinator}
 use Rattle.gx_store.specs.Rounds.{last_report, last_round}
-use Rattle.gx_store.specs.Schedule.{recheck_count, round_count, segments_of}
+use Rattle.gx_store.specs.Schedule.{recheck_count, round_count}
 use Rattle.gx_waits.specs.declared.graph.LocalGraph.{LocalGraph}
 use Rattle.gx_rules.specs.AtCoordinator.{coord_sends}
 use Rattle.gx_rules.specs.AtSegment.{seg_sends}
@@ -34,7 +34,7 @@ use Rattle.gx_law_rounds.specs.Held.{first_graph}
 use Rattle.gx_law_rounds.proofs.AtCoordinators.{AreWorksOfOne, IsLike}
 use Rattle.gx_law_rounds.proofs.Places.{map-same}
 use Rattle.gx_law_rounds.proofs.Silent.{NoRecheck, NoReport, NoSent, OfOne, Silent, no-recheck, no-report, no-sent, sends-no-recheck, sends-no-report}
-use Rattle.gx_law_rounds.proofs.Steps.{NoReportOf, none-ends, none-of, rechecks-more, rechecks_of, report-append, report-same, round-append, round-same}
+use Rattle.gx_law_rounds.proofs.Steps.{NoReportOf, none-ends, none-of, rechecks-more, report-append, report-same, round-append, round-same}
 
 -- MESSAGES OF ROUNDS
 -- of a round that has begun by then; a graph names the node that sends it

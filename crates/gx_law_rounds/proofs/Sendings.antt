@@ -1,5 +1,5 @@
 -- What was sent under a number is what the steps find under it.
-use Rattle.std.proofs.Common.{◌≡◌, ◌<◌, ℕ, zero, suc, ◌+◌, List, [], ◌∷◌, ◌++◌, Option, Some, None, Bool, true, false, refl, sym, subst, ap, ◌∙◌, if◌then◌else◌, ◌&&◌, ◌==◌, arith}
+use Rattle.std.proofs.Common.{◌≡◌, ◌<◌, ℕ, zero, suc, ◌+◌, List, [], ◌∷◌, ◌++◌, Some, None, Bool, true, false, refl, sym, subst, ap, ◌∙◌, if◌then◌else◌, ◌&&◌, ◌==◌, arith}
 use Rattle.std.proofs.lemmas.Bool.Decides.{nat_tests}
 use Rattle.std.specs.Prelude.{slice_get}
 use Rattle.gx_lemmas.proofs.Options.{some-same}
@@ -16,7 +16,7 @@ use Rattle.gx_store.specs.Schedule.{message_in, sent_message}
 use Rattle.gx_law_order.proofs.Letters.{same_node}
 use Rattle.gx_law_order.proofs.Sent.{sent_count-append, sent_in-last}
 
-test-self : (n : Node) → is_same_node n n ≡ true
+pub test-self : (n : Node) → is_same_node n n ≡ true
 test-self n = grind (arith, nat_tests)
 
 -- IN A STEP

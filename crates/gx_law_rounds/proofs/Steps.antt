@@ -1,6 +1,5 @@
 -- What steps tell of rounds, one step more and one victim more.
-use Rattle.std.proofs.Common.{◌≡◌, ◌≤◌, ℕ, suc, ◌+◌, List, [], ◌∷◌, ◌++◌, Option, Some, None, Bool, true, false, not, refl, sym, subst, ap, ◌∙◌, if◌then◌else◌, cond, ◌==◌, ◌&&◌, ◌||◌, arith, length, append-nil}
-use Rattle.std.proofs.lemmas.Bool.Decides.{nat_tests}
+use Rattle.std.proofs.Common.{◌≡◌, ℕ, suc, ◌+◌, List, [], ◌∷◌, ◌++◌, Option, Some, None, Bool, true, false, refl, sym, ap, ◌∙◌, if◌then◌else◌, cond, ◌==◌, ◌&&◌, ◌||◌, length, append-nil}
 use Rattle.std.proofs.lemmas.List.{append_assoc, length-append}
 use Rattle.std.proofs.lemmas.List.Elements.{filter-append}
 use Rattle.std.specs.Option.{option_or}
@@ -9,7 +8,6 @@ use Rattle.gx_lemmas.proofs.Options.{option_or-none}
 use Rattle.gx_ids.specs.declared.ids.Node.{Node}
 use Rattle.gx_msg.specs.declared.message.Message.{Message}
 use Rattle.gx_msg.specs.declared.message.Message.TheVariants as message
-use Rattle.gx_msg.specs.declared.message.Out.{Out}
 use Rattle.gx_store.specs.declared.event.Event.{Event}
 use Rattle.gx_store.specs.declared.event.Event.TheVariants as event
 use Rattle.gx_store.specs.declared.mark.Mark.{Mark}
@@ -20,10 +18,8 @@ use Rattle.gx_store.specs.Points.{marks_in}
 use Rattle.gx_store.specs.Rounds.{last_report, last_round}
 use Rattle.gx_store.specs.Schedule.{is_graph_of, is_graph_received, is_recheck, is_round, round_count, recheck_count, sent_message}
 use Rattle.gx_rules.specs.Machine.{with_more}
-use Rattle.gx_rules.specs.Sending.{counted, numbered}
 use Rattle.gx_waits.specs.declared.graph.LocalGraph.{LocalGraph}
 use Rattle.gx_law_order.proofs.Lists.{Each}
-use Rattle.gx_law_order.proofs.More.{marks-last}
 use Rattle.gx_law_rounds.specs.Held.{first_graph, graph_by, graph_in}
 use Rattle.gx_law_rounds.proofs.Silent.{NoRecheck, NoReport}
 

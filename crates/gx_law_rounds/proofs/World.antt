@@ -1,11 +1,11 @@
 -- Over every run of the machine, the nodes hold of rounds what the steps tell.
 use Rattle.std.proofs.Common.{◌≡◌, ◌≤◌, ◌<◌, ℕ, zero, suc, ◌+◌, List, [], ◌∷◌, ◌++◌, Option, Some, None, Bool, true, false, not, refl, sym, subst, ap, ◌∙◌, if◌then◌else◌, ◌==◌, ◌&&◌, nat_lt, arith}
-use Rattle.std.proofs.lemmas.Bool.{and_parts, eqb-true}
+use Rattle.std.proofs.lemmas.Bool.{and_parts}
 use Rattle.std.proofs.lemmas.Bool.Decides.{nat_tests}
 use Rattle.std.specs.Prelude.{is_none, is_some, map, replicate}
 use Rattle.gx_ids.specs.declared.ids.Gxid.{Gxid}
 use Rattle.gx_ids.specs.declared.ids.Node.{Node}
-use Rattle.gx_detect.specs.Rounds.{are_all}
+use Rattle.gx_detect.specs.Rounds.{are_all, lacks}
 use Rattle.gx_locks.specs.Graphs.{graph_at}
 use Rattle.gx_meaning.specs.Plan.{nodes_from}
 use Rattle.gx_msg.specs.declared.message.Envelope.{Envelope}
@@ -21,23 +21,22 @@ use Rattle.gx_store.specs.declared.node.NodeEvent.{NodeEvent}
 use Rattle.gx_store.specs.declared.node.NodeEvent.TheVariants as here
 use Rattle.gx_store.specs.declared.run.Step.{Step}
 use Rattle.gx_store.specs.Journals.{is_same_node}
-use Rattle.gx_store.specs.Messages.{Receives}
 use Rattle.gx_store.specs.Ordered.{IsSegment}
 use Rattle.gx_store.specs.Points.{marks_in}
 use Rattle.gx_store.specs.Refusals.{the_coordinator}
 use Rattle.gx_store.specs.Rounds.{last_report, last_round}
-use Rattle.gx_store.specs.Schedule.{is_graph_awaited, is_graph_received, is_round, is_round_running, recheck_count, round_count, segments_of, sent_message}
+use Rattle.gx_store.specs.Schedule.{is_graph_awaited, is_round, is_round_running, recheck_count, round_count}
 use Rattle.gx_waits.specs.declared.graph.LocalGraph.{LocalGraph}
 use Rattle.gx_rules.specs.AtCoordinator.{awaited_collect, cancel_turn, cancels, coord_can, coord_sends, coord_turn, on_event, resends}
 use Rattle.gx_rules.specs.AtSegment as segment
 use Rattle.gx_rules.specs.AtSegment.{on_collect, reports, reports_again, seg_rule, seg_sends}
-use Rattle.gx_rules.specs.Coordinators.{Coord, CoordTurn, rests}
-use Rattle.gx_rules.specs.Machine.{World, and_cancelled, coord_did, new_world, seg_can, seg_did, with_more, world_of}
-use Rattle.gx_rules.specs.Rounds.{awaits_graph, begins_round, can_begin, lacks, on_graph}
+use Rattle.gx_rules.specs.Coordinators.{CoordTurn}
+use Rattle.gx_rules.specs.Machine.{World, and_cancelled, coord_did, new_world, seg_can, seg_did, world_of}
+use Rattle.gx_rules.specs.Rounds.{awaits_graph, begins_round, on_graph}
 use Rattle.gx_rules.specs.Segments.{Seg, SegTurn, stays}
 use Rattle.gx_rules.specs.Sending.{clock_after, numbered}
 use Rattle.gx_rules.proofs.Rounds.{collect-ways}
-use Rattle.gx_law_order.proofs.Induction.{IsReceipt, IsThere, at-events, at-moves, from-coordinator, marks-by-event, marks-by-victim}
+use Rattle.gx_law_order.proofs.Induction.{IsReceipt, IsThere, at-events, at-moves, from-coordinator, marks-by-victim}
 use Rattle.gx_law_order.proofs.Letters.{found_is}
 use Rattle.gx_law_order.proofs.Lists.{Each, each_append, each_weaker}
 use Rattle.gx_law_order.proofs.More.{marks-last}
@@ -55,7 +54,7 @@ use Rattle.gx_law_rounds.proofs.Places.{lacks-is, map-none}
 use Rattle.gx_law_rounds.proofs.Rounded.{AreFirst, AreSame, AreTold, CoordMade, IsInTime, IsNoted, IsOwn, IsTold, Rounded, SegMade, coord-rounded, first_now, quiet-made, running, seg-rounded, still-noted, told-of-one}
 use Rattle.gx_law_rounds.proofs.Sendings.{message-is}
 use Rattle.gx_law_rounds.proofs.Silent.{NoReport, OfOne, Silent, no-recheck, no-report, no-sent, sends-no-recheck, sends-no-report}
-use Rattle.gx_law_rounds.proofs.Steps.{NoReportOf, bit, first-last, first-more, first-same, none-ends, none-of, received-is, rechecks-more, report-append, report-same, round-append, round-same, rounds-last, rounds-more}
+use Rattle.gx_law_rounds.proofs.Steps.{NoReportOf, bit, first-more, first-same, none-ends, none-of, received-is, rechecks-more, report-append, report-same, round-append, round-same, rounds-last, rounds-more}
 
 -- A STEP THAT BRINGS NO GRAPH
 module _ (script : Script) (some : 1 ≤ script.segments) (w : World) (good : Well script w) (r : Rounded script w) where

@@ -37,6 +37,7 @@ use Rattle.gx_rules.specs.Running.{goes_on, is_granted, requests, runs_locked, r
 use Rattle.gx_rules.specs.Slices.{Moved, first_fault, inserts_row, selects, starts_from, writes_row}
 use Rattle.gx_rules.specs.Visits.{DidStop}
 use Rattle.gx_rules.proofs.Moving.{Ends, Keeps}
+use Rattle.gx_rules.proofs.Rounds.{collect-ways}
 use Rattle.gx_law_order.proofs.Changing.{row-goes-on, rows-change, stop-keeps}
 use Rattle.gx_law_writes.proofs.Rows.{by-own, wrote}
 use Rattle.gx_law_runs.proofs.Marks.{MayFail, NoFailures, may-none, may-sent, none-append}
@@ -231,6 +232,7 @@ told script s fails (message.Commit g) =
 told script s fails (message.CommitPrepared g) = unless s g fails (on_commit_prepared s g fails (local_of s g) (local_of s g).phase) (commit-prepared s g fails (local_of s g) (local_of s g).phase)
 told script s fails (message.Abort g) = unless s g fails (on_abort s g (local_of s g) (local_of s g).phase) (abort s g fails (local_of s g) (local_of s g).phase)
 told script s fails (message.Forget g) = unless s g fails (on_forget s g (local_of s g) (local_of s g).phase) (forget s g fails (local_of s g) (local_of s g).phase)
+told script s fails (message.Collect round) = collect-ways (λ (turn : SegTurn). MayFail s.node fails turn.marks) s round tt (λ newer. tt) (λ again graph is. tt)
 told script s fails m = tt
 
 event-may : (script : Script) (s : Seg) (x : NodeEvent) (fails : Bool) → MayFail s.node fails (on_event script s x fails).marks

@@ -28,8 +28,9 @@ use Rattle.gx_store.specs.Marks.{is_aborted, is_committed, is_ended, is_same_ses
 use Rattle.gx_store.specs.Points.{ends_in, marks_in}
 use Rattle.gx_store.specs.Refusals.{the_coordinator}
 use Rattle.gx_rules.specs.AtCoordinator.{awaited, awaited_collect, cancels, coord_can, is_idle, is_nothing, lock_for, next_line, on_event, on_message, resends, starts, resumes}
-use Rattle.gx_rules.specs.Coordinators.{Coord, CoordTurn, Session, session_of, work_of}
+use Rattle.gx_rules.specs.Coordinators.{Coord, CoordTurn, Session, rests, session_of, work_of}
 use Rattle.gx_rules.specs.Machine.{World, world_of}
+use Rattle.gx_rules.specs.Rounds.{begins_round}
 use Rattle.gx_rules.proofs.Rounds.{cancel-ways, graph-ways}
 use Rattle.gx_store.specs.Whole.{AreInsertsWhole, IsWholeStmt}
 use Rattle.gx_law_sessions.specs.Standing.{IsStanding, is_busy, is_sound}
@@ -255,13 +256,13 @@ module _ (script : Script) (some : 1 ≤ script.segments) (w : World) (n : IsMet
       message-waits from (message.Graph round graph) other a =
           rest-wait q (on_message w.coord from fails (message.Graph round graph)) (λ h. IsOther h x) a (λ s. graph-ways (λ (turn : CoordTurn). turn.coord.sessions s.0 ≡ w.coord.sessions s.0) w.coord from round graph refl (λ r. refl) (λ r l. refl))
           (graph-ways (λ (turn : CoordTurn). turn.coord.locks ≡ w.coord.locks) w.coord from round graph refl (λ r. refl) (λ r l. refl)) (λ g. other g tt)
-      message-waits from (message.Exec g cid level y h z) other a = rest-wait q _ (λ h. IsOther h x) a (λ s. refl) refl (λ g. other g tt)
-      message-waits from (message.Prepare g) other a = rest-wait q _ (λ h. IsOther h x) a (λ s. refl) refl (λ g. other g tt)
-      message-waits from (message.Commit g) other a = rest-wait q _ (λ h. IsOther h x) a (λ s. refl) refl (λ g. other g tt)
-      message-waits from (message.CommitPrepared g) other a = rest-wait q _ (λ h. IsOther h x) a (λ s. refl) refl (λ g. other g tt)
-      message-waits from (message.Abort g) other a = rest-wait q _ (λ h. IsOther h x) a (λ s. refl) refl (λ g. other g tt)
-      message-waits from (message.Forget g) other a = rest-wait q _ (λ h. IsOther h x) a (λ s. refl) refl (λ g. other g tt)
-      message-waits from (message.Collect round) other a = rest-wait q _ (λ h. IsOther h x) a (λ s. refl) refl (λ g. other g tt)
+      message-waits from (message.Exec g cid level y h z) other a = rest-wait q (rests w.coord) (λ h. IsOther h x) a (λ s. refl) refl (λ g. other g tt)
+      message-waits from (message.Prepare g) other a = rest-wait q (rests w.coord) (λ h. IsOther h x) a (λ s. refl) refl (λ g. other g tt)
+      message-waits from (message.Commit g) other a = rest-wait q (rests w.coord) (λ h. IsOther h x) a (λ s. refl) refl (λ g. other g tt)
+      message-waits from (message.CommitPrepared g) other a = rest-wait q (rests w.coord) (λ h. IsOther h x) a (λ s. refl) refl (λ g. other g tt)
+      message-waits from (message.Abort g) other a = rest-wait q (rests w.coord) (λ h. IsOther h x) a (λ s. refl) refl (λ g. other g tt)
+      message-waits from (message.Forget g) other a = rest-wait q (rests w.coord) (λ h. IsOther h x) a (λ s. refl) refl (λ g. other g tt)
+      message-waits from (message.Collect round) other a = rest-wait q (rests w.coord) (λ h. IsOther h x) a (λ s. refl) refl (λ g. other g tt)
 
     event-waits : DoWait w.coord → (e : Event) (x : NodeEvent) (fails : Bool) → IsThere script w e the_coordinator x → coord_can script w.coord x ≡ true → DoWait (on_event script w.coord x fails).coord
     event-waits q e (here.Deliver from envelope) fails t ok =
@@ -271,12 +272,12 @@ module _ (script : Script) (some : 1 ≤ script.segments) (w : World) (n : IsMet
     event-waits q e (here.End s) fails t ok =
         stays-wait q _ (λ g. IsOther g (here.End s)) (still q e (here.End s) fails t ok) s (λ g. tt) (end-stays script some w.coord k s (idle-so _ (and_parts _ _ ok).0) (and_parts _ _ ok).0 (session_of w.coord s).state.block refl)
     event-waits q e (here.Resend i (Some g)) fails t ok =
-        rest-wait q _ (λ h. IsOther h (here.Resend i (Some g))) (still q e (here.Resend i (Some g)) fails t ok) (resend-same i (awaited w.coord g i)) (resend-locks i (awaited w.coord g i)) (λ g. tt)
+        rest-wait q (resends w.coord i (awaited w.coord g i)) (λ h. IsOther h (here.Resend i (Some g))) (still q e (here.Resend i (Some g)) fails t ok) (resend-same i (awaited w.coord g i)) (resend-locks i (awaited w.coord g i)) (λ g. tt)
     event-waits q e (here.Resend i None) fails t ok =
-        rest-wait q _ (λ h. IsOther h (here.Resend i None)) (still q e (here.Resend i None) fails t ok) (resend-same i (awaited_collect w.coord i)) (resend-locks i (awaited_collect w.coord i)) (λ g. tt)
+        rest-wait q (resends w.coord i (awaited_collect w.coord i)) (λ h. IsOther h (here.Resend i None)) (still q e (here.Resend i None) fails t ok) (resend-same i (awaited_collect w.coord i)) (resend-locks i (awaited_collect w.coord i)) (λ g. tt)
     event-waits q e (here.Resume g) fails t ok =
         goes-wait q _ (λ h. IsOther h (here.Resume g)) (still q e (here.Resume g) fails t ok) g.0 (λ h other. tt) (out-goes g fails (going-out script w n.known.knows g ok))
-    event-waits q e here.Round fails t ok = rest-wait q _ (λ h. IsOther h here.Round) (still q e here.Round fails t ok) (λ s. refl) refl (λ g. tt)
+    event-waits q e here.Round fails t ok = rest-wait q (begins_round script w.coord) (λ h. IsOther h here.Round) (still q e here.Round fails t ok) (λ s. refl) refl (λ g. tt)
 
   -- a victim's statement has its answer
   victim-waits : DoWait w.coord → (g : Gxid) → HasNamed w.steps w.coord.clock w.coord.rounds g → DoWait (cancels w.coord g).coord

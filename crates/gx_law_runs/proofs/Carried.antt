@@ -1,5 +1,5 @@
 -- What is awaited stays awaited over a step of the coordinator that doesn't answer it.
-use Rattle.std.proofs.Common.{◌≡◌, ◌≤◌, ℕ, List, [], ◌∷◌, ◌++◌, Option, Some, None, Bool, true, false, refl, sym, subst, ap, ◌∙◌, if◌then◌else◌, ◌&&◌, eqb}
+use Rattle.std.proofs.Common.{◌≡◌, ◌≤◌, ℕ, List, [], ◌∷◌, Option, Some, Bool, true, false, refl, sym, ap, ◌∙◌, if◌then◌else◌, ◌&&◌, eqb}
 use Rattle.std.specs.Prelude.{is_some}
 use Rattle.gx_lemmas.proofs.Numbers.{eqb-turned}
 use Rattle.gx_ids.specs.declared.ids.Gxid.{Gxid}

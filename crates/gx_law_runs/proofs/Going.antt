@@ -1,9 +1,9 @@
 -- While a session is unfinished something else than a round is enabled, or the session waits for a lock that meets another's hold.
 use Rattle.std.proofs.lemmas.Bool.Decides.{nat_tests}
-use Rattle.std.proofs.Common.{◌≡◌, ◌≤◌, ◌<◌, ◌⊎◌, inl, inr, ℕ, ◌+◌, ◌-◌, List, [], ◌∷◌, ◌++◌, Option, None, Some, Bool, true, false, refl, sym, subst, ap, ◌∙◌, if◌then◌else◌, ◌&&◌, ◌||◌, not, arith, length}
-use Rattle.std.specs.Prelude.{◌==◌, filter, is_some, map}
-use Rattle.std.specs.List.{flat_map, list_all}
-use Rattle.gx_lemmas.proofs.Tests.{and-first}
+use Rattle.std.proofs.Common.{◌≡◌, ◌≤◌, ◌<◌, ◌⊎◌, inl, inr, ℕ, suc, ◌+◌, ◌-◌, List, [], ◌∷◌, ◌++◌, Option, None, Some, Bool, true, false, refl, sym, subst, ap, ◌∙◌, if◌then◌else◌, ◌&&◌, ◌||◌, not, arith, length}
+use Rattle.std.specs.Prelude.{◌==◌, filter, find, is_none, is_some, map, nat_le}
+use Rattle.std.specs.List.{flat_map, list_all, list_any}
+use Rattle.gx_lemmas.proofs.Tests.{and-first, true-false}
 use Rattle.gx_ids.specs.declared.ids.Gxid.{Gxid}
 use Rattle.gx_ids.specs.declared.ids.Node.{Node}
 use Rattle.gx_ids.specs.declared.ids.SessionId.{SessionId}
@@ -15,8 +15,8 @@ use Rattle.gx_store.specs.declared.node.NodeEvent.TheVariants as here
 use Rattle.gx_store.specs.declared.run.Step.{Step}
 use Rattle.gx_store.specs.Marks.{is_same_session}
 use Rattle.gx_store.specs.Refusals.{the_coordinator}
-use Rattle.gx_store.specs.Schedule.{enabled, first_of, is_exec, is_round, is_next, is_quiet, left_on, segments_of}
-use Rattle.gx_rules.specs.AtCoordinator.{awaited, coord_can, is_idle, is_in_block, is_left, next_line, is_unfinished_there}
+use Rattle.gx_store.specs.Schedule.{enabled, first_of, is_exec, is_graph_awaited, is_next, is_quiet, is_round, is_round_running, left_on, segments_of}
+use Rattle.gx_rules.specs.AtCoordinator.{awaited, coord_can, is_idle, is_in_block, is_left, is_segment, is_unfinished_there, next_line}
 use Rattle.gx_rules.specs.Coordinators.{Coord, session_of}
 use Rattle.gx_rules.specs.Machine.{World, world_of}
 use Rattle.gx_rules.specs.Rounds.{awaits_graph}
@@ -28,19 +28,21 @@ use Rattle.gx_law_runs.specs.Reached.{IsReached}
 use Rattle.gx_law_runs.specs.Replays.{AreReplayed, coordinator_after, segment_after, world_behind}
 use Rattle.gx_law_runs.proofs.Reaching.{replayed}
 use Rattle.gx_waits.specs.declared.claim.Claim.{Claim}
+use Rattle.gx_locks.specs.Claims.{is_of}
 use Rattle.gx_locks.specs.Locks.{Locks, is_ready, wait_of}
 use Rattle.gx_rules.specs.Segments.{Seg}
 use Rattle.gx_law_order.proofs.Past.{there-drawn}
 use Rattle.gx_law_order.proofs.Waiting.{has-statement}
 use Rattle.gx_law_order.proofs.World.{world_knows}
 use Rattle.gx_law_commit.proofs.Events.{live-stage}
-use Rattle.gx_law_schedules.specs.Enabled.{at_segment_by, drawn, ends_by, is_due, is_next_by, resends_due, resumes_by, rounds_by, sessions_of, starts_by}
-use Rattle.gx_law_schedules.proofs.Enabled.{each-other, enabled-there}
+use Rattle.gx_law_schedules.specs.Enabled.{at_segment_by, drawn, ends_by, is_anybody_waiting, is_due, is_next_by, resends_due, resumes_by, rounds_by, sessions_of, starts_by}
+use Rattle.gx_law_schedules.proofs.Enabled.{all-segments, each-other, enabled-there}
 use Rattle.gx_law_schedules.proofs.Neat.{clash}
+use Rattle.gx_law_schedules.proofs.Rounds.{AreRoundsTold, world-told}
 use Rattle.gx_law_schedules.proofs.Sessions.{next-alike, start-alike}
 use Rattle.gx_law_runs.specs.Awaiting.{IsAwaiting, IsBlocked, locks_at}
 use Rattle.gx_law_runs.proofs.Busy.{busy-awaits}
-use Rattle.gx_law_runs.proofs.Nothing.{in-nodes, in-range, nil-filter, nil-first, nil-flat, nil-left, nil-map, nil-right, none-any}
+use Rattle.gx_law_runs.proofs.Nothing.{any-none, in-nodes, in-range, nil-filter, nil-first, nil-flat, nil-left, nil-map, nil-right, none-any, or-neither}
 
 -- NOTHING BUT A ROUND IS ENABLED
 module _ (script : Script) (some : 1 ≤ script.segments) (inserts : AreInsertsWhole script.tables script.lines) (es : List (Event × Bool)) (nothing : list_all is_round (enabled script (world_of script es).steps) ≡ true) where
@@ -113,6 +115,35 @@ module _ (script : Script) (some : 1 ≤ script.segments) (inserts : AreInsertsW
       nil-map (λ g. event.Resend i (Some g)) (filter (is_due w i) (drawn c))
       (nil-left _ (if awaits_graph c i then event.Resend i None ∷ [] else [])
       (ap (λ (b : Bool). if b then map (λ g. event.Resend i (Some g)) (filter (is_due w i) (drawn c)) ++ (if awaits_graph c i then event.Resend i None ∷ [] else []) else []) (sym (quiet i r)) ∙ at-segment (λ j. resends_due script w j ≡ []) (nil-flat (resends_due script w) (segments_of script) no-resends) i r))
+
+  -- no graph is awaited, so no round runs
+  none-awaited : (i : Node) → (1 ≤ i.0) × (i.0 ≤ script.segments) → awaits_graph c i ≡ false
+  none-awaited i r =
+      by_test (awaits_graph c i)
+      (nil-right (map (λ g. event.Resend i (Some g)) (filter (is_due w i) (drawn c))) (if awaits_graph c i then event.Resend i None ∷ [] else [])
+      (ap (λ (b : Bool). if b then map (λ g. event.Resend i (Some g)) (filter (is_due w i) (drawn c)) ++ (if awaits_graph c i then event.Resend i None ∷ [] else []) else []) (sym (quiet i r)) ∙ at-segment (λ j. resends_due script w j ≡ []) (nil-flat (resends_due script w) (segments_of script) no-resends) i r))
+    where
+      by_test : (b : Bool) → (if b then event.Resend i None ∷ [] else []) ≡ [] → b ≡ false
+      by_test true e = absurd (cc)
+      by_test false e = refl
+
+  told : AreRoundsTold script (world_of script es)
+  told = world-told script some es
+
+  no-round-runs : is_round_running (world_of script es).steps ≡ false
+  no-round-runs = by_test (is_round_running w.steps) refl
+    where
+      within : (a n : ℕ) → (nat_le 1 a && nat_le a n) ≡ true → (1 ≤ a) × (a ≤ n)
+      within a n e = (grind (arith, nat_tests), grind (arith, nat_tests))
+
+      all-there : list_any (is_graph_awaited w.steps) (segments_of script) ≡ false
+      all-there =
+          none-any (is_graph_awaited w.steps) (segments_of script)
+          (each_weaker (λ (i : Node). is_segment script i ≡ true) (λ (i : Node). is_graph_awaited w.steps i ≡ false) (λ i s. told.awaited i s ∙ none-awaited i (within i.0 script.segments s)) (segments_of script) (all-segments script some es))
+
+      by_test : (b : Bool) → is_round_running (world_of script es).steps ≡ b → is_round_running (world_of script es).steps ≡ false
+      by_test true e = clash (list_any (is_graph_awaited w.steps) (segments_of script)) (told.lacks e) all-there
+      by_test false e = e
 
   -- of all that were drawn
   of-drawn : (p : Gxid → Bool) → filter p (drawn c) ≡ [] → (g : Gxid) → (1 ≤ g.0) × (g.0 < c.table.next.0) → p g ≡ false
@@ -200,6 +231,63 @@ module _ (script : Script) (some : 1 ≤ script.segments) (inserts : AreInsertsW
       by_test true e = clash (is_unfinished_there script (world_of script es).coord k) u (all-finished k l e)
       by_test false e = all-blocked k e
 
+-- NOTHING AT ALL IS ENABLED
+-- who waits has a wait among those of a node
+waits-there : (l : Locks) (g : Gxid) → is_some (wait_of l g) ≡ true → not (length l.waits == 0) ≡ true
+waits-there l g e = by_waits l.waits e
+  where
+    more : (n : ℕ) → not (suc n == 0) ≡ true
+    more n = grind (arith, nat_tests)
+
+    by_waits : (ws : List Claim) → is_some (find (is_of g) ws) ≡ true → not (length ws == 0) ≡ true
+    by_waits [] e = absurd (cc)
+    by_waits (x ∷ ws) e = more (length ws)
+
+module _ (script : Script) (some : 1 ≤ script.segments) (inserts : AreInsertsWhole script.tables script.lines) (es : List (Event × Bool)) (nothing : enabled script (world_of script es).steps ≡ []) where
+  abbrev v : World
+  v = world_of script es
+
+  but-rounds : list_all is_round (enabled script (world_of script es).steps) ≡ true
+  but-rounds = ap (list_all is_round) nothing
+
+  no-rounds : rounds_by script (world_of script es) ≡ []
+  no-rounds = nil-right _ (rounds_by script v) (sym (enabled-there script some es) ∙ nothing)
+
+  -- whoever is blocked waits at a node
+  anybody-waits : (k : SessionId) → IsBlocked script (world_of script es) k → is_anybody_waiting script (world_of script es) ≡ true
+  anybody-waits k b = by_test (is_anybody_waiting script v) refl
+    where
+      one : (i : ℕ) → (i == 0) ≡ false → 1 ≤ i
+      one i e = grind (arith, nat_tests)
+
+      below : (a n : ℕ) → a ≤ n → a < 1 + n
+      below a n l = omega arith
+
+      g : Gxid
+      g = (session_of v.coord k).transaction
+
+      by_node : (here : Bool) → (b.at.0 == 0) ≡ here → is_some (wait_of (if here then v.coord.locks else (v.segs b.at.0).locks) g) ≡ true → is_anybody_waiting script v ≡ false → ⊥
+      by_node true e waits off = true-false _ (waits-there v.coord.locks g waits) (or-neither _ _ off).0
+      by_node false e waits off =
+          true-false _ (waits-there (v.segs b.at.0).locks g waits)
+          (in-nodes (λ i. not (length (v.segs i.0).locks.waits == 0) ≡ false) 1 script.segments b.at (any-none (λ segment. not (length (v.segs segment.0).locks.waits == 0)) (segments_of script) (or-neither _ _ off).1) (one b.at.0 e) (below b.at.0 script.segments b.node))
+
+      by_test : (a : Bool) → is_anybody_waiting script (world_of script es) ≡ a → is_anybody_waiting script (world_of script es) ≡ true
+      by_test true e = e
+      by_test false e = absurd (by_node (b.at.0 == 0) refl b.waits e)
+
+  pub stuck-without : (k : SessionId) → IsBlocked script (world_of script es) k → script.detector ≡ false
+  stuck-without k b = plain script.detector v.coord.reports (is_anybody_waiting script v) (anybody-waits k b) (sym told.runs ∙ no-round-runs script some inserts es but-rounds) no-rounds
+    where
+      told : AreRoundsTold script (world_of script es)
+      told = world-told script some es
+
+      plain : {A : Type 0} (d : Bool) (o : Option A) (a : Bool) → a ≡ true → is_some o ≡ false → (if (d && is_none o) && a then event.Round ∷ [] else []) ≡ [] → d ≡ false
+      plain true None true e f h = absurd (cc)
+      plain true None false e f h = absurd (cc)
+      plain true (Some x) a e f h = absurd (cc)
+      plain false o a e f h = refl
+
 -- IN EVERY RUN THAT IS REACHED
 -- it is so of what the steps tell
 module _ (script : Script) (steps : List Step) (w : World) (r : AreReplayed script steps w) where
@@ -227,3 +315,11 @@ goes-on-or-blocked script steps session some inserts is l unfinished nothing =
     blocked-alike script steps (world_of script is.events) (replayed script steps is) session
     (unfinished-blocked script some inserts is.events (subst (λ ss. list_all is_round (enabled script ss) ≡ true) (sym is.is) nothing) session l
     (subst (λ (c : Coord). is_unfinished_there script c session ≡ true) (sym (replayed script steps is).coordinator) unfinished))
+
+pub stuck-without-detector : (script : Script) (steps : List Step) (session : SessionId) → 1 ≤ script.segments → AreInsertsWhole script.tables script.lines → (is : IsReached script steps) → session.0 < length script.sessions → is_unfinished_there script (coordinator_after script steps) session ≡ true → enabled script steps ≡ [] → script.detector ≡ false
+stuck-without-detector script steps session some inserts is l unfinished nothing =
+    stuck-without script some inserts is.events now session
+    (unfinished-blocked script some inserts is.events (ap (list_all is_round) now) session l (subst (λ (c : Coord). is_unfinished_there script c session ≡ true) (sym (replayed script steps is).coordinator) unfinished))
+  where
+    now : enabled script (world_of script is.events).steps ≡ []
+    now = ap (enabled script) is.is ∙ nothing

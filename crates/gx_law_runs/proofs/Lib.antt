@@ -21,6 +21,7 @@ pub mod Nothing
 pub mod Going
 pub mod Resuming
 pub mod Waiters
+pub mod Detecting
 pub mod Marks
 pub mod AtSegments
 pub mod AtCoordinators

@@ -1,5 +1,5 @@
 -- Lists with nothing in them, and what holds of each in a row.
-use Rattle.std.proofs.Common.{◌≡◌, ◌≤◌, ◌<◌, ℕ, zero, suc, ◌+◌, List, [], ◌∷◌, ◌++◌, Bool, true, false, refl, subst, arith, cond, eqb}
+use Rattle.std.proofs.Common.{◌≡◌, ◌≤◌, ◌<◌, ℕ, zero, suc, ◌+◌, List, [], ◌∷◌, ◌++◌, Bool, true, false, refl, subst, arith, cond, eqb, ◌||◌}
 use Rattle.std.proofs.lemmas.Bool.{eqb-true, or_from}
 use Rattle.std.specs.Prelude.{filter, map}
 use Rattle.std.specs.List.{flat_map, list_any, range_with_len}
@@ -71,3 +71,11 @@ in-nodes P a (suc n) i e l h = by_first (eqb a i.0) refl (λ m. in-nodes P (a + 
 pub none-any : {A : Type 0} (t : A → Bool) (xs : List A) → Each (λ x. t x ≡ false) xs → list_any t xs ≡ false
 none-any t [] e = refl
 none-any t (x ∷ xs) e = or_from (t x) (list_any t xs) e.0 (none-any t xs e.1)
+
+pub or-neither : (a b : Bool) → (a || b) ≡ false → (a ≡ false) × (b ≡ false)
+or-neither true b e = absurd (cc)
+or-neither false b e = (refl, e)
+
+pub any-none : {A : Type 0} (t : A → Bool) (xs : List A) → list_any t xs ≡ false → Each (λ x. t x ≡ false) xs
+any-none t [] e = tt
+any-none t (x ∷ xs) e = let n = or-neither (t x) (list_any t xs) e in (n.0, any-none t xs n.1)

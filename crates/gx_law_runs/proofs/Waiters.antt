@@ -1,4 +1,4 @@
--- Who waits, who resumes and whether a round may begin, told by what the nodes hold after a run that is reached.
+-- Who waits and who resumes, told by what the nodes hold after a run that is reached.
 use Rattle.std.proofs.Common.{◌≡◌, ◌≤◌, ℕ, List, [], ◌∷◌, Bool, true, false, refl, sym, subst, ap, ◌∙◌, if◌then◌else◌, ◌&&◌, ◌||◌, not, length, arith}
 use Rattle.std.proofs.lemmas.Bool.Decides.{nat_tests}
 use Rattle.std.specs.Prelude.{◌==◌, nat_le}
@@ -8,33 +8,25 @@ use Rattle.gx_ids.specs.declared.ids.Node.{Node}
 use Rattle.gx_locks.specs.Locks.{is_ready, wait_of}
 use Rattle.gx_script.specs.declared.Script.{Script}
 use Rattle.gx_store.specs.declared.event.Event.{Event}
-use Rattle.gx_store.specs.declared.event.Event.TheVariants.{Resume, Round}
+use Rattle.gx_store.specs.declared.event.Event.TheVariants.{Resume}
 use Rattle.gx_store.specs.declared.run.Step.{Step}
 use Rattle.gx_store.specs.Journals.{is_same_node}
 use Rattle.gx_store.specs.Points.{marks_in}
 use Rattle.gx_store.specs.Refusals.{the_coordinator}
-use Rattle.gx_store.specs.Schedule.{is_any_wait, resumptions, rounds, segments_of}
+use Rattle.gx_store.specs.Schedule.{is_any_wait, resumptions, segments_of}
 use Rattle.gx_rules.specs.AtCoordinator.{is_segment}
 use Rattle.gx_rules.specs.Coordinators.{Coord}
 use Rattle.gx_rules.specs.Machine.{can}
-use Rattle.gx_rules.specs.Rounds.{can_begin}
 use Rattle.gx_rules.specs.Segments.{Seg}
 use Rattle.gx_law_order.proofs.Lists.{Each, each_weaker}
 use Rattle.gx_law_order.proofs.Ordered.{world_well}
-use Rattle.gx_law_schedules.proofs.Enabled.{any-each, any-same, resumes-here-admitted, resumes-there-admitted, rounds-begin, segments-first}
+use Rattle.gx_law_schedules.proofs.Enabled.{any-each, any-same, resumes-here-admitted, resumes-there-admitted, segments-first}
 use Rattle.gx_law_runs.specs.Reached.{IsReached}
 use Rattle.gx_law_runs.specs.Replays.{coordinator_after, is_admitted, segment_after}
 use Rattle.gx_law_runs.proofs.Reaching.{replayed, w}
 use Rattle.gx_law_runs.proofs.Telling.{can-told}
 
 module _ (script : Script) (steps : List Step) (some : 1 ≤ script.segments) (is : IsReached script steps) where
-  -- ROUNDS
-  pub rounds-now : rounds script steps ≡ (if can_begin script (coordinator_after script steps) && is_any_wait script (marks_in steps) then Round ∷ [] else [])
-  rounds-now =
-      ap (rounds script) (sym is.is) ∙ rounds-begin script some is.events
-      ∙ ap (λ ss. if can_begin script (w script steps is).coord && is_any_wait script (marks_in ss) then Round ∷ [] else []) is.is
-      ∙ ap (λ (c : Coord). if can_begin script c && is_any_wait script (marks_in steps) then Round ∷ [] else []) (replayed script steps is).coordinator
-
   -- WHO WAITS
   pub waits-now : is_any_wait script (marks_in steps) ≡ (not (length (coordinator_after script steps).locks.waits == 0) || list_any (λ segment. not (length (segment_after script segment steps).locks.waits == 0)) (segments_of script))
   waits-now =

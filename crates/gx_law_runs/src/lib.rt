@@ -7,4 +7,5 @@ pub mod failures;
 pub mod progress;
 pub mod reached;
 pub mod replays;
+pub mod rounds;
 pub mod waits;

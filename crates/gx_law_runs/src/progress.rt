@@ -31,6 +31,15 @@ pub fn unfinished_runs_go_on_unless_blocked()
         → IsBlocked script (world_behind script steps) session }
 {}
 
+/// Where nothing at all is enabled and a session is unfinished, the script has no detector: with one, a round may begin, or else
+/// a graph of the round that runs is asked for again.
+pub fn stuck_runs_have_no_detector()
+    ensures { (script : Script) (steps : List OneStep) (session : OneSession) → 1 ≤ script.segments
+        → AreInsertsWhole script.tables script.lines → IsReached script steps
+        → session.0 < length script.sessions → is_unfinished_there script (coordinator_after script steps) session ≡ true → enabled script steps ≡ []
+        → script.detector ≡ false }
+{}
+
 /// A session that isn't idle awaits an answer, of some segment for its transaction, or waits for a lock at the coordinator.
 pub fn busy_sessions_await_an_answer_or_a_lock()
     ensures { (script : Script) (events : List (OneEvent × Bool)) (session : OneSession) → 1 ≤ script.segments → AreInsertsWhole script.tables script.lines

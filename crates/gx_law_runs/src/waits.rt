@@ -1,5 +1,5 @@
 //! Laws of who waits and who resumes, told by what the nodes hold after a run that is reached.
-ghost use Rattle.std.specs.Prelude.{◌≡◌, ◌≤◌, ◌==◌, Bool, true, ◌&&◌, ◌||◌, if◌then◌else◌, not, List, [], ◌∷◌, length};
+ghost use Rattle.std.specs.Prelude.{◌≡◌, ◌≤◌, ◌==◌, Bool, true, ◌&&◌, ◌||◌, not, List, [], ◌∷◌, length};
 ghost use Rattle.std.specs.List.{list_any};
 ghost use Rattle.gx_ids.specs.declared.ids.Gxid.{Gxid as OneGxid};
 ghost use Rattle.gx_ids.specs.declared.ids.Node.{Node as OneNode};
@@ -7,18 +7,11 @@ ghost use Rattle.gx_locks.specs.Locks.{is_ready, wait_of};
 ghost use Rattle.gx_law_runs.specs.Reached.{IsReached};
 ghost use Rattle.gx_law_runs.specs.Replays.{coordinator_after, is_admitted, segment_after};
 ghost use Rattle.gx_rules.specs.AtCoordinator.{is_segment};
-ghost use Rattle.gx_rules.specs.Rounds.{can_begin};
 ghost use Rattle.gx_script.specs.declared.Script.{Script};
 ghost use Rattle.gx_store.specs.Points.{marks_in};
-ghost use Rattle.gx_store.specs.Schedule.{is_any_wait, resumptions, rounds, segments_of};
-ghost use Rattle.gx_store.specs.declared.event.Event.TheVariants.{Resume, Round};
+ghost use Rattle.gx_store.specs.Schedule.{is_any_wait, resumptions, segments_of};
+ghost use Rattle.gx_store.specs.declared.event.Event.TheVariants.{Resume};
 ghost use Rattle.gx_store.specs.declared.run.Step.{Step as OneStep};
-
-/// A round may begin where somebody waits, the script has a detector and no round runs at the coordinator.
-pub fn rounds_begin_where_somebody_waits()
-    ensures { (script : Script) (steps : List OneStep) → 1 ≤ script.segments → IsReached script steps
-        → rounds script steps ≡ (if can_begin script (coordinator_after script steps) && is_any_wait script (marks_in steps) then Round ∷ [] else []) }
-{}
 
 /// Somebody waits by the marks where somebody waits in the locks of the coordinator or of a segment.
 pub fn waits_stand_at_the_nodes()

@@ -1,5 +1,5 @@
 -- What is enabled by the steps is what is enabled by the nodes' data, and the machine admits it.
-use Rattle.std.proofs.Common.{◌≡◌, ◌≤◌, ◌<◌, ℕ, zero, suc, ◌+◌, ◌-◌, List, [], ◌∷◌, ◌++◌, Option, Some, None, Bool, true, false, refl, sym, subst, ap, ◌∙◌, if◌then◌else◌, ◌&&◌, ◌||◌, not, arith, append-nil, cond, eqb, length}
+use Rattle.std.proofs.Common.{◌≡◌, ◌≤◌, ◌<◌, ℕ, zero, suc, ◌+◌, ◌-◌, List, [], ◌∷◌, ◌++◌, Option, Some, None, Bool, true, false, refl, sym, subst, ap, ◌∙◌, if◌then◌else◌, ◌&&◌, ◌||◌, not, arith, cond, eqb, length}
 use Rattle.std.proofs.lemmas.Bool.Decides.{nat_tests}
 use Rattle.std.proofs.lemmas.List.{append_assoc}
 use Rattle.std.specs.Prelude.{◌==◌, filter, find, is_none, is_some, map, nat_le}
@@ -146,7 +146,7 @@ module _ (script : Script) (some : 1 ≤ script.segments) (es : List (Event × B
       on : (a n k : ℕ) → a + suc n ≤ k + 1 → a + 1 + n ≤ k + 1
       on a n k h = omega arith
 
-  all-segments : Each (λ (i : Node). is_segment script i ≡ true) (segments_of script)
+  pub all-segments : Each (λ (i : Node). is_segment script i ≡ true) (segments_of script)
   all-segments = segments-are 1 script.segments (same 1) (first script.segments)
     where
       same : (a : ℕ) → a ≤ a

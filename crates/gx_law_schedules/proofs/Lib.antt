@@ -19,4 +19,5 @@ pub mod Ordering
 pub mod Fitted
 pub mod Awaited
 pub mod Rounds
+pub mod Graphs
 pub mod Enabled

@@ -1,4 +1,4 @@
-use Rattle.std.proofs.Common.{◌≤◌, ◌+◌, ◌∙◌, ap, drop, length, refl, subst, sym}
+use Rattle.std.proofs.Common.{◌≤◌, ◌+◌, ◌∙◌, ap, drop, refl, subst, sym}
 use Rattle.gx_script.specs.declared.Script.{Script}
 use Rattle.gx_rules.specs.AtCoordinator.{and_cancels_all}
 use Rattle.gx_rules.specs.Coordinators.{CoordTurn}

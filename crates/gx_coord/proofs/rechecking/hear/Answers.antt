@@ -1,6 +1,7 @@
-use Rattle.std.proofs.Common.{◌∙◌, ap, sym}
+use Rattle.std.proofs.Common.{◌∙◌, sym}
 use Rattle.gx_coord.specs.Books.{coord_of}
-use Rattle.gx_coord.proofs.Graphs.{report-round, report-segment}
+use Rattle.std.proofs.lemmas.Result.{IfOk-weaker}
+use Rattle.gx_coord.proofs.Graphs.{report-round, report-segment, taken-victims}
 use Rattle.gx_coord.proofs.rechecking.hear.Goals as goal
 
 pub note_report-requires-clause-segment : goal.note_report-requires-clause-segment
@@ -8,3 +9,9 @@ note_report-requires-clause-segment c = report-segment (coord_of c.args.coord.no
 
 pub note_report-requires-clause-last : goal.note_report-requires-clause-last
 note_report-requires-clause-last c = report-round (coord_of c.args.coord.now) c.args.from c.args.round c.args.graph (sym c.is_report.ensures ∙ c.if-is_report.true)
+
+pub returns-in_ok-all-clause-victims : goal.returns-in_ok-all-clause-victims
+returns-in_ok-all-clause-victims c =
+    IfOk-weaker c.recheck_once_all.result _ _
+    (λ victims h. h ∙ taken-victims (coord_of c.args.coord.now) _ c.args.from c.args.round c.args.graph (sym c.is_report.ensures ∙ c.if-is_report.true) c.in_ok-all.ensures.coord)
+    c.recheck_once_all.ensures.victims

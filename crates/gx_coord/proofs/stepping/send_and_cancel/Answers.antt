@@ -13,7 +13,7 @@ pub send-requires-clause-links : goal.send-requires-clause-links
 send-requires-clause-links c = subst (λ (xs : List Out). All (λ out. out.node.0 < length c.args.coord.now.sent.items) xs) (sym (c.as_slice.ensures.value ∙ c.into_vec-outs.ensures)) c.requires.links
 
 pub cancel_all-requires-clause-sound : goal.cancel_all-requires-clause-sound
-cancel_all-requires-clause-sound c = sent-on c.args.coord.now c.send.new.coord c.args.clock _ c.in_ok-send.ensures.stayed c.in_ok-send.ensures.coord c.requires.sound
+cancel_all-requires-clause-sound c = sent-on c.args.coord.now c.send.new.coord c.args.clock c.as_slice.result.now c.in_ok-send.ensures.stayed c.in_ok-send.ensures.coord c.requires.sound
 
 pub cancel_all-requires-clause-some : goal.cancel_all-requires-clause-some
 cancel_all-requires-clause-some c = subst (λ (s : Script). 1 ≤ s.segments) (sym (ap (λ a. a.value) c.in_ok-send.ensures.stayed.script)) c.requires.some

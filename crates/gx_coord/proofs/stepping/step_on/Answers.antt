@@ -1,14 +1,11 @@
 use Rattle.std.proofs.Common.{◌≤◌, ◌<◌, ◌+◌, ◌^◌, ◌∙◌, ℕ, All, ap, length, subst, sym}
 use Rattle.std.specs.Global.{Vec}
-use Rattle.gx_node.specs.Orders.{Took}
 use Rattle.gx_script.specs.declared.Script.{Script}
-use Rattle.gx_rules.specs.AtCoordinator.{coord_turn, on_event}
 use Rattle.gx_rules.specs.Coordinators.{CoordTurn}
-use Rattle.gx_rules.specs.Rounds.{victims_at}
 use Rattle.gx_coord.specs.Books.{coord_of}
-use Rattle.gx_coord.proofs.Cancelled.{item-stays, stayed-trans}
+use Rattle.gx_coord.proofs.Cancelled.{stayed-trans}
 use Rattle.gx_coord.proofs.Gone.{links-sent}
-use Rattle.gx_coord.proofs.Stepped.{framed-stayed, step-is, turned-sound}
+use Rattle.gx_coord.proofs.Stepped.{framed-stayed, step-is, took-is, turned-sound}
 use Rattle.gx_coord.proofs.Turned.{script-same}
 use Rattle.gx_coord.proofs.stepping.step_on.Goals as goal
 
@@ -41,7 +38,7 @@ returns-clause-gone g c =
     let e = c.in_ok-turned.ensures in
     let same = c.deref.ensures ∙ c.in_ok-script.ensures in
     let is =
-        step-is old c.take_event.new.coord c.send_and_cancel.new.coord c.deref.result.now c.args.event fails c.clock_after-clock.result _ _ _ _ _ _ same c.new-marks.ensures.empty c.clock_after-clock.ensures e.turn e.outs e.victims c.in_ok-out.ensures.turn in
+    step-is old c.take_event.new.coord c.send_and_cancel.new.coord c.deref.result.now c.args.event fails c.clock_after-clock.result _ _ _ _ _ _ same c.new-marks.ensures.items c.clock_after-clock.ensures e.turn e.outs e.victims c.in_ok-out.ensures.turn in
     record {
       fails = fails;
       small = c.take_event.ensures.small;
@@ -50,6 +47,5 @@ returns-clause-gone g c =
       marks = ap (λ (t : CoordTurn). t.marks) is;
       outs = ap (λ (t : CoordTurn). t.outs) is;
       clock = c.in_ok-out.ensures.clock;
-      took = subst (λ item. Took _ _ fails item) (sym (item-stays (victims_at (coord_of old) c.args.event) (coord_turn old.script.value (coord_of old) c.args.event fails)))
-          (subst (λ (s : Script). Took _ _ fails (on_event s (coord_of old) c.args.event fails).item) same e.took);
+      took = took-is old c.deref.result.now c.args.event fails same e.took;
     }
