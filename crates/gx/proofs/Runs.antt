@@ -24,6 +24,7 @@ use Rattle.gx_law_blocked.specs.Blocked.{DoStayBlocked}
 use Rattle.gx_law_blocked.proofs.Lawful.{run-stays-blocked}
 use Rattle.gx_law_locks.specs.Legal.{AreLocksLegal}
 use Rattle.gx_law_locks.proofs.Legal.{locks-legal}
+use Rattle.gx_law_rounds.proofs.Whole.{world-rounds}
 use Rattle.gx_law_victims.specs.Legal.{AreRoundsLegal}
 use Rattle.gx_law_victims.proofs.World.{world-cancels, world-legal}
 use Rattle.gx_law_answers.proofs.Snaps.{snapshots-one}
@@ -46,14 +47,14 @@ pub run-of : (script : Script) (seed : Option ℕ) (run : Run) → IsScript scri
 run-of script seed run language inserts is driven =
     record {
       legal = by-events script run.steps is (λ ss. IsLegalHistory script (record { steps = ss }))
-          (legal script language.some_segments language.numbers (keyed script inserts) (snapshots-one script language.some_segments) (filled script inserts) (world-cancels script language.some_segments));
+          (legal script language.some_segments language.numbers (keyed script inserts) (snapshots-one script language.some_segments) (filled script inserts) (world-cancels script language.some_segments (world-rounds script language.some_segments)));
       ordered = by-events script run.steps is (AreOrdered script []) (λ es. (world_well script language.some_segments es).steps);
       system = by-events script run.steps is (λ ss. IsSystemRun script (record { steps = ss })) (world_follows script language.some_segments);
       protocol = by-events script run.steps is (DoStepsFollow script []) (world-follows script language.some_segments);
       tells = by-events script run.steps is (DoStepsTell []) (λ es. (world-holds script language.some_segments es).tells);
       locks = by-events script run.steps is (AreLocksLegal script) (locks-legal script language.some_segments language.numbers);
       blocked = by-events script run.steps is (λ ss. DoStayBlocked (marks_in ss)) (run-stays-blocked script language.some_segments);
-      rounds = by-events script run.steps is (AreRoundsLegal script) (world-legal script language.some_segments);
+      rounds = by-events script run.steps is (AreRoundsLegal script) (world-legal script language.some_segments (world-rounds script language.some_segments));
       driven = driven;
     }
 

@@ -1,4 +1,5 @@
-use Rattle.std.proofs.Common.{inr, refl, subst, sym}
+use Rattle.std.proofs.Common.{List, inr, refl, subst, sym}
+use Rattle.gx_waits.specs.declared.graph.LocalGraph.{LocalGraph}
 use Rattle.gx_store.specs.declared.run.Run.{Run}
 use Rattle.gx_drive.specs.Ends.{IsEnd}
 use Rattle.gx_drive.specs.declared.end.End.TheVariants.{Stuck}
@@ -16,7 +17,8 @@ returns-in-Ok-clause-ran c =
       off = no-detector c.args.world.script c.args.world.run.steps c.requires.language c.requires.inserts c.into_run.ensures.reached cause.unfinished cause.nothing;
       graphs = c.args.graphs;
       ended = subst (λ (r : Run). IsEnd c.args.world.script r.steps c.args.options.turns (Stuck c.args.graphs)) same c.requires.ended;
-      told = subst (λ (r : Run). IsStoppedText c.args.world.script c.args.options r (stuck_lines c.args.graphs) c.in-Ok.text.items) same c.in-Ok.ensures;
+      told = subst (λ (r : Run). IsStoppedText c.args.world.script c.args.options r (stuck_lines c.args.graphs) c.in-Ok.text.items) same
+          (subst (λ (graphs : List LocalGraph). IsStoppedText c.args.world.script c.args.options c.args.world.run (stuck_lines graphs) c.in-Ok.text.items) c.as_slice.ensures c.in-Ok.ensures);
     }
 
 pub returns-in-Err-clause-ran : goal.returns-in-Err-clause-ran

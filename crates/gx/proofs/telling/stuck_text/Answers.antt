@@ -7,7 +7,7 @@ pub returns : goal.returns
 returns c =
     if_ok c.with_trace.result _ _ c.with_trace.ensures
     (λ all behind. record {
-      front = c.in_ok-said_so_far.text.items;
-      says = c.in_ok-said_so_far.ensures;
+      front = c.in_ok-text.text.items;
+      says = c.in_ok-text.ensures;
       told = behind ∙ ap (λ (xs : List ℕ). xs ++ traced c.args.options.trace c.args.world.now.script c.args.world.now.run) c.in_ok-push_stuck.ensures;
     })

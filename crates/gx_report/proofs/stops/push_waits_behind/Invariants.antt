@@ -4,4 +4,4 @@ use Rattle.gx_report.specs.Stops.{wait_lines}
 use Rattle.gx_report.proofs.stops.push_waits_behind.Given as goal
 
 abbrev pub invariant-loop-graph : goal.invariant-loop-graph
-invariant-loop-graph l = l.text.items ≡ l.initial.text.items ++ l.line ++ flat_map wait_lines (take l.graph-index l.graphs)
+invariant-loop-graph l = l.text.items ≡ l.initial.text.items ++ flat_map wait_lines (take l.graph-index l.graphs)
