@@ -21,6 +21,6 @@ returns-in-Ok-clause-ran c =
           (subst (λ (graphs : List LocalGraph). IsStoppedText c.args.world.script c.args.options c.args.world.run (stuck_lines graphs) c.in-Ok.text.items) c.as_slice.ensures c.in-Ok.ensures);
     }
 
-pub returns-in-Err-clause-ran : goal.returns-in-Err-clause-ran
-returns-in-Err-clause-ran c =
+pub returns-clause-ran : goal.returns-clause-ran
+returns-clause-ran c =
     inr (run-in c.args.world.script c.args.options.seed c.args.world c.into_run-in-Err.result refl c.into_run-in-Err.ensures.value c.requires.language c.requires.inserts c.into_run-in-Err.ensures.reached c.requires.driven)
