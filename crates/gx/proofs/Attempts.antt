@@ -17,7 +17,7 @@ module _ (bytes : List ℕ) (options : Options) where
   pub ran : (script : Script) → Reads bytes (Ok script) → (a : Attempt) → IsRan script options a → IsOfBytes bytes options a
   ran script read (Done run text) is = (script, read, is)
   ran script read (Stopped run text) is = (script, read, is)
-  ran script read (Stuck run) is = (script, read, is)
+  ran script read (Stuck run text) is = (script, read, is)
   ran script read (OutOfMemory run) (inl none) = inl none
   ran script read (OutOfMemory run) (inr is) = inr (script, read, is)
   ran script read Usage is = absurd is
@@ -30,7 +30,7 @@ module _ (bytes : List ℕ) (options : Options) where
   refused refusal read (OutOfMemory run) is = inl is
   refused refusal read (Done run text) is = absurd is
   refused refusal read (Stopped run text) is = absurd is
-  refused refusal read (Stuck run) is = absurd is
+  refused refusal read (Stuck run text) is = absurd is
   refused refusal read Usage is = absurd is
   refused refusal read ReadFault is = absurd is
   refused refusal read TooLarge is = absurd is
@@ -44,7 +44,7 @@ module _ (words : List (String Global)) (left after : Option (List ℕ)) (before
   pub attempt : (a : Attempt) → IsOfBytes bytes options a → IsAttempt words left after before now a
   attempt (Done run text) is = with_script _ is
   attempt (Stopped run text) is = with_script _ is
-  attempt (Stuck run) is = with_script _ is
+  attempt (Stuck run text) is = with_script _ is
   attempt (OutOfMemory run) (inl none) = inl none
   attempt (OutOfMemory run) (inr is) = inr (with_script _ is)
   attempt (Refused text) (refusal, read, told) = record { options = options; asked = asked; refusal = refusal; read = record { bytes = bytes; given = given; few = few; is = read }; empty = refl; told = told }

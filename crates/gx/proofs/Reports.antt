@@ -9,7 +9,7 @@ use Rattle.gx_told.specs.declared.attempt.Attempt.{Attempt}
 use Rattle.gx_told.specs.declared.attempt.Attempt.TheVariants.{Done, Stopped, Stuck, Usage, Refused, ReadFault, TooLarge, OutOfMemory}
 use Rattle.gx_told.specs.declared.report.Report.{Report}
 use Rattle.gx_told.specs.Told.{IsTold, IsToldOf, is_over, run_in, status_in, text_in}
-use Rattle.gx.specs.Top.{AreKept, IsAttempt, IsCutShort, IsDone, IsDue, IsHalted, IsPartRun, IsReadFault, IsRefused, IsStatus, IsStopped, IsTooLarge, IsUsage, IsWritten}
+use Rattle.gx.specs.Top.{AreKept, IsAttempt, IsCutShort, IsDone, IsDue, IsPartRun, IsReadFault, IsRefused, IsStatus, IsStopped, IsStuck, IsTooLarge, IsUsage, IsWritten}
 
 abbrev pub pick : Bool → Type 0 → Type 0 → Type 0
 pick true A B = A
@@ -21,7 +21,7 @@ module _ (written shown : Option (List ℕ)) (faults more : ℕ) (report : Repor
       ⊎ ((is_over a ≡ false) × (report.status ≡ 6) × (report.run ≡ run_in a) × (shown ≡ written))
   told (Done run text) is = inl (refl, is)
   told (Stopped run text) is = inl (refl, is)
-  told (Stuck run) is = inl (refl, is)
+  told (Stuck run text) is = inl (refl, is)
   told Usage is = inl (refl, is)
   told (Refused text) is = inl (refl, is)
   told ReadFault is = inl (refl, is)
@@ -35,8 +35,8 @@ module _ (written shown : Option (List ℕ)) (faults more : ℕ) (report : Repor
   status ReadFault = inl (inl (inl (inl (inl (inr refl)))))
   status (OutOfMemory run) = inl (inl (inl (inr refl)))
   status (Stopped run text) = inl (inl (inr refl))
-  status TooLarge = inl (inr refl)
-  status (Stuck run) = inr refl
+  status (Stuck run text) = inl (inr refl)
+  status TooLarge = inr refl
 
   pub known : (a : Attempt) → IsToldOf a written shown faults more report → IsStatus report.status
   known a is = elim (told a is) [
@@ -57,7 +57,7 @@ module _ (written shown : Option (List ℕ)) (faults more : ℕ) (report : Repor
   ended : (a : Attempt) → is_over a ≡ true → (status_in a ≡ 5 → ⊥) × (status_in a ≡ 6 → ⊥)
   ended (Done run text) over = (λ e. cc, λ e. cc)
   ended (Stopped run text) over = (λ e. cc, λ e. cc)
-  ended (Stuck run) over = (λ e. cc, λ e. cc)
+  ended (Stuck run text) over = (λ e. cc, λ e. cc)
   ended Usage over = (λ e. cc, λ e. cc)
   ended (Refused text) over = (λ e. cc, λ e. cc)
   ended ReadFault over = (λ e. cc, λ e. cc)
@@ -86,13 +86,13 @@ module _ (words : List (String Global)) (left after : Option (List ℕ)) (before
       (pick (nat_eq n 3) (IsRefused words left after run text)
       (pick (nat_eq n 4) (IsReadFault words before now run text)
       (pick (nat_eq n 7) (IsStopped words left after run text)
-      (pick (nat_eq n 9) (IsTooLarge words left after run text)
-      (pick (nat_eq n 10) (IsHalted words left after run text) ⊥))))))
+      (pick (nat_eq n 8) (IsStuck words left after run text)
+      (pick (nat_eq n 9) (IsTooLarge words left after run text) ⊥))))))
 
   due : (a : Attempt) → IsAttempt words left after before now a → is_over a ≡ true → IsDueAt (status_in a) (run_in a) (text_in a)
   due (Done run text) is over = is
   due (Stopped run text) is over = is
-  due (Stuck run) is over = record { is = is; told = refl }
+  due (Stuck run text) is over = is
   due Usage is over = record { unknown = is; empty = refl; told = refl }
   due (Refused text) is over = is
   due ReadFault is over = record { asked = is.0; rose = is.1; empty = refl; told = refl }
@@ -103,18 +103,18 @@ module _ (words : List (String Global)) (left after : Option (List ℕ)) (before
   at-any : (a : Attempt) → IsAttempt words left after before now a → is_over a ≡ true → IsDue words left after before now (run_in a) (text_in a)
   at-any (Done run text) is over = inl (inl (inl (inl (inl (inl is)))))
   at-any (Stopped run text) is over = inl (inl (inl (inl (inl (inr is)))))
-  at-any Usage is over = inl (inl (inl (inl (inr (due Usage is over)))))
-  at-any (Refused text) is over = inl (inl (inl (inr is)))
-  at-any ReadFault is over = inl (inl (inr (due ReadFault is over)))
-  at-any TooLarge is over = inl (inr (due TooLarge is over))
-  at-any (Stuck run) is over = inr (due (Stuck run) is over)
+  at-any (Stuck run text) is over = inl (inl (inl (inl (inr is))))
+  at-any Usage is over = inl (inl (inl (inr (due Usage is over))))
+  at-any (Refused text) is over = inl (inl (inr is))
+  at-any ReadFault is over = inl (inr (due ReadFault is over))
+  at-any TooLarge is over = inr (due TooLarge is over)
   at-any (OutOfMemory run) is over = absurd (cc)
 
   part : (a : Attempt) → IsAttempt words left after before now a → is_over a ≡ false → IsPartRun words left after (run_in a)
   part (OutOfMemory run) of out = of
   part (Done run text) of out = absurd (cc)
   part (Stopped run text) of out = absurd (cc)
-  part (Stuck run) of out = absurd (cc)
+  part (Stuck run text) of out = absurd (cc)
   part Usage of out = absurd (cc)
   part (Refused text) of out = absurd (cc)
   part ReadFault of out = absurd (cc)

@@ -1,5 +1,5 @@
 -- A run that is reached and driven is one of the script.
-use Rattle.std.proofs.Common.{◌≡◌, ◌<◌, ℕ, List, [], ◌∷◌, Option, false, subst, sym, length}
+use Rattle.std.proofs.Common.{◌≡◌, ◌<◌, ℕ, List, [], ◌∷◌, Option, Bool, true, false, refl, subst, sym, length}
 use Rattle.std.proofs.lemmas.List.Elements.{All-from_recursion, recursion_from_All}
 use Rattle.std.specs.List.{AllByRecursion}
 use Rattle.gx_script.specs.declared.Script.{Script}
@@ -24,11 +24,20 @@ use Rattle.gx_law_blocked.specs.Blocked.{DoStayBlocked}
 use Rattle.gx_law_blocked.proofs.Lawful.{run-stays-blocked}
 use Rattle.gx_law_locks.specs.Legal.{AreLocksLegal}
 use Rattle.gx_law_locks.proofs.Legal.{locks-legal}
+use Rattle.gx_law_rounds.proofs.Whole.{world-rounds}
+use Rattle.gx_law_victims.specs.Legal.{AreRoundsLegal}
+use Rattle.gx_law_victims.proofs.World.{world-cancels, world-legal}
 use Rattle.gx_law_answers.proofs.Snaps.{snapshots-one}
 use Rattle.gx_law_answers.proofs.Whole.{filled, keyed}
 use Rattle.gx_law_runs.specs.Reached.{IsReached}
 use Rattle.gx_law_runs.proofs.Reaching.{by-events}
-use Rattle.gx_store.specs.Schedule.{is_any_unfinished}
+use Rattle.gx_store.specs.Schedule.{enabled, is_any_unfinished}
+use Rattle.gx_ids.specs.declared.ids.SessionId.{SessionId}
+use Rattle.gx_rules.specs.AtCoordinator.{is_unfinished_there}
+use Rattle.gx_law_runs.specs.Replays.{coordinator_after}
+use Rattle.gx_law_runs.proofs.Going.{stuck-without-detector}
+use Rattle.gx_drive.proofs.Unfinished.{unfinished-none}
+use Rattle.gx_lemmas.proofs.Tests.{true-false}
 use Rattle.gx_law_runs.specs.Endings.{IsFinished}
 use Rattle.gx_law_runs.proofs.Finishing.{whole}
 use Rattle.gx_world.specs.Worlds.{WorldState}
@@ -38,13 +47,14 @@ pub run-of : (script : Script) (seed : Option ℕ) (run : Run) → IsScript scri
 run-of script seed run language inserts is driven =
     record {
       legal = by-events script run.steps is (λ ss. IsLegalHistory script (record { steps = ss }))
-          (legal script language.some_segments language.numbers (keyed script inserts) (snapshots-one script language.some_segments) (filled script inserts));
+          (legal script language.some_segments language.numbers (keyed script inserts) (snapshots-one script language.some_segments) (filled script inserts) (world-cancels script language.some_segments (world-rounds script language.some_segments)));
       ordered = by-events script run.steps is (AreOrdered script []) (λ es. (world_well script language.some_segments es).steps);
       system = by-events script run.steps is (λ ss. IsSystemRun script (record { steps = ss })) (world_follows script language.some_segments);
       protocol = by-events script run.steps is (DoStepsFollow script []) (world-follows script language.some_segments);
       tells = by-events script run.steps is (DoStepsTell []) (λ es. (world-holds script language.some_segments es).tells);
       locks = by-events script run.steps is (AreLocksLegal script) (locks-legal script language.some_segments language.numbers);
       blocked = by-events script run.steps is (λ ss. DoStayBlocked (marks_in ss)) (run-stays-blocked script language.some_segments);
+      rounds = by-events script run.steps is (AreRoundsLegal script) (world-legal script language.some_segments (world-rounds script language.some_segments));
       driven = driven;
     }
 
@@ -64,3 +74,17 @@ finished script steps language is over =
     (whole script language.some_segments language.numbers
     (All-from_recursion (λ line. line.session.0 < length script.sessions) script.lines
     (sessions-there script.tables (length script.sessions) script.lines (recursion_from_All (IsLine script.tables (length script.sessions)) script.lines language.lines)))) over
+
+-- with a detector a run that is reached goes on until no session is unfinished
+pub no-detector : (script : Script) (steps : List Step) → IsScript script → AreInsertsWhole script.tables script.lines → IsReached script steps → is_any_unfinished script steps ≡ true → enabled script steps ≡ [] → script.detector ≡ false
+no-detector script steps language inserts is unfinished nothing = by_test script.detector refl
+  where
+    over : script.detector ≡ true → (session : SessionId) → session.0 < length script.sessions → (b : Bool) → is_unfinished_there script (coordinator_after script steps) session ≡ b → b ≡ false
+    over on session inside false e = refl
+    over on session inside true e = absurd (true-false script.detector on (stuck-without-detector script steps session language.some_segments inserts is inside e nothing))
+
+    by_test : (b : Bool) → script.detector ≡ b → b ≡ false
+    by_test false e = refl
+    by_test true e =
+        absurd (true-false (is_any_unfinished script steps) unfinished
+        (unfinished-none script language steps is (λ session inside. over e session inside (is_unfinished_there script (coordinator_after script steps) session) refl)))

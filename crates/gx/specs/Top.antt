@@ -8,6 +8,7 @@ use Rattle.std.specs.Io.KnownBytes.{Consumes, Appends, IsAtEnd}
 use Rattle.gx_outside.specs.Causes.{Rose, WritesPrefix}
 use Rattle.gx_outside.specs.Shelves.{Shelf}
 use Rattle.gx_tree.specs.declared.row.KeyedRow.{KeyedRow}
+use Rattle.gx_waits.specs.declared.graph.LocalGraph.{LocalGraph}
 use Rattle.gx_words.specs.Words.{IsCommand}
 use Rattle.gx_words.specs.Work.{work_text}
 use Rattle.gx_words.specs.declared.options.Options.{Options}
@@ -28,6 +29,7 @@ use Rattle.gx_rules.specs.System.{IsSystemRun}
 use Rattle.gx_law_blocked.specs.Blocked.{DoStayBlocked}
 use Rattle.gx_law_locks.specs.Legal.{AreLocksLegal}
 use Rattle.gx_law_runs.specs.Endings.{IsFinished}
+use Rattle.gx_law_victims.specs.Legal.{AreRoundsLegal}
 use Rattle.gx_law_scripts.specs.Tuples.{HaveTuplesTo}
 use Rattle.gx_law_commit.specs.Told.{DoStepsTell}
 use Rattle.gx_drive.specs.Ends.{IsEnd}
@@ -37,8 +39,9 @@ use Rattle.gx_drive.specs.declared.end.End.TheVariants as end
 use Rattle.gx_told.specs.Told.{no_run, usage}
 use Rattle.gx_told.specs.declared.attempt.Attempt.{Attempt}
 use Rattle.gx_told.specs.declared.attempt.Attempt.TheVariants.{Done, Stopped, Stuck, Usage, Refused, ReadFault, TooLarge, OutOfMemory}
-use Rattle.gx_report.specs.Summary.{stopped_summary_of, summary_of}
-use Rattle.gx_report.specs.Text.{stopped_text, text_of}
+use Rattle.gx_report.specs.Stops.{stuck_lines, turns_spent}
+use Rattle.gx_report.specs.Summary.{summary_of}
+use Rattle.gx_report.specs.Text.{answers_text, text_of}
 use Rattle.gx.specs.Refused.{refusal_text}
 use Rattle.gx.specs.declared.bytes.NoBytes.{NoBytes}
 use Rattle.gx.specs.declared.bytes.NoBytes.TheVariants as unread
@@ -90,7 +93,9 @@ AreDriven (Some seed) script steps = AreDrawn script seed [] steps
 
 -- The run is a legal history of one store without segments. Its nodes follow their rules and the commit protocol, its messages are
 -- numbered, follow what they tell of, and arrive after they were sent, clocks rise, its locks are legal, who is blocked stays blocked until
--- one of them aborts, and each event is the one that the driver takes.
+-- one of them aborts, and each event is the one that the driver takes. Its rounds of the deadlock detector ask, report and decide as they
+-- are defined; where one names somebody the waits that it found stuck still stand, and whoever it names is the youngest of those who
+-- can't go on.
 pub record IsRunOf (script : Script) (seed : Option ℕ) (run : Run) : Type 0 where
   pub legal : IsLegalHistory script run
   pub ordered : AreOrdered script [] run.steps
@@ -99,6 +104,7 @@ pub record IsRunOf (script : Script) (seed : Option ℕ) (run : Run) : Type 0 wh
   pub tells : DoStepsTell [] run.steps
   pub locks : AreLocksLegal script run.steps
   pub blocked : DoStayBlocked (marks_of run)
+  pub rounds : AreRoundsLegal script run.steps
   pub driven : AreDriven seed script run.steps
 
 -- the tables of a script as they are behind a run
@@ -112,9 +118,9 @@ ended_text None script run tables = text_of script run tables
 ended_text (Some number) script run tables = summary_of number script run tables
 
 -- what is told of a run that stopped: its answers, or the line on generated work, of the tables as they are by then
-abbrev pub SaysStopped : Option ℕ → Script → Run → List ℕ → Type 0
-SaysStopped None script run said = said ≡ stopped_text script run
-SaysStopped (Some number) script run said = (tables : List (Vec KeyedRow Global)) × AreTables script run tables × (said ≡ stopped_summary_of number script run tables)
+abbrev pub SaysSoFar : Option ℕ → Script → Run → List ℕ → Type 0
+SaysSoFar None script run said = said ≡ answers_text script run
+SaysSoFar (Some number) script run said = (tables : List (Vec KeyedRow Global)) × AreTables script run tables × (said ≡ summary_of number script run tables)
 
 -- the text of a run that ended, and the run's own behind it where that is asked for
 pub record IsEndedText (script : Script) (options : Options) (run : Run) (text : List ℕ) : Type 0 where
@@ -122,11 +128,11 @@ pub record IsEndedText (script : Script) (options : Options) (run : Run) (text :
   pub final : AreTables script run tables
   pub told : text ≡ ended_text options.work script run tables ++ traced options.trace script run
 
--- the text of one that stopped
-pub record IsStoppedText (script : Script) (options : Options) (run : Run) (text : List ℕ) : Type 0 where
+-- the text of one that stopped, with why it stopped
+pub record IsStoppedText (script : Script) (options : Options) (run : Run) (why text : List ℕ) : Type 0 where
   pub front : List ℕ
-  pub says : SaysStopped options.work script run front
-  pub told : text ≡ front ++ traced options.trace script run
+  pub says : SaysSoFar options.work script run front
+  pub told : text ≡ front ++ why ++ traced options.trace script run
 
 -- no session is unfinished: every line was answered in it, every block is closed, every transaction has ended; and this is its text
 pub record IsWholeRunOf (script : Script) (options : Options) (run : Run) (text : List ℕ) : Type 0 where
@@ -139,18 +145,22 @@ pub record IsWholeRunOf (script : Script) (options : Options) (run : Run) (text 
 pub record IsStoppedRunOf (script : Script) (options : Options) (run : Run) (text : List ℕ) : Type 0 where
   pub is : IsRunOf script options.seed run
   pub ended : IsEnd script run.steps options.turns end.Turns
-  pub told : IsStoppedText script options run text
+  pub told : IsStoppedText script options run turns_spent text
 
--- turns are left, a session is unfinished, and nothing may happen (but a round of the detector, which isn't built yet)
-pub record IsStuckRunOf (script : Script) (options : Options) (run : Run) : Type 0 where
+-- The detector is off, turns are left and a session is unfinished, but nothing may happen; and this is the text that says so and
+-- which waits are stuck.
+pub record IsStuckRunOf (script : Script) (options : Options) (run : Run) (text : List ℕ) : Type 0 where
   pub is : IsRunOf script options.seed run
-  pub ended : IsEnd script run.steps options.turns end.Stuck
+  pub off : script.detector ≡ false
+  pub graphs : List LocalGraph
+  pub ended : IsEnd script run.steps options.turns (end.Stuck graphs)
+  pub told : IsStoppedText script options run (stuck_lines graphs) text
 
 -- what became of a script that was run
 abbrev pub IsRan : Script → Options → Attempt → Type 0
 IsRan script options (Done run text) = IsWholeRunOf script options run text.items
 IsRan script options (Stopped run text) = IsStoppedRunOf script options run text.items
-IsRan script options (Stuck run) = IsStuckRunOf script options run
+IsRan script options (Stuck run text) = IsStuckRunOf script options run text.items
 IsRan script options (OutOfMemory run) = (run ≡ no_run) ⊎ IsRunOf script options.seed run
 IsRan script options _ = ⊥
 
@@ -168,7 +178,7 @@ IsScriptWith bytes Is = (script : Script) × Reads bytes (Ok script) × Is scrip
 abbrev pub IsOfBytes : List ℕ → Options → Attempt → Type 0
 IsOfBytes bytes options (Done run text) = IsScriptWith bytes (λ script. IsWholeRunOf script options run text.items)
 IsOfBytes bytes options (Stopped run text) = IsScriptWith bytes (λ script. IsStoppedRunOf script options run text.items)
-IsOfBytes bytes options (Stuck run) = IsScriptWith bytes (λ script. IsStuckRunOf script options run)
+IsOfBytes bytes options (Stuck run text) = IsScriptWith bytes (λ script. IsStuckRunOf script options run text.items)
 IsOfBytes bytes options (Refused text) = (refusal : Refusal) × Reads bytes (Err refusal) × (refusal_text refusal ≡ Some text.items)
 IsOfBytes bytes options (OutOfMemory run) = (run ≡ no_run) ⊎ IsScriptWith bytes (λ script. IsRunOf script options.seed run)
 IsOfBytes bytes options _ = ⊥
@@ -212,8 +222,8 @@ abbrev pub IsStopped : List (String Global) → Option (List ℕ) → Option (Li
 IsStopped words left after run text = HasScript words left after (λ script options. IsStoppedRunOf script options run text)
 
 -- a script was read, and its run is stuck
-abbrev pub IsStuck : List (String Global) → Option (List ℕ) → Option (List ℕ) → Run → Type 0
-IsStuck words left after run = HasScript words left after (λ script options. IsStuckRunOf script options run)
+abbrev pub IsStuck : List (String Global) → Option (List ℕ) → Option (List ℕ) → Run → List ℕ → Type 0
+IsStuck words left after run text = HasScript words left after (λ script options. IsStuckRunOf script options run text)
 
 -- the words are not in the language, nothing was run, and the text says what is
 pub record IsUsage (words : List (String Global)) (run : Run) (text : List ℕ) : Type 0 where
@@ -244,16 +254,11 @@ pub record IsTooLarge (words : List (String Global)) (left after : Option (List 
   pub empty : run ≡ no_run
   pub told : text ≡ codes "too large\n"
 
--- the run is stuck, and the text says that what it would need isn't built
-pub record IsHalted (words : List (String Global)) (left after : Option (List ℕ)) (run : Run) (text : List ℕ) : Type 0 where
-  pub is : IsStuck words left after run
-  pub told : text ≡ codes "not built\n"
-
 -- what the work before the writing came to
 abbrev pub IsAttempt : List (String Global) → Option (List ℕ) → Option (List ℕ) → ℕ → ℕ → Attempt → Type 0
 IsAttempt words left after before now (Done run text) = IsDone words left after run text.items
 IsAttempt words left after before now (Stopped run text) = IsStopped words left after run text.items
-IsAttempt words left after before now (Stuck run) = IsStuck words left after run
+IsAttempt words left after before now (Stuck run text) = IsStuck words left after run text.items
 IsAttempt words left after before now Usage = AreUnknown words
 IsAttempt words left after before now (Refused text) = IsRefused words left after no_run text.items
 IsAttempt words left after before now ReadFault = IsForSource words × Rose before now
@@ -273,13 +278,13 @@ pub record IsWritten (IsText : List ℕ → Type 0) (written after : Option (Lis
   pub all : Appends written after text
 
 abbrev pub IsStatus : ℕ → Type 0
-IsStatus n = ((((((((n ≡ 0) ⊎ (n ≡ 2)) ⊎ (n ≡ 3)) ⊎ (n ≡ 4)) ⊎ (n ≡ 5)) ⊎ (n ≡ 6)) ⊎ (n ≡ 7)) ⊎ (n ≡ 9)) ⊎ (n ≡ 10)
+IsStatus n = ((((((((n ≡ 0) ⊎ (n ≡ 2)) ⊎ (n ≡ 3)) ⊎ (n ≡ 4)) ⊎ (n ≡ 5)) ⊎ (n ≡ 6)) ⊎ (n ≡ 7)) ⊎ (n ≡ 8)) ⊎ (n ≡ 9)
 
 -- the text that is due at some end of the work
 abbrev pub IsDue : List (String Global) → Option (List ℕ) → Option (List ℕ) → ℕ → ℕ → Run → List ℕ → Type 0
 IsDue words left after before now run text =
-    (((((IsDone words left after run text ⊎ IsStopped words left after run text) ⊎ IsUsage words run text) ⊎ IsRefused words left after run text)
-    ⊎ IsReadFault words before now run text) ⊎ IsTooLarge words left after run text) ⊎ IsHalted words left after run text
+    (((((IsDone words left after run text ⊎ IsStopped words left after run text) ⊎ IsStuck words left after run text) ⊎ IsUsage words run text)
+    ⊎ IsRefused words left after run text) ⊎ IsReadFault words before now run text) ⊎ IsTooLarge words left after run text
 
 -- the sink failed, and a part of the text that was due stands there, from its front
 pub record IsCutShort (IsText : List ℕ → Type 0) (written after : Option (List ℕ)) (before now : ℕ) : Type 0 where

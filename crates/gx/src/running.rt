@@ -9,12 +9,14 @@ ghost use Rattle.gx.specs.Top.{AreDriven, AreKept, IsRan};
 ghost use Rattle.gx_told.specs.Told.{is_over, run_in};
 
 use crate::driving::drive;
-use crate::telling::{ended_text, stopped_text};
+use crate::telling::{ended_text, stopped_text, stuck_text};
 use gx_drive::End;
+use gx_ids::Seq;
 use gx_outside::{Gate, Journal};
 use gx_script::Script;
 use gx_store::Run;
 use gx_told::Attempt;
+use gx_waits::LocalGraph;
 use gx_words::Options;
 use gx_world::World;
 use std::alloc::Global;
@@ -60,7 +62,7 @@ fn ended(alloc: Global, world: World, options: Options, end: End) -> Attempt
     match end {
         End::Done => finished(alloc, world, options),
         End::Turns => stopped(alloc, world, options),
-        End::Stuck => stuck(world, options),
+        End::Stuck(graphs) => stuck(alloc, world, options, graphs),
     }
 }
 
@@ -93,14 +95,16 @@ fn stopped(alloc: Global, world: World, options: Options) -> Attempt
     }
 }
 
-// A run that can't go on.
-fn stuck(world: World, _options: Options) -> Attempt
+fn stuck(alloc: Global, world: World, options: Options, graphs: Seq<LocalGraph>) -> Attempt
     requires language { IsScript world.script }
     requires inserts { AreInsertsWhole world.script.tables world.script.lines }
-    requires driven { AreDriven _options.seed world.script world.run.steps }
-    requires ended { IsEnd world.script world.run.steps _options.turns Stuck }
-    ensures ran { IsRan world.script _options result }
+    requires driven { AreDriven options.seed world.script world.run.steps }
+    requires ended { IsEnd world.script world.run.steps options.turns (Stuck graphs) }
+    ensures ran { IsRan world.script options result }
     ensures run { run_in result ≡ world.run }
 {
-    Attempt::Stuck(world.into_run())
+    match stuck_text(alloc, &world, options, graphs.as_slice()) {
+        Ok(text) => Attempt::Stuck(world.into_run(), text),
+        Err(_) => Attempt::OutOfMemory(world.into_run()),
+    }
 }

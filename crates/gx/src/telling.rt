@@ -1,10 +1,12 @@
-// What is told of a run: its answers and the tables, or one line on generated work, and its trace.
+// What is told of a run: its answers and the tables, or one line on generated work, why it stopped, and its trace.
 ghost use Rattle.std.specs.Prelude.{◌≡◌, ◌++◌, IfOk, Some};
-ghost use Rattle.gx.specs.Top.{IsEndedText, IsStoppedText, SaysStopped, ended_text as of_ended, traced};
+ghost use Rattle.gx.specs.Top.{IsEndedText, IsStoppedText, SaysSoFar, ended_text as of_ended, traced};
+ghost use Rattle.gx_report.specs.Stops.{stuck_lines, turns_spent};
 
 use gx_ids::Mem;
-use gx_report::{push_trace, summary, summary_of_stopped, text, text_of_stopped};
+use gx_report::{answers, push_stuck, push_trace, push_turns_spent, summary, text};
 use gx_tree::KeyedRow;
+use gx_waits::LocalGraph;
 use gx_words::Options;
 use gx_world::World;
 use std::alloc::Global;
@@ -35,27 +37,42 @@ fn said_at_end(
 
 /// The text of a run that stopped once all turns were taken.
 pub fn stopped_text(alloc: Global, world: &World, options: Options) -> Mem<Vec<u8>>
-    ensures { IfOk result (λ text. IsStoppedText world.now.script options world.now.run text.items) }
+    ensures { IfOk result (λ text. IsStoppedText world.now.script options world.now.run turns_spent text.items) }
 {
-    let said = said_at_stop(alloc, world, options.work)?;
-    with_trace(alloc, said, world, options.trace)
+    let mut text = said_so_far(alloc, world, options.work)?;
+    push_turns_spent(&mut text)?;
+    with_trace(alloc, text, world, options.trace)
 }
 
-// Its answers, or the line on generated work with the tables as they are by then.
-fn said_at_stop(alloc: Global, world: &World, work: Option<u64>) -> Mem<Vec<u8>>
-    ensures { IfOk result (λ text. SaysStopped work world.now.script world.now.run text.items) }
+/// The text of a run that is stuck, with the waits that are: a graph for each node.
+pub fn stuck_text(
+    alloc: Global,
+    world: &World,
+    options: Options,
+    graphs: &[LocalGraph],
+) -> Mem<Vec<u8>>
+    ensures { IfOk result (λ text. IsStoppedText world.now.script options world.now.run (stuck_lines graphs.now) text.items) }
+{
+    let mut text = said_so_far(alloc, world, options.work)?;
+    push_stuck(alloc, &mut text, graphs)?;
+    with_trace(alloc, text, world, options.trace)
+}
+
+// Its answers so far, or the line on generated work with the tables as they are by then.
+fn said_so_far(alloc: Global, world: &World, work: Option<u64>) -> Mem<Vec<u8>>
+    ensures { IfOk result (λ text. SaysSoFar work world.now.script world.now.run text.items) }
 {
     match work {
-        Some(number) => summary_at_stop(alloc, world, number),
-        None => text_of_stopped(alloc, world.script(), world.run()),
+        Some(number) => summary_so_far(alloc, world, number),
+        None => answers(alloc, world.script(), world.run()),
     }
 }
 
-fn summary_at_stop(alloc: Global, world: &World, number: u64) -> Mem<Vec<u8>>
-    ensures { IfOk result (λ text. SaysStopped (Some number) world.now.script world.now.run text.items) }
+fn summary_so_far(alloc: Global, world: &World, number: u64) -> Mem<Vec<u8>>
+    ensures { IfOk result (λ text. SaysSoFar (Some number) world.now.script world.now.run text.items) }
 {
     let tables = world.final_tables()?;
-    summary_of_stopped(
+    summary(
         alloc,
         number,
         world.script(),

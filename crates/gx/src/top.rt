@@ -2,7 +2,7 @@
 ghost use Rattle.std.specs.Prelude.{◌≡◌, ◌≢◌, length, map};
 ghost use Rattle.gx_drive.specs.Ordered.{AreFailuresFew, AreHeld};
 ghost use Rattle.gx_outside.specs.Shelves.{AreEmpty};
-ghost use Rattle.gx.specs.Top.{IsCutShort, IsDone, IsDue, IsForSource, IsHalted, IsOfLanguage, IsPartRun, IsReadFault, IsRefused, IsStatus, IsStopped, IsTooLarge, IsUsage, IsWritten};
+ghost use Rattle.gx.specs.Top.{IsCutShort, IsDone, IsDue, IsForSource, IsOfLanguage, IsPartRun, IsReadFault, IsRefused, IsStatus, IsStopped, IsStuck, IsTooLarge, IsUsage, IsWritten};
 
 use crate::attempt::make_attempt;
 use gx_outside::{Gate, Journal, Sink, Source};
@@ -48,10 +48,11 @@ pub fn run_gx<S: Source, K: Sink, J: Journal, G: Gate>(
     // generated work, and that it stopped.
     ensures stopped { result.status ≡ 7 → IsWritten (IsStopped words.now (S.left source.old) (S.left source.new) result.run) (K.written sink.old) (K.written sink.new) }
 
-    ensures too_large { result.status ≡ 9 → IsWritten (IsTooLarge words.now (S.left source.old) (S.left source.new) result.run) (K.written sink.old) (K.written sink.new) }
+    // The detector is off, turns are left and a session is unfinished, but nothing may happen; the text of the answers so far was written,
+    // that the run is stuck, and which waits are.
+    ensures stuck { result.status ≡ 8 → IsWritten (IsStuck words.now (S.left source.old) (S.left source.new) result.run) (K.written sink.old) (K.written sink.new) }
 
-    // Turns are left, a session is unfinished, and nothing may happen (but a round of the detector).
-    ensures not_built { result.status ≡ 10 → IsWritten (IsHalted words.now (S.left source.old) (S.left source.new) result.run) (K.written sink.old) (K.written sink.new) }
+    ensures too_large { result.status ≡ 9 → IsWritten (IsTooLarge words.now (S.left source.old) (S.left source.new) result.run) (K.written sink.old) (K.written sink.new) }
 
     // Nothing is read unless the words ask for a script that is read.
     ensures unread { (IsForSource words.now → ⊥) → source.new ≡ source.old }

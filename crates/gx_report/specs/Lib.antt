@@ -4,6 +4,7 @@ pub mod Text
 pub mod EventText
 pub mod LockText
 pub mod MarkText
+pub mod Stops
 pub mod Summary
 pub mod TraceText
 pub mod Words

@@ -11,7 +11,6 @@ use Rattle.gx_store.specs.declared.mark.Mark.{Mark}
 use Rattle.gx_store.specs.declared.mark.Mark.TheVariants.{Answer}
 use Rattle.gx_store.specs.declared.run.Run.{Run}
 use Rattle.gx_store.specs.declared.run.Step.{Step}
-use Rattle.gx_report.specs.Text.{stopped_line}
 use Rattle.gx_tree.specs.declared.row.KeyedRow.{KeyedRow}
 use Rattle.gx_tree.specs.declared.value.Value.{Value}
 use Rattle.gx_tree.specs.declared.value.Value.TheVariants.{Int, Text}
@@ -58,8 +57,8 @@ abbrev pub accounts_in : List (Vec KeyedRow Global) → List KeyedRow
 accounts_in [] = []
 accounts_in (rows ∷ tables) = rows.items
 
--- the number that the work was made from, how many lines it has, how many commits and refusals were answered, how many accounts there are at
--- the end, and the sum of their balances
+-- the number that the work was made from, how many lines it has, how many commits and refusals were answered, how many accounts there are
+-- now, and the sum of their balances
 abbrev pub summary_of : ℕ → Script → Run → List (Vec KeyedRow Global) → List ℕ
 summary_of number script run tables =
     codes "gen " ++ decimal number ++ codes ": lines " ++ decimal (length script.lines) ++ codes ", commits " ++ decimal (sum_by commits_in run.steps)
@@ -67,7 +66,3 @@ summary_of number script run tables =
     ++ codes ", rows " ++ decimal (length (accounts_in tables))
     ++ codes ", sum " ++ signed_decimal (total_balance (accounts_in tables))
     ++ codes "\n"
-
--- the same of a run that stopped once all turns were taken, with the accounts as they are then
-abbrev pub stopped_summary_of : ℕ → Script → Run → List (Vec KeyedRow Global) → List ℕ
-stopped_summary_of number script run tables = summary_of number script run tables ++ stopped_line

@@ -83,14 +83,10 @@ tables_text [] tables = []
 tables_text (s ∷ ss) [] = []
 tables_text (s ∷ ss) (rows ∷ tables) = table_text s.name rows.items ++ tables_text ss tables
 
+-- the answers so far, by session
+abbrev pub answers_text : Script → Run → List ℕ
+answers_text script run = sessions_text run.steps 0 script.sessions
+
 -- the text of a run that ended with these tables
 abbrev pub text_of : Script → Run → List (Vec KeyedRow Global) → List ℕ
-text_of script run tables = sessions_text run.steps 0 script.sessions ++ tables_text script.tables tables
-
--- the line that says that a run stopped once all turns were taken
-abbrev pub stopped_line : List ℕ
-stopped_line = codes "stopped: turns spent\n"
-
--- the text of such a run
-abbrev pub stopped_text : Script → Run → List ℕ
-stopped_text script run = sessions_text run.steps 0 script.sessions ++ stopped_line
+text_of script run tables = answers_text script run ++ tables_text script.tables tables

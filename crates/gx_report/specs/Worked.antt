@@ -116,3 +116,12 @@ many_marks_lines =
 abbrev pub many_events_trace : List ℕ
 many_events_trace =
     codes "run 6\n7.2 recv 0 2 4\n" ++ many_marks_lines ++ codes "8.1 resume 1 3\n9.0 end s1\n10.0 resend 1 2\n11.0 resend 1 round\n12.0 round\n"
+
+-- edges that are stuck at the coordinator and at the second segment, in no order
+abbrev pub stuck_graphs : List LocalGraph
+stuck_graphs = graph_of 0 (edge_of 3 2 ∷ edge_of 2 3 ∷ []) ∷ graph_of 1 [] ∷ graph_of 2 (dotted (edge_of 4 3) ∷ edge_of 4 3 ∷ edge_of 4 2 ∷ []) ∷ []
+
+abbrev pub stuck_graphs_lines : List ℕ
+stuck_graphs_lines =
+    codes "stopped: stuck\n  node 0: 2 waits for 3 solid\n  node 0: 3 waits for 2 solid\n"
+    ++ codes "  node 2: 4 waits for 2 solid\n  node 2: 4 waits for 3 solid\n  node 2: 4 waits for 3 dotted\n"

@@ -157,18 +157,3 @@ pub fn summary(
     push_total(&mut text, total_balance(accounts))?;
     Ok(text)
 }
-
-/// The same of a run that stopped once all turns were taken, and that it stopped.
-pub fn summary_of_stopped(
-    alloc: Global,
-    number: u64,
-    script: &Script,
-    run: &Run,
-    tables: &[Vec<KeyedRow>],
-) -> Mem<Vec<u8>>
-    ensures { IfOk result (λ text. text.items ≡ of.stopped_summary_of number script.now run.now tables.now) }
-{
-    let mut text = summary(alloc, number, script, run, tables)?;
-    push_bytes(&mut text, b"stopped: turns spent\n")?;
-    Ok(text)
-}

@@ -1,5 +1,5 @@
-//! The text of a run: each session's answers, and then the final tables; that of its trace; and the line that tells of a run
-//! of generated work.
+//! The text of a run: each session's answers, and then the final tables, or why it stopped; that of its trace; and the line
+//! that tells of a run of generated work.
 #![tactic(auto)]
 
 mod error;
@@ -11,12 +11,14 @@ mod places;
 mod report;
 mod rows;
 mod sessions;
+mod stops;
 mod tables;
 mod trace;
 mod words;
 mod worked;
 
-pub use generated::{summary, summary_of_stopped};
-pub use tables::{text, text_of_stopped};
+pub use generated::summary;
+pub use stops::{push_stuck, push_turns_spent};
+pub use tables::{answers, text};
 pub use trace::{push_trace, trace_text};
-pub use worked::{all_kinds_are_traced, begin_and_rollback_are_traced};
+pub use worked::{all_kinds_are_traced, begin_and_rollback_are_traced, stuck_edges_are_told};

@@ -49,8 +49,8 @@ fn compare_edges(left: &Edge, right: &Edge) -> Ordering
     left.cmp(right)
 }
 
-// The edges by waiter, then by holder, and solid before dotted.
-fn sorted_edges(alloc: Global, edges: &[Edge]) -> Mem<Vec<Edge>>
+/// The edges by waiter, then by holder, and solid before dotted.
+pub fn sorted_edges(alloc: Global, edges: &[Edge]) -> Mem<Vec<Edge>>
     ensures { IfOk result (λ sorted. sorted.items ≡ in_order of.edge_order edges.now) }
 {
     let mut sorted = copies(alloc, edges)?;

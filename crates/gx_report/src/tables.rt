@@ -1,7 +1,7 @@
 // The text of the final tables, and of a whole run.
 ghost use Rattle.std.specs.Prelude.{◌≡◌, ◌++◌, OnOk, IfOk, map};
 ghost use Rattle.gx_meaning.specs.Aggregates.{cell_of};
-ghost use Rattle.gx_report.specs.Text.{cell_text, cells_text, keyed_line, stopped_text, table_text, tables_text, text_of};
+ghost use Rattle.gx_report.specs.Text.{answers_text, cell_text, cells_text, keyed_line, table_text, tables_text, text_of};
 
 use crate::sessions::push_sessions;
 use gx_ids::Mem;
@@ -71,22 +71,20 @@ fn push_tables(text: &mut Vec<u8>, schemas: &[Schema], tables: &[Vec<KeyedRow>])
     push_tables(text, schemas, tables)
 }
 
+/// The answers of a run so far, by session.
+pub fn answers(alloc: Global, script: &Script, run: &Run) -> Mem<Vec<u8>>
+    ensures { IfOk result (λ text. text.items ≡ answers_text script.now run.now) }
+{
+    let mut text = Vec::new(alloc);
+    push_sessions(alloc, &mut text, script.sessions.as_slice(), run)?;
+    Ok(text)
+}
+
 /// The text of a run that ended with these tables: its answers by session, and then the tables.
 pub fn text(alloc: Global, script: &Script, run: &Run, tables: &[Vec<KeyedRow>]) -> Mem<Vec<u8>>
     ensures { IfOk result (λ text. text.items ≡ text_of script.now run.now tables.now) }
 {
-    let mut text = Vec::new(alloc);
-    push_sessions(alloc, &mut text, script.sessions.as_slice(), run)?;
+    let mut text = answers(alloc, script, run)?;
     push_tables(&mut text, script.tables.as_slice(), tables)?;
-    Ok(text)
-}
-
-/// The text of a run that stopped once all turns were taken: its answers by session, and that it stopped.
-pub fn text_of_stopped(alloc: Global, script: &Script, run: &Run) -> Mem<Vec<u8>>
-    ensures { IfOk result (λ text. text.items ≡ stopped_text script.now run.now) }
-{
-    let mut text = Vec::new(alloc);
-    push_sessions(alloc, &mut text, script.sessions.as_slice(), run)?;
-    push_bytes(&mut text, b"stopped: turns spent\n")?;
     Ok(text)
 }

@@ -19,7 +19,7 @@ no_run = record { steps = [] }
 abbrev pub run_in : Attempt → Run
 run_in (Done run text) = run
 run_in (Stopped run text) = run
-run_in (Stuck run) = run
+run_in (Stuck run text) = run
 run_in (OutOfMemory run) = run
 run_in _ = no_run
 
@@ -27,7 +27,7 @@ run_in _ = no_run
 abbrev pub status_in : Attempt → ℕ
 status_in (Done run text) = 0
 status_in (Stopped run text) = 7
-status_in (Stuck run) = 10
+status_in (Stuck run text) = 8
 status_in Usage = 2
 status_in (Refused text) = 3
 status_in ReadFault = 4
@@ -38,7 +38,7 @@ status_in (OutOfMemory run) = 6
 abbrev pub text_in : Attempt → List ℕ
 text_in (Done run text) = text.items
 text_in (Stopped run text) = text.items
-text_in (Stuck run) = codes "not built\n"
+text_in (Stuck run text) = text.items
 text_in (Refused text) = text.items
 text_in Usage = usage
 text_in ReadFault = codes "read fault\n"

@@ -7,7 +7,7 @@ use gx_store::Run;
 use std::alloc::Global;
 
 /// What a call did: its status, and the run that it made. 0 is done, 2 words that aren't in the language, 3 a refused script, 4 a read fault, 5 a write fault, 6
-/// want of memory, 7 a run that took all its turns, 9 too many bytes, and 10 a run in which nothing may happen any more.
+/// want of memory, 7 a run that took all its turns, 8 a run that is stuck, and 9 too many bytes.
 #[derive(Drop)]
 pub struct Report {
     pub status: u8,
@@ -31,6 +31,7 @@ pub fn told_of<K: Sink>(alloc: Global, attempt: Attempt, sink: &mut K) -> Report
     match attempt {
         Attempt::Done(run, text) => told(0, run, text.as_slice(), sink),
         Attempt::Stopped(run, text) => told(7, run, text.as_slice(), sink),
+        Attempt::Stuck(run, text) => told(8, run, text.as_slice(), sink),
         Attempt::Usage => told(
             2,
             Run::new(alloc),
@@ -40,7 +41,6 @@ pub fn told_of<K: Sink>(alloc: Global, attempt: Attempt, sink: &mut K) -> Report
         Attempt::Refused(text) => told(3, Run::new(alloc), text.as_slice(), sink),
         Attempt::ReadFault => told(4, Run::new(alloc), b"read fault\n", sink),
         Attempt::TooLarge => told(9, Run::new(alloc), b"too large\n", sink),
-        Attempt::Stuck(run) => told(10, run, b"not built\n", sink),
         Attempt::OutOfMemory(run) => Report { status: 6, run },
     }
 }

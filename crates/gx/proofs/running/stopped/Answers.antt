@@ -2,6 +2,7 @@ use Rattle.std.proofs.Common.{inr, refl, subst, sym}
 use Rattle.gx_store.specs.declared.run.Run.{Run}
 use Rattle.gx_drive.specs.Ends.{IsEnd}
 use Rattle.gx_drive.specs.declared.end.End.TheVariants.{Turns}
+use Rattle.gx_report.specs.Stops.{turns_spent}
 use Rattle.gx.specs.Top.{IsStoppedText}
 use Rattle.gx.proofs.Runs.{run-in}
 use Rattle.gx.proofs.running.stopped.Goals as goal
@@ -12,7 +13,7 @@ returns-in-Ok-clause-ran c =
     record {
       is = run-in c.args.world.script c.args.options.seed c.args.world c.into_run.result refl c.into_run.ensures.value c.requires.language c.requires.inserts c.into_run.ensures.reached c.requires.driven;
       ended = subst (λ (r : Run). IsEnd c.args.world.script r.steps c.args.options.turns Turns) same c.requires.ended;
-      told = subst (λ (r : Run). IsStoppedText c.args.world.script c.args.options r c.in-Ok.text.items) same c.in-Ok.ensures;
+      told = subst (λ (r : Run). IsStoppedText c.args.world.script c.args.options r turns_spent c.in-Ok.text.items) same c.in-Ok.ensures;
     }
 
 pub returns-in-Err-clause-ran : goal.returns-in-Err-clause-ran
