@@ -1,5 +1,5 @@
 -- What the work came to, once bytes were there.
-use Rattle.std.proofs.Common.{◌≡◌, ◌≤◌, inl, inr, ℕ, List, Option, Result, Ok, Err, length, refl}
+use Rattle.std.proofs.Common.{◌≤◌, inl, inr, ℕ, List, Option, Ok, Err, length, refl}
 use Rattle.std.specs.declared.alloc.Global.{Global}
 use Rattle.std.specs.declared.string.String.{String}
 use Rattle.gx_words.specs.declared.options.Options.{Options}
