@@ -10,3 +10,7 @@ pub mod Changes
 pub mod Insertions
 pub mod Faulting
 pub mod Doing
+pub mod Holding
+pub mod Inserting
+pub mod Answering
+pub mod Telling

@@ -10,3 +10,4 @@ pub mod Inserted
 pub mod Writes
 pub mod Faulted
 pub mod Done
+pub mod Told

@@ -23,7 +23,7 @@ pub fn changes(alloc: Global, marks: &[Mark], command: Command, table: Table, co
     Ok(holds)
 }
 
-fn has_changed(alloc: Global, marks: &[Mark], command: Command, table: Table, cond: &Option<Cond>, count: u128) -> Mem<bool>
+pub(crate) fn has_changed(alloc: Global, marks: &[Mark], command: Command, table: Table, cond: &Option<Cond>, count: u128) -> Mem<bool>
     ensures { IfOk result (λ holds. holds ≡ may_have_changed marks.now command.level command.gxid command.cid table cond.now count) }
 {
     if count != write_count(marks, command.gxid, command.cid) as u128 {
