@@ -107,13 +107,13 @@ apart m k low e = grind (arith, nat_tests)
 module _ (marks : List Mark) (c : Claim) where
   below-is : (k : ℕ) → is_held_below marks c k ≡ true → (node : Node) → node.0 < k → list_any (same_claim c) (holds_at marks node) ≡ true
   below-is zero e node low = absurd (omega (arith, low))
-  below-is (suc k) e node low = by_place (node.0 == k) refl
+  below-is (suc k) e node low = by_place (node.0 == k) refl (below-is k (and-first (is_held_below marks c k) _ e) node)
     where
-      by_place : (b : Bool) → (node.0 == k) ≡ b → list_any (same_claim c) (holds_at marks node) ≡ true
-      by_place true at =
+      by_place : (b : Bool) → (node.0 == k) ≡ b → (node.0 < k → list_any (same_claim c) (holds_at marks node) ≡ true) → list_any (same_claim c) (holds_at marks node) ≡ true
+      by_place true at lower =
           held-same c node [] marks ∙ ap (λ (n : ℕ). held_from n c false marks) (same-of node.0 k at)
           ∙ and-second (is_held_below marks c k) _ e
-      by_place false at = below-is k (and-first (is_held_below marks c k) _ e) node (apart node.0 k low at)
+      by_place false at lower = lower (apart node.0 k low at)
 
   is-below : (k : ℕ) → ((node : Node) → node.0 < k → list_any (same_claim c) (holds_at marks node) ≡ true) → is_held_below marks c k ≡ true
   is-below zero h = refl

@@ -44,11 +44,12 @@ module _ (marks : List Mark) (g : Gxid) (c : Cid) where
 
   done-are : (k : ℕ) (ts : List (List Expr)) → are_own_done marks g c k ts ≡ true → (o : ℕ) → k + 1 ≤ o → o ≤ k + length ts → is_processed marks g c (row o) ≡ true
   done-are k [] e o low high = absurd (omega (arith, low, high))
-  done-are k (t ∷ ts) e o low high = by_place (o == k + 1) refl
+  done-are k (t ∷ ts) e o low high =
+      by_place (o == k + 1) refl (done-are (k + 1) ts (and-second (is_processed marks g c (row (k + 1))) _ e) o)
     where
-      by_place : (b : Bool) → (o == k + 1) ≡ b → is_processed marks g c (row o) ≡ true
-      by_place true at = ap (λ (n : ℕ). is_processed marks g c (row n)) (same-of o (k + 1) at) ∙ and-first (is_processed marks g c (row (k + 1))) _ e
-      by_place false at = done-are (k + 1) ts (and-second (is_processed marks g c (row (k + 1))) _ e) o (above o k low at) (omega (arith, high))
+      by_place : (b : Bool) → (o == k + 1) ≡ b → (k + 1 + 1 ≤ o → o ≤ k + 1 + length ts → is_processed marks g c (row o) ≡ true) → is_processed marks g c (row o) ≡ true
+      by_place true at later = ap (λ (n : ℕ). is_processed marks g c (row n)) (same-of o (k + 1) at) ∙ and-first (is_processed marks g c (row (k + 1))) _ e
+      by_place false at later = later (above o k low at) (omega (arith, high))
 
   are-done : (k : ℕ) (ts : List (List Expr)) → ((o : ℕ) → k + 1 ≤ o → o ≤ k + length ts → is_processed marks g c (row o) ≡ true) → are_own_done marks g c k ts ≡ true
   are-done k [] h = refl
