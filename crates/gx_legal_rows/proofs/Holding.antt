@@ -1,5 +1,5 @@
 -- The test of what a LOCK has done decides the definition.
-use Rattle.std.proofs.Common.{◌≡◌, ◌∙◌, ℕ, zero, suc, ◌+◌, ◌==◌, ◌≤◌, ◌<◌, ◌&&◌, ◌||◌, Bool, true, false, not, if◌then◌else◌, cond, List, [], ◌∷◌, ◌++◌, filter, refl, sym, ap, arith}
+use Rattle.std.proofs.Common.{add-one, ◌≡◌, ◌∙◌, ℕ, zero, suc, ◌+◌, ◌==◌, ◌≤◌, ◌<◌, ◌&&◌, ◌||◌, Bool, true, false, not, if◌then◌else◌, cond, List, [], ◌∷◌, ◌++◌, filter, refl, sym, ap, arith}
 use Rattle.std.proofs.lemmas.Bool.{and_from}
 use Rattle.std.proofs.lemmas.Bool.Decides.{nat_tests}
 use Rattle.std.proofs.lemmas.List.Folds.{list_any-append}
@@ -101,6 +101,9 @@ module _ (c : Claim) where
   held-same node xs (mark.Recheck k own verdict ∷ ms) = held-same node xs ms
 
 -- AT ALL NODES
+pub below_next : (marks : List Mark) (c : Claim) (k : ℕ) → is_held_below marks c (k + 1) ≡ (is_held_below marks c k && held_from k c false marks)
+below_next marks c k = ap (is_held_below marks c) (add-one k)
+
 apart : (m k : ℕ) → m < suc k → (m == k) ≡ false → m < k
 apart m k low e = grind (arith, nat_tests)
 

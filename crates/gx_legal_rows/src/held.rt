@@ -23,6 +23,7 @@ pub(crate) fn has_locked(
     is_held_below(marks, &wanted, usize::from(segments) + 1)
 }
 
+#[tactic(auto, using(crate::proofs::Holding::below_next))]
 fn is_held_below(marks: &[Mark], wanted: &Claim, nodes: usize) -> bool
     ensures { result ≡ are_held marks.now wanted.now nodes }
 {
