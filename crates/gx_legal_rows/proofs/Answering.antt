@@ -104,7 +104,7 @@ filter-twice p (x ∷ xs) = by_test (p x) refl (filter-twice p xs)
     by_test false e more = more
 
 module _ (query : Query) (rows : List KeyedRow) (rising : AreRising rows) where
-  kept : List KeyedRow
+  abbrev kept : List KeyedRow
   kept = filter (keeps query.cond) rows
 
   of-one : together (kept ∷ []) ≡ kept

@@ -1,7 +1,7 @@
 -- The test of what an UPDATE or DELETE has done decides the definition.
 use Rattle.std.proofs.Common.{◌≡◌, ◌∙◌, ℕ, ◌==◌, ◌&&◌, ◌||◌, Bool, true, false, not, cond, take, All, List, [], ◌∷◌, map, Option, Some, None, Result, Ok, Err, refl, sym, ap, subst}
 use Rattle.std.proofs.lemmas.Bool.{and_from}
-use Rattle.std.proofs.lemmas.List.Elements.{All-cons, All-head, All-tail}
+use Rattle.std.proofs.lemmas.List.Elements.{All-nil, All-cons, All-head, All-tail}
 use Rattle.std.specs.List.{AllByRecursion, list_all, list_any}
 use Rattle.std.specs.List.Sorted.{IsStrictlySortedBy}
 use Rattle.std.specs.declared.cmp.Ordering.TheVariants.{Less}
@@ -39,7 +39,7 @@ truth-is (Ok truth) e = (truth, refl)
 truth-is (Err fault) e = no_more _ e
 
 pub none-faults : (c : Option Cond) (rows : List KeyedRow) → faults_on_none c rows ≡ true → FaultsOnNone c rows
-none-faults c [] e = tt
+none-faults c [] e = All-nil (λ row. (truth : Bool) × (condition_on c row.row ≡ Ok truth))
 none-faults c (x ∷ xs) e =
     All-cons (λ row. (truth : Bool) × (condition_on c row.row ≡ Ok truth)) x xs (truth-is (condition_on c x.row) (and-first (is_whole (condition_on c x.row)) _ e)) (none-faults c xs (and-second (is_whole (condition_on c x.row)) _ e))
 

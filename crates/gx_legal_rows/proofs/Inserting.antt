@@ -2,7 +2,7 @@
 use Rattle.std.proofs.Common.{◌≡◌, ◌∙◌, ℕ, ◌+◌, ◌==◌, ◌≤◌, Bool, true, false, All, List, [], ◌∷◌, length, Ok, Err, Result, refl, sym, ap, arith}
 use Rattle.std.proofs.lemmas.Bool.{and_from}
 use Rattle.std.proofs.lemmas.Bool.Decides.{nat_tests}
-use Rattle.std.proofs.lemmas.List.Elements.{All-cons, All-head, All-tail}
+use Rattle.std.proofs.lemmas.List.Elements.{All-nil, All-cons, All-head, All-tail}
 use Rattle.gx_ids.specs.declared.ids.Gxid.{Gxid}
 use Rattle.gx_ids.specs.declared.ids.Cid.{Cid}
 use Rattle.gx_ids.specs.declared.rid.Rid.{Rid}
@@ -26,7 +26,7 @@ whole-is (Ok values) e = (values, refl)
 whole-is (Err fault) e = no_more _ e
 
 wholes-are : (tuples : List (List Expr)) → are_whole tuples ≡ true → All HasValues tuples
-wholes-are [] e = tt
+wholes-are [] e = All-nil HasValues
 wholes-are (t ∷ ts) e =
     All-cons HasValues t ts (whole-is (values_of t) (and-first (is_whole (values_of t)) _ e)) (wholes-are ts (and-second (is_whole (values_of t)) _ e))
 
