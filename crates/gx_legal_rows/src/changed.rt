@@ -16,14 +16,28 @@ use gx_tree::{Cond, KeyedRow};
 use std::alloc::Global;
 
 /// Whether an UPDATE or DELETE has written or skipped each row that it selects, and has written so many.
-pub fn changes(alloc: Global, marks: &[Mark], command: Command, table: Table, cond: &Option<Cond>, count: u128) -> Mem<bool>
+pub fn changes(
+    alloc: Global,
+    marks: &[Mark],
+    command: Command,
+    table: Table,
+    cond: &Option<Cond>,
+    count: u128,
+) -> Mem<bool>
     ensures { IfOk result (λ holds. IsTrue holds ↔ Changes marks.now command.level command.gxid command.cid table cond.now count) }
 {
     let holds = has_changed(alloc, marks, command, table, cond, count)?;
     Ok(holds)
 }
 
-pub(crate) fn has_changed(alloc: Global, marks: &[Mark], command: Command, table: Table, cond: &Option<Cond>, count: u128) -> Mem<bool>
+pub(crate) fn has_changed(
+    alloc: Global,
+    marks: &[Mark],
+    command: Command,
+    table: Table,
+    cond: &Option<Cond>,
+    count: u128,
+) -> Mem<bool>
     ensures { IfOk result (λ holds. holds ≡ may_have_changed marks.now command.level command.gxid command.cid table cond.now count) }
 {
     if count != write_count(marks, command.gxid, command.cid) as u128 {
@@ -31,7 +45,13 @@ pub(crate) fn has_changed(alloc: Global, marks: &[Mark], command: Command, table
     }
     let places = snapshots(alloc, marks, command)?;
     for place in &places {
-        let rows = view(alloc, marks, before(marks, *place), Some((command.gxid, command.cid)), table)?;
+        let rows = view(
+            alloc,
+            marks,
+            before(marks, *place),
+            Some((command.gxid, command.cid)),
+            table,
+        )?;
         if is_done_by(alloc, marks, command, cond, rows.as_slice())? {
             return Ok(true);
         }
@@ -39,7 +59,13 @@ pub(crate) fn has_changed(alloc: Global, marks: &[Mark], command: Command, table
     Ok(false)
 }
 
-fn is_done_by(alloc: Global, marks: &[Mark], command: Command, cond: &Option<Cond>, rows: &[KeyedRow]) -> Mem<bool>
+fn is_done_by(
+    alloc: Global,
+    marks: &[Mark],
+    command: Command,
+    cond: &Option<Cond>,
+    rows: &[KeyedRow],
+) -> Mem<bool>
     ensures { IfOk result (λ holds. holds ≡ was_done_by marks.now command.gxid command.cid cond.now rows.now) }
 {
     Ok(faults_on_none(alloc, cond, rows)? && are_done(alloc, marks, command, cond, rows)?)
@@ -66,7 +92,13 @@ fn is_whole(truth: Result<bool, ArithFault>) -> bool
     }
 }
 
-fn are_done(alloc: Global, marks: &[Mark], command: Command, cond: &Option<Cond>, rows: &[KeyedRow]) -> Mem<bool>
+fn are_done(
+    alloc: Global,
+    marks: &[Mark],
+    command: Command,
+    cond: &Option<Cond>,
+    rows: &[KeyedRow],
+) -> Mem<bool>
     ensures { IfOk result (λ holds. holds ≡ were_done marks.now command.gxid command.cid cond.now rows.now) }
 {
     for row in rows {

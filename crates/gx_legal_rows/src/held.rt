@@ -10,13 +10,7 @@ use gx_store::Mark;
 use gx_waits::{Claim, Object};
 
 /// Whether the transaction holds the mode on the table at the coordinator and at each of so many segments.
-pub(crate) fn has_locked(
-    marks: &[Mark],
-    segments: u8,
-    gxid: Gxid,
-    table: Table,
-    mode: Mode,
-) -> bool
+pub(crate) fn has_locked(marks: &[Mark], segments: u8, gxid: Gxid, table: Table, mode: Mode) -> bool
     ensures { result ≡ did_lock marks.now segments gxid table mode }
 {
     let wanted = claim_of(gxid, Object::Relation(table), mode);
@@ -61,7 +55,8 @@ fn held_after(node: usize, wanted: &Claim, held: bool, mark: &Mark) -> bool
             object,
             mode,
         } => held
-            && !(usize::from(at.0) == node && is_same_claim(&claim_of(*gxid, *object, *mode), wanted)),
+            && !(usize::from(at.0) == node
+                && is_same_claim(&claim_of(*gxid, *object, *mode), wanted)),
         _ => held,
     }
 }

@@ -35,12 +35,7 @@ pub(crate) fn has_shown(
     Ok(false)
 }
 
-fn is_shown_by(
-    alloc: Global,
-    query: &Query,
-    answer: &[OutRow],
-    rows: &[KeyedRow],
-) -> Mem<bool>
+fn is_shown_by(alloc: Global, query: &Query, answer: &[OutRow], rows: &[KeyedRow]) -> Mem<bool>
     ensures { IfOk result (λ holds. holds ≡ was_shown_by query.now answer.now rows.now) }
 {
     if !faults_on_none(alloc, &query.cond, rows)? {

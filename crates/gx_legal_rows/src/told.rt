@@ -42,21 +42,8 @@ fn has_told(
 {
     match stmt {
         Stmt::Select(query) => tells_rows(alloc, marks, command, query, answer),
-        Stmt::Insert(_, tuples) => tells_inserted(
-            alloc,
-            marks,
-            command,
-            tuples.as_slice(),
-            answer,
-        ),
-        Stmt::Update(table, _, cond) => tells_updated(
-            alloc,
-            marks,
-            command,
-            *table,
-            cond,
-            answer,
-        ),
+        Stmt::Insert(_, tuples) => tells_inserted(alloc, marks, command, tuples.as_slice(), answer),
+        Stmt::Update(table, _, cond) => tells_updated(alloc, marks, command, *table, cond, answer),
         Stmt::Delete(table, cond) => tells_deleted(alloc, marks, command, *table, cond, answer),
         Stmt::Lock(table, mode) => Ok(tells_locked(
             marks,
