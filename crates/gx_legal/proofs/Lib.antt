@@ -1,0 +1,10 @@
+pub mod Doings
+pub mod Earlier
+pub mod Hearing
+pub mod Oks
+pub mod Places
+pub mod Refusing
+pub mod Seeing
+pub mod Sessions
+pub mod Standings
+pub mod UnderWay

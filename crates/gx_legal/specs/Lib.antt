@@ -1,0 +1,9 @@
+pub mod Commands
+pub mod Deeds
+pub mod Ends
+pub mod Events
+pub mod Moments
+pub mod Snaps
+pub mod Standings
+pub mod Verdicts
+pub mod Words

@@ -1,0 +1,24 @@
+//! Whether the run of a script is a legal history: its definition decided, for any run. It may be slow: nothing is kept from one question
+//! to the next.
+#![tactic(auto)]
+
+pub mod acting;
+pub mod commands;
+pub mod copying;
+pub mod counts;
+pub mod deed;
+pub mod doing;
+pub mod ends;
+pub mod events;
+pub mod heard;
+pub mod late;
+pub mod lines;
+pub mod moment;
+pub mod snaps;
+pub mod standing;
+pub mod starts;
+pub mod verdicts;
+pub mod word;
+pub mod working;
+
+pub use moment::Moment;
