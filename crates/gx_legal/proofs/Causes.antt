@@ -1,23 +1,27 @@
 -- Causes of refusals, part by part.
-use Rattle.std.proofs.Common.{◌≡◌, ◌↔◌, ◌<◌, ◌≤◌, ◌×◌, ℕ, zero, suc, Bool, true, false, IsTrue, List, [], ◌∷◌, Some, length, take, slice_get, refl, sym, subst, ap, ◌∙◌, arith}
+use Rattle.std.proofs.Common.{◌≡◌, ◌↔◌, ◌&&◌, ◌<◌, ◌≤◌, ℕ, zero, suc, Bool, true, false, IsTrue, Option, List, [], ◌∷◌, Some, length, take, slice_get, refl, sym, subst, ap, ◌∙◌, arith}
 use Rattle.std.specs.Prelude.{Contains}
 use Rattle.gx_ids.specs.declared.ids.Cid.{Cid}
 use Rattle.gx_ids.specs.declared.ids.Gxid.{Gxid}
 use Rattle.gx_ids.specs.declared.ids.Node.{Node}
+use Rattle.gx_ids.specs.declared.rid.Rid.{Rid}
 use Rattle.gx_lemmas.proofs.Options.{some-same}
+use Rattle.gx_lemmas.proofs.Tests.{and-first, and-second, false-true}
 use Rattle.gx_msg.specs.declared.message.Message.{Message}
 use Rattle.gx_msg.specs.declared.message.Message.TheVariants as message
 use Rattle.gx_msg.specs.declared.reply.Cause.{Cause}
 use Rattle.gx_msg.specs.declared.reply.Reply.TheVariants as reply
 use Rattle.gx_store.specs.declared.event.Event.{Event}
+use Rattle.gx_store.specs.declared.event.Event.TheVariants as event
 use Rattle.gx_store.specs.declared.mark.Mark.{Mark}
-use Rattle.gx_store.specs.declared.mark.Mark.TheVariants.{JournalFailed, Recheck}
+use Rattle.gx_store.specs.declared.mark.Mark.TheVariants.{Fault, JournalFailed, Recheck}
 use Rattle.gx_store.specs.declared.run.Step.{Step}
 use Rattle.gx_store.specs.Messages.{Receives}
 use Rattle.gx_store.specs.Points.{Point, before}
-use Rattle.gx_store.specs.Refusals.{HasJournalFailed, IsNamed, the_coordinator}
+use Rattle.gx_store.specs.Refusals.{HasJournalFailed, IsNamed, IsWord, the_coordinator}
+use Rattle.gx_tree.specs.declared.value.Value.{Value}
 use Rattle.gx_waits.specs.declared.verdict.Verdict.TheVariants.{Victims}
-use Rattle.gx_legal.specs.Causes.{NamesAt, StandsAt}
+use Rattle.gx_legal.specs.Causes.{NamesAt, NotesInStep, StandsAt}
 use Rattle.gx_legal.specs.Words.{Delivers}
 use Rattle.gx_legal.specs.declared.word.Word.TheVariants as word
 
@@ -72,3 +76,40 @@ pub journal-there : (point : Point) (g : Gxid) (n : ℕ) (b : Bool) → (n ≡ 0
     → IsTrue b ↔ (Receives point.steps point.event (record { 0 = n }) the_coordinator (message.Answer g reply.Jfault) × Contains (before point) (JournalFailed (record { 0 = n }) g)) → IsTrue b ↔ HasJournalFailed point g (record { 0 = n })
 journal-there point g zero b e h = absurd (e refl)
 journal-there point g (suc n) b e h = h
+
+-- A SEGMENT'S WORD
+both-true : (x y : Bool) → x ≡ true → y ≡ true → (x && y) ≡ true
+both-true true true e f = refl
+both-true false y e f = absurd (false-true e)
+both-true true false e f = absurd (false-true f)
+
+sender-same : (a b x y : Node) (m n : ℕ) → event.Receive a b m ≡ event.Receive x y n → a ≡ x
+sender-same a b x y m n e = cc
+
+module _ (point : Point) (g : Gxid) (c : Cid) (rid : Rid) (image : Option (List Value)) (reason : Cause) where
+  pub word-is : (from to : Node) (number : ℕ) (told noted : Bool) → point.event ≡ event.Receive from to number
+      → IsTrue told ↔ Delivers g (word.Failed c reason) from the_coordinator point.steps point.event
+      → IsTrue noted ↔ ((place : ℕ) × NotesInStep g c rid image from point.steps place) → IsTrue (told && noted) ↔ IsWord point g c rid image reason
+  word-is from to number told noted e h n = (there, back)
+    where
+      r : IsTrue told ↔ Receives point.steps point.event from the_coordinator (message.Answer g (reply.Failed c reason))
+      r = failed-told g from the_coordinator point.steps point.event told c reason h
+      there : IsTrue (told && noted) → IsWord point g c rid image reason
+      there t = let s = n.0 (and-second told noted t) in record {
+        segment = from;
+        said = r.0 (and-first told noted t);
+        place = s.0;
+        step = s.1.0;
+        at = s.1.1;
+        node = s.1.2.0;
+        noted = stands-contains _ _ s.1.2.1.0 (s.1.2.1.1.1 ∙ ap Some s.1.2.1.1.2);
+      }
+      back : IsWord point g c rid image reason → IsTrue (told && noted)
+      back w =
+          let f : w.segment ≡ from = sender-same w.segment the_coordinator from to w.said.number number (sym w.said.is ∙ e) in
+          let s = contains-stands _ _ w.noted in
+          both-true told noted (r.1 (subst (λ (x : Node). Receives point.steps point.event x the_coordinator (message.Answer g (reply.Failed c reason))) f w.said))
+          (n.1 (w.place, (w.step, w.at, (w.node ∙ f, (s.0, (Fault g c rid image, s.1, refl))))))
+
+  pub word-none : ((from to : Node) (number : ℕ) → point.event ≡ event.Receive from to number → ⊥) → IsWord point g c rid image reason → ⊥
+  word-none none w = none w.segment the_coordinator w.said.number w.said.is

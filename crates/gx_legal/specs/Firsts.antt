@@ -19,8 +19,13 @@ SendsWordAt g said to marks place = (mark : Mark) × (slice_get marks place ≡ 
 
 -- the first of the marks that does
 abbrev pub IsFirstAmong : Gxid → Word → Node → List Mark → Option ℕ → Type 0
-IsFirstAmong g said to marks None = (place : ℕ) → SendsWordAt g said to marks place → ⊥
-IsFirstAmong g said to marks (Some first) = SendsWordAt g said to marks first × ((place : ℕ) → place < first → SendsWordAt g said to marks place → ⊥)
+IsFirstAmong g said to marks None = (place : ℕ) (mark : Mark) → slice_get marks place ≡ Some mark → SendsWord g said to mark → ⊥
+IsFirstAmong g said to marks (Some first) = SendsWordAt g said to marks first × ((place : ℕ) → place < first → (mark : Mark) → slice_get marks place ≡ Some mark → SendsWord g said to mark → ⊥)
+
+-- the first of the step's, where it is one of the node
+abbrev pub IsFirstIn : Gxid → Word → Node → Node → Step → Option ℕ → Type 0
+IsFirstIn g said from to step None = (place : ℕ) → step.stamp.node ≡ from → SendsWordAt g said to step.marks place → ⊥
+IsFirstIn g said from to step (Some first) = (step.stamp.node ≡ from) × IsFirstAmong g said to step.marks (Some first)
 
 -- a step of the node, at this place, sends it by its mark at that place
 abbrev pub SendsFrom : Gxid → Word → Node → Node → List Step → ℕ → ℕ → Type 0

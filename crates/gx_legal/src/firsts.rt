@@ -1,7 +1,8 @@
 // The first sending of a word.
 ghost use Rattle.std.specs.Prelude.{◌≡◌, ◌↔◌, IsTrue};
-ghost use Rattle.gx_legal.specs.Firsts.{IsFirstAmong, IsFirstSending, SendsWord};
+ghost use Rattle.gx_legal.specs.Firsts.{IsFirstAmong, IsFirstIn, IsFirstSending, SendsWord};
 
+use crate::moment::Moment;
 use crate::word::{Report, says};
 use gx_store::{Mark, Step};
 
@@ -29,15 +30,17 @@ fn sends_word(mark: &Mark, report: Report) -> bool
 fn first_among(marks: &[Mark], report: Report) -> Option<usize>
     ensures { IsFirstAmong report.gxid report.word report.to marks.now result }
 {
-    for (place, mark) in marks.iter().enumerate() {
-        if sends_word(mark, report) {
+    for place in 0..marks.len() {
+        if sends_word(&marks[place], report) {
             return Some(place);
         }
     }
     None
 }
 
-fn first_in(step: &Step, report: Report) -> Option<usize> {
+fn first_in(step: &Step, report: Report) -> Option<usize>
+    ensures { IsFirstIn report.gxid report.word report.from report.to step.now result }
+{
     if step.stamp.node == report.from {
         first_among(step.marks.as_slice(), report)
     } else {
@@ -45,15 +48,16 @@ fn first_in(step: &Step, report: Report) -> Option<usize> {
     }
 }
 
-/// The first sending of the word by its node.
-pub fn first_sending(steps: &[Step], report: Report) -> Option<Sending>
-    ensures { IsFirstSending report.gxid report.word report.from report.to steps.now result }
+/// The first sending of the word by its node, in a step before the moment's.
+pub fn first_sending(moment: &Moment<'_>, report: Report) -> Option<Sending>
+    ensures { IsFirstSending report.gxid report.word report.from report.to moment.now.steps.now result }
 {
     let mut start = 0;
-    for (place, step) in steps.iter().enumerate() {
+    for number in 0..moment.steps.len() {
+        let step = &moment.steps[number];
         if let Some(mark) = first_in(step, report) {
             return Some(Sending {
-                step: place,
+                step: number,
                 mark,
                 start,
             });

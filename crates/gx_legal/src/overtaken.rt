@@ -30,7 +30,7 @@ fn is_overtaken_there(alloc: Global, moment: &Moment<'_>, command: Command, tabl
     if !delivers(moment.steps, moment.event, report) {
         return Ok(false);
     }
-    let Some(first) = first_sending(moment.steps, report) else {
+    let Some(first) = first_sending(moment, report) else {
         return Ok(false);
     };
     let then = &moment.before[..first.start + first.mark];
