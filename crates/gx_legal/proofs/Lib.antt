@@ -1,3 +1,4 @@
+pub mod Causes
 pub mod Doings
 pub mod Earlier
 pub mod Hearing

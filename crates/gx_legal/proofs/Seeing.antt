@@ -1,5 +1,5 @@
 -- What a snapshot sees of those that marks commit.
-use Rattle.std.proofs.Common.{◌≡◌, ◌↔◌, ◌⊎◌, ◌||◌, Bool, true, false, List, [], ◌∷◌, inl, inr, refl, sym, subst, eqb}
+use Rattle.std.proofs.Common.{◌≡◌, ◌↔◌, ◌⊎◌, ◌||◌, Bool, true, false, List, [], ◌∷◌, inl, inr, refl, sym, subst, eqb, IsTrue}
 use Rattle.std.proofs.lemmas.Bool.{eqb-true}
 use Rattle.gx_dsnap.specs.Snapshot.{sees}
 use Rattle.gx_dsnap.specs.declared.snapshot.Snapshot.{Snapshot}
@@ -53,3 +53,16 @@ module _ (script : Script) (point : Point) (g : Gxid) (c : Cid) (snapshot : Snap
 
   pub of-snap : LegalSnap script point g c snapshot → IsByCommand script point (record { marks = before point; g = g; c = c; act = act.Snap })
   of-snap snap = (snap.session, (snap.line, snap.level, snap.runs, (snap.on_rows, snap.once)))
+
+  pub snap-is : (marks : List Mark) (b : Bool) → marks ≡ before point → SeesCommits marks snapshot → SeesEnded marks snapshot
+      → IsTrue b ↔ IsByCommand script point (record { marks = marks; g = g; c = c; act = act.Snap }) → IsTrue b ↔ LegalSnap script point g c snapshot
+  snap-is marks b e = subst P (sym e) (λ commits ended by. (λ t. snap-of commits ended (by.0 t), λ snap. by.1 (of-snap snap)))
+    where
+      P : List Mark → Type 0
+      P ms = SeesCommits ms snapshot → SeesEnded ms snapshot → IsTrue b ↔ IsByCommand script point (record { marks = ms; g = g; c = c; act = act.Snap }) → IsTrue b ↔ LegalSnap script point g c snapshot
+
+  pub snap-sees : (marks : List Mark) → marks ≡ before point → LegalSnap script point g c snapshot → SeesCommits marks snapshot
+  snap-sees marks e snap = subst (λ ms. SeesCommits ms snapshot) (sym e) (seen-commits (before point) snapshot snap.committed)
+
+  pub snap-ended : (marks : List Mark) → marks ≡ before point → LegalSnap script point g c snapshot → SeesEnded marks snapshot
+  snap-ended marks e snap = subst (λ ms. SeesEnded ms snapshot) (sym e) snap.ended

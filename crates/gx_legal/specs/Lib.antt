@@ -1,7 +1,9 @@
+pub mod Causes
 pub mod Commands
 pub mod Deeds
 pub mod Ends
 pub mod Events
+pub mod Firsts
 pub mod Moments
 pub mod Snaps
 pub mod Standings

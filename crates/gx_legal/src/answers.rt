@@ -1,11 +1,12 @@
 // Whether a line may have an answer.
 ghost use Rattle.std.specs.Prelude.{◌≡◌, ◌↔◌, ◌+◌, IfOk, IsTrue, true};
-ghost use Rattle.gx_store.specs.Answers.{IsAnswer, IsAtItsEnd, IsDone};
+ghost use Rattle.gx_store.specs.Answers.{IsAnswer};
+ghost use Rattle.gx_store.specs.Commands.{state_at};
 ghost use Rattle.gx_store.specs.Language.{IsScript};
 ghost use Rattle.gx_store.specs.Legal.{LegalAnswer};
 ghost use Rattle.gx_store.specs.Marks.{answer_count, is_begun as was_begun};
 ghost use Rattle.gx_store.specs.Points.{before};
-ghost use Rattle.gx_legal.specs.Answers.{AnswersWith, HasEndedSo};
+ghost use Rattle.gx_legal.specs.Answers.{HasEndedSo};
 ghost use Rattle.gx_legal.specs.Moments.{point_of};
 ghost use Rattle.gx_legal.specs.Standings.{state_in};
 
@@ -44,7 +45,10 @@ fn is_reply(alloc: Global, script: &Script, moment: &Moment<'_>, session: Sessio
 }
 
 fn is_answer_outside(alloc: Global, script: &Script, moment: &Moment<'_>, session: SessionId, line: &Stmt, answer: &StmtAnswer) -> Mem<bool>
-    requires { IsScript script.now }
+    requires script { IsScript script.now }
+    requires line { IsStmtOf script.now.tables line.now }
+    requires state { state_at script.now session (point_of moment.now) ≡ state_in Block.Outside }
+    ensures { IfOk result (λ is. IsTrue is ↔ IsAnswer script.now (point_of moment.now) session (state_at script.now session (point_of moment.now)) line.now answer.now) }
 {
     match (line, answer) {
         (Stmt::Begin(_), StmtAnswer::Begin) => Ok(standing_of(script, session, moment.before).begun),
@@ -54,8 +58,11 @@ fn is_answer_outside(alloc: Global, script: &Script, moment: &Moment<'_>, sessio
     }
 }
 
-fn is_answer_inside(alloc: Global, script: &Script, moment: &Moment<'_>, session: SessionId, line: &Stmt, answer: &StmtAnswer) -> Mem<bool>
-    requires { IsScript script.now }
+fn is_answer_inside(alloc: Global, script: &Script, moment: &Moment<'_>, session: SessionId, (level, commands): (Level, usize), line: &Stmt, answer: &StmtAnswer) -> Mem<bool>
+    requires script { IsScript script.now }
+    requires line { IsStmtOf script.now.tables line.now }
+    requires state { state_at script.now session (point_of moment.now) ≡ state_in (Block.Inside level commands) }
+    ensures { IfOk result (λ is. IsTrue is ↔ IsAnswer script.now (point_of moment.now) session (state_at script.now session (point_of moment.now)) line.now answer.now) }
 {
     match (line, answer) {
         (Stmt::Begin(_), StmtAnswer::Begin) => Ok(true),
@@ -66,6 +73,7 @@ fn is_answer_inside(alloc: Global, script: &Script, moment: &Moment<'_>, session
 }
 
 fn is_answer_failed(line: &Stmt, answer: &StmtAnswer) -> bool
+    ensures { (script : OneScript) (point : Point) (session : OneSession) → IsTrue result ↔ IsAnswer script point session (state_in Block.Failed) line.now answer.now }
 {
     match (line, answer) {
         (Stmt::Commit | Stmt::Rollback, StmtAnswer::Rollback) => true,

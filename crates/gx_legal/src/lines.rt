@@ -1,5 +1,5 @@
 // The line that a session has under way, and what it may do there.
-ghost use Rattle.std.specs.Prelude.{◌≡◌, ◌↔◌, ◌+◌, ◌<◌, ◌^◌, IsTrue, Some};
+ghost use Rattle.std.specs.Prelude.{◌≡◌, ◌↔◌, ◌+◌, ◌<◌, ◌^◌, IfOk, IsTrue, Some};
 ghost use Rattle.std.specs.Option.{option_copied};
 ghost use Rattle.gx_store.specs.declared.event.Event.TheVariants.{End, Start};
 ghost use Rattle.gx_store.specs.Commands.{RunsLine};
@@ -13,7 +13,7 @@ ghost use Rattle.gx_legal.specs.Standings.{commands_in, state_in};
 
 use crate::moment::Moment;
 use crate::standing::{Block, standing_of, stmt_at};
-use gx_ids::{Cid, Gxid, SessionId};
+use gx_ids::{Cid, Gxid, Mem, OutOfMemory, SessionId};
 use gx_script::Script;
 use gx_store::{Event, Mark, Step};
 use gx_tree::{Level, Stmt};
@@ -135,6 +135,25 @@ pub fn is_number_in(block: Block, cid: Cid) -> bool
     match block {
         Block::Inside { commands, .. } => cid.0 as u64 == commands as u64 + 1,
         _ => cid.0 == 1,
+    }
+}
+
+fn cid_behind(commands: usize) -> Mem<Cid>
+    ensures { IfOk result (λ number. number.0 ≡ commands + 1) }
+{
+    if commands >= 4_294_967_295 {
+        return Err(OutOfMemory);
+    }
+    Ok(Cid(commands as u32 + 1))
+}
+
+/// The number of the command there. A block of more commands than there are numbers has no room.
+pub fn number_in(block: Block) -> Mem<Cid>
+    ensures { IfOk result (λ number. number ≡ cid_of (state_in block)) }
+{
+    match block {
+        Block::Inside { commands, .. } => cid_behind(commands),
+        _ => Ok(Cid(1)),
     }
 }
 

@@ -36,7 +36,8 @@ fn is_reply(reply: &Reply, word: Word) -> bool
     }
 }
 
-fn says(message: &Message, gxid: Gxid, word: Word) -> bool
+/// Whether the message says so of the transaction.
+pub fn says(message: &Message, gxid: Gxid, word: Word) -> bool
     ensures { IsTrue result ↔ Says gxid word message.now }
 {
     match message {

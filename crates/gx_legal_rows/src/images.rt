@@ -4,7 +4,7 @@ ghost use Rattle.gx_legal_rows.specs.Images.{is_same_image as same_images, is_sa
 
 use gx_tree::{Row, Value};
 
-pub(crate) fn is_same_image(a: &Option<Row>, b: &Option<Row>) -> bool
+pub fn is_same_image(a: &Option<Row>, b: &Option<Row>) -> bool
     ensures { result ≡ same_images a.now b.now }
 {
     match (a, b) {

@@ -25,6 +25,7 @@ pub mod viewing;
 pub mod writes;
 mod writing;
 
+pub use images::is_same_image;
 pub use command::{Command, RowAt};
 pub use faults::is_fault_of;
 pub use late::is_late_write_of;
