@@ -26,10 +26,10 @@ use Rattle.gx_store.specs.Runs.{IsLegalHistory}
 use Rattle.gx_store.specs.View.{AreFinalFrom}
 use Rattle.gx_store.specs.Whole.{AreInsertsWhole}
 use Rattle.gx_rules.specs.System.{IsSystemRun}
-use Rattle.gx_law_blocked.specs.Blocked.{DoStayBlocked}
-use Rattle.gx_law_locks.specs.Legal.{AreLocksLegal}
+use Rattle.gx_law_rounds.specs.Blocked.{DoStayBlocked}
+use Rattle.gx_law_writes.specs.Legal.{AreLocksLegal}
 use Rattle.gx_law_runs.specs.Endings.{IsFinished}
-use Rattle.gx_law_victims.specs.Legal.{AreRoundsLegal}
+use Rattle.gx_law_rounds.specs.Legal.{AreRoundsLegal}
 use Rattle.gx_law_scripts.specs.Tuples.{HaveTuplesTo}
 use Rattle.gx_law_commit.specs.Told.{DoStepsTell}
 use Rattle.gx_drive.specs.Ends.{IsEnd}

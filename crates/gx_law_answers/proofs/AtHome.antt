@@ -16,7 +16,7 @@ use Rattle.gx_store.specs.Language.{AreLinesNumbered}
 use Rattle.gx_law_reads.specs.Sights.{AreAtHome, IsOnlyAt}
 use Rattle.gx_law_writes.proofs.World as writes
 use Rattle.gx_law_answers.specs.Earned.{Events}
-use Rattle.gx_law_changes.proofs.Shown.{never-only}
+use Rattle.gx_law_writes.proofs.Shown.{never-only}
 use Rattle.gx_law_answers.proofs.Shown.{first-at, only-at}
 
 value_place-least : (n : ℕ) (v : Value) → 1 ≤ value_place n v

@@ -35,7 +35,7 @@ use Rattle.gx_rules.specs.Visits.{WaitsAt}
 use Rattle.gx_rules.proofs.Moving.{Ends, Keeps, loop-keeps}
 use Rattle.gx_law_order.proofs.Lists.{Each, get_last}
 use Rattle.gx_law_writes.proofs.Turns.{NoWrite}
-use Rattle.gx_law_changes.specs.Says.{IsPartDone, Says, SaysDone, SaysFault, SaysOvertaken, count_at, stmt_of_change}
+use Rattle.gx_law_writes.specs.Says.{IsPartDone, Says, SaysDone, SaysFault, SaysOvertaken, count_at, stmt_of_change}
 use Rattle.gx_law_answers.specs.Truth.{IsTrueFailure, IsTruth, SendNothing}
 use Rattle.gx_law_answers.proofs.Truths.{aborted-more, part-more, snapshot-more}
 

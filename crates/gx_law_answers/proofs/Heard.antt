@@ -56,9 +56,9 @@ use Rattle.gx_law_answers.specs.Earned.{Events, IsEarned}
 use Rattle.gx_law_answers.specs.Truth.{IsLocked, IsTruePart}
 use Rattle.gx_law_answers.proofs.Always.{word-earned}
 use Rattle.gx_law_answers.proofs.Origins.{IsWordEarned}
-use Rattle.gx_law_changes.specs.Parts.{IsPartOf}
-use Rattle.gx_law_changes.specs.Says.{IsPartDone, count_at}
-use Rattle.gx_law_changes.proofs.Parts.{part-later}
+use Rattle.gx_law_writes.specs.Parts.{IsPartOf}
+use Rattle.gx_law_writes.specs.Says.{IsPartDone, count_at}
+use Rattle.gx_law_writes.proofs.Parts.{part-later}
 use Rattle.gx_law_answers.proofs.Changed.{processed-more}
 use Rattle.gx_law_answers.proofs.Shown.{only-at}
 use Rattle.gx_law_answers.proofs.Truths.{aborted-more, snapshot-more}

@@ -35,7 +35,7 @@ use Rattle.gx_law_order.proofs.Waiting.{freed}
 use Rattle.gx_law_order.proofs.More.{marks-last}
 use Rattle.gx_law_sessions.specs.Orders.{IsOrder}
 use Rattle.gx_law_sessions.proofs.Outs.{order-more}
-use Rattle.gx_law_changes.proofs.Frames.{IsWork}
+use Rattle.gx_law_writes.proofs.Frames.{IsWork}
 use Rattle.gx_law_writes.proofs.Legal.{sent-no-write}
 use Rattle.gx_law_writes.proofs.Turns.{NoRow, NoWrite}
 use Rattle.gx_law_answers.specs.Earned.{Events}

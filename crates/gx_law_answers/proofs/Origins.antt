@@ -73,7 +73,7 @@ use Rattle.gx_law_writes.proofs.Told.{IsWritten, written-more}
 use Rattle.gx_law_writes.proofs.Turns.{IsOldReply, IsOldWord, NoWrite, Quiet, base}
 use Rattle.gx_law_writes.proofs.World as writes
 use Rattle.gx_law_answers.specs.Earned.{Events, IsEarned, IsReplyEarned, RunsAtOnce, RunsBehindWait}
-use Rattle.gx_law_changes.specs.Parts.{IsPartOf}
+use Rattle.gx_law_writes.specs.Parts.{IsPartOf}
 use Rattle.gx_law_answers.specs.Truth.{AreWritten, IsLocked, IsTruth, SendNothing}
 use Rattle.gx_law_writes.proofs.Pieces.{select-line, slice-is}
 use Rattle.gx_law_writes.specs.Changes.{IsTrueTurn}
@@ -81,7 +81,7 @@ use Rattle.gx_law_answers.proofs.Changed.{AreAnswersOf, IsOfCommand, Leaves, cha
 use Rattle.gx_law_answers.proofs.Posts.{Came}
 use Rattle.gx_law_answers.proofs.Resumptions.{answer-of, unsuspended}
 use Rattle.gx_law_answers.proofs.Running.{AtItsRow, Doings, IsLate, Runs, snapshot-of}
-use Rattle.gx_law_changes.proofs.Shown.{shown-part}
+use Rattle.gx_law_writes.proofs.Shown.{shown-part}
 use Rattle.gx_law_answers.proofs.Shown.{only-at}
 use Rattle.gx_law_answers.proofs.Truths.{aborted-more, marks_of, reply_of, select-truth}
 

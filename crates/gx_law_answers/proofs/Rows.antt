@@ -41,12 +41,12 @@ use Rattle.gx_rules.proofs.ShownRows.{rows-same}
 use Rattle.gx_law_sessions.specs.Gathering.{AreAll, Taken, nodes_taken}
 use Rattle.gx_law_writes.specs.Homes.{IsPlacedMark}
 use Rattle.gx_law_answers.specs.Keyed.{AreRowsKeyed}
-use Rattle.gx_law_changes.specs.Parts.{IsPartOf, is_home}
+use Rattle.gx_law_writes.specs.Parts.{IsPartOf, is_home}
 use Rattle.gx_law_answers.specs.Parts.{HasItsPart}
 use Rattle.gx_law_answers.proofs.Dealt.{at, part}
 use Rattle.gx_law_answers.proofs.Homes.{IsHome, home}
 use Rattle.gx_law_answers.proofs.Rising.{each-at, filter-at, from-filter, passing, rising-filter}
-use Rattle.gx_law_changes.proofs.Views.{view-is, view_rows}
+use Rattle.gx_law_writes.proofs.Views.{view-is, view_rows}
 
 -- ---- places are among the segments
 one-more : (r n : ℕ) → r < n → 1 + r ≤ n

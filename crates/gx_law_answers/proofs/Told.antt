@@ -64,7 +64,7 @@ use Rattle.gx_law_answers.proofs.Rows.{has-from, seen, whole}
 use Rattle.gx_law_answers.proofs.Select.{have-parts, merged}
 use Rattle.gx_law_answers.proofs.Updated.{changed}
 use Rattle.gx_law_answers.proofs.Truths.{image-more, snapshot-more}
-use Rattle.gx_law_changes.proofs.Views.{view-is}
+use Rattle.gx_law_writes.proofs.Views.{view-is}
 use Rattle.gx_store.specs.declared.event.Event.{Event}
 
 -- ---- what a SELECT shows stays, where nothing is written

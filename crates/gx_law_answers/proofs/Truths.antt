@@ -34,10 +34,10 @@ use Rattle.gx_waits.specs.declared.claim.Claim.{Claim}
 use Rattle.gx_law_order.proofs.Lists.{Each, get_last}
 use Rattle.gx_law_commit.proofs.Commits.{take-kept}
 use Rattle.gx_law_writes.proofs.Turns.{NoWrite}
-use Rattle.gx_law_changes.specs.Parts.{IsPartOf, is_home}
-use Rattle.gx_law_changes.proofs.Parts.{node-append}
-use Rattle.gx_law_changes.proofs.Shown.{IsFirst, faults-on-none, first-is}
-use Rattle.gx_law_changes.proofs.Views.{view-is, view_rows}
+use Rattle.gx_law_writes.specs.Parts.{IsPartOf, is_home}
+use Rattle.gx_law_writes.proofs.Parts.{node-append}
+use Rattle.gx_law_writes.proofs.Shown.{IsFirst, faults-on-none, first-is}
+use Rattle.gx_law_writes.proofs.Views.{view-is, view_rows}
 use Rattle.gx_law_answers.specs.Parts.{SaysItsPart}
 use Rattle.gx_law_answers.specs.Truth.{IsTruePart, IsTruth}
 

@@ -38,8 +38,8 @@ use Rattle.gx_law_sessions.specs.Gathering.{AreAll, AreApart, Taken, nodes_taken
 use Rattle.gx_law_sessions.specs.Orders.{level_of_began}
 use Rattle.gx_law_sessions.specs.Scanned.{began_from}
 use Rattle.gx_law_commit.proofs.Commits.{take-kept}
-use Rattle.gx_law_changes.specs.Says.{IsPartDone, count_at}
-use Rattle.gx_law_changes.proofs.Views.{view-is}
+use Rattle.gx_law_writes.specs.Says.{IsPartDone, count_at}
+use Rattle.gx_law_writes.proofs.Views.{view-is}
 use Rattle.gx_law_writes.specs.Homes.{IsPlacedMark}
 use Rattle.gx_law_writes.proofs.Pieces.{IsSliceOf}
 use Rattle.gx_law_writes.proofs.Turns.{NoWrite}
@@ -201,7 +201,7 @@ module _ (script : Script) (some : 1 ≤ script.segments) (numbered : AreLinesNu
         by_taken rid row chosen k =
             let one = one-of (IsDoneBy place) taken k.node ours k.among in
             let d = one.holds in
-            d.0.each rid row (k.there d.0.rows (subst (λ n. Rattle.gx_law_changes.specs.Parts.IsPartOf ms (take place ms) n g c table d.0.rows) one.same (subst (λ p. Rattle.gx_law_changes.specs.Parts.IsPartOf ms (take p ms) one.t.node g c table d.0.rows) d.1 d.0.of))) chosen
+            d.0.each rid row (k.there d.0.rows (subst (λ n. Rattle.gx_law_writes.specs.Parts.IsPartOf ms (take place ms) n g c table d.0.rows) one.same (subst (λ p. Rattle.gx_law_writes.specs.Parts.IsPartOf ms (take p ms) one.t.node g c table d.0.rows) d.1 d.0.of))) chosen
 
     pub changed : (earlier : List Mark) → Each NoWrite earlier → (taken : List Taken) → AreAll Told taken → AreApart taken → ((i : Node) → has i (nodes_in pieces) ≡ has i (nodes_taken taken)) → Changes (ms ++ earlier) level g c table cond (total taken)
     changed earlier quiet [] told apart all =

@@ -25,9 +25,9 @@ use Rattle.gx_rules.specs.Shown.{shown}
 use Rattle.gx_rules.specs.Slices.{Moved, adds_version, first_fault, inserted, inserts_row, own_lock, selects, starts_from, takes_own, version, writes_row}
 use Rattle.gx_rules.proofs.Moving.{Ends, Keeps, loop-keeps}
 use Rattle.gx_law_order.proofs.Lists.{Each, each_append}
-use Rattle.gx_law_changes.proofs.Comes.{stop-locks}
-use Rattle.gx_law_changes.proofs.Frames.{IsWork}
-use Rattle.gx_law_changes.proofs.Sighted.{locks-work}
+use Rattle.gx_law_writes.proofs.Comes.{stop-locks}
+use Rattle.gx_law_writes.proofs.Frames.{IsWork}
+use Rattle.gx_law_writes.proofs.Sighted.{locks-work}
 
 -- behind some small moves
 pub record WorkSoFar (to : Node) (g : Gxid) (c : Cid) (m : Moved) : Type 0 where

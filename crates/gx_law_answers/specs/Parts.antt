@@ -12,7 +12,7 @@ use Rattle.gx_tree.specs.declared.row.KeyedRow.{KeyedRow}
 use Rattle.gx_meaning.specs.Answer.{keeps, part_of}
 use Rattle.gx_store.specs.declared.mark.Mark.{Mark}
 use Rattle.gx_store.specs.Answers.{FaultsOnNone}
-use Rattle.gx_law_changes.specs.Parts.{IsPartOf}
+use Rattle.gx_law_writes.specs.Parts.{IsPartOf}
 
 -- the node's rows of what the command sees, on none of which the condition faults
 pub record HasItsPart (marks before : List Mark) (node : Node) (g : Gxid) (c : Cid) (table : Table) (cond : Option Cond) : Type 0 where

@@ -34,7 +34,7 @@ use Rattle.gx_store.specs.Waits.{is_held}
 use Rattle.gx_waits.specs.declared.object.Object.TheVariants.{Relation}
 use Rattle.gx_rules.specs.Slices.{cause_of}
 use Rattle.gx_law_writes.specs.Rows.{is_own_written}
-use Rattle.gx_law_changes.specs.Says.{IsPartDone}
+use Rattle.gx_law_writes.specs.Says.{IsPartDone}
 use Rattle.gx_law_answers.specs.Parts.{SaysItsPart}
 
 -- the part is of the node's rows of what the command sees

@@ -2,3 +2,5 @@
 #![tactic(auto)]
 
 pub mod runs;
+pub mod blocked;
+pub mod victims;

@@ -63,16 +63,16 @@ use Rattle.gx_law_reads.specs.Sights.{DoViewsStay, IsOnlyAt, IsShownView}
 use Rattle.gx_law_reads.proofs.Ends.{Facts}
 use Rattle.gx_law_reads.proofs.Waiting.{new-to-run, waits-to-run}
 use Rattle.gx_law_holds.proofs.World.{Locked}
-use Rattle.gx_law_changes.specs.Says.{Says, count_at, stmt_of_change}
-use Rattle.gx_law_changes.proofs.Bases.{freed-on, started-on}
-use Rattle.gx_law_changes.proofs.Comes.{legals-each}
-use Rattle.gx_law_changes.proofs.Half.{IsHalf, IsHalfAt, IsHalfDone}
-use Rattle.gx_law_changes.proofs.Locks.{legals-here}
-use Rattle.gx_law_changes.proofs.Path.{Legals}
-use Rattle.gx_law_changes.proofs.Points.{IsLegalChange, IsOfHere, Ok}
-use Rattle.gx_law_changes.proofs.Rows.{HaveHomes}
-use Rattle.gx_law_changes.proofs.Told.{IsOn, Known}
-use Rattle.gx_law_changes.proofs.Undone.{IsBegun, undone, undone-drops}
+use Rattle.gx_law_writes.specs.Says.{Says, count_at, stmt_of_change}
+use Rattle.gx_law_writes.proofs.Bases.{freed-on, started-on}
+use Rattle.gx_law_writes.proofs.Comes.{legals-each}
+use Rattle.gx_law_writes.proofs.Half.{IsHalf, IsHalfAt, IsHalfDone}
+use Rattle.gx_law_writes.proofs.Locks.{legals-here}
+use Rattle.gx_law_writes.proofs.Path.{Legals}
+use Rattle.gx_law_writes.proofs.Points.{IsLegalChange, IsOfHere, Ok}
+use Rattle.gx_law_writes.proofs.SelectedRows.{HaveHomes}
+use Rattle.gx_law_writes.proofs.VersionsTold.{IsOn, Known}
+use Rattle.gx_law_writes.proofs.Undone.{IsBegun, undone, undone-drops}
 use Rattle.gx_law_order.proofs.More.{marks-last}
 use Rattle.gx_store.specs.Language.{AreLinesNumbered}
 use Rattle.gx_law_sessions.specs.Alive.{HasRun, WasUnderWay}

@@ -10,11 +10,11 @@ use Rattle.gx_store.specs.declared.mark.Mark.TheVariants as mark
 use Rattle.gx_rules.specs.Segments.{Local, Seg, SegTurn, Version, after_marks, local_of}
 use Rattle.gx_law_order.proofs.Lists.{Each, each_append, each_weaker}
 use Rattle.gx_law_commit.specs.Standings.{gx}
-use Rattle.gx_law_changes.proofs.Frames.{IsWork}
-use Rattle.gx_law_changes.proofs.Half.{IsHalf}
-use Rattle.gx_law_changes.proofs.Points.{IsOfHere}
-use Rattle.gx_law_changes.proofs.Undone.{undone}
-use Rattle.gx_law_changes.proofs.Worked.{TurnWork}
+use Rattle.gx_law_writes.proofs.Frames.{IsWork}
+use Rattle.gx_law_writes.proofs.Half.{IsHalf}
+use Rattle.gx_law_writes.proofs.Points.{IsOfHere}
+use Rattle.gx_law_writes.proofs.Undone.{undone}
+use Rattle.gx_law_writes.proofs.Worked.{TurnWork}
 use Rattle.gx_law_writes.proofs.Next.{next_command}
 use Rattle.gx_law_writes.proofs.Turns.{NoWrite}
 use Rattle.gx_law_writes.proofs.Works.{IsFrom, IsIts, Works, no-write-from, no-write-its}

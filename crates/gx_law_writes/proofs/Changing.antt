@@ -46,7 +46,7 @@ use Rattle.gx_rules.proofs.Moving.{Keeps}
 use Rattle.gx_law_order.proofs.Lists.{Each, each_append, each_weaker}
 use Rattle.gx_law_order.proofs.Waiting.{freed}
 use Rattle.gx_law_sessions.specs.Scanned.{stmt_of_command}
-pub use Rattle.gx_law_changes.specs.Says.{changing_stmt, stmt_of_change}
+pub use Rattle.gx_law_writes.specs.Says.{changing_stmt, stmt_of_change}
 use Rattle.gx_law_writes.specs.Homes.{IsPlaced, IsSameKey, KeepsItsKey, KeepsKey}
 use Rattle.gx_law_writes.proofs.Pieces.{IsSliceOf, delete-line, update-line}
 use Rattle.gx_law_writes.proofs.Rows.{MayFollow, SoFar, by-own, given-so-far, locked-so-far, marked-so-far, none-so-far, still-added, wrote}

@@ -42,29 +42,29 @@ use Rattle.gx_law_sessions.proofs.Said.{CalmFor}
 use Rattle.gx_law_commit.specs.Pairs.{is_open}
 use Rattle.gx_law_commit.specs.Standings.{at}
 use Rattle.gx_law_reads.specs.Sights.{IsOnlyAt}
-use Rattle.gx_law_changes.specs.Parts.{IsPartOf}
-use Rattle.gx_law_changes.specs.Says.{Says, SaysDone, SaysFault, SaysOvertaken, stmt_of_change}
-use Rattle.gx_law_changes.proofs.Bases.{granted-inv, none-done, rests-on}
-use Rattle.gx_law_changes.proofs.Chosen.{Sight}
-use Rattle.gx_law_changes.proofs.Comes.{goes-legal, start-fault}
-use Rattle.gx_law_changes.proofs.Frames.{Inv, IsWork}
-use Rattle.gx_law_changes.proofs.Half.{AreLeft, HasPart, IsHalf, IsHalfDone}
-use Rattle.gx_law_changes.proofs.Late.{late-changes, late-goes, late-granted}
-use Rattle.gx_law_changes.proofs.Locks.{granted-locks, granted-versions, image-behind, processed-behind, writes-behind}
-use Rattle.gx_law_changes.proofs.OnBase.{shown-on}
-use Rattle.gx_law_changes.proofs.Outcome.{Outcome, fault-out, goes-out, is-statement}
-use Rattle.gx_law_changes.proofs.Parts.{part-later}
-use Rattle.gx_law_changes.proofs.Path.{IsLock, Legals, legals-locks}
-use Rattle.gx_law_changes.proofs.Points.{Ok, Runs, lock-ok}
-use Rattle.gx_law_changes.proofs.Rows.{HaveHomes}
-use Rattle.gx_law_changes.proofs.Shown.{faults-on-none, shown-part}
-use Rattle.gx_law_changes.proofs.Sighted.{locks-work, sight, sight-place}
-use Rattle.gx_law_changes.proofs.Sound.{aborted-still, committed-still}
-use Rattle.gx_law_changes.proofs.Staying.{aborted-half, part-here}
-use Rattle.gx_law_changes.proofs.Told.{IsOn, Known}
-use Rattle.gx_law_changes.proofs.Undone.{IsBegun, free-of, none-later, none-own, undone}
-use Rattle.gx_law_changes.proofs.Walk.{own_count}
-use Rattle.gx_law_changes.proofs.Worked.{TurnWork, changes-works, goes-works}
+use Rattle.gx_law_writes.specs.Parts.{IsPartOf}
+use Rattle.gx_law_writes.specs.Says.{Says, SaysDone, SaysFault, SaysOvertaken, stmt_of_change}
+use Rattle.gx_law_writes.proofs.Bases.{granted-inv, none-done, rests-on}
+use Rattle.gx_law_writes.proofs.Chosen.{Sight}
+use Rattle.gx_law_writes.proofs.Comes.{goes-legal, start-fault}
+use Rattle.gx_law_writes.proofs.Frames.{Inv, IsWork}
+use Rattle.gx_law_writes.proofs.Half.{AreLeft, HasPart, IsHalf, IsHalfDone}
+use Rattle.gx_law_writes.proofs.Late.{late-changes, late-goes, late-granted}
+use Rattle.gx_law_writes.proofs.Locks.{granted-locks, granted-versions, image-behind, processed-behind, writes-behind}
+use Rattle.gx_law_writes.proofs.OnBase.{shown-on}
+use Rattle.gx_law_writes.proofs.Outcome.{Outcome, fault-out, goes-out, is-statement}
+use Rattle.gx_law_writes.proofs.Parts.{part-later}
+use Rattle.gx_law_writes.proofs.Path.{IsLock, Legals, legals-locks}
+use Rattle.gx_law_writes.proofs.Points.{Ok, Runs, lock-ok}
+use Rattle.gx_law_writes.proofs.SelectedRows.{HaveHomes}
+use Rattle.gx_law_writes.proofs.Shown.{faults-on-none, shown-part}
+use Rattle.gx_law_writes.proofs.Sighted.{locks-work, sight, sight-place}
+use Rattle.gx_law_writes.proofs.Sound.{aborted-still, committed-still}
+use Rattle.gx_law_writes.proofs.Staying.{aborted-half, part-here}
+use Rattle.gx_law_writes.proofs.VersionsTold.{IsOn, Known}
+use Rattle.gx_law_writes.proofs.Undone.{IsBegun, free-of, none-later, none-own, undone}
+use Rattle.gx_law_writes.proofs.RowWalk.{own_count}
+use Rattle.gx_law_writes.proofs.Worked.{TurnWork, changes-works, goes-works}
 use Rattle.gx_law_writes.specs.Homes.{IsPlacedMark}
 use Rattle.gx_law_writes.proofs.Alive.{Late, Live, is-late, live-runs, live-snapped}
 use Rattle.gx_law_writes.proofs.Homes.{placed-more}
@@ -108,7 +108,7 @@ le-next l = omega arith
 module _ (ms pre : List Mark) (node : Node) (g : Gxid) (k : Change) (t : SegTurn) where
   told-whole : SaysDone (ms ++ pre) node g k t ⊎ SaysFault (ms ++ pre) g k t ⊎ SaysOvertaken (ms ++ pre) g k t ⊎ (t.outs ≡ []) → Says ms node g k (after_marks pre t)
   told-whole (inl d) =
-      inr (inl (record { wrote = d.wrote; count = d.count; outs = d.outs; done = subst (λ z. Rattle.gx_law_changes.specs.Says.IsPartDone z node k.level g k.cid k.table k.cond d.count) (append_assoc ms pre t.marks) d.done }))
+      inr (inl (record { wrote = d.wrote; count = d.count; outs = d.outs; done = subst (λ z. Rattle.gx_law_writes.specs.Says.IsPartDone z node k.level g k.cid k.table k.cond d.count) (append_assoc ms pre t.marks) d.done }))
   told-whole (inr (inl f)) =
       inr (inr (inl (record {
         earlier = pre ++ f.earlier;

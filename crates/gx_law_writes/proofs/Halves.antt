@@ -25,10 +25,10 @@ use Rattle.gx_law_order.proofs.Ordered.{Well}
 use Rattle.gx_law_order.proofs.Waiting.{waiting}
 use Rattle.gx_law_commit.specs.Standings.{at}
 use Rattle.gx_law_reads.specs.Sights.{DoViewsStay, IsOnlyAt}
-use Rattle.gx_law_changes.proofs.Half.{IsHalf}
-use Rattle.gx_law_changes.proofs.Rows.{HaveHomes}
-use Rattle.gx_law_changes.proofs.Staying.{half-stays}
-use Rattle.gx_law_changes.proofs.Walk.{own_count}
+use Rattle.gx_law_writes.proofs.Half.{IsHalf}
+use Rattle.gx_law_writes.proofs.SelectedRows.{HaveHomes}
+use Rattle.gx_law_writes.proofs.Staying.{half-stays}
+use Rattle.gx_law_writes.proofs.RowWalk.{own_count}
 use Rattle.gx_law_writes.proofs.Turns.{IsKeptOrDropped, NoWrite}
 use Rattle.gx_law_writes.proofs.Works.{IsIts}
 

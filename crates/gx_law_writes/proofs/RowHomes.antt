@@ -15,8 +15,8 @@ use Rattle.gx_store.specs.Journals.{is_same_node}
 use Rattle.gx_store.specs.Marks.{is_same_rid, node_of}
 use Rattle.gx_law_order.proofs.Lists.{Each}
 use Rattle.gx_law_reads.specs.Sights.{IsOnlyAt}
-use Rattle.gx_law_changes.proofs.Never.{IsOfTable}
-use Rattle.gx_law_changes.proofs.Rows.{HaveHomes}
+use Rattle.gx_law_writes.proofs.Never.{IsOfTable}
+use Rattle.gx_law_writes.proofs.SelectedRows.{HaveHomes}
 use Rattle.gx_law_writes.specs.Homes.{IsPlaced, IsPlacedMark}
 use Rattle.gx_law_writes.proofs.Placed.{one-row, same-place}
 

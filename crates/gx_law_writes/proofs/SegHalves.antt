@@ -25,12 +25,12 @@ use Rattle.gx_law_order.proofs.Lists.{Each, each_weaker}
 use Rattle.gx_law_order.proofs.Ordered.{Well}
 use Rattle.gx_law_commit.specs.Standings.{at, gx}
 use Rattle.gx_law_reads.specs.Sights.{DoViewsStay, IsOnlyAt}
-use Rattle.gx_law_changes.proofs.Half.{IsHalf}
-use Rattle.gx_law_changes.proofs.Parts.{node-still}
-use Rattle.gx_law_changes.proofs.Rows.{HaveHomes}
-use Rattle.gx_law_changes.proofs.Staying.{half-stays}
-use Rattle.gx_law_changes.proofs.Undone.{alive-front, undone}
-use Rattle.gx_law_changes.proofs.Walk.{own_count}
+use Rattle.gx_law_writes.proofs.Half.{IsHalf}
+use Rattle.gx_law_writes.proofs.Parts.{node-still}
+use Rattle.gx_law_writes.proofs.SelectedRows.{HaveHomes}
+use Rattle.gx_law_writes.proofs.Staying.{half-stays}
+use Rattle.gx_law_writes.proofs.Undone.{alive-front, undone}
+use Rattle.gx_law_writes.proofs.RowWalk.{own_count}
 use Rattle.gx_law_writes.proofs.Halves.{away-free, kept-on, no-write-free, only-behind, only-front, other-free, others-count, waits-on}
 use Rattle.gx_law_writes.proofs.Turns.{NoWrite}
 use Rattle.gx_law_writes.proofs.Works.{IsIdle, IsIts, Works}

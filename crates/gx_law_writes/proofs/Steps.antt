@@ -20,10 +20,10 @@ use Rattle.gx_rules.specs.Sending.{clock_after}
 use Rattle.gx_law_order.proofs.Lists.{Each, each_append, each_weaker}
 use Rattle.gx_law_order.proofs.Ordered.{Well, at_coordinator}
 use Rattle.gx_law_reads.specs.Sights.{DoViewsStay}
-use Rattle.gx_law_changes.specs.Says.{count_at}
-use Rattle.gx_law_changes.proofs.Half.{IsHalf}
-use Rattle.gx_law_changes.proofs.Rows.{HaveHomes}
-use Rattle.gx_law_changes.proofs.Undone.{IsBegun, begun-later}
+use Rattle.gx_law_writes.specs.Says.{count_at}
+use Rattle.gx_law_writes.proofs.Half.{IsHalf}
+use Rattle.gx_law_writes.proofs.SelectedRows.{HaveHomes}
+use Rattle.gx_law_writes.proofs.Undone.{IsBegun, begun-later}
 use Rattle.gx_store.specs.Language.{AreLinesNumbered}
 use Rattle.gx_law_sessions.specs.Rest.{EachMark}
 use Rattle.gx_law_commit.specs.Standings.{at, gx}

@@ -18,12 +18,12 @@ use Rattle.gx_rules.specs.Machine.{World}
 use Rattle.gx_law_sessions.specs.Scanned.{stmt_of_command}
 use Rattle.gx_law_order.proofs.Lists.{Each}
 use Rattle.gx_law_sessions.proofs.Said.{CalmFor}
-use Rattle.gx_law_changes.proofs.Frames.{IsWork}
-use Rattle.gx_law_changes.proofs.Legal.{IsStatement}
-use Rattle.gx_law_changes.proofs.Path.{IsLock}
-use Rattle.gx_law_changes.proofs.Points.{Runs}
-use Rattle.gx_law_changes.proofs.Sighted.{locks-work}
-use Rattle.gx_law_changes.proofs.Sound.{aborted-still, committed-still}
+use Rattle.gx_law_writes.proofs.Frames.{IsWork}
+use Rattle.gx_law_writes.proofs.LegalChange.{IsStatement}
+use Rattle.gx_law_writes.proofs.Path.{IsLock}
+use Rattle.gx_law_writes.proofs.Points.{Runs}
+use Rattle.gx_law_writes.proofs.Sighted.{locks-work}
+use Rattle.gx_law_writes.proofs.Sound.{aborted-still, committed-still}
 use Rattle.gx_law_writes.proofs.Alive.{Late, Live, is-late, live-runs, live-snapped}
 use Rattle.gx_law_writes.proofs.Changing.{changing_stmt, stmt_of_change}
 

@@ -26,8 +26,8 @@ use Rattle.gx_rules.specs.Segments.{Local, Seg, SegTurn, Suspended, Version, aft
 use Rattle.gx_rules.specs.Running.{suspended_slice}
 use Rattle.gx_rules.specs.Slices.{Moved, answers, inserted, inserts, inserts_row, locks as locks_only, own_lock, selects, starts_from, takes_lock, version}
 use Rattle.gx_law_order.proofs.Lists.{Each, each_append, each_weaker}
-use Rattle.gx_law_changes.proofs.Half.{IsHalf, IsHalfAt}
-use Rattle.gx_law_changes.proofs.Undone.{undone, undone-drops, undone_at, undone_by}
+use Rattle.gx_law_writes.proofs.Half.{IsHalf, IsHalfAt}
+use Rattle.gx_law_writes.proofs.Undone.{undone, undone-drops, undone_at, undone_by}
 use Rattle.gx_law_writes.proofs.Moves.{IsBase}
 use Rattle.gx_law_writes.proofs.Next.{new-next, next_command}
 use Rattle.gx_law_writes.proofs.Rows.{IsStillAt, by-own, still-added, still-itself, still-locked, wrote}

@@ -13,10 +13,10 @@ use Rattle.gx_law_commit.proofs.Always.{world-holds}
 use Rattle.gx_law_commit.proofs.Whole.{world-follows}
 use Rattle.gx_store.specs.Whole.{AreInsertsWhole}
 use Rattle.gx_law_answers.proofs.Join.{legal}
-use Rattle.gx_law_blocked.specs.Blocked.{DoStayBlocked}
-use Rattle.gx_law_blocked.proofs.Lawful.{run-stays-blocked}
-use Rattle.gx_law_locks.specs.Legal.{AreLocksLegal}
-use Rattle.gx_law_locks.proofs.Legal.{locks-legal}
+use Rattle.gx_law_rounds.specs.Blocked.{DoStayBlocked}
+use Rattle.gx_law_rounds.proofs.Lawful.{run-stays-blocked}
+use Rattle.gx_law_writes.specs.Legal.{AreLocksLegal}
+use Rattle.gx_law_writes.proofs.LegalLocks.{locks-legal}
 use Rattle.gx_law_answers.proofs.Snaps.{snapshots-one}
 use Rattle.gx_law_answers.proofs.Whole.{filled, keyed}
 use Rattle.gx_law_runs.specs.Reached.{IsReached}
@@ -31,8 +31,8 @@ use Rattle.std.specs.declared.alloc.Global.{Global}
 use Rattle.std.specs.declared.vec.Vec.{Vec}
 use Rattle.gx_law_runs.specs.Replays.{world_behind}
 use Rattle.gx_law_runs.proofs.Reaching.{by-events, replayed, rows-of-all}
-use Rattle.gx_law_victims.specs.Legal.{AreRoundsLegal}
-use Rattle.gx_law_victims.proofs.World.{world-cancels, world-legal}
+use Rattle.gx_law_rounds.specs.Legal.{AreRoundsLegal}
+use Rattle.gx_law_rounds.proofs.EachVictim.{world-cancels, world-legal}
 use Rattle.gx_law_rounds.proofs.Whole.{world-rounds}
 use Rattle.gx_world.specs.declared.network.Network.{Network}
 use Rattle.gx_world.specs.Networks.{IsNetwork}

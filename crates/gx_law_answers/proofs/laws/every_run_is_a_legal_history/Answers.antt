@@ -2,7 +2,7 @@ use Rattle.gx_law_answers.proofs.Join.{legal}
 use Rattle.gx_law_answers.proofs.Snaps.{snapshots-one}
 use Rattle.gx_law_answers.proofs.Whole.{filled, keyed}
 use Rattle.gx_law_rounds.proofs.Whole.{world-rounds}
-use Rattle.gx_law_victims.proofs.World.{world-cancels}
+use Rattle.gx_law_rounds.proofs.EachVictim.{world-cancels}
 use Rattle.gx_law_answers.proofs.laws.every_run_is_a_legal_history.Goals as goal
 
 pub returns : goal.returns

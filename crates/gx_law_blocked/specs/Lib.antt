@@ -1,4 +1,0 @@
-pub mod Committing
-pub mod Blocked
-pub mod Reports
-pub mod Gathered

@@ -1,9 +1,0 @@
-pub mod Writes
-pub mod Joined
-pub mod Legal
-pub mod Commands
-pub mod Unsent
-pub mod Answering
-pub mod Told
-pub mod Shapes
-pub mod Reading

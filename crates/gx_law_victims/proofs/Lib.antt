@@ -1,6 +1,0 @@
-pub mod Waiting
-pub mod Sessions
-pub mod Turns
-pub mod Victims
-pub mod Verdicts
-pub mod World

@@ -1,4 +1,0 @@
-//! Whom the deadlock detector cancels: laws over the rules of both nodes.
-#![tactic(auto)]
-
-pub mod laws;
