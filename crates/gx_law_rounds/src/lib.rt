@@ -1,4 +1,4 @@
-//! The detector's rounds: laws over the rules of both nodes.
+//! The detector's rounds, who is blocked, and whom a round names: laws over the rules of both nodes.
 #![tactic(auto)]
 
 pub mod runs;

@@ -1,4 +1,4 @@
-//! What segments write in every run: the rows of INSERTs, each once, at its place, and what UPDATE and DELETE make of rows, where these stand, for a command under way.
+//! What segments write in every run, and which locks every run has: the rows of INSERTs, each once, at its place, and what UPDATE and DELETE make of rows.
 #![tactic(auto)]
 
 pub mod laws;
