@@ -1,4 +1,4 @@
-//! What segments write in every run, and which locks every run has: the rows of INSERTs, each once, at its place, and what UPDATE and DELETE make of rows.
+//! Of every run: what segments write (the rows of INSERTs, each once, at its place, and what UPDATE and DELETE make of rows), and which locks it has.
 #![tactic(auto)]
 
 pub mod laws;
