@@ -2,5 +2,5 @@
 #![tactic(auto)]
 
 pub mod runs;
-pub mod blocked;
-pub mod victims;
+pub mod blocking;
+pub mod cancelled;

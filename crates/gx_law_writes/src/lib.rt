@@ -2,5 +2,5 @@
 #![tactic(auto)]
 
 pub mod laws;
-pub mod changes;
-pub mod locks;
+pub mod writers;
+pub mod holding;

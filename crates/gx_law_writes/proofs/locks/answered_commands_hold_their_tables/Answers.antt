@@ -1,5 +1,0 @@
-use Rattle.gx_law_writes.proofs.AnswersHold.{answers-held}
-use Rattle.gx_law_writes.proofs.locks.answered_commands_hold_their_tables.Goals as goal
-
-pub returns : goal.returns
-returns c = λ script events some. answers-held script some events

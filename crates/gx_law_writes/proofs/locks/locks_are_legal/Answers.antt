@@ -1,5 +1,0 @@
-use Rattle.gx_law_writes.proofs.LegalLocks.{locks-legal}
-use Rattle.gx_law_writes.proofs.locks.locks_are_legal.Goals as goal
-
-pub returns : goal.returns
-returns c = λ script events some numbered. locks-legal script some numbered events
