@@ -4,7 +4,7 @@ use Rattle.std.proofs.lemmas.Bool.Decides.{nat_tests}
 use Rattle.std.proofs.lemmas.Bool.{ltb-true, eqb-true, eq-eqb}
 use Rattle.std.proofs.lemmas.List.{get_or-map}
 use Rattle.std.proofs.lemmas.Map.Keys.{sorted_from_strictly_increasing, below_from_sorted}
-use Rattle.std.specs.Prelude.{IfOk, Result, Ok, Err}
+use Rattle.std.specs.Prelude.{IfOk, Result, Ok, Err, Bool, nat_lt}
 use Rattle.std.specs.List.{Contains, AllPairs, count_by}
 use Rattle.std.specs.List.Sorted.{IsStrictlyIncreasing}
 use Rattle.gx_ids.specs.declared.ids.Gxid.{Gxid}
@@ -72,6 +72,15 @@ module _ (part : List PlacedEdge) (backed : IsBacked Core part) (count : Place �
   counted_is_named v l =
       let e = some_counted (waits_in (Anywhere v)) part (subst (λ n. 0 < n) (counts (Anywhere v)) l) in
       (e.0, contains_from_has e.0 part e.1, inl (same_gxid e.0.edge.waiter v (eqb-true e.0.edge.waiter.0 v.0 e.2)))
+
+  pub named_tested : (v : Gxid) (b : Bool) → b ≡ nat_lt 0 (count (Anywhere v)) → (b ≡ true → IsNamed part v) × (IsNamed part v → b ≡ true)
+  named_tested v b is = (
+    λ t. counted_is_named v (ltb-true 0 (count (Anywhere v)) (sym is ∙ t)),
+    λ n. is ∙ below (count (Anywhere v)) (named_is_counted v n),
+  )
+    where
+      below : (k : ℕ) → 0 < k → nat_lt 0 k ≡ true
+      below k l = grind (arith, nat_tests)
 
   module _ (edges : List PlacedEdge) (among : AreAmong part edges) (numbers sorted : List ℕ) (names : List Gxid) (n : numbers ≡ map waiter_number (filter (waiter_is_left count) edges))
       (same : (k : ℕ) → (Contains sorted k → Contains numbers k) × (Contains numbers k → Contains sorted k)) (up : IsStrictlyIncreasing sorted) (g : names ≡ map gxid_of sorted) where

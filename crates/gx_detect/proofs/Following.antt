@@ -17,7 +17,7 @@ use Rattle.gx_detect.specs.declared.wants.Wants.{Wants}
 use Rattle.gx_detect.specs.Place.{Needs, need_of, waits_in}
 use Rattle.gx_detect.specs.Tally.{count_at}
 use Rattle.gx_detect.specs.Wants.{AreListed, needing}
-use Rattle.gx_detect.specs.Reducing.{AreAmong, AreNoted, AreTakenOut, IsBacked, IsCounted, IsDone, IsFollowed, rest_of}
+use Rattle.gx_detect.specs.Reducing.{AreAmong, AreNoted, AreNotedBut, AreTakenOut, IsBacked, IsCounted, IsDone, IsFollowed, left_of, rest_of}
 use Rattle.gx_detect.specs.Settled.{IsLargest}
 use Rattle.gx_detect.specs.Verdicts.{edges_without}
 use Rattle.gx_detect.proofs.Marks.{get_below, left_place, none_counted, some_counted}
@@ -69,8 +69,7 @@ module _ (edges : List PlacedEdge) (wants : Wants) (listed : AreListed edges (le
   }
 
   -- what lacks something then is noted, where before only what needed this place wasn't
-  pub noted_after : ((e : PlacedEdge) → Contains (rest_of edges old) e → (q : Place) → Needs wants.aim e q → count_at old.tally q ≡ 0 → Contains old.freed.items q ⊎ (p ≡ q))
-      → AreNoted wants.aim edges new
+  pub noted_after : AreNotedBut p wants.aim edges old → AreNoted wants.aim edges new
   noted_after noted e c q n z = ⊎_elim
       (λ (m : count_at old.tally q ≡ 0). ⊎_elim
       (λ (f : Contains old.freed.items q). taken.still_freed q f)
@@ -81,18 +80,19 @@ module _ (edges : List PlacedEdge) (wants : Wants) (listed : AreListed edges (le
 
 -- the last of the freed places is looked at
 pub noted_but_last : (aim : Aim) (edges : List PlacedEdge) (p : Place) (old new : Rest) → AreNoted aim edges old → new.marks ≡ old.marks → new.tally ≡ old.tally
-    → old.freed.items ≡ new.freed.items ++ p ∷ []
-    → (e : PlacedEdge) → Contains (rest_of edges new) e → (q : Place) → Needs aim e q → count_at new.tally q ≡ 0 → Contains new.freed.items q ⊎ (p ≡ q)
+    → old.freed.items ≡ new.freed.items ++ p ∷ [] → AreNotedBut p aim edges new
 noted_but_last aim edges p old new noted marks tally popped e c q n z =
     Contains-push_cases new.freed.items p q (subst (λ l. Contains l q) popped
-    (noted e (subst (λ m. Contains (rest_of edges (record old { marks = m })) e) marks c) q n (subst (λ t. count_at t q ≡ 0) tally z)))
+    (noted e (subst (λ m. Contains (left_of edges m.items) e) marks c) q n (subst (λ t. count_at t q ≡ 0) tally z)))
 
-pub noted_still : (aim : Aim) (edges : List PlacedEdge) (p : Place) (old new : Rest) → AreNoted aim edges old → new.marks ≡ old.marks → new.tally ≡ old.tally
-    → old.freed.items ≡ new.freed.items ++ p ∷ [] → (count_at new.tally p ≡ 0 → ⊥) → AreNoted aim edges new
-noted_still aim edges p old new noted marks tally popped some e c q n z = ⊎_elim
-    (λ (f : Contains new.freed.items q). f)
-    (λ (s : p ≡ q). absurd (some (ap (count_at new.tally) s ∙ z)))
-    (noted_but_last aim edges p old new noted marks tally popped e c q n z)
+pub noted_if_counted : (aim : Aim) (edges : List PlacedEdge) (p : Place) (rest : Rest) → AreNotedBut p aim edges rest → 0 < count_at rest.tally p → AreNoted aim edges rest
+noted_if_counted aim edges p rest noted some e c q n z = ⊎_elim
+    (λ (f : Contains rest.freed.items q). f)
+    (λ (s : p ≡ q). absurd (never (count_at rest.tally p) some (ap (count_at rest.tally) s ∙ z)))
+    (noted e c q n z)
+  where
+    never : (k : ℕ) → 0 < k → k ≡ 0 → ⊥
+    never k l z = omega arith
 
 pub all_done : (aim : Aim) (edges : List PlacedEdge) (rest : Rest) → AreNoted aim edges rest → rest.freed.items ≡ [] → IsDone aim edges rest
 all_done aim edges rest noted none e c p n = go (count_at rest.tally p) refl
@@ -100,6 +100,10 @@ all_done aim edges rest noted none e c p n = go (count_at rest.tally p) refl
     go : (k : ℕ) → count_at rest.tally p ≡ k → 0 < k
     go zero z = absurd (has_from_contains p [] (subst (λ l. Contains l p) none (noted e c p n z)))
     go (suc k) z = omega arith
+
+pub done_same : (aim : Aim) (edges : List PlacedEdge) (old new : Rest) → new.marks ≡ old.marks → new.tally ≡ old.tally → IsDone aim edges old → IsDone aim edges new
+done_same aim edges old new marks tally done e c p n =
+    subst (λ t. 0 < count_at t p) (sym tally) (done e (subst (λ m. Contains (left_of edges m.items) e) marks c) p n)
 
 -- what is left at the end has in it what its edges need
 pub done_backed : (aim : Aim) (edges : List PlacedEdge) (rest : Rest) → IsCounted edges rest → IsDone aim edges rest → IsBacked aim (rest_of edges rest)
@@ -115,8 +119,7 @@ largest aim edges old new all counted done followed = record {
   whole = λ set backed among. followed.stay set backed (λ e c. subst (λ l. Contains l e) (sym all) (among e c));
 }
 
-pub noted_if_done : (aim : Aim) (edges : List PlacedEdge) (rest : Rest) (p : Place) → IsDone aim edges rest
-    → (e : PlacedEdge) → Contains (rest_of edges rest) e → (q : Place) → Needs aim e q → count_at rest.tally q ≡ 0 → Contains rest.freed.items q ⊎ (p ≡ q)
+pub noted_if_done : (aim : Aim) (edges : List PlacedEdge) (rest : Rest) (p : Place) → IsDone aim edges rest → AreNotedBut p aim edges rest
 noted_if_done aim edges rest p done e c q n z = let some = done e c q n in absurd (never (count_at rest.tally q) some z)
   where
     never : (k : ℕ) → 0 < k → k ≡ 0 → ⊥

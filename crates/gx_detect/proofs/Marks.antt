@@ -26,6 +26,14 @@ get_below [] k x e = absurd (cc)
 get_below (y ∷ ys) zero x e = omega arith
 get_below (y ∷ ys) (suc k) x e = let r = get_below ys k x e in omega arith
 
+pub contains_at : {A : Type 0} (xs : List A) (k : ℕ) (d : A) → k < length xs → Contains xs (get_or xs k d)
+contains_at xs k d below = contains_from_has (get_or xs k d) xs (has_at xs k d below)
+  where
+    has_at : {A : Type 0} (xs : List A) (k : ℕ) (d : A) → k < length xs → Has (get_or xs k d) xs
+    has_at [] k d below = absurd (omega arith)
+    has_at (x ∷ xs) zero d below = inl refl
+    has_at (x ∷ xs) (suc k) d below = inr (has_at xs k d (omega arith))
+
 pub left_place : (edges : List PlacedEdge) (marks : List Bool) (e : PlacedEdge) → Has e (left_of edges marks) → (k : ℕ) × (slice_get edges k ≡ Some e) × (slice_get marks k ≡ Some true)
 left_place [] marks e h = absurd h
 left_place (x ∷ xs) [] e h = absurd h
@@ -115,14 +123,11 @@ module _ (p : PlacedEdge → Bool) where
   none_counted (y ∷ ys) x z (inr h) t = let c = count_by-cons y ys in none_counted ys x (omega arith) h t
 
   pub some_counted : (xs : List PlacedEdge) → 0 < count_by p xs → (x : PlacedEdge) × Has x xs × (p x ≡ true)
-  some_counted [] z = absurd (never z)
+  some_counted [] z = absurd (omega arith)
+  some_counted (y ∷ ys) z = go (p y) refl (some_counted ys)
     where
-      never : 0 < 0 → ⊥
-      never z = omega arith
-  some_counted (y ∷ ys) z = go (p y) refl
-    where
-      go : (b : Bool) → p y ≡ b → (x : PlacedEdge) × Has x (y ∷ ys) × (p x ≡ true)
-      go true t = (y, inl refl, t)
-      go false t =
+      go : (b : Bool) → p y ≡ b → (0 < count_by p ys → (x : PlacedEdge) × Has x ys × (p x ≡ true)) → (x : PlacedEdge) × Has x (y ∷ ys) × (p x ≡ true)
+      go true t f = (y, inl refl, t)
+      go false t f =
           let c = count_by-cons y ys in let none : bit (p y) ≡ 0 = ap bit t in
-          let r = some_counted ys (omega arith) in (r.0, inr r.1, r.2)
+          let r = f (omega arith) in (r.0, inr r.1, r.2)

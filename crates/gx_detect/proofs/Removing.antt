@@ -18,7 +18,7 @@ use Rattle.gx_detect.specs.Tally.{count_at}
 use Rattle.gx_detect.specs.Reducing.{AreAmong, AreTakenOut, IsCounted, left_of, rest_of}
 use Rattle.gx_detect.proofs.Marks.{left_place, place_left, set_falls, set_out, left_kept, left_length-set, count_by-set, none_counted, all_left, length-replicate_true}
 
-same_node : (m n : Node) → m.0 ≡ n.0 → m ≡ n
+pub same_node : (m n : Node) → m.0 ≡ n.0 → m ≡ n
 same_node m n e = λ i. record { 0 = e i }
 
 -- where an edge counts

@@ -70,7 +70,7 @@ fn in_turn(alloc: Global, mut core: Reduced, mut names: Vec<Gxid>) -> Mem<Vec<Gx
 {
     let mut victims = Vec::new(alloc);
     while let Some(name) = names.pop() {
-        if core.rest.tally.waits(name) {
+        if core.is_named(name) {
             victims.push(name)?;
             core.cancel(name)?;
         }

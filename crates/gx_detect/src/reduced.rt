@@ -1,5 +1,6 @@
-ghost use Rattle.std.specs.Prelude.{◌≡◌, IfOk, OnOk, List};
+ghost use Rattle.std.specs.Prelude.{◌≡◌, ◌↔◌, IfOk, IsTrue, OnOk, List};
 ghost use Rattle.gx_waits.specs.declared.placed_edge.PlacedEdge.{PlacedEdge};
+ghost use Rattle.gx_waits.specs.Closed.{IsNamed};
 ghost use Rattle.gx_detect.specs.declared.place.Aim.TheVariants.{Core};
 ghost use Rattle.gx_detect.specs.Settled.{IsLargest, IsSettled, left_in};
 ghost use Rattle.gx_detect.specs.Verdicts.{edges_without};
@@ -32,6 +33,14 @@ impl Reduced {
         Ok(Reduced { edges, rest, wants })
     }
 
+    /// Whether an edge that is left names the transaction.
+    pub fn is_named(&self, gxid: Gxid) -> bool
+        requires { IsSettled Core self.now }
+        ensures { IsTrue result ↔ IsNamed (left_in self.now) gxid }
+    {
+        self.rest.tally.waits(gxid)
+    }
+
     /// Goes on without the edges that name the transaction. Only those where it waits are taken out by themselves: the
     /// others have nobody then whom they need.
     pub fn cancel(&mut self, gxid: Gxid) -> Mem<()>
@@ -40,6 +49,7 @@ impl Reduced {
         ensures largest { OnOk result ((edges : List PlacedEdge) → IsLargest Core edges (left_in self.old) → IsLargest Core (edges_without gxid edges) (left_in self.new)) }
     {
         take_out_all(&self.edges, &mut self.rest, self.wants.at(Place::Awaited(gxid)))?;
-        follow(&self.edges, &self.wants, &mut self.rest)
+        follow(&self.edges, &self.wants, &mut self.rest)?;
+        Ok(())
     }
 }

@@ -79,7 +79,8 @@ impl Rest {
         self.tally.remove(&edge);
         self.free(Place::Anywhere(edge.edge.waiter))?;
         self.free(Place::At(edge.node, edge.edge.waiter))?;
-        self.free(Place::Awaited(edge.edge.holder))
+        self.free(Place::Awaited(edge.edge.holder))?;
+        Ok(())
     }
 
     /// A freed place that wasn't looked at yet.
@@ -87,7 +88,7 @@ impl Rest {
         ensures marks { self.new.marks ≡ self.old.marks }
         ensures tally { self.new.tally ≡ self.old.tally }
         ensures place { IfSome result (λ place. self.old.freed.items ≡ self.new.freed.items ++ place ∷ []) }
-        ensures none { IfNone result (self.new.freed.items ≡ []) }
+        ensures none { IfNone result (self.old.freed.items ≡ []) }
     {
         self.freed.pop()
     }

@@ -36,7 +36,8 @@ fn release(edges: &[PlacedEdge], wants: &Wants, rest: &mut Rest, place: Place) -
     if rest.tally.count(place) > 0 {
         return Ok(());
     }
-    take_out_all(edges, rest, wants.at(place))
+    take_out_all(edges, rest, wants.at(place))?;
+    Ok(())
 }
 
 /// Takes out those of the edges at these places of the list that are left.

@@ -58,7 +58,10 @@ impl Wants {
         self.note(Place::needed_by(edge), index)?;
         match self.aim {
             Aim::Stuck => Ok(()),
-            Aim::Core => self.note(Place::Awaited(edge.edge.waiter), index),
+            Aim::Core => {
+                self.note(Place::Awaited(edge.edge.waiter), index)?;
+                Ok(())
+            }
         }
     }
 

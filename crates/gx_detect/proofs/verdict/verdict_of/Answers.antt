@@ -20,8 +20,8 @@ returns-in-Some-clause-verdict c =
     (subst (AreStuck c.in_ok-stuck.stuck.items) c.in_ok-all_edges.ensures c.in_ok-stuck.ensures) c.in-Some.gxid
     (c.in-Some.ensures ∙ ap (fold (with_waiter c.args.active.now) None) c.deref.ensures.value)
 
-pub returns-clause-verdict : goal.returns-clause-verdict
-returns-clause-verdict c =
+pub returns-in_ok-victims_in-in-None-clause-verdict : goal.returns-in_ok-victims_in-in-None-clause-verdict
+returns-in_ok-victims_in-in-None-clause-verdict c =
     let edges = edges_of c.args.graphs.now in
     let stuck = subst (AreStuck c.in_ok-stuck.stuck.items) c.in_ok-all_edges.ensures c.in_ok-stuck.ensures in
     subst (λ verdict. IsVerdict edges c.args.active.now verdict) (sym c.naming.ensures)
@@ -30,8 +30,8 @@ returns-clause-verdict c =
     (c.in-None.ensures ∙ ap (fold (with_waiter c.args.active.now) None) c.deref.ensures.value))
     c.in_ok-victims_in-in-None.field-0.items (c.in_ok-victims_in-in-None.ensures.victims edges (stuck_have_stuck edges c.in_ok-stuck.stuck.items stuck)))
 
-pub returns-clause-victims : goal.returns-clause-victims
-returns-clause-victims c =
+pub returns-in_ok-victims_in-in-None-clause-victims : goal.returns-in_ok-victims_in-in-None-clause-victims
+returns-in_ok-victims_in-in-None-clause-victims c =
     let edges = edges_of c.args.graphs.now in
     let has = stuck_have_stuck edges c.in_ok-stuck.stuck.items (subst (AreStuck c.in_ok-stuck.stuck.items) c.in_ok-all_edges.ensures c.in_ok-stuck.ensures) in
     subst (λ verdict. NamesVictims edges verdict) (sym c.naming.ensures)

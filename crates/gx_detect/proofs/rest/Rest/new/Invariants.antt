@@ -11,5 +11,5 @@ abbrev pub invariant-loop-edge : goal.invariant-loop-edge
 invariant-loop-edge l = record {
   counted : IsCounted l.edges l.rest;
   all : rest_of l.edges l.rest ≡ l.edges;
-  noted : (e : PlacedEdge) → Contains (take l.edge-index l.edges) e → (p : Place) → Needs l.aim e p → count_at l.rest.tally p ≡ 0 → Contains l.rest.freed.items p;
+  noted : (e : PlacedEdge) → Contains (take l.edge-index l.edges) e → (p : Place) → Needs l.fn.aim e p → count_at l.rest.tally p ≡ 0 → Contains l.rest.freed.items p;
 }

@@ -4,7 +4,7 @@ use Rattle.gx_detect.proofs.Marks.{get_at, no_edge}
 use Rattle.gx_detect.proofs.wants.Wants.of.Goals as goal
 
 pub loop-index-init : goal.loop-index-init
-loop-index-init c = record { aim = c.new.ensures.aim; listed = none_listed c.args.edges.now c.new.result c.new.ensures.none }
+loop-index-init c = record { aim = c.new-wants.ensures.aim; listed = none_listed c.args.edges.now c.new-wants.result c.new-wants.ensures.none }
 
 pub loop-index-preserved : goal.loop-index-preserved
 loop-index-preserved c = record {
