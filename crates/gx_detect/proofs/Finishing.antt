@@ -94,10 +94,12 @@ one_by_one edges now (x ∷ xs) l inside = go (is_needed now x) refl (one_by_one
           plan = move_for x ∷ m.plan;
           lawful = (move_lawful edges m.plan x free, m.lawful);
           lets = λ e h. ⊎_elim (λ (r : Has e now). inl r) (λ (g : IsLet m.plan e). inr (still_let m.plan (move_for x) e g)) (m.lets e h);
-        } in
-        (longer, λ e h n. ⊎_elim
-            (λ (s : x ≡ e). subst (λ y. IsLet (move_for x ∷ m.plan) y) s (move_lets edges m.plan x free))
-            (λ (r : Has e xs). still_let m.plan (move_for x) e (goes e r n)) h)
+        } in (
+          longer,
+          λ e h n. ⊎_elim
+              (λ (s : x ≡ e). subst (λ y. IsLet (move_for x ∷ m.plan) y) s (move_lets edges m.plan x free))
+              (λ (r : Has e xs). still_let m.plan (move_for x) e (goes e r n)) h,
+        )
 
 all_go : (n : ℕ) (edges now : List PlacedEdge) → Lets edges now → Lets edges (stay_for n is_needed now)
 all_go zero edges now l = l
@@ -116,8 +118,14 @@ all_go (suc n) edges now l =
 
 pub others_finish : (edges : List PlacedEdge) (v : Gxid) → (IsNamedInStuck edges v → ⊥) → CanFinish edges v
 others_finish edges v none =
-    let l = all_go (length edges) edges edges (record { plan = []; lawful = tt; lets = λ e h. inl h }) in
-    (End v ∷ l.plan, ((λ e c w. ⊎_elim
-        (λ (h : Has e (stuck_of edges)). absurd (none (e, is_stuck edges e h, inl w)))
-        (λ (g : IsLet l.plan e). g)
-        (l.lets e (has_from_contains e edges c))), l.lawful), contains_from_has (End v) (End v ∷ l.plan) (inl refl))
+    let l = all_go (length edges) edges edges (record { plan = []; lawful = tt; lets = λ e h. inl h }) in (
+      End v ∷ l.plan,
+      (
+        (λ e c w. ⊎_elim
+            (λ (h : Has e (stuck_of edges)). absurd (none (e, is_stuck edges e h, inl w)))
+            (λ (g : IsLet l.plan e). g)
+            (l.lets e (has_from_contains e edges c))),
+        l.lawful,
+      ),
+      contains_from_has (End v) (End v ∷ l.plan) (inl refl),
+    )

@@ -48,7 +48,11 @@ impl Reduced {
         ensures settled { OnOk result (IsSettled Core self.new) }
         ensures largest { OnOk result ((edges : List PlacedEdge) → IsLargest Core edges (left_in self.old) → IsLargest Core (edges_without gxid edges) (left_in self.new)) }
     {
-        take_out_all(&self.edges, &mut self.rest, self.wants.at(Place::Awaited(gxid)))?;
+        take_out_all(
+            &self.edges,
+            &mut self.rest,
+            self.wants.at(Place::Awaited(gxid)),
+        )?;
         follow(&self.edges, &self.wants, &mut self.rest)?;
         Ok(())
     }

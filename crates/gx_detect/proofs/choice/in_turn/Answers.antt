@@ -6,7 +6,7 @@ use Rattle.gx_detect.specs.declared.place.Aim.TheVariants.{Core}
 use Rattle.gx_detect.specs.Settled.{left_in}
 use Rattle.gx_waits.proofs.Members.{has_from_contains}
 use Rattle.gx_detect.proofs.Following.{done_backed}
-use Rattle.gx_detect.proofs.Turns.{AreRising, IsUnderWay, all_chosen, all_cores, begins, goes_on, largest_itself, named_before, named_up_to, rising_before, still_named}
+use Rattle.gx_detect.proofs.Turns.{AreRising, IsUnderWay, all_chosen, all_cores, begins, goes_on, largest_itself, named_before, named_up_to, none_popped, rising_before, still_named}
 use Rattle.gx_detect.proofs.choice.in_turn.Goals as goal
 
 none_in : (v : Gxid) → Contains [] v → ⊥
@@ -15,8 +15,8 @@ none_in v c = has_from_contains v [] c
 never : true ≡ false → ⊥
 never e = cc
 
-pub loop-name-preserved-in-Continue-branch-2 : goal.loop-name-preserved-in-Continue-branch-2
-loop-name-preserved-in-Continue-branch-2 c =
+pub loop-name-preserved : goal.loop-name-preserved
+loop-name-preserved c =
     let i = c.loop-name.invariant in
     let popped : c.loop-name.names.items ≡ c.pop.new.self.items ++ c.in-Some.name ∷ [] =
     subst (λ o. c.loop-name.names.items ≡ c.pop.new.self.items ++ option_to_list o) c.in-Some.is c.pop.ensures.items in
@@ -29,8 +29,8 @@ loop-name-preserved-in-Continue-branch-2 c =
       way = i.way;
     }
 
-pub loop-name-preserved : goal.loop-name-preserved
-loop-name-preserved c =
+pub loop-name-preserved-in-Continue-branch-2 : goal.loop-name-preserved-in-Continue-branch-2
+loop-name-preserved-in-Continue-branch-2 c =
     let i = c.loop-name.invariant in
     let core = c.loop-name.core in
     let new = c.cancel.new.self in
@@ -52,8 +52,8 @@ loop-name-preserved c =
 
 pub returns-clause-victims : goal.returns-clause-victims
 returns-clause-victims c = λ edges largest. all_chosen edges (left_in c.loop-name.core) c.loop-name.victims.items
-    (λ v n. none_in v (subst (λ l. Contains l v) (c.pop.ensures.empty c.in_default.is) (c.loop-name.invariant.named v n))) (c.loop-name.invariant.way edges largest)
+    (λ v n. none_in v (subst (λ l. Contains l v) (none_popped c.loop-name.names.items c.pop.new.self.items c.pop.result c.pop.ensures.cases c.in_default.is) (c.loop-name.invariant.named v n))) (c.loop-name.invariant.way edges largest)
 
 pub returns-clause-cores : goal.returns-clause-cores
 returns-clause-cores c = λ edges largest. all_cores edges (left_in c.loop-name.core) c.loop-name.victims.items
-    (λ v n. none_in v (subst (λ l. Contains l v) (c.pop.ensures.empty c.in_default.is) (c.loop-name.invariant.named v n))) (c.loop-name.invariant.way edges largest)
+    (λ v n. none_in v (subst (λ l. Contains l v) (none_popped c.loop-name.names.items c.pop.new.self.items c.pop.result c.pop.ensures.cases c.in_default.is) (c.loop-name.invariant.named v n))) (c.loop-name.invariant.way edges largest)

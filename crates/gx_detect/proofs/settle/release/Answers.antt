@@ -1,5 +1,5 @@
-use Rattle.std.proofs.Common.{◌≡◌, ◌∙◌, ap, sym, subst, refl, ℕ, zero, suc}
-use Rattle.std.specs.Prelude.{Contains, nat_lt, false}
+use Rattle.std.proofs.Common.{◌≡◌, ◌≤◌, ◌∙◌, sym, subst, ℕ, arith}
+use Rattle.std.specs.Prelude.{Contains}
 use Rattle.gx_detect.specs.Reducing.{AreTakenOut}
 use Rattle.gx_detect.specs.Tally.{count_at}
 use Rattle.gx_detect.specs.Wants.{needing}
@@ -7,9 +7,8 @@ use Rattle.gx_detect.proofs.Following.{noted_after, noted_if_counted, none_follo
 use Rattle.gx_detect.proofs.Marks.{get_below}
 use Rattle.gx_detect.proofs.settle.release.Goals as goal
 
-empty : (k : ℕ) → nat_lt 0 k ≡ false → k ≡ 0
-empty zero t = refl
-empty (suc k) t = absurd (cc)
+empty : (k : ℕ) → k ≤ 0 → k ≡ 0
+empty k l = omega arith
 
 pub take_out_all-requires-clause-indexes : goal.take_out_all-requires-clause-indexes
 take_out_all-requires-clause-indexes c = λ k h. let o = c.requires.listed.no_others c.args.place k (subst (λ l. Contains l k) c.at.ensures h) in get_below c.args.edges.now k o.0 o.1

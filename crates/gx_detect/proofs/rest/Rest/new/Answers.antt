@@ -32,4 +32,4 @@ loop-edge-preserved c =
 
 pub returns-clause-noted : goal.returns-clause-noted
 returns-clause-noted c = λ e h p n z.
-    c.loop-edge.invariant.noted e (subst (λ l. Contains l e) (sym (take_all c.loop-edge.edge-index c.args.edges.now c.loop-edge-test.false) ) (subst (λ l. Contains l e) c.loop-edge.invariant.all h)) p n z
+    c.loop-edge.invariant.noted e (subst (λ l. Contains l e) (sym (take_all c.loop-edge.edge-index c.args.edges.now c.loop-edge-test.false)) (subst (λ l. Contains l e) c.loop-edge.invariant.all h)) p n z
