@@ -3,7 +3,6 @@ use Rattle.std.proofs.Common.{◌≡◌, ◌<◌, ◌≤◌, ◌+◌, ℕ, zero,
 use Rattle.std.proofs.lemmas.Bool.Decides.{nat_tests}
 use Rattle.std.proofs.lemmas.List.Elements.{Contains-push, Contains-push_cases}
 use Rattle.std.specs.List.{AllPairs, Contains}
-use Rattle.std.specs.Prelude.{MatchOption, None, Option, Some}
 use Rattle.gx_ids.specs.declared.ids.Gxid.{Gxid}
 use Rattle.gx_waits.specs.declared.placed_edge.PlacedEdge.{PlacedEdge}
 use Rattle.gx_waits.specs.Closed.{IsNamed, IsNamedIn}
@@ -49,12 +48,6 @@ before_last xs v up w (i, below, at) =
     let n = length-pushed xs v in
     let less = up i (length xs) w below (omega arith) in
     subst (λ x. x.0 < v.0) (get_or-before xs (v ∷ []) i w below ∙ at) (subst (λ x. (get_or (xs ++ v ∷ []) i w).0 < x.0) (get_or-pushed xs v w) less)
-
--- where there is no last one there is none
-pub none_popped : (xs ys : List Gxid) (o : Option Gxid) → MatchOption o ((length xs ≡ 0) × (length ys ≡ 0)) (λ v. length ys + 1 ≡ length xs) → o ≡ None → xs ≡ []
-none_popped [] ys o m e = refl
-none_popped (x ∷ xs) ys None m e = let l : length (x ∷ xs) ≡ 0 = m.0 in absurd (omega arith)
-none_popped (x ∷ xs) ys (Some v) m e = absurd (cc)
 
 -- TURNS
 -- so many victims are chosen, and this is the core that is left

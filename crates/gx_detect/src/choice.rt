@@ -1,4 +1,4 @@
-ghost use Rattle.std.specs.Prelude.{◌≡◌, ◌↔◌, List, [], IfOk, Contains};
+ghost use Rattle.std.specs.Prelude.{◌≡◌, ◌↔◌, ◌++◌, ◌∷◌, List, [], IfOk, IfSome, IfNone, Contains};
 ghost use Rattle.gx_waits.specs.declared.placed_edge.PlacedEdge.{PlacedEdge};
 ghost use Rattle.gx_waits.specs.Closed.{IsStuck};
 ghost use Rattle.gx_waits.specs.LocalGraph.{edges_of};
@@ -69,11 +69,19 @@ fn in_turn(alloc: Global, mut core: Reduced, mut names: Vec<Gxid>) -> Mem<Vec<Gx
     ensures cores { IfOk result (λ victims. (edges : List PlacedEdge) → IsLargest Core edges (left_in core) → HaveClosedCores edges victims.items) }
 {
     let mut victims = Vec::new(alloc);
-    while let Some(name) = names.pop() {
+    while let Some(name) = next_name(&mut names) {
         if core.is_named(name) {
             victims.push(name)?;
             core.cancel(name)?;
         }
     }
     Ok(victims)
+}
+
+// The last of the names.
+fn next_name(names: &mut Vec<Gxid>) -> Option<Gxid>
+    ensures name { IfSome result (λ name. names.old.items ≡ names.new.items ++ name ∷ []) }
+    ensures none { IfNone result (names.old.items ≡ []) }
+{
+    names.pop()
 }
