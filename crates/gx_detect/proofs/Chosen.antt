@@ -1,7 +1,6 @@
 -- Victims, one after another.
-use Rattle.std.proofs.Common.{◌≡◌, ◌<◌, ◌≤◌, ◌-◌, List, [], ◌∷◌, ◌++◌, Bool, true, false, cond, not, ◌⊎◌, inl, inr, filter, length, Option, Some, None, sym, refl, ap, subst, ◌∙◌, arith, append_assoc}
+use Rattle.std.proofs.Common.{◌≡◌, ◌<◌, ◌≤◌, List, [], ◌∷◌, ◌++◌, Bool, true, false, cond, not, ◌⊎◌, inl, inr, filter, length, sym, refl, ap, subst, ◌∙◌, arith, append_assoc}
 use Rattle.std.proofs.lemmas.Bool.Decides.{nat_tests}
-use Rattle.std.specs.Prelude.{IfSome, IfNone, slice_get}
 use Rattle.std.specs.List.{Contains}
 use Rattle.gx_ids.specs.declared.ids.Gxid.{Gxid}
 use Rattle.gx_waits.specs.declared.placed_edge.PlacedEdge.{PlacedEdge}
@@ -9,21 +8,12 @@ use Rattle.gx_waits.specs.Edge.{names}
 use Rattle.gx_waits.specs.Closed.{IsNamed, IsNamedIn, IsStuck}
 use Rattle.gx_waits.specs.Victims.{AreVictims, IsGreatestInCore}
 use Rattle.gx_waits.proofs.Members.{Has, has_from_contains, each_from_all}
-use Rattle.gx_detect.specs.Core.{IsCore, AreNamed, HaveClosedCores}
-use Rattle.gx_detect.proofs.CoreNames.{last_is_greatest, none_is_empty}
-
-pub some_greatest : (edges core : List PlacedEdge) (all : List Gxid) → IsCore edges core → AreNamed core all → (o : Option Gxid) → o ≡ slice_get all (length all - 1) → IfSome o (IsGreatestInCore edges)
-some_greatest edges core all k m None e = tt
-some_greatest edges core all k m (Some v) e = last_is_greatest edges core all v k m (sym e)
-
-pub none_stuck_if_none : (edges : List PlacedEdge) (all : List Gxid) → (all ≡ [] → (e : PlacedEdge) → IsStuck edges e → ⊥) → (o : Option Gxid) → o ≡ slice_get all (length all - 1) → IfNone o ((e : PlacedEdge) → IsStuck edges e → ⊥)
-none_stuck_if_none edges all f None e = f (none_is_empty all (sym e))
-none_stuck_if_none edges all f (Some v) e = tt
+use Rattle.gx_detect.specs.Core.{IsCore, HaveClosedCores}
 
 abbrev pub edges_without_of : Gxid → List PlacedEdge → List PlacedEdge
 edges_without_of v edges = filter (λ e. not (names v e.edge)) edges
 
-named_test : (v : Gxid) (e : PlacedEdge) → IsNamedIn e v → names v e.edge ≡ true
+pub named_test : (v : Gxid) (e : PlacedEdge) → IsNamedIn e v → names v e.edge ≡ true
 named_test v e (inl p) = let n : e.edge.waiter.0 ≡ v.0 = ap (λ g. g.0) p in grind (arith, nat_tests)
 named_test v e (inr p) = let n : e.edge.holder.0 ≡ v.0 = ap (λ g. g.0) p in grind (arith, nat_tests)
 

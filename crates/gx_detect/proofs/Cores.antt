@@ -15,7 +15,7 @@ use Rattle.gx_detect.proofs.Staying.{backed, backer, part_stays, stay_backed, st
 use Rattle.gx_detect.proofs.Stuck.{dotted_holder_waits, has_filter, holder_waits}
 
 -- WHAT IS STUCK
-abbrev needs : PlacedEdge → PlacedEdge → Bool
+abbrev pub needs : PlacedEdge → PlacedEdge → Bool
 needs e f = waits_in (need_of e) f
 
 needed_if : (e f : PlacedEdge) → (e.edge.dotted ≡ true → f.node ≡ e.node) → f.edge.waiter ≡ e.edge.holder → needs e f ≡ true
@@ -25,7 +25,7 @@ needed_if e f there waits = go e.edge.dotted refl
     go true d = let n : f.node.0 ≡ e.node.0 = ap (λ n. n.0) (there d) in let w : f.edge.waiter.0 ≡ e.edge.holder.0 = ap (λ g. g.0) waits in grind (arith, nat_tests)
     go false d = let w : f.edge.waiter.0 ≡ e.edge.holder.0 = ap (λ g. g.0) waits in grind (arith, nat_tests)
 
-closed_needs : (set : List PlacedEdge) → IsClosed set → (e : PlacedEdge) → Has e set → is_needed set e ≡ true
+pub closed_needs : (set : List PlacedEdge) → IsClosed set → (e : PlacedEdge) → Has e set → is_needed set e ≡ true
 closed_needs set closed e h = go e.edge.dotted refl
   where
     never : true ≡ false → ⊥
@@ -41,7 +41,7 @@ closed_needs set closed e h = go e.edge.dotted refl
         backed needs set e f.0 f.1 (needed_if e f.0 (λ t. absurd (never (sym t ∙ d))) f.2)
 
 module _ (edges : List PlacedEdge) where
-  stuck_needs : (e : PlacedEdge) → Has e (stuck_of edges) → (f : PlacedEdge) × Has f (stuck_of edges) × (needs e f ≡ true)
+  pub stuck_needs : (e : PlacedEdge) → Has e (stuck_of edges) → (f : PlacedEdge) × Has f (stuck_of edges) × (needs e f ≡ true)
   stuck_needs e h = backer needs (stuck_of edges) e (stay_backed needs (length edges) edges (omega arith) e h)
 
   stuck_closed : IsClosed (stuck_of edges)
@@ -72,13 +72,13 @@ module _ (edges : List PlacedEdge) where
   stuck_exact e = (λ c. is_stuck e (has_from_contains e (stuck_of edges) c), λ k. contains_from_has e (stuck_of edges) (has_stuck e k))
 
 -- THE CORE
-abbrev awaits : PlacedEdge → PlacedEdge → Bool
+abbrev pub awaits : PlacedEdge → PlacedEdge → Bool
 awaits e f = f.edge.holder.0 == e.edge.waiter.0
 
 awaits_if : (e f : PlacedEdge) → f.edge.holder ≡ e.edge.waiter → awaits e f ≡ true
 awaits_if e f same = eq-eqb f.edge.holder.0 e.edge.waiter.0 (ap (λ g. g.0) same)
 
-awaited : (e f : PlacedEdge) → awaits e f ≡ true → f.edge.holder ≡ e.edge.waiter
+pub awaited : (e f : PlacedEdge) → awaits e f ≡ true → f.edge.holder ≡ e.edge.waiter
 awaited e f t = same_gxid f.edge.holder e.edge.waiter (eqb-true f.edge.holder.0 e.edge.waiter.0 t)
 
 module _ (edges : List PlacedEdge) where

@@ -3,8 +3,7 @@ use Rattle.std.proofs.Common.{◌≡◌, ◌<◌, ◌≤◌, ◌+◌, ℕ, zero,
 use Rattle.std.proofs.lemmas.List.{take_more, take_all}
 use Rattle.std.proofs.lemmas.List.Concat.{flat_map-append}
 use Rattle.std.proofs.lemmas.List.Elements.{filter-append}
-use Rattle.std.proofs.lemmas.Bool.{eqb-true}
-use Rattle.std.specs.List.{Contains}
+use Rattle.std.specs.List.{count_by, Contains}
 use Rattle.gx_ids.specs.declared.ids.Node.{Node}
 use Rattle.gx_ids.specs.declared.ids.Gxid.{Gxid}
 use Rattle.gx_waits.specs.declared.edge.Edge.{Edge}
@@ -13,15 +12,16 @@ use Rattle.gx_waits.specs.declared.placed_edge.PlacedEdge.{PlacedEdge}
 use Rattle.gx_waits.specs.LocalGraph.{edges_of}
 use Rattle.gx_waits.specs.Closed.{IsNamed, IsStuck}
 use Rattle.gx_waits.specs.Finish.{CanFinish}
-use Rattle.gx_waits.proofs.Members.{has_from_contains, contains_from_has}
+use Rattle.gx_waits.proofs.Members.{has_from_contains, contains_from_has, each_from_all}
 use Rattle.gx_waits.proofs.StuckWaits.{stuck_never_finishes}
-use Rattle.gx_waits.proofs.Determined.{same_gxid}
 use Rattle.gx_detect.specs.declared.place.Place.{Place}
-use Rattle.gx_detect.specs.declared.place.Place.TheVariants.{Anywhere}
+use Rattle.gx_detect.specs.declared.place.Aim.TheVariants.{Stuck}
 use Rattle.gx_detect.specs.Place.{waits_in}
-use Rattle.gx_detect.specs.Settled.{IsSettled}
+use Rattle.gx_detect.specs.Settled.{IsLargest}
 use Rattle.gx_detect.specs.Reduce.{is_left, kept_edges}
-use Rattle.gx_detect.proofs.Stuck.{has_filter, filter_has, left_test, test_left, left_is_stuck, stuck_is_left, stuck_has, finishes}
+use Rattle.gx_detect.proofs.Finishing.{others_finish}
+use Rattle.gx_detect.proofs.Parts.{left_is_stuck, stuck_is_left}
+use Rattle.gx_detect.proofs.Stuck.{has_filter, filter_has}
 
 abbrev pub placed : LocalGraph → List PlacedEdge
 placed graph = map (λ edge. record { node = graph.node; edge = edge }) graph.edges
@@ -50,34 +50,26 @@ edges_of-kept_edges test (g ∷ gs) =
     ∙ ap (λ l. filter test (placed g) ++ l) (edges_of-kept_edges test gs)
     ∙ sym (filter-append test (placed g) (edges_of gs))
 
-pub waits_anywhere_is : (v : Gxid) (e : PlacedEdge) → waits_in (Anywhere v) e ≡ true → e.edge.waiter ≡ v
-waits_anywhere_is v e w = same_gxid e.edge.waiter v (eqb-true e.edge.waiter.0 v.0 w)
-
 -- all graphs were gone through
 pub all_kept : (test : PlacedEdge → Bool) (graphs rest : List LocalGraph) (i : ℕ) → rest ≡ map (kept_edges test) (take i graphs) → length graphs ≤ i → edges_of rest ≡ filter test (edges_of graphs)
 all_kept test graphs rest i r l = ap edges_of r ∙ ap (λ g. edges_of (map (kept_edges test) g)) (take_all i graphs l) ∙ edges_of-kept_edges test graphs
 
-module _ (edges rest : List PlacedEdge) (count : Place → ℕ) (s : IsSettled edges count) (r : rest ≡ filter (is_left count) edges) where
+-- what is left of the edges by their counts is what is stuck
+module _ (edges rest part : List PlacedEdge) (count : Place → ℕ) (largest : IsLargest Stuck edges part)
+    (counts : (p : Place) → count p ≡ count_by (waits_in p) part) (r : rest ≡ filter (is_left count) edges) where
   pub rest_is_stuck : (e : PlacedEdge) → Contains rest e → IsStuck edges e
   rest_is_stuck e c =
       let h = filter_has (is_left count) edges e (has_from_contains e (filter (is_left count) edges) (subst (λ l. Contains l e) r c)) in
-      left_is_stuck edges count s e h.0 (test_left count e h.1)
+      left_is_stuck edges part largest count counts e (contains_from_has e edges h.0) h.1
 
   pub stuck_is_rest : (e : PlacedEdge) → IsStuck edges e → Contains rest e
   stuck_is_rest e k =
+      let h = each_from_all (λ x. Contains edges x) k.set k.within e (has_from_contains e k.set k.member) in
       subst (λ l. Contains l e) (sym r)
-      (contains_from_has e (filter (is_left count) edges) (has_filter (is_left count) edges e (stuck_has edges count s e k) (left_test count e (stuck_is_left edges count s e k))))
+      (contains_from_has e (filter (is_left count) edges) (has_filter (is_left count) edges e (has_from_contains e edges h) (stuck_is_left edges part largest count counts e k)))
 
   pub rest_never_finishes : (v : Gxid) → IsNamed rest v → CanFinish edges v → ⊥
   rest_never_finishes v (e, c, n) f = stuck_never_finishes edges v (e, rest_is_stuck e c, n) f
 
-  pub others_finish : (v : Gxid) → (IsNamed rest v → ⊥) → CanFinish edges v
-  others_finish v none = go (count (Anywhere v)) refl
-    where
-      go : (n : ℕ) → count (Anywhere v) ≡ n → CanFinish edges v
-      go zero z = finishes edges count s v z
-      go (suc n) z =
-          let l : 0 < count (Anywhere v) = omega arith in
-          let w = s.waits (Anywhere v) l in
-          let c : Contains rest w.0 = subst (λ l. Contains l w.0) (sym r) (contains_from_has w.0 (filter (is_left count) edges) (has_filter (is_left count) edges w.0 (has_from_contains w.0 edges w.1) (left_test count w.0 w.3))) in
-          absurd (none (w.0, c, inl (waits_anywhere_is v w.0 w.2)))
+  pub unnamed_finish : (v : Gxid) → (IsNamed rest v → ⊥) → CanFinish edges v
+  unnamed_finish v none = others_finish edges v (λ n. none (n.0, stuck_is_rest n.0 n.1, n.2))

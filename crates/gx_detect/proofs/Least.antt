@@ -10,7 +10,7 @@ use Rattle.gx_waits.specs.Victims.{IsLeastInactive}
 use Rattle.gx_waits.proofs.Determined.{same_gxid}
 use Rattle.gx_waits.proofs.Members.{Has, has_from_contains, contains_from_has}
 use Rattle.gx_waits.proofs.StuckWaits.{named_waits}
-use Rattle.gx_detect.proofs.Turned.{map_has, has_map}
+use Rattle.gx_detect.proofs.Stuck.{map_has, has_map}
 use Rattle.gx_detect.specs.Inactive.{is_in, lesser, with_waiter}
 
 found : (active : List Gxid) (v : Gxid) → is_in active v ≡ true → Has v active

@@ -5,10 +5,14 @@ pub mod Told
 pub mod Complete
 pub mod Awaited
 pub mod Marks
-pub mod Reduced
+pub mod Removing
 pub mod Stuck
 pub mod Graphs
-pub mod Turned
+pub mod Listed
+pub mod Following
+pub mod Parts
+pub mod Finishing
+pub mod Turns
 pub mod CoreNames
 pub mod Chosen
 pub mod Staying

@@ -1,5 +1,5 @@
 -- The core of what is stuck.
-use Rattle.std.specs.Prelude.{◌<◌, ℕ, List, [], ◌∷◌, Bool, false, Contains, AllPairs, nat_lt, filter, not}
+use Rattle.std.specs.Prelude.{◌<◌, ℕ, List, [], ◌∷◌, Bool, Contains, AllPairs, nat_lt, filter, not}
 use Rattle.gx_ids.specs.declared.ids.Gxid.{Gxid}
 use Rattle.gx_waits.specs.declared.placed_edge.PlacedEdge.{PlacedEdge}
 use Rattle.gx_waits.specs.Edge.{names}
@@ -25,10 +25,6 @@ abbrev pub HaveClosedCores : List PlacedEdge → List Gxid → Type 0
 HaveClosedCores edges [] = Unit {0}
 HaveClosedCores edges (v ∷ victims) = ((core : List PlacedEdge) × IsCore edges core × IsNamed core v) × HaveClosedCores (filter (λ e. not (names v e.edge)) edges) victims
 
--- the edge with its ends changed: who was waited for waits, and every edge is solid
-abbrev pub turned : PlacedEdge → PlacedEdge
-turned e = record { node = e.node; edge = record { waiter = e.edge.holder; holder = e.edge.waiter; dotted = false } }
-
--- the edge's holder waits, by the counts of turned edges
-unfoldable pub holder_is_left : (Place → ℕ) → PlacedEdge → Bool
-holder_is_left count e = nat_lt 0 (count (Anywhere e.edge.holder))
+-- the edge's waiter waits, by the counts
+unfoldable pub waiter_is_left : (Place → ℕ) → PlacedEdge → Bool
+waiter_is_left count e = nat_lt 0 (count (Anywhere e.edge.waiter))

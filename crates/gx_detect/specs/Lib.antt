@@ -5,8 +5,9 @@ pub mod Deadlocks
 pub mod Calls
 pub mod Place
 pub mod Tally
-pub mod Settled
+pub mod Wants
 pub mod Reducing
+pub mod Settled
 pub mod Reduce
 pub mod Core
 pub mod Verdicts

@@ -11,6 +11,6 @@ use Rattle.gx_detect.specs.Place.{need_of}
 abbrev pub kept_edges : (PlacedEdge → Bool) → LocalGraph → LocalGraph
 kept_edges test graph = record graph { edges = filter (λ edge. test (record { node = graph.node; edge = edge })) graph.edges }
 
--- somebody waits in the place that the edge needs
+-- some edge counts in the place that the edge needs
 unfoldable pub is_left : (Place → ℕ) → PlacedEdge → Bool
 is_left count e = nat_lt 0 (count (need_of e))

@@ -1,16 +1,18 @@
-ghost use Rattle.std.specs.Prelude.{◌≡◌, ◌↔◌, ◌⊎◌, List, [], IfOk, IfSome, IfNone, Contains, map, filter};
-ghost use Rattle.gx_ids.specs.declared.ids.Gxid.{Gxid};
+ghost use Rattle.std.specs.Prelude.{◌≡◌, ◌↔◌, ◌++◌, ◌∷◌, List, [], IfOk, IfSome, IfNone, Contains};
 ghost use Rattle.gx_waits.specs.declared.placed_edge.PlacedEdge.{PlacedEdge};
-ghost use Rattle.gx_waits.specs.Closed.{IsNamed, IsStuck};
+ghost use Rattle.gx_waits.specs.Closed.{IsStuck};
 ghost use Rattle.gx_waits.specs.LocalGraph.{edges_of};
-ghost use Rattle.gx_waits.specs.Victims.{AreVictims, IsGreatestInCore};
-ghost use Rattle.gx_detect.specs.Core.{AreNamed, HaveClosedCores, IsCore, turned};
+ghost use Rattle.gx_waits.specs.Victims.{AreVictims};
+ghost use Rattle.gx_detect.specs.declared.place.Aim.TheVariants.{Core};
+ghost use Rattle.gx_detect.specs.Core.{AreNamed, HaveClosedCores, IsCore};
+ghost use Rattle.gx_detect.specs.Settled.{HasStuck, IsLargest, IsSettled, left_in};
 
-use crate::edges::{all_edges, edges_without, left_edges};
-use crate::names::{gxids, holders_left, sort_once};
-use crate::settle::settle;
-use gx_ids::{Gxid, Mem, copies};
-use gx_waits::{Edge, LocalGraph, PlacedEdge};
+use crate::edges::{all_edges, left_edges};
+use crate::names::{gxids, sort_once, waiters_left};
+use crate::place::Aim;
+use crate::reduced::Reduced;
+use gx_ids::{Gxid, Mem};
+use gx_waits::{LocalGraph, PlacedEdge};
 use std::alloc::Global;
 
 /// The transactions that the core of the stuck edges names, rising: those who are left where everybody for whom nobody
@@ -18,43 +20,25 @@ use std::alloc::Global;
 pub fn core(alloc: Global, graphs: &[LocalGraph]) -> Mem<Vec<Gxid>>
     ensures { IfOk result (λ names. (core : List PlacedEdge) × IsCore (edges_of graphs.now) core × AreNamed core names.items) }
 {
-    core_of(alloc, &all_edges(alloc, graphs)?)
+    let core = Reduced::new(alloc, Aim::Core, all_edges(alloc, graphs)?)?;
+    names_of(alloc, &core)
 }
 
-fn core_of(alloc: Global, edges: &[PlacedEdge]) -> Mem<Vec<Gxid>>
-    ensures core { IfOk result (λ names. (core : List PlacedEdge) × IsCore edges.now core × AreNamed core names.items) }
-    ensures none { IfOk result (λ names. names.items ≡ [] → (e : PlacedEdge) → IsStuck edges.now e → ⊥) }
+fn names_of(alloc: Global, core: &Reduced) -> Mem<Vec<Gxid>>
+    requires { IsSettled Core core.now }
+    ensures { IfOk result (λ names. AreNamed (left_in core.now) names.items) }
 {
-    let stuck = stuck_of(alloc, edges)?;
-    let tally = settle(alloc, turned_edges(alloc, &stuck)?)?;
-    let mut numbers = holders_left(alloc, &stuck, &tally)?;
+    let mut numbers = waiters_left(alloc, &core.edges, &core.rest.tally)?;
     sort_once(&mut numbers)?;
     gxids(alloc, &numbers)
 }
 
 /// The stuck edges among these.
-pub(crate) fn stuck_of(alloc: Global, edges: &[PlacedEdge]) -> Mem<Vec<PlacedEdge>>
-    ensures { IfOk result (λ stuck. (e : PlacedEdge) → Contains stuck.items e ↔ IsStuck edges.now e) }
+pub(crate) fn stuck_of(alloc: Global, edges: Vec<PlacedEdge>) -> Mem<Vec<PlacedEdge>>
+    ensures { IfOk result (λ stuck. (e : PlacedEdge) → Contains stuck.items e ↔ IsStuck edges.items e) }
 {
-    let tally = settle(alloc, copies(alloc, edges)?)?;
-    left_edges(alloc, edges, &tally)
-}
-
-fn turned_edges(alloc: Global, edges: &[PlacedEdge]) -> Mem<Vec<PlacedEdge>>
-    ensures { IfOk result (λ all. all.items ≡ map turned edges.now) }
-{
-    let mut all = Vec::new(alloc);
-    for edge in edges {
-        all.push(PlacedEdge {
-            node: edge.node,
-            edge: Edge {
-                waiter: edge.edge.holder,
-                holder: edge.edge.waiter,
-                dotted: false,
-            },
-        })?;
-    }
-    Ok(all)
+    let reduced = Reduced::new(alloc, Aim::Stuck, edges)?;
+    left_edges(alloc, &reduced.edges, &reduced.rest.tally)
 }
 
 /// The transactions to abort so that nobody is stuck, in the order in which they are chosen: the greatest of the core,
@@ -64,19 +48,40 @@ pub fn victims(alloc: Global, graphs: &[LocalGraph]) -> Mem<Vec<Gxid>>
     ensures cores { IfOk result (λ victims. HaveClosedCores (edges_of graphs.now) victims.items) }
     ensures none { IfOk result (λ victims. victims.items ≡ [] ↔ ((e : PlacedEdge) → IsStuck (edges_of graphs.now) e → ⊥)) }
 {
-    let mut edges = all_edges(alloc, graphs)?;
+    victims_in(alloc, all_edges(alloc, graphs)?)
+}
+
+/// The same, of edges or of their stuck ones.
+pub(crate) fn victims_in(alloc: Global, edges: Vec<PlacedEdge>) -> Mem<Vec<Gxid>>
+    ensures victims { IfOk result (λ victims. (all : List PlacedEdge) → HasStuck all edges.items → AreVictims all victims.items) }
+    ensures cores { IfOk result (λ victims. (all : List PlacedEdge) → HasStuck all edges.items → HaveClosedCores all victims.items) }
+{
+    let core = Reduced::new(alloc, Aim::Core, edges)?;
+    let names = names_of(alloc, &core)?;
+    in_turn(alloc, core, names)
+}
+
+// Once a core shrinks its names go, and none comes: so the next victim is the greatest that is left of the first names.
+fn in_turn(alloc: Global, mut core: Reduced, mut names: Vec<Gxid>) -> Mem<Vec<Gxid>>
+    requires settled { IsSettled Core core }
+    requires names { AreNamed (left_in core) names.items }
+    ensures victims { IfOk result (λ victims. (edges : List PlacedEdge) → IsLargest Core edges (left_in core) → AreVictims edges victims.items) }
+    ensures cores { IfOk result (λ victims. (edges : List PlacedEdge) → IsLargest Core edges (left_in core) → HaveClosedCores edges victims.items) }
+{
     let mut victims = Vec::new(alloc);
-    while let Some(victim) = greatest_of_core(alloc, &edges)? {
-        victims.push(victim)?;
-        edges = edges_without(alloc, &edges, victim)?;
+    while let Some(name) = next_name(&mut names) {
+        if core.is_named(name) {
+            victims.push(name)?;
+            core.cancel(name)?;
+        }
     }
     Ok(victims)
 }
 
-fn greatest_of_core(alloc: Global, edges: &[PlacedEdge]) -> Mem<Option<Gxid>>
-    ensures greatest { IfOk result (λ victim. IfSome victim (IsGreatestInCore edges.now)) }
-    ensures core { IfOk result (λ victim. IfSome victim (λ v. (core : List PlacedEdge) × IsCore edges.now core × IsNamed core v)) }
-    ensures none { IfOk result (λ victim. IfNone victim ((e : PlacedEdge) → IsStuck edges.now e → ⊥)) }
+// The last of the names.
+fn next_name(names: &mut Vec<Gxid>) -> Option<Gxid>
+    ensures name { IfSome result (λ name. names.old.items ≡ names.new.items ++ name ∷ []) }
+    ensures none { IfNone result (names.old.items ≡ []) }
 {
-    Ok(core_of(alloc, edges)?.last().copied())
+    names.pop()
 }

@@ -1,11 +1,10 @@
-ghost use Rattle.std.specs.Prelude.{◌≡◌, ◌++◌, IfOk, OnOk, map, filter, not};
-ghost use Rattle.gx_waits.specs.Edge.{names};
+ghost use Rattle.std.specs.Prelude.{◌≡◌, ◌++◌, IfOk, OnOk, map, filter};
 ghost use Rattle.gx_waits.specs.LocalGraph.{edges_of};
 ghost use Rattle.gx_detect.specs.Reduce.{is_left, kept_edges};
 ghost use Rattle.gx_detect.specs.Tally.{count_at};
 
 use crate::tally::Tally;
-use gx_ids::{Gxid, Mem, Seq};
+use gx_ids::{Mem, Seq};
 use gx_waits::{LocalGraph, PlacedEdge};
 use std::alloc::Global;
 
@@ -60,17 +59,4 @@ pub fn left_edges(alloc: Global, edges: &[PlacedEdge], tally: &Tally) -> Mem<Vec
         }
     }
     Ok(left)
-}
-
-/// The edges that don't name the transaction.
-pub fn edges_without(alloc: Global, edges: &[PlacedEdge], gxid: Gxid) -> Mem<Vec<PlacedEdge>>
-    ensures { IfOk result (λ rest. rest.items ≡ filter (λ e. not (names gxid e.edge)) edges.now) }
-{
-    let mut rest = Vec::new(alloc);
-    for edge in edges {
-        if !edge.edge.names(gxid) {
-            rest.push(*edge)?;
-        }
-    }
-    Ok(rest)
 }

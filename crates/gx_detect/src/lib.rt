@@ -10,12 +10,14 @@ pub mod laws;
 mod names;
 mod place;
 mod probe;
+mod reduced;
 pub mod reduction;
 mod reports;
 mod rest;
 mod settle;
 mod tally;
 mod verdict;
+mod wants;
 
 pub use choice::{core, victims};
 pub use detector::Detector;

@@ -1,33 +1,32 @@
 ghost use Rattle.std.specs.Prelude.{◌≡◌, ◌↔◌, ℕ, IfOk, OnOk, map, filter, Contains};
 ghost use Rattle.std.specs.List.Sorted.{IsStrictlyIncreasing};
 ghost use Rattle.gx_ids.specs.declared.ids.Gxid.{Gxid};
-ghost use Rattle.gx_detect.specs.Core.{holder_is_left};
+ghost use Rattle.gx_detect.specs.Core.{waiter_is_left};
 ghost use Rattle.gx_detect.specs.Tally.{count_at};
 
-use crate::place::Place;
 use crate::tally::Tally;
 use gx_ids::{Gxid, Mem};
 use gx_waits::PlacedEdge;
 use std::alloc::Global;
 
-/// The numbers of the holders that wait by the counts, edge by edge.
-pub fn holders_left(alloc: Global, edges: &[PlacedEdge], tally: &Tally) -> Mem<Vec<u64>>
-    ensures { IfOk result (λ numbers. numbers.items ≡ map (λ e. e.edge.holder.0) (filter (holder_is_left (count_at tally.now)) edges.now)) }
+/// The numbers of the waiters that wait by the counts, edge by edge.
+pub fn waiters_left(alloc: Global, edges: &[PlacedEdge], tally: &Tally) -> Mem<Vec<u64>>
+    ensures { IfOk result (λ numbers. numbers.items ≡ map (λ e. e.edge.waiter.0) (filter (waiter_is_left (count_at tally.now)) edges.now)) }
 {
     let mut numbers = Vec::new(alloc);
     for edge in edges {
-        if is_holder_left(edge, tally) {
-            numbers.push(edge.edge.holder.0)?;
+        if is_waiter_left(edge, tally) {
+            numbers.push(edge.edge.waiter.0)?;
         }
     }
     Ok(numbers)
 }
 
-#[tactic(auto, unfolding(crate::specs::Core::holder_is_left))]
-fn is_holder_left(edge: &PlacedEdge, tally: &Tally) -> bool
-    ensures { result ≡ holder_is_left (count_at tally.now) edge.now }
+#[tactic(auto, unfolding(crate::specs::Core::waiter_is_left))]
+fn is_waiter_left(edge: &PlacedEdge, tally: &Tally) -> bool
+    ensures { result ≡ waiter_is_left (count_at tally.now) edge.now }
 {
-    tally.count(Place::Anywhere(edge.edge.holder)) > 0
+    tally.waits(edge.edge.waiter)
 }
 
 /// Puts numbers in order, each once.

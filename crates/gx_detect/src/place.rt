@@ -3,11 +3,22 @@ ghost use Rattle.std.specs.Prelude.{◌≡◌};
 use gx_ids::{Gxid, Node};
 use gx_waits::PlacedEdge;
 
-/// Where a transaction waits.
+/// Where an edge counts, and where it needs that one counts, so that it stays.
 #[derive(Clone, Copy, PartialEq, Eq, PartialOrd, Ord)]
 pub enum Place {
+    /// The transaction waits.
     Anywhere(Gxid),
+    /// It waits on that node.
     At(Node, Gxid),
+    /// It is waited for.
+    Awaited(Gxid),
+}
+
+/// What a reduction leaves: the stuck edges, or the core of them alone, where each waiter is waited for too.
+#[derive(Clone, Copy, PartialEq, Eq)]
+pub enum Aim {
+    Stuck,
+    Core,
 }
 
 impl Place {

@@ -7,7 +7,8 @@ ghost use Rattle.gx_waits.specs.LocalGraph.{edges_of};
 ghost use Rattle.gx_detect.specs.Reduce.{kept_edges};
 
 use crate::edges::{all_edges, left_in_graph};
-use crate::settle::settle;
+use crate::place::Aim;
+use crate::reduced::Reduced;
 use gx_ids::Mem;
 use gx_waits::LocalGraph;
 use std::alloc::Global;
@@ -23,10 +24,10 @@ pub fn reduce(alloc: Global, graphs: &[LocalGraph]) -> Mem<Vec<LocalGraph>>
     ensures never { IfOk result (λ rest. (v : Gxid) → IsNamed (edges_of rest.items) v → CanFinish (edges_of graphs.now) v → ⊥) }
     ensures finish { IfOk result (λ rest. (v : Gxid) → (IsNamed (edges_of rest.items) v → ⊥) → CanFinish (edges_of graphs.now) v) }
 {
-    let tally = settle(alloc, all_edges(alloc, graphs)?)?;
+    let reduced = Reduced::new(alloc, Aim::Stuck, all_edges(alloc, graphs)?)?;
     let mut rest = Vec::new(alloc);
     for graph in graphs {
-        rest.push(left_in_graph(alloc, graph, &tally)?)?;
+        rest.push(left_in_graph(alloc, graph, &reduced.rest.tally)?)?;
     }
     Ok(rest)
 }

@@ -1,12 +1,12 @@
-ghost use Rattle.std.specs.Prelude.{◌≡◌, ◌≢◌, ◌<◌, ◌+◌, ◌^◌, IfOk, IsTrue, OnOk, count_by};
+ghost use Rattle.std.specs.Prelude.{◌≡◌, ◌≢◌, ◌<◌, ◌+◌, ◌^◌, IfOk, IsTrue, OnOk, count_by, nat_lt};
 
 use crate::place::Place;
-use gx_ids::Mem;
+use gx_ids::{Gxid, Mem};
 use gx_waits::PlacedEdge;
 use std::alloc::Global;
 use std::collections::BTreeMap;
 
-/// How many edges wait in each place.
+/// How many edges count in each place.
 #[derive(Drop)]
 pub struct Tally {
     counts: BTreeMap<Place, usize>,
@@ -14,11 +14,12 @@ pub struct Tally {
 
 impl Tally {
     ghost use Rattle.gx_detect.specs.declared.place.Place.{Place};
+    ghost use Rattle.gx_detect.specs.declared.place.Place.TheVariants.{Anywhere};
     ghost use Rattle.gx_detect.specs.Tally.{count_at};
     ghost use Rattle.gx_detect.specs.Place.{waits_in, bit};
     ghost use Rattle.gx_detect.specs.Reduce.{is_left};
 
-    /// Nobody waits.
+    /// None.
     pub fn new(alloc: Global) -> Tally
         ensures { (place : Place) → count_at result place ≡ 0 }
     {
@@ -27,14 +28,14 @@ impl Tally {
         }
     }
 
-    /// How many wait in the place.
+    /// How many count in the place.
     pub fn count(&self, place: Place) -> usize
         ensures { result ≡ count_at self.now place }
     {
         self.counts.get(&place).copied().unwrap_or(0)
     }
 
-    /// One more waits in the place.
+    /// One more counts in the place.
     pub fn raise(&mut self, place: Place) -> Mem<()>
         requires { count_at self.old place + 1 < 2 ^ 64 }
         ensures there { OnOk result (count_at self.new place ≡ count_at self.old place + 1) }
@@ -49,7 +50,7 @@ impl Tally {
         Ok(())
     }
 
-    /// One less waits in the place. The answer is how many are left.
+    /// One less counts in the place. The answer is how many are left.
     pub fn lower(&mut self, place: Place) -> usize
         requires { 0 < count_at self.old place }
         ensures there { count_at self.new place + 1 ≡ count_at self.old place }
@@ -73,13 +74,14 @@ impl Tally {
         self.count(Place::needed_by(edge)) > 0
     }
 
-    /// Counts an edge where its waiter waits.
+    /// Counts an edge where its waiter waits, and where its holder is waited for.
     pub fn add(&mut self, edge: &PlacedEdge) -> Mem<()>
         requires { (place : Place) → count_at self.old place + 1 < 2 ^ 64 }
         ensures { OnOk result ((place : Place) → count_at self.new place ≡ count_at self.old place + bit (waits_in place edge.now)) }
     {
         self.raise(Place::Anywhere(edge.edge.waiter))?;
-        self.raise(Place::At(edge.node, edge.edge.waiter))
+        self.raise(Place::At(edge.node, edge.edge.waiter))?;
+        self.raise(Place::Awaited(edge.edge.holder))
     }
 
     /// Counts an edge no more.
@@ -89,6 +91,14 @@ impl Tally {
     {
         let _ = self.lower(Place::Anywhere(edge.edge.waiter));
         let _ = self.lower(Place::At(edge.node, edge.edge.waiter));
+        let _ = self.lower(Place::Awaited(edge.edge.holder));
+    }
+
+    /// Whether the transaction waits.
+    pub fn waits(&self, gxid: Gxid) -> bool
+        ensures { result ≡ nat_lt 0 (count_at self.now (Anywhere gxid)) }
+    {
+        self.count(Place::Anywhere(gxid)) > 0
     }
 
     /// The count of some edges.

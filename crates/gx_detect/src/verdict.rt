@@ -4,7 +4,7 @@ ghost use Rattle.gx_waits.specs.Victims.{IsVerdict};
 ghost use Rattle.gx_detect.specs.Deadlocks.{NamesVictims, naming};
 ghost use Rattle.gx_detect.specs.Inactive.{lesser, with_waiter};
 
-use crate::choice::{stuck_of, victims};
+use crate::choice::{stuck_of, victims_in};
 use crate::edges::all_edges;
 use gx_ids::{Gxid, Mem, Seq};
 use gx_waits::{LocalGraph, PlacedEdge, Verdict};
@@ -15,11 +15,10 @@ pub(crate) fn verdict_of(alloc: Global, graphs: &[LocalGraph], active: &[Gxid]) 
     ensures verdict { IfOk result (λ verdict. IsVerdict (edges_of graphs.now) active.now verdict) }
     ensures victims { IfOk result (λ verdict. NamesVictims (edges_of graphs.now) verdict) }
 {
-    let edges = all_edges(alloc, graphs)?;
-    let stuck = stuck_of(alloc, &edges)?;
+    let stuck = stuck_of(alloc, all_edges(alloc, graphs)?)?;
     match least_inactive(&stuck, active) {
         Some(gxid) => Ok(Verdict::Dropped(gxid)),
-        None => Ok(naming(victims(alloc, graphs)?)),
+        None => Ok(naming(victims_in(alloc, stuck)?)),
     }
 }
 

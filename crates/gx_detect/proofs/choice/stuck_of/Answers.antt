@@ -1,13 +1,19 @@
-use Rattle.std.proofs.Common.{subst}
-use Rattle.gx_detect.specs.Settled.{IsSettled}
+use Rattle.std.proofs.Common.{◌≡◌, ◌∙◌, ap, filter, subst}
+use Rattle.gx_detect.specs.Reduce.{is_left}
+use Rattle.gx_detect.specs.Settled.{left_in}
 use Rattle.gx_detect.specs.Tally.{count_at}
-use Rattle.gx_detect.proofs.Graphs.{rest_is_stuck, stuck_is_rest}
 use Rattle.gx_detect.proofs.CoreNames.{if_ok_weaker}
+use Rattle.gx_detect.proofs.Graphs.{rest_is_stuck, stuck_is_rest}
 use Rattle.gx_detect.proofs.choice.stuck_of.Goals as goal
 
 pub returns : goal.returns
 returns c =
-    let s : IsSettled c.args.edges.now (count_at c.in_ok-tally.tally) = subst (λ l. IsSettled l (count_at c.in_ok-tally.tally)) c.in_ok-copies.ensures c.in_ok-tally.ensures in
+    let all = c.args.edges.items in
+    let reduced = c.in_ok-reduced.reduced in
+    let count = count_at reduced.rest.tally in
+    let o = c.in_ok-reduced.ensures in
     if_ok_weaker _ _ c.left_edges.result
-    (λ left r e. (rest_is_stuck c.args.edges.now left.items (count_at c.in_ok-tally.tally) s r e, stuck_is_rest c.args.edges.now left.items (count_at c.in_ok-tally.tally) s r e))
+    (λ left r. λ e.
+    let s = r ∙ ap (filter (is_left count)) (c.deref.ensures.value ∙ o.same) in
+    (rest_is_stuck all left.items (left_in reduced) count o.largest o.settled.counted.counts s e, stuck_is_rest all left.items (left_in reduced) count o.largest o.settled.counted.counts s e))
     c.left_edges.ensures

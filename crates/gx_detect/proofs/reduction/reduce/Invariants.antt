@@ -4,4 +4,4 @@ use Rattle.gx_detect.specs.Tally.{count_at}
 use Rattle.gx_detect.proofs.reduction.reduce.Given as goal
 
 abbrev pub invariant-loop-graph : goal.invariant-loop-graph
-invariant-loop-graph l = l.rest.items ≡ map (kept_edges (is_left (count_at l.tally))) (take l.graph-index l.graphs)
+invariant-loop-graph l = l.rest.items ≡ map (kept_edges (is_left (count_at l.reduced.rest.tally))) (take l.graph-index l.graphs)

@@ -1,42 +1,40 @@
-use Rattle.std.proofs.Common.{◌≡◌, ◌∙◌, ◌<◌, ◌+◌, ap, sym, subst, true, false, get_or, set, length, List, Bool, ℕ}
-use Rattle.gx_waits.specs.declared.placed_edge.PlacedEdge.{PlacedEdge}
+use Rattle.std.proofs.Common.{◌≡◌, ◌∙◌, ◌+◌, ◌≤◌, ap, sym, subst, get_or, set, false, length, arith}
 use Rattle.gx_detect.specs.declared.place.Place.{Place}
-use Rattle.gx_detect.specs.declared.tally.Tally.{Tally}
+use Rattle.gx_detect.specs.declared.place.Place.TheVariants.{Anywhere, At, Awaited}
+use Rattle.gx_detect.specs.Place.{bit, waits_in}
 use Rattle.gx_detect.specs.Tally.{count_at}
-use Rattle.gx_detect.specs.Place.{waits_in, bit}
-use Rattle.gx_detect.specs.Reducing.{IsReducing, IsUnneeded, left_count}
-use Rattle.gx_detect.proofs.Marks.{get_at, marked_at, no_edge, left_count_set}
-use Rattle.gx_detect.proofs.Reduced.{removed, was_counted}
+use Rattle.gx_detect.proofs.Marks.{get_at, no_edge}
+use Rattle.gx_detect.proofs.Removing.{one_out, still_counted, was_counted}
 use Rattle.gx_detect.proofs.rest.Rest.remove.Goals as goal
-
--- what stands after an edge is taken out, whatever is noted of the places that it frees
-out : (edges : List PlacedEdge) (marks after : List Bool) (tally less kept : Tally) (k : ℕ) → k < length edges → IsReducing edges marks (count_at tally) → IsUnneeded edges marks (count_at tally) k
-    → ((p : Place) → count_at less p + bit (waits_in p (get_or edges k no_edge)) ≡ count_at tally p) → after ≡ set marks k false → kept ≡ less → IsReducing edges after (count_at kept)
-out edges marks after tally less kept k below r u counted m e =
-    let at = get_at edges k no_edge below in
-    subst (λ t. IsReducing edges after (count_at t)) (sym e) (subst (λ l. IsReducing edges l (count_at less)) (sym m)
-    (removed edges marks (count_at tally) (count_at less) k (get_or edges k no_edge) r at u.0 (u.1 (get_or edges k no_edge) at) counted))
 
 pub remove-requires : goal.remove-requires
 remove-requires c =
-    let at = get_at c.args.edges.now c.args.index no_edge c.requires.index in
-    was_counted c.args.edges.now c.args.self.now.marks.items (count_at c.args.self.now.tally) (get_or c.args.edges.now c.args.index no_edge) c.requires.reducing
-    (marked_at c.args.edges.now c.args.self.now.marks.items c.args.index (get_or c.args.edges.now c.args.index no_edge) true at c.requires.unneeded.0)
+    was_counted c.args.edges.now c.args.self.now c.args.index (get_or c.args.edges.now c.args.index no_edge) c.requires.counted
+    (get_at c.args.edges.now c.args.index no_edge c.requires.index) c.requires.left
 
-pub returns-clause-reducing : goal.returns-clause-reducing
-returns-clause-reducing c =
-    out c.args.edges.now c.args.self.now.marks.items c.free-2.new.self.marks.items c.args.self.now.tally c.remove.new.self c.free-2.new.self.tally c.args.index c.requires.index c.requires.reducing c.requires.unneeded
-    c.remove.ensures (ap (λ v. v.items) (c.free-2.ensures.marks ∙ c.free.ensures.marks)) (c.free-2.ensures.tally ∙ c.free.ensures.tally)
+pub returns-clause-counted : goal.returns-clause-counted
+returns-clause-counted c =
+    let e = get_or c.args.edges.now c.args.index no_edge in
+    let new = c.free-3.new.self in
+    let marks : new.marks.items ≡ set c.args.self.now.marks.items c.args.index false = ap (λ v. v.items) (c.free-3.ensures.marks ∙ c.free-2.ensures.marks ∙ c.free.ensures.marks) in
+    let tally = c.free-3.ensures.tally ∙ c.free-2.ensures.tally ∙ c.free.ensures.tally in
+    still_counted c.args.edges.now c.args.self.now new c.args.index e (get_at c.args.edges.now c.args.index no_edge c.requires.index) c.requires.left c.requires.counted marks
+    (subst (λ t. (p : Place) → count_at t p + bit (waits_in p e) ≡ count_at c.args.self.now.tally p) (sym tally) c.remove.ensures)
 
-pub returns-clause-fewer : goal.returns-clause-fewer
-returns-clause-fewer c =
-    ap (λ l. left_count l + 1) (ap (λ v. v.items) (c.free-2.ensures.marks ∙ c.free.ensures.marks)) ∙ left_count_set c.args.self.now.marks.items c.args.index c.requires.unneeded.0
-
-pub returns-in_err-free-clause-reducing : goal.returns-in_err-free-clause-reducing
-returns-in_err-free-clause-reducing c =
-    out c.args.edges.now c.args.self.now.marks.items c.free.new.self.marks.items c.args.self.now.tally c.remove.new.self c.free.new.self.tally c.args.index c.requires.index c.requires.reducing c.requires.unneeded
-    c.remove.ensures (ap (λ v. v.items) c.free.ensures.marks) c.free.ensures.tally
-
-pub returns-in_err-free-clause-fewer : goal.returns-in_err-free-clause-fewer
-returns-in_err-free-clause-fewer c =
-    ap (λ l. left_count l + 1) (ap (λ v. v.items) c.free.ensures.marks) ∙ left_count_set c.args.self.now.marks.items c.args.index c.requires.unneeded.0
+pub returns-clause-out : goal.returns-clause-out
+returns-clause-out c =
+    let e = get_or c.args.edges.now c.args.index no_edge in
+    let new = c.free-3.new.self in
+    let marks : new.marks.items ≡ set c.args.self.now.marks.items c.args.index false = ap (λ v. v.items) (c.free-3.ensures.marks ∙ c.free-2.ensures.marks ∙ c.free.ensures.marks) in
+    let tally = c.free-3.ensures.tally ∙ c.free-2.ensures.tally ∙ c.free.ensures.tally in
+    let anywhere : Place = Anywhere e.edge.waiter in
+    let there : Place = At e.node e.edge.waiter in
+    let awaited : Place = Awaited e.edge.holder in
+    let a = c.in_ok-free.ensures.one in let b = c.in_ok-free-2.ensures.one in let d = c.in_ok-free-3.ensures.one in
+    let short : length new.freed.items ≤ length c.args.self.now.freed.items + 3 = omega arith in
+    one_out c.args.edges.now c.args.self.now new c.args.index e (get_at c.args.edges.now c.args.index no_edge c.requires.index) c.requires.left c.requires.counted marks
+    (subst (λ t. (p : Place) → count_at t p + bit (waits_in p e) ≡ count_at c.args.self.now.tally p) (sym tally) c.remove.ensures)
+    (λ p h. c.in_ok-free-3.ensures.still_freed p (c.in_ok-free-2.ensures.still_freed p (c.in_ok-free.ensures.still_freed p h))) short
+    (λ z. c.in_ok-free-3.ensures.still_freed anywhere (c.in_ok-free-2.ensures.still_freed anywhere (c.in_ok-free.ensures.there (ap (λ t. count_at t anywhere) (sym tally) ∙ z))))
+    (λ z. c.in_ok-free-3.ensures.still_freed there (c.in_ok-free-2.ensures.there (ap (λ t. count_at t there) (c.free.ensures.tally ∙ sym tally) ∙ z)))
+    (λ z. c.in_ok-free-3.ensures.there (ap (λ t. count_at t awaited) (c.free-2.ensures.tally ∙ c.free.ensures.tally ∙ sym tally) ∙ z))
