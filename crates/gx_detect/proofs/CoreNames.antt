@@ -1,5 +1,5 @@
 -- The names of a core, in order.
-use Rattle.std.proofs.Common.{◌≡◌, ◌<◌, ◌-◌, ℕ, zero, suc, List, [], ◌∷◌, inl, ⊎_elim, inr, true, filter, map, length, get_or, sym, refl, ap, subst, ◌∙◌, arith}
+use Rattle.std.proofs.Common.{◌≡◌, ◌<◌, ℕ, zero, suc, List, [], ◌∷◌, inl, inr, true, filter, map, length, get_or, sym, refl, ap, subst, ◌∙◌, arith}
 use Rattle.std.proofs.lemmas.Bool.Decides.{nat_tests}
 use Rattle.std.proofs.lemmas.Bool.{ltb-true, eqb-true, eq-eqb}
 use Rattle.std.proofs.lemmas.List.{get_or-map}
@@ -11,7 +11,7 @@ use Rattle.gx_ids.specs.declared.ids.Gxid.{Gxid}
 use Rattle.gx_waits.specs.declared.placed_edge.PlacedEdge.{PlacedEdge}
 use Rattle.gx_waits.specs.Closed.{IsNamed}
 use Rattle.gx_waits.specs.Victims.{IsNamedInCore}
-use Rattle.gx_waits.proofs.Members.{Has, has_from_contains, contains_from_has}
+use Rattle.gx_waits.proofs.Members.{has_from_contains, contains_from_has}
 use Rattle.gx_waits.proofs.Determined.{same_gxid}
 use Rattle.gx_detect.specs.declared.place.Aim.TheVariants.{Core}
 use Rattle.gx_detect.specs.declared.place.Place.{Place}

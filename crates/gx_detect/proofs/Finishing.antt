@@ -1,7 +1,6 @@
 -- Who is named in no stuck edge can finish.
 use Rattle.std.proofs.Common.{◌≡◌, ℕ, zero, suc, List, [], ◌∷◌, Bool, true, false, ◌⊎◌, inl, inr, ⊎_elim, length, filter, if◌then◌else◌, sym, refl, ap, subst, ◌∙◌, arith}
 use Rattle.std.proofs.lemmas.Bool.Decides.{nat_tests}
-use Rattle.std.specs.List.{Contains}
 use Rattle.gx_ids.specs.declared.ids.Node.{Node}
 use Rattle.gx_ids.specs.declared.ids.Gxid.{Gxid}
 use Rattle.gx_waits.specs.declared.placed_edge.PlacedEdge.{PlacedEdge}
@@ -9,7 +8,6 @@ use Rattle.gx_waits.specs.Closed.{IsNamedInStuck}
 use Rattle.gx_waits.specs.Finish.{Move, IsLet, IsLawful, IsPlan, CanFinish}
 use Rattle.gx_waits.specs.Finish.Move.{End, Back}
 use Rattle.gx_waits.proofs.Members.{Has, has_from_contains, contains_from_has}
-use Rattle.gx_detect.specs.declared.place.Place.{Place}
 use Rattle.gx_detect.specs.declared.place.Place.TheVariants.{Anywhere, At}
 use Rattle.gx_detect.specs.Place.{waits_in, need_of}
 use Rattle.gx_detect.specs.Verdicts.{is_needed, stay_for, stuck_of}

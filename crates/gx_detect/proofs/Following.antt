@@ -1,23 +1,23 @@
 -- A reduction from its beginning to its end, and on from there.
-use Rattle.std.proofs.Common.{◌≡◌, ◌<◌, ◌+◌, ℕ, zero, suc, List, [], ◌∷◌, ◌++◌, Bool, true, false, not, ◌⊎◌, inl, inr, ⊎_elim, length, filter, slice_get, Some, sym, refl, ap, subst, ◌∙◌, arith}
+use Rattle.std.proofs.Common.{◌≡◌, ◌<◌, ℕ, zero, suc, List, [], ◌∷◌, ◌++◌, Bool, true, false, not, ◌⊎◌, inl, inr, ⊎_elim, length, slice_get, Some, sym, refl, ap, subst, ◌∙◌, arith}
 use Rattle.std.proofs.lemmas.Bool.Decides.{nat_tests}
 use Rattle.std.proofs.lemmas.List.Elements.{Contains-push_cases}
-use Rattle.std.specs.List.{count_by, Contains}
+use Rattle.std.specs.List.{Contains}
 use Rattle.gx_ids.specs.declared.ids.Gxid.{Gxid}
 use Rattle.gx_waits.specs.declared.placed_edge.PlacedEdge.{PlacedEdge}
 use Rattle.gx_waits.specs.Edge.{names}
-use Rattle.gx_waits.proofs.Members.{Has, has_from_contains, contains_from_has}
+use Rattle.gx_waits.proofs.Members.{has_from_contains, contains_from_has}
 use Rattle.gx_waits.proofs.Determined.{same_gxid}
 use Rattle.gx_detect.specs.declared.place.Aim.{Aim}
-use Rattle.gx_detect.specs.declared.place.Aim.TheVariants.{Stuck, Core}
+use Rattle.gx_detect.specs.declared.place.Aim.TheVariants.{Core}
 use Rattle.gx_detect.specs.declared.place.Place.{Place}
-use Rattle.gx_detect.specs.declared.place.Place.TheVariants.{Anywhere, At, Awaited}
+use Rattle.gx_detect.specs.declared.place.Place.TheVariants.{Awaited}
 use Rattle.gx_detect.specs.declared.rest.Rest.{Rest}
 use Rattle.gx_detect.specs.declared.wants.Wants.{Wants}
 use Rattle.gx_detect.specs.Place.{Needs, need_of, waits_in}
 use Rattle.gx_detect.specs.Tally.{count_at}
 use Rattle.gx_detect.specs.Wants.{AreListed, needing}
-use Rattle.gx_detect.specs.Reducing.{AreAmong, AreNoted, AreNotedBut, AreTakenOut, IsBacked, IsCounted, IsDone, IsFollowed, left_of, rest_of}
+use Rattle.gx_detect.specs.Reducing.{AreNoted, AreNotedBut, AreTakenOut, IsBacked, IsCounted, IsDone, IsFollowed, left_of, rest_of}
 use Rattle.gx_detect.specs.Settled.{IsLargest}
 use Rattle.gx_detect.specs.Verdicts.{edges_without}
 use Rattle.gx_detect.proofs.Marks.{get_below, left_place, none_counted, some_counted}

@@ -1,16 +1,14 @@
 -- Which edges need a place.
-use Rattle.std.proofs.Common.{◌≡◌, ◌≢◌, ◌<◌, ◌+◌, ℕ, List, [], ◌∷◌, ◌++◌, ◌⊎◌, inl, inr, ⊎_elim, slice_get, Some, sym, refl, ap, subst, ◌∙◌, arith}
+use Rattle.std.proofs.Common.{◌≡◌, ◌≢◌, ◌<◌, ◌+◌, ℕ, List, [], ◌∷◌, ◌++◌, ◌⊎◌, inl, inr, ⊎_elim, slice_get, Some, sym, ap, subst, ◌∙◌, arith}
 use Rattle.std.proofs.lemmas.Bool.{cases_eq}
 use Rattle.std.proofs.lemmas.List.Elements.{Contains-append_left, Contains-push, Contains-push_cases}
 use Rattle.std.specs.List.{Contains}
 use Rattle.gx_ids.specs.declared.ids.Gxid.{Gxid}
-use Rattle.gx_ids.specs.declared.ids.Node.{Node}
 use Rattle.gx_waits.specs.declared.placed_edge.PlacedEdge.{PlacedEdge}
 use Rattle.gx_waits.proofs.Members.{has_from_contains}
 use Rattle.gx_waits.proofs.Determined.{same_gxid}
 use Rattle.gx_detect.specs.declared.place.Place.{Place}
 use Rattle.gx_detect.specs.declared.place.Place.TheVariants.{Anywhere, At, Awaited}
-use Rattle.gx_detect.specs.declared.place.Aim.{Aim}
 use Rattle.gx_detect.specs.declared.place.Aim.TheVariants.{Stuck, Core}
 use Rattle.gx_detect.specs.declared.wants.Wants.{Wants}
 use Rattle.gx_detect.specs.Place.{Needs, need_of}

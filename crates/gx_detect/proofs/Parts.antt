@@ -1,23 +1,22 @@
 -- The largest parts that reductions leave are what is stuck, and the core of that.
-use Rattle.std.proofs.Common.{◌≡◌, ◌<◌, ℕ, zero, suc, List, [], ◌∷◌, Bool, true, false, ◌⊎◌, inl, inr, ⊎_elim, filter, length, sym, refl, ap, subst, ◌∙◌, arith}
+use Rattle.std.proofs.Common.{◌≡◌, ◌<◌, ℕ, zero, suc, List, [], ◌∷◌, true, inl, inr, ⊎_elim, length, sym, refl, ap, subst, ◌∙◌, arith}
 use Rattle.std.specs.List.{count_by, Contains, Any}
 use Rattle.std.specs.Prelude.{IsTrue}
-use Rattle.gx_ids.specs.declared.ids.Gxid.{Gxid}
 use Rattle.gx_waits.specs.declared.placed_edge.PlacedEdge.{PlacedEdge}
-use Rattle.gx_waits.specs.Closed.{IsClosed, IsNamed, IsStuck, Waits, WaitsAt}
+use Rattle.gx_waits.specs.Closed.{IsClosed, IsStuck, Waits, WaitsAt}
 use Rattle.gx_waits.specs.Victims.{IsInCore}
-use Rattle.gx_waits.proofs.Members.{Has, all_from_each, any_from_has, contains_from_has, each_from_all, has_from_any, has_from_contains}
+use Rattle.gx_waits.proofs.Members.{Has, all_from_each, any_from_has, contains_from_has, each_from_all, has_from_contains}
 use Rattle.gx_detect.specs.declared.place.Aim.{Aim}
 use Rattle.gx_detect.specs.declared.place.Aim.TheVariants.{Stuck, Core}
 use Rattle.gx_detect.specs.declared.place.Place.{Place}
-use Rattle.gx_detect.specs.declared.place.Place.TheVariants.{Anywhere, Awaited}
+use Rattle.gx_detect.specs.declared.place.Place.TheVariants.{Awaited}
 use Rattle.gx_detect.specs.Core.{IsCore}
 use Rattle.gx_detect.specs.Place.{need_of, waits_in}
 use Rattle.gx_detect.specs.Reduce.{is_left}
 use Rattle.gx_detect.specs.Reducing.{AreAmong, IsBacked}
 use Rattle.gx_detect.specs.Settled.{HasStuck, IsLargest}
 use Rattle.gx_detect.specs.Verdicts.{core_of, stuck_of}
-use Rattle.gx_detect.proofs.Cores.{awaited, awaits, closed_needs, has_core, has_stuck, is_in_core, is_stuck, needs, none_stuck, stuck_needs}
+use Rattle.gx_detect.proofs.Cores.{awaited, awaits, closed_needs, has_core, is_stuck, needs, none_stuck, stuck_needs}
 use Rattle.gx_detect.proofs.Marks.{none_counted, some_counted}
 use Rattle.gx_detect.proofs.Staying.{backer, stay_backed, stay_within}
 use Rattle.gx_detect.proofs.Stuck.{dotted_holder_waits, holder_waits, left_test, test_left}

@@ -1,7 +1,7 @@
 -- Edges that are taken out, one after another.
-use Rattle.std.proofs.Common.{◌≡◌, ◌<◌, ◌≤◌, ◌+◌, ◌*◌, ℕ, zero, suc, List, [], ◌∷◌, ◌++◌, Bool, true, false, ◌⊎◌, inl, inr, ⊎_elim, length, slice_get, set, replicate, Some, sym, refl, ap, subst, ◌∙◌, arith}
+use Rattle.std.proofs.Common.{◌≡◌, ◌<◌, ◌≤◌, ◌+◌, ℕ, zero, suc, List, [], ◌∷◌, ◌++◌, Bool, true, false, ◌⊎◌, inl, inr, ⊎_elim, length, slice_get, set, replicate, Some, sym, refl, ap, subst, ◌∙◌, arith}
 use Rattle.std.proofs.lemmas.Bool.Decides.{nat_tests}
-use Rattle.std.proofs.lemmas.Bool.{eqb-true, and_parts}
+use Rattle.std.proofs.lemmas.Bool.{eqb-true}
 use Rattle.std.proofs.lemmas.List.{length-set}
 use Rattle.std.proofs.lemmas.List.Elements.{Contains-append_left, Contains-append_right, Contains-append_cases}
 use Rattle.std.specs.List.{count_by, Contains}
@@ -12,7 +12,6 @@ use Rattle.gx_waits.proofs.Determined.{same_gxid}
 use Rattle.gx_detect.specs.declared.place.Place.{Place}
 use Rattle.gx_detect.specs.declared.place.Place.TheVariants.{Anywhere, At, Awaited}
 use Rattle.gx_detect.specs.declared.rest.Rest.{Rest}
-use Rattle.gx_detect.specs.declared.tally.Tally.{Tally}
 use Rattle.gx_detect.specs.Place.{waits_in, bit}
 use Rattle.gx_detect.specs.Tally.{count_at}
 use Rattle.gx_detect.specs.Reducing.{AreAmong, AreTakenOut, IsCounted, left_of, rest_of}

@@ -1,16 +1,15 @@
 -- Victims, from one core to the next.
-use Rattle.std.proofs.Common.{◌≡◌, ◌<◌, ◌≤◌, ◌+◌, ℕ, zero, suc, List, [], ◌∷◌, ◌++◌, Bool, true, false, not, ◌⊎◌, inl, inr, ⊎_elim, length, get_or, sym, refl, ap, subst, ◌∙◌, arith, append-nil}
-use Rattle.std.proofs.lemmas.Bool.Decides.{nat_tests}
-use Rattle.std.proofs.lemmas.List.Elements.{Contains-push, Contains-push_cases}
+use Rattle.std.proofs.Common.{◌≡◌, ◌<◌, ◌≤◌, ◌+◌, ℕ, zero, suc, List, [], ◌∷◌, ◌++◌, Bool, true, false, not, inl, ⊎_elim, length, get_or, sym, refl, ap, subst, ◌∙◌, arith, append-nil}
+use Rattle.std.proofs.lemmas.List.Elements.{Contains-push_cases}
 use Rattle.std.specs.List.{AllPairs, Contains}
 use Rattle.gx_ids.specs.declared.ids.Gxid.{Gxid}
 use Rattle.gx_waits.specs.declared.placed_edge.PlacedEdge.{PlacedEdge}
 use Rattle.gx_waits.specs.Closed.{IsNamed, IsNamedIn}
 use Rattle.gx_waits.specs.Edge.{names}
 use Rattle.gx_waits.specs.Victims.{AreVictims, IsGreatestInCore}
-use Rattle.gx_waits.proofs.Members.{Has, has_from_contains, contains_from_has}
+use Rattle.gx_waits.proofs.Members.{has_from_contains, contains_from_has}
 use Rattle.gx_detect.specs.declared.place.Aim.TheVariants.{Core}
-use Rattle.gx_detect.specs.Core.{IsCore, HaveClosedCores}
+use Rattle.gx_detect.specs.Core.{HaveClosedCores}
 use Rattle.gx_detect.specs.Reducing.{IsBacked}
 use Rattle.gx_detect.specs.Settled.{IsLargest}
 use Rattle.gx_detect.specs.Verdicts.{edges_without}

@@ -1,5 +1,5 @@
 -- Why a transaction is a victim: it is the youngest of a deadlock.
-use Rattle.std.specs.Prelude.{◌≡◌, ◌≤◌, List, [], ◌∷◌, All, Any, Contains, filter, not}
+use Rattle.std.specs.Prelude.{◌≡◌, List, [], ◌∷◌, All, Any, Contains, filter, not}
 use Rattle.gx_ids.specs.declared.ids.Gxid.{Gxid}
 use Rattle.gx_waits.specs.declared.placed_edge.PlacedEdge.{PlacedEdge}
 use Rattle.gx_waits.specs.declared.verdict.Verdict.{Verdict}

@@ -1,9 +1,7 @@
 -- What is left of graphs.
-use Rattle.std.specs.Prelude.{List, Bool, filter, Contains, nat_lt, ℕ}
-use Rattle.gx_ids.specs.declared.ids.Gxid.{Gxid}
+use Rattle.std.specs.Prelude.{Bool, filter, nat_lt, ℕ}
 use Rattle.gx_waits.specs.declared.graph.LocalGraph.{LocalGraph}
 use Rattle.gx_waits.specs.declared.placed_edge.PlacedEdge.{PlacedEdge}
-use Rattle.gx_waits.specs.Closed.{IsNamedIn}
 use Rattle.gx_detect.specs.declared.place.Place.{Place}
 use Rattle.gx_detect.specs.Place.{need_of}
 

@@ -1,5 +1,5 @@
 -- The edges during a reduction, each with a mark that is true while it is left.
-use Rattle.std.specs.Prelude.{◌≡◌, ◌+◌, ◌*◌, ◌≤◌, ◌<◌, ℕ, List, [], ◌∷◌, Bool, true, false, ◌⊎◌, if◌then◌else◌, length, slice_get, Some, Contains, count_by}
+use Rattle.std.specs.Prelude.{◌≡◌, ◌+◌, ◌*◌, ◌≤◌, ◌<◌, ℕ, List, [], ◌∷◌, Bool, true, ◌⊎◌, if◌then◌else◌, length, slice_get, Some, Contains, count_by}
 use Rattle.gx_waits.specs.declared.placed_edge.PlacedEdge.{PlacedEdge}
 use Rattle.gx_detect.specs.declared.place.Aim.{Aim}
 use Rattle.gx_detect.specs.declared.place.Place.{Place}

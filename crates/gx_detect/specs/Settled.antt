@@ -3,7 +3,6 @@ use Rattle.std.specs.Prelude.{◌≡◌, List, Contains, length}
 use Rattle.gx_waits.specs.declared.placed_edge.PlacedEdge.{PlacedEdge}
 use Rattle.gx_waits.specs.Closed.{IsStuck}
 use Rattle.gx_detect.specs.declared.place.Aim.{Aim}
-use Rattle.gx_detect.specs.declared.place.Place.{Place}
 use Rattle.gx_detect.specs.declared.reduced.Reduced.{Reduced}
 use Rattle.gx_detect.specs.Reducing.{AreAmong, IsBacked, IsCounted, IsDone, rest_of}
 use Rattle.gx_detect.specs.Wants.{AreListed}

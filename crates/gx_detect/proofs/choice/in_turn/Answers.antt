@@ -1,4 +1,4 @@
-use Rattle.std.proofs.Common.{◌≡◌, ◌∙◌, ap, sym, subst, true, false, ◌++◌, ◌∷◌, []}
+use Rattle.std.proofs.Common.{◌≡◌, ◌∙◌, sym, subst, true, false, ◌++◌, ◌∷◌, []}
 use Rattle.std.specs.Prelude.{Contains, IfSome, IfNone}
 use Rattle.gx_ids.specs.declared.ids.Gxid.{Gxid}
 use Rattle.gx_waits.specs.Closed.{IsNamed}
@@ -6,7 +6,7 @@ use Rattle.gx_detect.specs.declared.place.Aim.TheVariants.{Core}
 use Rattle.gx_detect.specs.Settled.{left_in}
 use Rattle.gx_waits.proofs.Members.{has_from_contains}
 use Rattle.gx_detect.proofs.Following.{done_backed}
-use Rattle.gx_detect.proofs.Turns.{AreRising, IsUnderWay, all_chosen, all_cores, begins, goes_on, largest_itself, named_before, named_up_to, rising_before, still_named}
+use Rattle.gx_detect.proofs.Turns.{AreRising, IsUnderWay, all_chosen, all_cores, goes_on, largest_itself, named_before, named_up_to, rising_before, still_named}
 use Rattle.gx_detect.proofs.choice.in_turn.Goals as goal
 
 none_in : (v : Gxid) → Contains [] v → ⊥

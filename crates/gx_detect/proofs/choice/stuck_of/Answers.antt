@@ -1,4 +1,4 @@
-use Rattle.std.proofs.Common.{◌≡◌, ◌∙◌, ap, filter, subst}
+use Rattle.std.proofs.Common.{◌∙◌, ap, filter}
 use Rattle.gx_detect.specs.Reduce.{is_left}
 use Rattle.gx_detect.specs.Settled.{left_in}
 use Rattle.gx_detect.specs.Tally.{count_at}

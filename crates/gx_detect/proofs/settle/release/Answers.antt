@@ -3,7 +3,7 @@ use Rattle.std.specs.Prelude.{Contains}
 use Rattle.gx_detect.specs.Reducing.{AreTakenOut}
 use Rattle.gx_detect.specs.Tally.{count_at}
 use Rattle.gx_detect.specs.Wants.{needing}
-use Rattle.gx_detect.proofs.Following.{noted_after, noted_if_counted, none_followed, place_followed}
+use Rattle.gx_detect.proofs.Following.{noted_after, place_followed}
 use Rattle.gx_detect.proofs.Marks.{get_below}
 use Rattle.gx_detect.proofs.settle.release.Goals as goal
 

@@ -1,6 +1,5 @@
-use Rattle.std.proofs.Common.{◌≡◌, ◌<◌, ◌∙◌, ap, sym, subst, length}
+use Rattle.std.proofs.Common.{◌<◌, sym, subst, length}
 use Rattle.std.specs.Prelude.{Contains}
-use Rattle.gx_detect.specs.declared.place.Aim.TheVariants.{Core}
 use Rattle.gx_detect.specs.declared.place.Place.TheVariants.{Awaited}
 use Rattle.gx_detect.specs.Reducing.{AreNoted, AreTakenOut, IsCounted, IsDone, IsFollowed}
 use Rattle.gx_detect.specs.Wants.{needing}

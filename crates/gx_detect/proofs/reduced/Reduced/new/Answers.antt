@@ -1,4 +1,4 @@
-use Rattle.std.proofs.Common.{◌≡◌, ◌∙◌, ap, sym, subst}
+use Rattle.std.proofs.Common.{◌≡◌, subst}
 use Rattle.gx_detect.specs.Reducing.{IsCounted, IsDone, IsFollowed, rest_of}
 use Rattle.gx_detect.proofs.Following.{largest}
 use Rattle.gx_detect.proofs.reduced.Reduced.new.Goals as goal

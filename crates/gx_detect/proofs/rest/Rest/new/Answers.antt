@@ -1,4 +1,4 @@
-use Rattle.std.proofs.Common.{◌≡◌, ◌∙◌, ap, sym, subst, take, ⊎_elim, ◌++◌, ◌∷◌, [], get_or}
+use Rattle.std.proofs.Common.{◌∙◌, ap, sym, subst, take, ⊎_elim, [], get_or}
 use Rattle.std.proofs.lemmas.List.{take_more, take_all}
 use Rattle.std.proofs.lemmas.List.Elements.{Contains-push_cases}
 use Rattle.std.specs.Prelude.{Contains}

@@ -1,4 +1,4 @@
-use Rattle.std.proofs.Common.{◌≡◌, ◌∙◌, ap, sym, subst, length}
+use Rattle.std.proofs.Common.{◌∙◌}
 use Rattle.gx_detect.proofs.Listed.{none_listed, one_listed}
 use Rattle.gx_detect.proofs.Marks.{get_at, no_edge}
 use Rattle.gx_detect.proofs.wants.Wants.of.Goals as goal
