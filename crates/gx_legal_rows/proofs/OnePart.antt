@@ -6,7 +6,6 @@ use Rattle.std.proofs.lemmas.List.Sorted.{list_any-IsPermutation}
 use Rattle.std.specs.List.{flat_map, list_any, zip}
 use Rattle.std.specs.Ordering.{is_eq}
 use Rattle.std.specs.Prelude.{ℕ, Some, None, unwrap_or}
-use Rattle.gx_tree.specs.declared.cell.Cell.{Cell}
 use Rattle.gx_tree.specs.declared.part.Group.{Group}
 use Rattle.gx_tree.specs.declared.part.Part.TheVariants.{Rows, Groups}
 use Rattle.gx_tree.specs.declared.query.Item.{Item}
@@ -80,12 +79,12 @@ module _ (query : Query) (rows : List KeyedRow) (grouped : query.grouped ≡ tru
   abbrev groups : List Group
   groups = flat_map groups_in (part_of query rows ∷ [])
 
+  abbrev own : List Group
+  own = map (group_of query rows) (in_order rising ks)
+
   names-are : map (λ g. g.key) groups ≡ in_order rising ks
   names-are = by_test query.grouped grouped
     where
-      abbrev own : List Group
-      own = map (group_of query rows) (in_order rising ks)
-
       by_test : (b : Bool) → b ≡ true → map (λ g. g.key) (groups_in (cond b (Groups own) (Rows rows)) ++ []) ≡ in_order rising ks
       by_test true e = ap (map (λ g. g.key)) (append-nil own) ∙ keys-of-groups query rows (in_order rising ks)
       by_test false e = cc

@@ -1,10 +1,11 @@
 -- Every view has its rows, and no others.
-use Rattle.std.proofs.Common.{◌≡◌, ◌==◌, ◌&&◌, List, [], ◌∷◌, ◌++◌, Option, Some, None, Bool, true, false, refl, sym, ap, ◌∙◌, cond, if◌then◌else◌, map, arith}
+use Rattle.std.proofs.Common.{◌≡◌, ◌==◌, ◌&&◌, List, [], ◌∷◌, ◌++◌, Option, Some, None, Bool, true, false, refl, sym, ap, ◌∙◌, cond, if◌then◌else◌, filter, map, arith, subst}
 use Rattle.std.proofs.lemmas.Bool.Decides.{nat_tests}
 use Rattle.std.specs.List.{AllByRecursion}
 use Rattle.std.specs.List.Sorted.{IsStrictlySortedBy}
 use Rattle.std.specs.Map.{keys_of, lookup}
 use Rattle.std.specs.BTreeMap.{insert_entry, is_at}
+use Rattle.std.specs.Cmp.{on_total}
 use Rattle.std.specs.Ordering.{is_eq, match_ordering}
 use Rattle.std.specs.declared.cmp.Ordering.{Ordering}
 use Rattle.std.specs.declared.cmp.Ordering.TheVariants.{Less, Equal, Greater}
@@ -15,9 +16,9 @@ use Rattle.gx_ids.specs.declared.rid.Rid.{Rid}
 use Rattle.gx_meaning.specs.Answer.{AreRising}
 use Rattle.gx_meaning.specs.Order.{rid_order}
 use Rattle.gx_rows.proofs.Entries.{lookup-insert_entry_other, lookup-insert_entry_same, rid_cmp-total}
-use Rattle.gx_rules.proofs.RowOrder.{all_above, less_apart}
-use Rattle.gx_rules.proofs.ShownRows.{rows-same}
-use Rattle.gx_rules.specs.Shown.{row_in}
+use Rattle.gx_gather.proofs.InOrder.{rises_same}
+use Rattle.gx_gather.proofs.Listing.{rises_from_strict}
+use Rattle.gx_gather.proofs.Orders.{rid_order-total}
 use Rattle.gx_tree.specs.declared.row.KeyedRow.{KeyedRow}
 use Rattle.gx_tree.specs.declared.value.Value.{Value}
 use Rattle.gx_store.proofs.Rows.{same_rid}
@@ -26,7 +27,7 @@ use Rattle.gx_store.specs.declared.mark.Mark.TheVariants as mark
 use Rattle.gx_store.specs.Marks.{is_same_rid}
 use Rattle.gx_store.specs.Rows.{row_at}
 use Rattle.gx_store.specs.View.{IsView, Reader, image_after, is_shown_to}
-use Rattle.gx_legal_rows.specs.Viewed.{Images, images_from, listed, view_rows}
+use Rattle.gx_legal_rows.specs.Viewed.{Images, images_from, listed, row_in, view_rows}
 
 abbrev Image : Type 0
 Image = Option (List Value)
@@ -63,6 +64,16 @@ above-insert P (e ∷ es) rid image p all = by_order (rid_order rid e.0) (above-
     by_order Less more = (p, all)
     by_order Equal more = all
     by_order Greater more = (all.0, more)
+
+less_trans : (a b c : Rid) → rid_order a b ≡ Less → rid_order b c ≡ Less → rid_order a c ≡ Less
+less_trans a b c e f = grind (arith, nat_tests)
+
+less_apart : (a b : Rid) → rid_order a b ≡ Less → is_same_rid b a ≡ false
+less_apart a b e = grind (arith, nat_tests)
+
+all_above : (a b : Rid) (rs : List Rid) → rid_order a b ≡ Less → AllByRecursion (λ r. rid_order b r ≡ Less) rs → AllByRecursion (λ r. rid_order a r ≡ Less) rs
+all_above a b [] e all = tt
+all_above a b (r ∷ rs) e all = (less_trans a b r e all.0, all_above a b rs e all.1)
 
 turned : (a b : Rid) → rid_order a b ≡ Greater → rid_order b a ≡ Less
 turned a b e = grind (arith, nat_tests)
@@ -162,6 +173,34 @@ view-is marks before reader table =
       rising = rising-listed (images_from shown table [] marks) rising;
       images = λ rid. row_at-listed (images_from shown table [] marks) rid rising ∙ image_in-images shown table rid [] marks;
     }
+
+-- ROWS ARE THEIR IMAGES
+module _ (q : Rid) where
+  abbrev at : List KeyedRow → List KeyedRow
+  at xs = filter (λ x. is_eq (rid_order q x.rid)) xs
+
+  at-row : (xs : List KeyedRow) → AreRising xs → at xs ≡ row_in q (row_at xs q)
+  unfolding IsStrictlySortedBy
+  at-row [] rising = refl
+  at-row (x ∷ xs) rising = by_test (is_same_rid x.rid q) refl (at-row xs rising.1)
+    where
+      whole : x.rid ≡ q → x ∷ [] ≡ row_in q (Some x.row)
+      whole e = ap (λ r. let y : KeyedRow = record { rid = r; row = x.row } in y ∷ []) e
+
+      by_test : (b : Bool) → is_same_rid x.rid q ≡ b → at xs ≡ row_in q (row_at xs q) → cond (is_eq (rid_order q x.rid)) (x ∷ at xs) (at xs) ≡ row_in q (cond (is_same_rid x.rid q) (Some x.row) (row_at xs q))
+      by_test true e more =
+          let here = same_rid x.rid q e in
+          ap (λ (b : Bool). cond b (x ∷ at xs) (at xs)) (same_test q x.rid ∙ e)
+          ∙ ap (λ l. x ∷ l) (more ∙ ap (row_in q) (subst (λ r. row_at xs r ≡ None) here (none_above x.rid xs rising.0)))
+          ∙ whole here
+          ∙ ap (λ (b : Bool). row_in q (cond b (Some x.row) (row_at xs q))) (sym e)
+      by_test false e more = ap (λ (b : Bool). cond b (x ∷ at xs) (at xs)) (same_test q x.rid ∙ e) ∙ more ∙ ap (λ (b : Bool). row_in q (cond b (Some x.row) (row_at xs q))) (sym e)
+
+rows-same : (xs ys : List KeyedRow) → AreRising xs → AreRising ys → ((rid : Rid) → row_at xs rid ≡ row_at ys rid) → xs ≡ ys
+rows-same xs ys rx ry same =
+    let rid_of : KeyedRow → Rid = λ row. row.rid in
+    rises_same (on_total rid_of rid_order-total) xs ys (rises_from_strict rid_order-total rid_of xs rx) (rises_from_strict rid_order-total rid_of ys ry)
+    (λ q. at-row q.rid xs rx ∙ ap (row_in q.rid) (same q.rid) ∙ sym (at-row q.rid ys ry))
 
 -- a view has no other rows than these
 pub view-same : (marks before : List Mark) (reader : Reader) (table : Table) (rows : List KeyedRow) → IsView marks before reader table rows → rows ≡ view_rows marks before reader table

@@ -1,5 +1,5 @@
 -- The rows that a reader is shown, as a list.
-use Rattle.std.specs.Prelude.{◌==◌, Bool, if◌then◌else◌, ◌&&◌, List, [], ◌∷◌}
+use Rattle.std.specs.Prelude.{◌==◌, Bool, if◌then◌else◌, ◌&&◌, List, [], ◌∷◌, Some, None}
 use Rattle.std.specs.List.{flat_map}
 use Rattle.std.specs.BTreeMap.{insert_entry}
 use Rattle.std.specs.declared.option.Option.{Option}
@@ -8,7 +8,6 @@ use Rattle.gx_ids.specs.declared.ids.Cid.{Cid}
 use Rattle.gx_ids.specs.declared.ids.Table.{Table}
 use Rattle.gx_ids.specs.declared.rid.Rid.{Rid}
 use Rattle.gx_meaning.specs.Order.{rid_order}
-use Rattle.gx_rules.specs.Shown.{row_in}
 use Rattle.gx_tree.specs.declared.row.KeyedRow.{KeyedRow}
 use Rattle.gx_tree.specs.declared.value.Value.{Value}
 use Rattle.gx_store.specs.declared.mark.Mark.{Mark}
@@ -24,6 +23,11 @@ images_from shown table images [] = images
 images_from shown table images (Write g c node t rid image ∷ ms) =
     images_from shown table (if shown g c && (t.0 == table.0) then insert_entry rid_order images rid image else images) ms
 images_from shown table images (_ ∷ ms) = images_from shown table images ms
+
+-- the row, unless it is gone
+abbrev pub row_in : Rid → Option (List Value) → List KeyedRow
+row_in rid None = []
+row_in rid (Some row) = record { rid = rid; row = row } ∷ []
 
 -- the rows that aren't gone
 abbrev pub listed : Images → List KeyedRow
