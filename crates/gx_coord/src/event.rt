@@ -30,9 +30,9 @@ use std::alloc::Global;
 pub(crate) fn one_out(alloc: Global, node: Node, message: Message) -> Mem<Seq<Out>>
     ensures { IfOk result (λ outs. outs ≡ record { node = node; message = message } ∷ []) }
 {
-    let mut outs = Seq::new(alloc);
+    let mut outs = Vec::with_capacity(alloc, 1)?;
     outs.push(Out { node, message })?;
-    Ok(outs)
+    Ok(Seq::from_vec(outs))
 }
 
 // The awaited message to a segment is sent again.

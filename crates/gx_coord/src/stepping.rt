@@ -38,6 +38,7 @@ fn send(
     ensures marks { OnOk result (marks.new.items ≡ marks.old.items ++ numbered (slice_index coord.old.sent.items) outs.now) }
     ensures room { OnOk result (All (λ n. n < 2 ^ 62 + length outs.now) coord.new.sent.items) }
 {
+    marks.reserve_exact(outs.len())?;
     number(alloc, &mut coord.sent, outs, marks)?;
     coord.clock = clock;
     Ok(())
