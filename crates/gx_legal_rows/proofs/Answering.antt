@@ -1,5 +1,5 @@
 -- The test of what a SELECT has answered decides the definition.
-use Rattle.std.proofs.Common.{◌≡◌, ◌∙◌, ℕ, ◌==◌, ◌&&◌, Bool, true, false, if◌then◌else◌, cond, take, All, List, [], ◌∷◌, length, filter, Option, Some, None, Result, Ok, Err, refl, sym, ap, nat_eq}
+use Rattle.std.proofs.Common.{◌≡◌, ◌∙◌, ℕ, ◌==◌, Bool, true, false, if◌then◌else◌, cond, take, List, [], ◌∷◌, length, filter, Option, Some, None, Result, Ok, Err, refl, sym, ap, nat_eq}
 use Rattle.std.proofs.lemmas.Bool.{and_from}
 use Rattle.std.proofs.lemmas.Bool.Decides.{Decides-int_eq}
 use Rattle.std.proofs.lemmas.List.Elements.{filter_passes}
@@ -28,9 +28,8 @@ use Rattle.gx_store.specs.Answers.{Shows}
 use Rattle.gx_store.specs.Commands.{condition_on}
 use Rattle.gx_legal_rows.specs.Done.{faults_on_none}
 use Rattle.gx_legal_rows.specs.Selected.{is_met}
-use Rattle.gx_legal_rows.specs.Told.{are_same_cells, has_shown, is_same_answer, is_same_cell, is_shown_by, met_rows, whole_answer}
+use Rattle.gx_legal_rows.specs.Told.{are_same_cells, has_shown, is_same_answer, is_same_cell, is_shown_by, whole_answer}
 use Rattle.gx_legal_rows.specs.Viewed.{view_rows}
-use Rattle.gx_legal_rows.proofs.Decided.{no_more}
 use Rattle.gx_legal_rows.proofs.Doing.{faults-none, none-faults}
 use Rattle.gx_legal_rows.proofs.OnePart.{one-part}
 use Rattle.gx_legal_rows.proofs.Snapshots.{any-snapshot, snapshot-any}

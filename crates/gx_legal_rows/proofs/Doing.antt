@@ -1,10 +1,9 @@
 -- The test of what an UPDATE or DELETE has done decides the definition.
-use Rattle.std.proofs.Common.{◌≡◌, ◌∙◌, ℕ, ◌==◌, ◌&&◌, ◌||◌, Bool, true, false, not, cond, take, All, List, [], ◌∷◌, map, Option, Some, None, Result, Ok, Err, refl, sym, ap, subst}
+use Rattle.std.proofs.Common.{◌≡◌, ◌∙◌, ℕ, ◌==◌, ◌||◌, Bool, true, false, not, cond, take, List, [], ◌∷◌, Option, Some, None, Result, Ok, Err, refl, sym, ap, subst}
 use Rattle.std.proofs.lemmas.Bool.{and_from}
 use Rattle.std.proofs.lemmas.List.Elements.{All-nil, All-cons, All-head, All-tail}
-use Rattle.std.specs.List.{AllByRecursion, list_all, list_any}
+use Rattle.std.specs.List.{AllByRecursion}
 use Rattle.std.specs.List.Sorted.{IsStrictlySortedBy}
-use Rattle.std.specs.declared.cmp.Ordering.TheVariants.{Less}
 use Rattle.gx_ids.specs.declared.ids.Gxid.{Gxid}
 use Rattle.gx_ids.specs.declared.ids.Cid.{Cid}
 use Rattle.gx_ids.specs.declared.ids.Table.{Table}
@@ -12,7 +11,6 @@ use Rattle.gx_ids.specs.declared.rid.Rid.{Rid}
 use Rattle.gx_lemmas.proofs.Numbers.{eqb-of, same-of}
 use Rattle.gx_lemmas.proofs.Tests.{and-first, and-second}
 use Rattle.gx_meaning.specs.Answer.{AreRising}
-use Rattle.gx_meaning.specs.Order.{rid_order}
 use Rattle.gx_meaning.specs.declared.fault.ArithFault.{ArithFault}
 use Rattle.gx_tree.specs.declared.cond.Cond.{Cond}
 use Rattle.gx_tree.specs.declared.row.KeyedRow.{KeyedRow}
@@ -21,7 +19,7 @@ use Rattle.gx_tree.specs.declared.value.Value.{Value}
 use Rattle.gx_store.proofs.Rows.{is_same_rid-refl, same_rid}
 use Rattle.gx_store.specs.declared.mark.Mark.{Mark}
 use Rattle.gx_store.specs.Answers.{Changes, FaultsOnNone}
-use Rattle.gx_store.specs.Commands.{Sees, condition_on}
+use Rattle.gx_store.specs.Commands.{condition_on}
 use Rattle.gx_store.specs.Marks.{is_processed, is_same_rid, write_count}
 use Rattle.gx_store.specs.Rows.{row_at}
 use Rattle.gx_legal_rows.specs.Done.{are_done, faults_on_none, has_changed, is_done_by}
@@ -29,8 +27,7 @@ use Rattle.gx_legal_rows.specs.Faulted.{is_whole}
 use Rattle.gx_legal_rows.specs.Selected.{is_met}
 use Rattle.gx_legal_rows.specs.Viewed.{view_rows}
 use Rattle.gx_legal_rows.proofs.Decided.{no_more}
-use Rattle.gx_legal_rows.proofs.Selections.{is-met, met-is}
-use Rattle.gx_legal_rows.proofs.Snapshots.{any-snapshot, or-either, or-first, or-second, snapshot-any}
+use Rattle.gx_legal_rows.proofs.Snapshots.{any-snapshot, snapshot-any}
 use Rattle.gx_legal_rows.proofs.Views.{none_above, view-is, view-same}
 
 truth-is : (o : Result Bool ArithFault) → is_whole o ≡ true → (truth : Bool) × (o ≡ Ok truth)

@@ -1,5 +1,5 @@
 -- The test of what a LOCK has done decides the definition.
-use Rattle.std.proofs.Common.{add-one, ◌≡◌, ◌∙◌, ℕ, zero, suc, ◌+◌, ◌==◌, ◌≤◌, ◌<◌, ◌&&◌, ◌||◌, Bool, true, false, not, if◌then◌else◌, cond, List, [], ◌∷◌, ◌++◌, filter, refl, sym, ap, arith}
+use Rattle.std.proofs.Common.{add-one, ◌≡◌, ◌∙◌, ℕ, zero, suc, ◌+◌, ◌==◌, ◌<◌, ◌&&◌, ◌||◌, Bool, true, false, not, if◌then◌else◌, List, [], ◌∷◌, ◌++◌, refl, sym, ap, arith}
 use Rattle.std.proofs.lemmas.Bool.{and_from}
 use Rattle.std.proofs.lemmas.Bool.Decides.{nat_tests}
 use Rattle.std.proofs.lemmas.List.Folds.{list_any-append}
@@ -18,8 +18,8 @@ use Rattle.gx_waits.specs.Claim.{same_claim}
 use Rattle.gx_store.specs.declared.mark.Mark.{Mark}
 use Rattle.gx_store.specs.declared.mark.Mark.TheVariants as mark
 use Rattle.gx_store.specs.Answers.{Locks}
-use Rattle.gx_store.specs.Waits.{added, claim, holds_at, holds_from, is_held, without}
-use Rattle.gx_legal_rows.specs.Told.{has_locked, held_after, held_from, is_held_below}
+use Rattle.gx_store.specs.Waits.{added, claim, holds_at, holds_from, without}
+use Rattle.gx_legal_rows.specs.Told.{has_locked, held_from, is_held_below}
 use Rattle.gx_legal_rows.proofs.Decided.{no_more}
 
 any-along : (a b : Claim) (xs : List Claim) → same_claim a b ≡ true → list_any (same_claim b) xs ≡ list_any (same_claim a) xs
