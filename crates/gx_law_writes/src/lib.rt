@@ -1,6 +1,6 @@
 //! Of every run: what segments write (the rows of INSERTs, each once, at its place, and what UPDATE and DELETE make of rows), and which locks it has.
 #![tactic(auto)]
 
+pub mod holding;
 pub mod laws;
 pub mod writers;
-pub mod holding;
