@@ -1,5 +1,6 @@
 -- What an order changes of what is held.
 use Rattle.std.specs.Prelude.{◌≡◌, ◌≢◌, ◌==◌, ◌&&◌, Bool, true, false, if◌then◌else◌, option_map}
+use Rattle.std.specs.BTreeMap.{BTreeMap, get}
 use Rattle.std.specs.BTreeSet.{contains}
 use Rattle.gx_ids.specs.declared.ids.Gxid.{Gxid}
 use Rattle.gx_dsnap.specs.Gxids.{gxid_cmp}
@@ -10,6 +11,7 @@ use Rattle.gx_node.specs.declared.local.Taken.{Taken}
 use Rattle.gx_rules.specs.AtSegment.{unless_below}
 use Rattle.gx_rules.specs.Segments.{Phase, Reading, Writing, Prepared, Committed, Forgotten, Aborted, Seg, SegTurn, has_ended, local_of}
 use Rattle.gx_slices.specs.Agrees.{entry_at, local_in, rows_in}
+use Rattle.gx_slices.specs.declared.held.Entry.{Entry}
 use Rattle.gx_slices.specs.declared.held.Held.{Held}
 use Rattle.gx_rows.specs.declared.status.LocalStatus.{LocalStatus}
 use Rattle.gx_rows.specs.declared.status.LocalStatus.TheVariants as status
@@ -27,6 +29,16 @@ status_in Committed = status.Committed
 status_in (Forgotten true) = status.Committed
 status_in (Forgotten false) = status.Aborted
 status_in Aborted = status.Aborted
+
+-- the transaction's entry is that of the change, which leaves it in this phase, and no other has changed
+pub record HasTaken (old new : BTreeMap Gxid Entry) (g : Gxid) (change : Change) (taken : Taken) (phase : Phase) : Type 0 where
+  pub local : local_in (get gxid_cmp new g) ≡ change.now
+  pub others : (h : Gxid) → h.0 ≢ g.0 → get gxid_cmp new h ≡ get gxid_cmp old h
+  pub rows : (h : Gxid) → rows_in (get gxid_cmp new h) ≡ rows_in (get gxid_cmp old h)
+  pub phase_is : phase ≡ change.now.phase
+  pub mark : taken.mark ≡ change.mark
+  pub reply : taken.reply ≡ change.reply
+  pub ends : taken.ends ≡ change.ends
 
 -- the transaction's record is that of the change, and nothing else has changed
 pub record HasMoved (old new : Held) (g : Gxid) (change : Change) (taken : Taken) : Type 0 where

@@ -15,18 +15,14 @@ use std::collections::BTreeMap;
 
 pub(crate) type Entries = BTreeMap<Gxid, Entry>;
 
-// Takes a transaction's entry out, or makes one of which nothing has come here.
-pub(crate) fn take_out(alloc: Global, entries: &mut Entries, gxid: Gxid) -> Entry
-    ensures gone { Updates gxid_cmp entries.old entries.new gxid None }
-    ensures local { local_of result.local ≡ local_in (get gxid_cmp entries.old gxid) }
-    ensures kept { result.kept ≡ rows_in (get gxid_cmp entries.old gxid) }
+// The entry of a transaction of which nothing has come here.
+pub(crate) fn new_entry(alloc: Global) -> Entry
+    ensures local { local_of result.local ≡ local_in None }
+    ensures kept { result.kept ≡ rows_in None }
 {
-    match entries.remove(&gxid) {
-        Some(entry) => entry,
-        None => Entry {
-            local: Local::new(),
-            kept: KeptRows::new(alloc),
-        },
+    Entry {
+        local: Local::new(),
+        kept: KeptRows::new(alloc),
     }
 }
 

@@ -1,5 +1,6 @@
 // PREPARE, COMMIT, COMMIT PREPARED, ABORT and FORGET.
 ghost use Rattle.std.specs.Prelude.{◌≡◌, ◌≤◌, ◌==◌, ◌&&◌, Bool, false, ◌++◌, if◌then◌else◌, IfOk, OnOk};
+ghost use Rattle.std.specs.BTreeMap.{get};
 ghost use Rattle.std.specs.BTreeSet.{contains};
 ghost use Rattle.gx_ids.specs.declared.ids.Gxid.{Gxid};
 ghost use Rattle.gx_dsnap.specs.Gxids.{gxid_cmp};
@@ -12,10 +13,10 @@ ghost use Rattle.gx_rules.specs.Segments as rule;
 ghost use Rattle.gx_slices.specs.Agrees.{IsHeld, entry_at, local_in, rows_in};
 ghost use Rattle.gx_segment.specs.Before.{Before};
 ghost use Rattle.gx_segment.specs.Done.{HasDone, answer_of};
-ghost use Rattle.gx_segment.specs.Moves.{HasMoved, order_turn, status_in};
+ghost use Rattle.gx_segment.specs.Moves.{HasMoved, HasTaken, order_turn, status_in};
 
 use crate::done::{Done, answer, nothing};
-use crate::entries::{put_in, take_out};
+use crate::entries::{Entries, new_entry, put_in};
 use gx_dtx::order::Order;
 use gx_ids::{Gxid, Mem, Node, Seq};
 use gx_locks::LockTable;
@@ -27,6 +28,9 @@ use gx_slices::{Entry, Held, KeptRows};
 use gx_store::Mark;
 use std::alloc::Global;
 use std::collections::BTreeSet;
+
+// How many marks an end is likely to leave: of a table's lock, of the transaction's own, and of the answer.
+const LIKELY_RELEASES: usize = 3;
 
 // Takes an order for a transaction.
 pub(crate) fn take<J: Journal>(
@@ -80,19 +84,24 @@ fn leave_locks(
     ensures marks { OnOk result (marks.new.items ≡ marks.old.items ++ left_marks ends node locks.old gxid) }
 {
     if ends {
+        marks.reserve_exact(LIKELY_RELEASES)?;
         give_back(alloc, node, locks, gxid, marks)?;
     }
     Ok(())
 }
 
+// With room for the mark of an answer behind it.
 fn listed(alloc: Global, mark: Option<Mark>) -> Mem<Vec<Mark>>
     ensures { IfOk result (λ marks. marks.items ≡ marks_in mark) }
 {
-    let mut marks = Vec::new(alloc);
-    if let Some(mark) = mark {
-        marks.push(mark)?;
+    match mark {
+        Some(mark) => {
+            let mut marks = Vec::with_capacity(alloc, 2)?;
+            marks.push(mark)?;
+            Ok(marks)
+        }
+        None => Ok(Vec::new(alloc)),
     }
-    Ok(marks)
 }
 
 // Takes the order, and notes what it made of the transaction.
@@ -110,13 +119,46 @@ fn obey<J: Journal>(
         (change_of order node gxid (rows_in (entry_at held.old gxid)) taken.fails (local_in (entry_at held.old gxid))).item) }
     ensures later { IsLater (J.shelf journal.old) (J.shelf journal.new) }
 {
-    let mut entry = take_out(alloc, &mut held.entries, gxid);
-    let taken = take_at(alloc, node, gxid, order, &mut entry, journal)?;
-    let phase = entry.local.phase;
-    put_in(&mut held.entries, gxid, entry)?;
+    let mut phase = Phase::Reading;
+    let taken = take_in(
+        alloc,
+        node,
+        &mut held.entries,
+        gxid,
+        order,
+        &mut phase,
+        journal,
+    )?;
     held.store.set_status(gxid, status(phase));
     leave_ended(&mut held.holders, gxid, phase);
     Ok(taken)
+}
+
+// Takes the order at the transaction's entry, and tells the phase in which that is then.
+fn take_in<J: Journal>(
+    alloc: Global,
+    node: Node,
+    entries: &mut Entries,
+    gxid: Gxid,
+    order: Order,
+    phase: &mut Phase,
+    journal: &mut J,
+) -> Mem<Taken>
+    ensures taken { IfOk result (λ taken. HasTaken entries.old entries.new gxid
+        (change_of order node gxid (rows_in (get gxid_cmp entries.old gxid)) taken.fails (local_in (get gxid_cmp entries.old gxid))) taken (phase_of phase.new)) }
+    ensures took { IfOk result (λ taken. Took (J.shelf journal.old) (J.shelf journal.new) taken.fails
+        (change_of order node gxid (rows_in (get gxid_cmp entries.old gxid)) taken.fails (local_in (get gxid_cmp entries.old gxid))).item) }
+    ensures later { IsLater (J.shelf journal.old) (J.shelf journal.new) }
+{
+    match entries.get_mut(&gxid) {
+        Some(entry) => take_at(alloc, node, gxid, order, entry, phase, journal),
+        None => {
+            let mut entry = new_entry(alloc);
+            let taken = take_at(alloc, node, gxid, order, &mut entry, phase, journal)?;
+            put_in(entries, gxid, entry)?;
+            Ok(taken)
+        }
+    }
 }
 
 fn take_at<J: Journal>(
@@ -125,15 +167,19 @@ fn take_at<J: Journal>(
     gxid: Gxid,
     order: Order,
     entry: &mut Entry,
+    phase: &mut Phase,
     journal: &mut J,
 ) -> Mem<Taken>
     ensures does { IfOk result (λ taken. Does (change_of order node gxid entry.old.kept taken.fails (local_of entry.old.local)) (local_of entry.new.local) taken) }
+    ensures phase { OnOk result (phase.new ≡ entry.new.local.phase) }
     ensures kept { entry.new.kept ≡ entry.old.kept }
     ensures took { IfOk result (λ taken. Took (J.shelf journal.old) (J.shelf journal.new) taken.fails (change_of order node gxid entry.old.kept taken.fails (local_of entry.old.local)).item) }
     ensures later { IsLater (J.shelf journal.old) (J.shelf journal.new) }
 {
     let kept = kept_for(alloc, order, &entry.kept)?;
-    take_order(alloc, node, gxid, order, &mut entry.local, kept, journal)
+    let taken = take_order(alloc, node, gxid, order, &mut entry.local, kept, journal);
+    *phase = entry.local.phase;
+    taken
 }
 
 // The rows that the order's item has.

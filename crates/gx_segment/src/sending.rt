@@ -68,10 +68,10 @@ fn mark_sent(alloc: Global, marks: Seq<Mark>, message: &Message, number: u64) ->
 fn alone(alloc: Global, message: Message) -> Mem<Seq<Out>>
     ensures { IfOk result (λ outs. outs ≡ record { node = the_coordinator; message = message } ∷ []) }
 {
-    let mut outs = Seq::new(alloc);
+    let mut outs = Vec::with_capacity(alloc, 1)?;
     outs.push(Out {
         node: Node(0),
         message,
     })?;
-    Ok(outs)
+    Ok(Seq::from_vec(outs))
 }

@@ -1,5 +1,5 @@
 // A slice takes its table's lock and runs, or waits for it; and one that has waited, there or at a row, goes on.
-ghost use Rattle.std.specs.Prelude.{◌≡◌, true, false, None, IfOk};
+ghost use Rattle.std.specs.Prelude.{[], ◌≡◌, true, false, None, IfOk};
 ghost use Rattle.gx_locks.specs.Locks.{is_ready, wait_of};
 ghost use Rattle.gx_rules.specs.AtSegment.{resumes};
 ghost use Rattle.gx_rules.specs.Segments.{local_of};
@@ -62,6 +62,18 @@ pub(crate) fn start<G: Gate>(
     request(alloc, node, script, held, gxid, command, wanted, gate)
 }
 
+// Room for the marks that a slice is likely to leave: of its locks, of what it writes, and of its answer.
+fn room_for(alloc: Global, slice: &Slice) -> Mem<Vec<Mark>>
+    ensures { IfOk result (λ marks. marks.items ≡ []) }
+{
+    let count = match slice {
+        Slice::Insert(_, rows) => rows.len().saturating_add(3),
+        _ => 2,
+    };
+    let marks = Vec::with_capacity(alloc, count)?;
+    Ok(marks)
+}
+
 // It asks for its lock.
 fn request<G: Gate>(
     alloc: Global,
@@ -84,7 +96,7 @@ fn request<G: Gate>(
     ensures done { IfOk result (λ done. HasDone was.script.tables held.new was.seg.horizon done (requests was.seg gxid command.cid command.level command.snapshot command.slice wanted)) }
     ensures quiet { IfOk result (λ done. IsQuiet done (requests was.seg gxid command.cid command.level command.snapshot command.slice wanted)) }
 {
-    let mut marks = Vec::new(alloc);
+    let mut marks = room_for(alloc, &command.slice)?;
     if ask_for(node, &mut held.locks, wanted, &mut marks)? {
         let done = proceed(alloc, node, script, held, gxid, command, gate, marks)?;
         Ok(done)

@@ -22,7 +22,7 @@ proceed-requires g c κs within =
           IsHeld-locked tables held g.was.seg c.args.wanted c.requires.1.1.0 granted now c.if-branch.true asked c.requires.1.1.1.1.1.1.0,
           (
             MayGoOn-locked tables held g.was.seg c.args.wanted c.requires.1.1.0 granted now c.if-branch.true asked c.args.gxid c.args.command c.requires.1.1.1.1.0 c.in_ok-ask_for.ensures.granted c.args.node c.requires.1.1.1.1.1.1.1 c.ask_for.new.marks.items
-                (c.in_ok-ask_for.ensures.marks ∙ ap (λ (ms : List Mark). ms ++ asked_mark c.args.node c.args.wanted granted ∷ []) c.new-marks.ensures.items) c.requires.1.1.1.0,
+                (c.in_ok-ask_for.ensures.marks ∙ ap (λ (ms : List Mark). ms ++ asked_mark c.args.node c.args.wanted granted ∷ []) c.in_ok-marks.ensures) c.requires.1.1.1.0,
             c.requires.1.1.1.1.1.1.1,
           ),
         ),
@@ -34,10 +34,10 @@ returns-in_ok-done-clause-done g c =
     let granted = c.in_ok-ask_for.field-0 in
     HasDone-same g.was.script.tables c.proceed.new.held g.was.seg.horizon c.in_ok-done.done _ _
     (turn-locked g.was.script.tables c.args.held.now g.was.seg c.args.wanted c.requires.1.1.0 granted c.ask_for.new.locks c.if-branch.true c.in_ok-ask_for.ensures.locks c.args.gxid c.args.command c.requires.1.1.1.1.0 c.in_ok-ask_for.ensures.granted c.args.node c.requires.1.1.1.1.1.1.1 c.ask_for.new.marks.items
-    (c.in_ok-ask_for.ensures.marks ∙ ap (λ (ms : List Mark). ms ++ asked_mark c.args.node c.args.wanted granted ∷ []) c.new-marks.ensures.items))
+    (c.in_ok-ask_for.ensures.marks ∙ ap (λ (ms : List Mark). ms ++ asked_mark c.args.node c.args.wanted granted ∷ []) c.in_ok-marks.ensures))
     c.in_ok-done.ensures.done
 
 pub returns-in_ok-suspend-clause-done : goal.returns-in_ok-suspend-clause-done
 returns-in_ok-suspend-clause-done g c =
     HasDone-waits g.was.script.tables c.args.held.now c.suspend.new.held g.was.seg c.args.gxid c.args.command c.args.wanted c.in_ok-ask_for.field-0 c.ask_for.new.locks c.args.node c.ask_for.new.marks.items c.waits.result
-    c.requires.1.1.0 c.requires.1.1.1.0 c.requires.1.1.1.1.0 c.requires.1.1.1.1.1.0 c.if-branch.false c.in_ok-ask_for.ensures.locks c.in_ok-ask_for.ensures.granted c.requires.1.1.1.1.1.1.1 (c.in_ok-ask_for.ensures.marks ∙ ap (λ (ms : List Mark). ms ++ asked_mark c.args.node c.args.wanted c.in_ok-ask_for.field-0 ∷ []) c.new-marks.ensures.items) c.in_ok-suspend.ensures c.waits.ensures
+    c.requires.1.1.0 c.requires.1.1.1.0 c.requires.1.1.1.1.0 c.requires.1.1.1.1.1.0 c.if-branch.false c.in_ok-ask_for.ensures.locks c.in_ok-ask_for.ensures.granted c.requires.1.1.1.1.1.1.1 (c.in_ok-ask_for.ensures.marks ∙ ap (λ (ms : List Mark). ms ++ asked_mark c.args.node c.args.wanted c.in_ok-ask_for.field-0 ∷ []) c.in_ok-marks.ensures) c.in_ok-suspend.ensures c.waits.ensures
