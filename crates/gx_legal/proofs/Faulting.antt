@@ -19,26 +19,8 @@ use Rattle.gx_tree.specs.declared.value.Value.{Value}
 use Rattle.gx_legal.specs.Causes.{FaultsAt, FaultsBy}
 
 module _ (point : Point) (stmt : Stmt) (level : Level) (g : Gxid) (c : Cid) (fault : ArithFault) (reason : Cause) where
-  pub faulted-of : (place : ℕ) → FaultsAt point stmt level g c fault reason place → HasFaulted point stmt level g c fault reason
-  faulted-of place at = record {
-    place = place;
-    rid = at.2.0;
-    image = at.2.1;
-    noted = at.1 ∙ ap Some at.2.2;
-    unaborted = at.2.3;
-    faults = at.2.4;
-    heard = at.2.5;
-  }
-
   pub of-faulted : (has : HasFaulted point stmt level g c fault reason) → FaultsAt point stmt level g c fault reason has.place
   of-faulted has = (Fault g c has.rid has.image, has.noted, (has.rid, has.image, refl, has.unaborted, has.faults, has.heard))
 
   pub faulted-inside : (marks : List Mark) → marks ≡ before point → (has : HasFaulted point stmt level g c fault reason) → has.place < length marks
   faulted-inside marks whole has = subst (λ ms. has.place < length ms) (sym whole) (place-below (before point) has.place _ has.noted)
-
-  pub fault-at : (marks : List Mark) (place : ℕ) (mark : Mark) (b : Bool) → marks ≡ before point → slice_get marks place ≡ Some mark
-      → IsTrue b ↔ FaultsBy point (take place marks) place stmt level g c fault reason mark → IsTrue b ↔ FaultsAt point stmt level g c fault reason place
-  fault-at marks place mark b whole at by = subst P whole at by
-    where
-      P : List Mark → Type 0
-      P ms = slice_get ms place ≡ Some mark → IsTrue b ↔ FaultsBy point (take place ms) place stmt level g c fault reason mark → IsTrue b ↔ FaultsAt point stmt level g c fault reason place

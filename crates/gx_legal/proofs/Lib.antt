@@ -1,5 +1,4 @@
 pub mod Causes
-pub mod Causing
 pub mod Completing
 pub mod Doings
 pub mod Earlier

@@ -59,7 +59,7 @@ has-key columns Randomly tuple d h = tt
 
 -- IT CAN BE PLANNED
 module _ (script : Script) (language : IsScript script) (schema : Schema) where
-  plannable : (line : Stmt) → IsStmtOf script.tables line → IsOn script.tables line schema → IsShort line → IsCommand schema.dist line
+  pub plannable : (line : Stmt) → IsStmtOf script.tables line → IsOn script.tables line schema → IsShort line → IsCommand schema.dist line
   plannable (stmt.Begin level) is on short = absurd (cc)
   plannable stmt.Commit is on short = absurd (cc)
   plannable stmt.Rollback is on short = absurd (cc)
@@ -76,6 +76,9 @@ module _ (script : Script) (language : IsScript script) (schema : Schema) where
       over = subst (λ (s : Schema). All (IsTuple s.columns) tuples) (some-same is.0 schema (sym is.1 ∙ on)) is.2
 
 -- WHERE ITS PIECES GO
+ok-same : {A E : Type 0} {x y : A} → ◌≡◌ {A = Result A E} (Ok x) (Ok y) → x ≡ y
+ok-same e = cc
+
 module _ (script : Script) (g : Gxid) (c : Cid) (line : Stmt) where
   on-table : (schema : Schema) (table : Table) → IsOn script.tables line schema → table_of line ≡ Some table → dist_of script.tables table.0 ≡ schema.dist
   on-table schema table on of = dist-at script.tables table.0 schema (subst (λ o. table_at script.tables o ≡ Some schema) of on)
@@ -83,11 +86,8 @@ module _ (script : Script) (g : Gxid) (c : Cid) (line : Stmt) where
   plan-there : (schema : Schema) (goes : (node : Node) × GoesTo script g c line node) → IsOn script.tables line schema → plan_of script.segments schema.dist g c line ≡ Ok goes.1.pieces
   plan-there schema goes on = sym (ap (λ d. plan_of script.segments d g c line) (on-table schema goes.1.table on goes.1.of)) ∙ goes.1.plan
 
-  ok-same : (xs ys : List Piece) → Ok xs ≡ Ok ys → xs ≡ ys
-  ok-same xs ys e = cc
-
   pub pieces-sent : (schema : Schema) (pieces : List Piece) → IsOn script.tables line schema → plan_of script.segments schema.dist g c line ≡ Ok pieces → AreSent script g c line pieces
-  pieces-sent schema pieces on plan node = (λ goes. subst (λ ps. Contains (map node_of ps) node) (sym (ok-same pieces goes.pieces (sym plan ∙ plan-there schema (node, goes) on))) goes.among, λ among. at (table_of line) refl among)
+  pieces-sent schema pieces on plan node = (λ goes. subst (λ ps. Contains (map node_of ps) node) (sym (ok-same (sym plan ∙ plan-there schema (node, goes) on))) goes.among, λ among. at (table_of line) refl among)
     where
       at : (o : Option Table) → table_of line ≡ o → Contains (map node_of pieces) node → GoesTo script g c line node
       at None e among = absurd (none-some _ schema (ap (table_at script.tables) e) on)
@@ -99,7 +99,7 @@ module _ (script : Script) (g : Gxid) (c : Cid) (line : Stmt) where
   pub fault-sent : (schema : Schema) (fault : ArithFault) → IsOn script.tables line schema → plan_of script.segments schema.dist g c line ≡ Err fault → AreSent script g c line []
   fault-sent schema fault on plan = none-sent (λ node goes. clash goes.pieces (sym plan ∙ plan-there schema (node, goes) on))
     where
-      clash : (pieces : List Piece) → Err fault ≡ Ok pieces → ⊥
+      clash : (pieces : List Piece) → ◌≡◌ {A = Result (List Piece) ArithFault} (Err fault) (Ok pieces) → ⊥
       clash pieces e = cc
 
   pub unplanned-sent : IsStmtOf script.tables line → table_at script.tables (table_of line) ≡ None → AreSent script g c line []

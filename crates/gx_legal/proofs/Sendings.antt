@@ -1,5 +1,6 @@
 -- The first sending of a segment's word, and rows that were overtaken when it was said.
-use Rattle.std.proofs.Common.{◌≡◌, ◌↔◌, ◌⊎◌, ◌∙◌, ◌<◌, ◌≤◌, ◌+◌, ◌++◌, ℕ, zero, suc, Bool, true, false, IsTrue, Option, List, [], ◌∷◌, Some, None, inl, inr, length, take, drop, slice_get, refl, sym, subst, ap, arith}
+use Rattle.std.proofs.Common.{◌≡◌, ◌↔◌, ◌⊎◌, ◌∙◌, ◌<◌, ◌≤◌, ◌+◌, ◌++◌, ℕ, zero, suc, eqb, nat_lt, Bool, true, false, IsTrue, Option, List, [], ◌∷◌, Some, None, inl, inr, length, take, drop, slice_get, refl, sym, subst, ap, arith}
+use Rattle.std.proofs.lemmas.Bool.{eqb-true}
 use Rattle.std.proofs.lemmas.List.{append-nil}
 use Rattle.gx_ids.specs.declared.ids.Cid.{Cid}
 use Rattle.gx_ids.specs.declared.ids.Gxid.{Gxid}
@@ -7,6 +8,7 @@ use Rattle.gx_ids.specs.declared.ids.Node.{Node}
 use Rattle.gx_ids.specs.declared.ids.Table.{Table}
 use Rattle.gx_ids.specs.declared.rid.Rid.{Rid}
 use Rattle.gx_lemmas.proofs.Lists.{place-below}
+use Rattle.gx_lemmas.proofs.Numbers.{le-apart, le-of, lt-of}
 use Rattle.gx_lemmas.proofs.Options.{some-same}
 use Rattle.gx_msg.specs.declared.message.Message.{Message}
 use Rattle.gx_msg.specs.declared.message.Message.TheVariants as message
@@ -19,18 +21,17 @@ use Rattle.gx_store.specs.declared.mark.Mark.TheVariants.{Sent}
 use Rattle.gx_store.specs.declared.run.Step.{Step}
 use Rattle.gx_store.specs.Messages.{IsFirstSent, IsSending, Receives, marks_before}
 use Rattle.gx_store.specs.Points.{Point, before, marks_in}
-use Rattle.gx_store.specs.Refusals.{IsChange, IsOvertaken, IsOvertakenRow, the_coordinator}
+use Rattle.gx_store.specs.Refusals.{IsOvertakenRow, the_coordinator}
 use Rattle.gx_tree.specs.declared.cond.Cond.{Cond}
 use Rattle.gx_tree.specs.declared.stmt.Level.{Level}
-use Rattle.gx_tree.specs.declared.stmt.Level.TheVariants.{RepeatableRead}
-use Rattle.gx_tree.specs.declared.stmt.Stmt.{Stmt}
 use Rattle.gx_legal.proofs.Causes.{failed-told, sender-same}
-use Rattle.gx_legal.proofs.Places.{step-whole}
+use Rattle.gx_legal.proofs.Places.{none-below, step-inside, step-whole}
 use Rattle.gx_legal.proofs.Stepping.{take-part}
 use Rattle.gx_legal.specs.Causes.{IsOvertakenThere}
-use Rattle.gx_legal.specs.Firsts.{IsFirstSending, SendsFrom}
+use Rattle.gx_legal.specs.Firsts.{IsFirstIn, IsFirstSending, SendsFrom, SendsWordAt}
 use Rattle.gx_legal.specs.Words.{Delivers}
 use Rattle.gx_legal.specs.declared.firsts.Sending.{Sending}
+use Rattle.gx_legal.specs.declared.word.Word.{Word}
 use Rattle.gx_legal.specs.declared.word.Word.TheVariants as word
 
 -- THE MARKS BEFORE A MARK OF A STEP
@@ -82,11 +83,47 @@ module _ (g : Gxid) (c : Cid) (why : Cause) (from to : Node) (steps : List Step)
       let below : first.mark < length s.0.marks = place-below s.0.marks first.mark s.3.0 s.3.1 in
       marks-up-to steps first.step first.mark first.start s.0 earlier all s.1 (omega (arith, below)) whole is.2
 
+pub first-inside : (g : Gxid) (said : Word) (from to : Node) (steps : List Step) (first : Sending) (earlier all : List Mark) → IsFirstSending g said from to steps (Some first) → all ≡ marks_in steps ++ earlier → first.start + first.mark ≤ length all
+first-inside g said from to steps first earlier all is whole =
+    let s = is.0 in
+    let below : first.mark < length s.0.marks = place-below s.0.marks first.mark s.3.0 s.3.1 in
+    let inside : first.start + length s.0.marks ≤ length all = step-inside steps first.step s.0 earlier all (first.start + length s.0.marks) s.1 whole (ap (λ k. k + length s.0.marks) is.2) in
+    omega (arith, below, inside)
+
+-- FINDING IT
+module _ (g : Gxid) (said : Word) (from to : Node) (steps : List Step) (number : ℕ) (step : Step) (at : slice_get steps number ≡ Some step)
+    (none : (n : ℕ) → n < number → (place : ℕ) → SendsFrom g said from to steps n place → ⊥) where
+  pub found-here : (mark start : ℕ) → IsFirstIn g said from to step (Some mark) → start ≡ length (marks_in (take number steps)) → IsFirstSending g said from to steps (Some (record { step = number; mark = mark; start = start }))
+  found-here mark start is begins = ((step, at, is.0, is.1.0), least, begins)
+    where
+      at-least : (place : ℕ) → SendsWordAt g said to step.marks place → mark ≤ place
+      at-least place sends = by_test (nat_lt place mark) refl
+        where
+          by_test : (b : Bool) → nat_lt place mark ≡ b → mark ≤ place
+          by_test true e = absurd (is.1.1 place (lt-of place mark e) sends.0 sends.1 sends.2)
+          by_test false e = le-of place mark e
+      least : (n place : ℕ) → SendsFrom g said from to steps n place → (number < n) ⊎ ((number ≡ n) × (mark ≤ place))
+      least n place sends = by_order (nat_lt n number) refl
+        where
+          same : number ≡ n → sends.0 ≡ step
+          same e = some-same sends.0 step (sym sends.1 ∙ ap (slice_get steps) (sym e) ∙ at)
+          by_same : (b : Bool) → eqb number n ≡ b → number ≤ n → (number < n) ⊎ ((number ≡ n) × (mark ≤ place))
+          by_same true e le = let k : number ≡ n = eqb-true number n e in inr (k, at-least place (subst (λ (s : Step). SendsWordAt g said to s.marks place) (same k) sends.3))
+          by_same false e le = let k : number + 1 ≤ n = le-apart number n le e in inl (omega (arith, k))
+          by_order : (b : Bool) → nat_lt n number ≡ b → (number < n) ⊎ ((number ≡ n) × (mark ≤ place))
+          by_order true e = absurd (none n (lt-of n number e) place sends)
+          by_order false e = by_same (eqb number n) refl (le-of n number e)
+
+  pub found-later : IsFirstIn g said from to step None → (n : ℕ) → n < number + 1 → (place : ℕ) → SendsFrom g said from to steps n place → ⊥
+  found-later is n inside place sends = none-below (λ k. (i : ℕ) × SendsFrom g said from to steps k i) number (λ k i p. none k i p.0 p.1) here n inside (place, sends)
+    where
+      here : (i : ℕ) × SendsFrom g said from to steps number i → ⊥
+      here (i, (other, there, node, sends)) =
+          let same : other ≡ step = some-same other step (sym there ∙ at) in
+          is i (subst (λ (s : Step). s.stamp.node ≡ from) same node) (subst (λ (s : Step). SendsWordAt g said to s.marks i) same sends)
+
 -- A ROW THAT WAS OVERTAKEN
 module _ (point : Point) (level : Level) (g : Gxid) (c : Cid) (rid : Rid) (h : Gxid) where
-  abbrev why-not : Cause
-  why-not = cause.Serialization rid h
-
   module _ (table : Table) (found : Option Cond) (from to : Node) (number : ℕ) (told : Bool) (event-is : point.event ≡ event.Receive from to number)
       (tells : IsTrue told ↔ Delivers g (word.Failed c (cause.Serialization rid h)) from the_coordinator point.steps point.event) where
     received-is : IsTrue told ↔ Receives point.steps point.event from the_coordinator (message.Answer g (reply.Failed c (cause.Serialization rid h)))
@@ -109,29 +146,6 @@ module _ (point : Point) (level : Level) (g : Gxid) (c : Cid) (rid : Rid) (h : G
             let sent = subst (λ (n : Node). IsFirstSent point.steps n the_coordinator (message.Answer g (reply.Failed c (cause.Serialization rid h))) there.2.0) (its-sender there) there.2.1 in
             row.1 (subst (λ ms. IsOvertakenRow ms level g c table found rid h) (first-only g c (cause.Serialization rid h) from the_coordinator point.steps first there.2.0 is sent ∙ sym upto) there.2.2)
 
-    pub there-untold : told ≡ false → IsOvertakenThere point level g c table found rid h → ⊥
-    there-untold unheard there =
-        clash told (received-is.1 (subst (λ (n : Node). Receives point.steps point.event n the_coordinator (message.Answer g (reply.Failed c (cause.Serialization rid h)))) (its-sender there) there.1)) unheard
-      where
-        clash : (x : Bool) → x ≡ true → x ≡ false → ⊥
-        clash true e f = cc
-        clash false e f = cc
-
     pub there-unsent : IsFirstSending g (word.Failed c (cause.Serialization rid h)) from the_coordinator point.steps None → IsOvertakenThere point level g c table found rid h → ⊥
     there-unsent is there = none-first g c (cause.Serialization rid h) from the_coordinator point.steps is there.2.0
         (subst (λ (n : Node). IsFirstSent point.steps n the_coordinator (message.Answer g (reply.Failed c (cause.Serialization rid h))) there.2.0) (its-sender there) there.2.1)
-
-  pub there-none : (table : Table) (found : Option Cond) → ((from to : Node) (number : ℕ) → point.event ≡ event.Receive from to number → ⊥) → IsOvertakenThere point level g c table found rid h → ⊥
-  there-none table found none there = none there.0 the_coordinator there.1.number there.1.is
-
-  -- the statement changes rows of this table that meet this condition, and of no other
-  pub overtaken-is : (stmt : Stmt) (table : Table) (found : Option Cond) (b : Bool) → level ≡ RepeatableRead → IsChange stmt table found
-      → ((t : Table) (f : Option Cond) → IsChange stmt t f → (table ≡ t) × (found ≡ f)) → IsTrue b ↔ IsOvertakenThere point level g c table found rid h → IsTrue b ↔ IsOvertaken point stmt level g c rid h
-  overtaken-is stmt table found b isolation change only there = (to-overtaken, from-overtaken)
-    where
-      to-overtaken : IsTrue b → IsOvertaken point stmt level g c rid h
-      to-overtaken t = let x = there.0 t in
-          record { isolation = isolation; table = table; cond = found; change = change; segment = x.0; received = x.1; then = x.2.0; first = x.2.1; rows = x.2.2 }
-      from-overtaken : IsOvertaken point stmt level g c rid h → IsTrue b
-      from-overtaken is = let o = only is.table is.cond is.change in
-          there.1 (is.segment, is.received, (is.then, is.first, subst (λ f. IsOvertakenRow is.then level g c table f rid h) (sym o.1) (subst (λ t. IsOvertakenRow is.then level g c t is.cond rid h) (sym o.0) is.rows)))

@@ -3,7 +3,9 @@ use Rattle.std.proofs.Common.{◌≡◌, ◌↔◌, ◌<◌, ◌+◌, ◌&&◌, 
 use Rattle.std.proofs.lemmas.Bool.{eqb-true}
 use Rattle.gx_ids.specs.declared.ids.SessionId.{SessionId}
 use Rattle.gx_lemmas.proofs.Numbers.{lt-next}
+use Rattle.gx_lemmas.proofs.Options.{some-same}
 use Rattle.gx_lemmas.proofs.Tests.{and-first, true-false}
+use Rattle.gx_meaning.specs.Statements.{IsStmtOf}
 use Rattle.gx_script.specs.declared.Line.{Line}
 use Rattle.gx_store.specs.Language.{IsLine}
 use Rattle.gx_store.specs.Lines.{stmt_of}
@@ -18,6 +20,15 @@ none-up-to P n below here s inside p = by_test (eqb s.0 n) refl
     by_test : (b : Bool) → eqb s.0 n ≡ b → ⊥
     by_test true e = here (subst (λ (k : ℕ). P (record { 0 = k })) (eqb-true s.0 n e) p)
     by_test false e = below s (lt-next s.0 n inside e) p
+
+-- a line of the script keeps the rules over its tables
+pub stmt-inside : (tables : List Schema) (count : ℕ) (session : SessionId) (number : ℕ) (lines : List Line) (stmt : Stmt) → All (IsLine tables count) lines → stmt_of session number lines ≡ Some stmt → IsStmtOf tables stmt
+stmt-inside tables count session number [] stmt are e = absurd (cc)
+stmt-inside tables count session number (l ∷ ls) stmt are e = by_test (is_same_session l.session session && (l.number == number)) e (stmt-inside tables count session number ls stmt (λ k d i. are (suc k) d (omega arith)))
+  where
+    by_test : (b : Bool) → cond b (Some l.stmt) (stmt_of session number ls) ≡ Some stmt → (stmt_of session number ls ≡ Some stmt → IsStmtOf tables stmt) → IsStmtOf tables stmt
+    by_test true f rest = subst (IsStmtOf tables) (some-same l.stmt stmt f) (are 0 l (omega arith)).1
+    by_test false f rest = rest f
 
 -- a session with a line is one of the script
 pub session-inside : (tables : List Schema) (count : ℕ) (session : SessionId) (number : ℕ) (lines : List Line) (stmt : Stmt) → All (IsLine tables count) lines → stmt_of session number lines ≡ Some stmt → session.0 < count

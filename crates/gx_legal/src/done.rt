@@ -1,5 +1,6 @@
 // Whether a command has succeeded.
-ghost use Rattle.std.specs.Prelude.{◌≡◌, ◌↔◌, All, IfOk, IsTrue};
+ghost use Rattle.std.specs.Prelude.{◌≡◌, ◌↔◌, IfOk, IsTrue};
+ghost use Rattle.std.specs.List.{AllByRecursion};
 ghost use Rattle.gx_meaning.specs.Statements.{IsStmtOf};
 ghost use Rattle.gx_store.specs.Answers.{IsAtItsEnd, IsDone};
 ghost use Rattle.gx_store.specs.Commands.{state_at};
@@ -45,7 +46,7 @@ fn is_returned(moment: &Moment<'_>, command: Command, node: Node) -> bool
 }
 
 fn are_back(moment: &Moment<'_>, command: Command, pieces: &[Piece]) -> bool
-    ensures { IsTrue result ↔ All (IsPieceBack (point_of moment.now) command.gxid command.cid) pieces.now }
+    ensures { IsTrue result ↔ AllByRecursion (IsPieceBack (point_of moment.now) command.gxid command.cid) pieces.now }
 {
     for piece in pieces {
         if !is_returned(moment, command, piece.node) {

@@ -22,6 +22,13 @@ pub struct Evaluation<'a> {
     pub image: &'a Option<Row>,
 }
 
+fn is_same(image: &Option<Row>, other: &Option<Row>) -> bool
+    ensures { IsTrue result ↔ (image.now ≡ other.now) }
+{
+    let is = is_same_image(image, other);
+    is
+}
+
 fn is_note(mark: &Mark, evaluation: Evaluation<'_>) -> bool
     ensures { IsTrue result ↔ (mark.now ≡ Fault evaluation.entry.gxid evaluation.entry.cid evaluation.entry.rid evaluation.entry.image.now) }
 {
@@ -34,7 +41,7 @@ fn is_note(mark: &Mark, evaluation: Evaluation<'_>) -> bool
         } => *gxid == evaluation.gxid
             && *cid == evaluation.cid
             && *rid == evaluation.rid
-            && is_same_image(image, evaluation.image),
+            && is_same(image, evaluation.image),
         _ => false,
     }
 }

@@ -1,5 +1,5 @@
 // The nodes to which a command goes.
-ghost use Rattle.std.specs.Prelude.{◌≡◌, ◌<◌, ◌^◌, IfOk, Some, true};
+ghost use Rattle.std.specs.Prelude.{◌≡◌, ◌<◌, ◌^◌, [], IfOk, Some, true};
 ghost use Rattle.std.specs.Option.{option_copied};
 ghost use Rattle.gx_meaning.specs.Statements.{IsStmtOf, table_of as its_table};
 ghost use Rattle.gx_store.specs.Language.{IsScript};
@@ -34,6 +34,12 @@ fn schema_at(tables: &[Schema], table: Option<Table>) -> Option<&Schema>
     }
 }
 
+fn schema_of<'a>(script: &'a Script, stmt: &Stmt) -> Option<&'a Schema>
+    ensures { option_copied result ≡ table_at script.now.tables (its_table stmt.now) }
+{
+    schema_at(script.tables.as_slice(), table_of(stmt))
+}
+
 fn is_short(stmt: &Stmt) -> bool
     ensures { result ≡ true → IsShort stmt.now }
 {
@@ -41,6 +47,12 @@ fn is_short(stmt: &Stmt) -> bool
         Stmt::Insert(_, tuples) => tuples.len() < 4_294_967_296,
         _ => true,
     }
+}
+
+fn no_pieces(alloc: Global) -> Vec<Piece>
+    ensures { result.items ≡ [] }
+{
+    Vec::new(alloc)
 }
 
 // Where a constant of the command faults it goes nowhere.
@@ -54,7 +66,8 @@ fn planned(alloc: Global, script: &Script, schema: &Schema, command: Command, st
     match plan(alloc, stmt, schema, command.gxid, command.cid, script.segments) {
         Ok(pieces) => Ok(pieces),
         Err(EvalFault::OutOfMemory) => Err(OutOfMemory),
-        Err(EvalFault::Overflow) | Err(EvalFault::DivisionByZero) => Ok(Vec::new(alloc)),
+        Err(EvalFault::Overflow) => Ok(no_pieces(alloc)),
+        Err(EvalFault::DivisionByZero) => Ok(no_pieces(alloc)),
     }
 }
 
@@ -67,8 +80,8 @@ pub fn pieces_of(alloc: Global, script: &Script, command: Command, stmt: &Stmt) 
     if !is_short(stmt) {
         return Err(OutOfMemory);
     }
-    match schema_at(script.tables.as_slice(), table_of(stmt)) {
+    match schema_of(script, stmt) {
         Some(schema) => planned(alloc, script, schema, command, stmt),
-        None => Ok(Vec::new(alloc)),
+        None => Ok(no_pieces(alloc)),
     }
 }

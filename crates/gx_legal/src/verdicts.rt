@@ -1,5 +1,6 @@
 // Whether a round of the detector may end so.
 ghost use Rattle.std.specs.Prelude.{◌≡◌, ◌↔◌, ℕ, All, Contains, IsTrue};
+ghost use Rattle.std.specs.List.{AllByRecursion};
 ghost use Rattle.gx_store.specs.declared.answer.Refused.TheVariants.{Victim};
 ghost use Rattle.gx_store.specs.declared.answer.StmtAnswer.TheVariants.{Refused as RefusedBy};
 ghost use Rattle.gx_store.specs.declared.mark.Mark.TheVariants.{Answer};
@@ -56,8 +57,8 @@ fn is_cancelled(moment: &Moment<'_>, round: u64, gxid: Gxid) -> bool
     }
 }
 
-fn are_cancelled(moment: &Moment<'_>, round: u64, victims: &[Gxid]) -> bool
-    ensures { IsTrue result ↔ All (IsCancelled (point_of moment.now) round) victims.now }
+fn each_is_cancelled(moment: &Moment<'_>, round: u64, victims: &[Gxid]) -> bool
+    ensures { IsTrue result ↔ AllByRecursion (IsCancelled (point_of moment.now) round) victims.now }
 {
     for victim in victims {
         if !is_cancelled(moment, round, *victim) {
@@ -65,6 +66,13 @@ fn are_cancelled(moment: &Moment<'_>, round: u64, victims: &[Gxid]) -> bool
         }
     }
     true
+}
+
+fn are_cancelled(moment: &Moment<'_>, round: u64, victims: &[Gxid]) -> bool
+    ensures { IsTrue result ↔ All (IsCancelled (point_of moment.now) round) victims.now }
+{
+    let are = each_is_cancelled(moment, round, victims);
+    are
 }
 
 /// Whether the round may end so.
