@@ -94,6 +94,7 @@ module _ (point : Point) (g : Gxid) (c : Cid) (rid : Rid) (image : Option (List 
     where
       r : IsTrue told ↔ Receives point.steps point.event from the_coordinator (message.Answer g (reply.Failed c reason))
       r = failed-told g from the_coordinator point.steps point.event told c reason h
+
       there : IsTrue (told && noted) → IsWord point g c rid image reason
       there t = let s = n.0 (and-second told noted t) in record {
         segment = from;
@@ -104,6 +105,7 @@ module _ (point : Point) (g : Gxid) (c : Cid) (rid : Rid) (image : Option (List 
         node = s.1.2.0;
         noted = stands-contains _ _ s.1.2.1.0 (s.1.2.1.1.1 ∙ ap Some s.1.2.1.1.2);
       }
+
       back : IsWord point g c rid image reason → IsTrue (told && noted)
       back w =
           let f : w.segment ≡ from = sender-same w.segment the_coordinator from to w.said.number number (sym w.said.is ∙ e) in

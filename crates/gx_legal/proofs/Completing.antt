@@ -72,7 +72,9 @@ module _ (script : Script) (point : Point) (line : Stmt) (reply : StmtAnswer) (s
       where
         here : transaction_of (state_at script session point) session (before point) ≡ Some g
         here = subst (λ ms. transaction_of (state_of script session ms) session ms ≡ Some g) whole transaction
+
         to : IsDoneBy script point (state_at script session point) g line reply → IsDone script point session (state_at script session point) line reply
         to by = record { command = subst (λ s. is_command s line ≡ true) at-point command; g = g; transaction = here; end = by.0; told = by.1; back = by.2 }
+
         from : IsDone script point session (state_at script session point) line reply → IsDoneBy script point (state_at script session point) g line reply
         from done = subst (λ h. IsDoneBy script point (state_at script session point) h line reply) (some-same done.g g (sym done.transaction ∙ here)) (done.end, done.told, done.back)

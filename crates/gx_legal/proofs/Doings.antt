@@ -40,6 +40,7 @@ module _ (script : Script) (point : Point) (g : Gxid) (c : Cid) where
     where
       P : List Mark → Type 0
       P ms = (IsByCommand script point (record { marks = ms; g = g; c = c; act = live }) → ⊥) → IsTrue b ↔ IsLateDoing script point (record { marks = ms; g = g; c = c; act = late }) → IsTrue b ↔ IsByEither script point g c live late
+
       at : P (before point)
       at n h = (λ t. inr (h.0 t), back)
         where
@@ -53,6 +54,7 @@ module _ (script : Script) (point : Point) (g : Gxid) (c : Cid) where
       to : IsByEither script point g c (act.Write row image) (act.LateWrite row) → LegalWrite script point g c row.node row.table row.rid image.now
       to (inl by) = inl (record { session = by.0; stmt = by.1.0; level = by.1.1; runs = by.1.2; snapped = by.1.3.0; writes = by.1.3.1 })
       to (inr late) = let x = late-of (act.LateWrite row) late in inr (record { stmt = x.0; late = x.2; writes = x.3 })
+
       back : LegalWrite script point g c row.node row.table row.rid image.now → IsByEither script point g c (act.Write row image) (act.LateWrite row)
       back (inl live) = inl (live.session, (live.stmt, live.level, live.runs, (live.snapped, live.writes)))
       back (inr late) = inr (by-late (act.LateWrite row) late.stmt late.late late.writes)
@@ -63,6 +65,7 @@ module _ (script : Script) (point : Point) (g : Gxid) (c : Cid) where
       to : IsByEither script point g c (act.Skip rid) act.LateSkip → LegalSkip script point g c rid
       to (inl by) = inl (record { session = by.0; stmt = by.1.0; level = by.1.1; runs = by.1.2; skips = by.1.3 })
       to (inr late) = let x = late-of act.LateSkip late in inr (record { stmt = x.0; late = x.2; kind = x.3 })
+
       back : LegalSkip script point g c rid → IsByEither script point g c (act.Skip rid) act.LateSkip
       back (inl live) = inl (live.session, (live.stmt, live.level, live.runs, live.skips))
       back (inr late) = inr (by-late act.LateSkip late.stmt late.late late.kind)
@@ -73,6 +76,7 @@ module _ (script : Script) (point : Point) (g : Gxid) (c : Cid) where
       to : IsByEither script point g c (act.Fault rid image) act.LateFault → LegalFault script point g c rid image.now
       to (inl by) = inl (record { session = by.0; stmt = by.1.0; level = by.1.1; fault = by.1.3.0; runs = by.1.2; faults = by.1.3.1 })
       to (inr late) = let x = late-of act.LateFault late in inr (record { stmt = x.0; late = x.2; kind = x.3 })
+
       back : LegalFault script point g c rid image.now → IsByEither script point g c (act.Fault rid image) act.LateFault
       back (inl live) = inl (live.session, (live.stmt, live.level, live.runs, (live.fault, live.faults)))
       back (inr late) = inr (by-late act.LateFault late.stmt late.late late.kind)

@@ -65,10 +65,11 @@ module _ (script : Script) (point : Point) (doing : Doing) where
   pub behind-some : (number : ℕ) (step : Step) → point.steps ≡ take number point.steps ++ step ∷ drop (number + 1) point.steps → IsByEarlierInStep script (behind point number step) doing → IsByEarlierStep script point doing
   behind-some number step split by =
       let early : Point = by.0 in
-      let is : IsBeforeInStep early (behind point number step) = by.1 in
-      (record { steps = early.steps; event = early.event; earlier = early.earlier; later = is.between },
-      record { step = step; rest = drop (number + 1) point.steps; among = split ∙ ap (λ ss. ss ++ step ∷ drop (number + 1) point.steps) (sym is.steps); event = is.event; marks = is.marks },
-      by-command-like script early (record { steps = early.steps; event = early.event; earlier = early.earlier; later = is.between }) doing refl refl refl by.2)
+      let is : IsBeforeInStep early (behind point number step) = by.1 in (
+        record { steps = early.steps; event = early.event; earlier = early.earlier; later = is.between },
+        record { step = step; rest = drop (number + 1) point.steps; among = split ∙ ap (λ ss. ss ++ step ∷ drop (number + 1) point.steps) (sym is.steps); event = is.event; marks = is.marks },
+        by-command-like script early (record { steps = early.steps; event = early.event; earlier = early.earlier; later = is.between }) doing refl refl refl by.2,
+      )
 
   pub behind-none : (number : ℕ) (step : Step) → slice_get point.steps number ≡ Some step → ((early : Point) → IsPointOf point.steps early → length early.steps < number → IsByCommand script early doing → ⊥)
       → (IsByEarlierInStep script (behind point number step) doing → ⊥) → (early : Point) → IsPointOf point.steps early → length early.steps < number + 1 → IsByCommand script early doing → ⊥
@@ -77,16 +78,21 @@ module _ (script : Script) (point : Point) (doing : Doing) where
       same : (ss : List Step) (k : ℕ) (t : Step) (rest : List Step) → k ≡ length ss → slice_get (ss ++ t ∷ rest) k ≡ Some t
       same [] k t rest e = rw e refl
       same (s ∷ ss) k t rest e = rw e (same ss (length ss) t rest refl)
+
       by_test : (b : Bool) → eqb (length early.steps) number ≡ b → ⊥
       by_test true e =
           let n : length early.steps ≡ number = eqb-true (length early.steps) number e in
           let t : is.step ≡ step = some-same _ _ (sym (same early.steps number is.step is.rest (sym n)) ∙ ap (λ ss. slice_get ss number) (sym is.among) ∙ at) in
-          here (early, record {
-            steps = sym (take-append_seam early.steps (is.step ∷ is.rest)) ∙ ap (λ ss. take (length early.steps) ss) (sym is.among) ∙ ap (λ k. take k point.steps) n;
-            event = is.event ∙ ap (λ (s : Step). s.event) t;
-            between = early.later;
-            marks = ap (λ (s : Step). s.marks) (sym t) ∙ is.marks;
-          }, by)
+          here (
+            early,
+            record {
+              steps = sym (take-append_seam early.steps (is.step ∷ is.rest)) ∙ ap (λ ss. take (length early.steps) ss) (sym is.among) ∙ ap (λ k. take k point.steps) n;
+              event = is.event ∙ ap (λ (s : Step). s.event) t;
+              between = early.later;
+              marks = ap (λ (s : Step). s.marks) (sym t) ∙ is.marks;
+            },
+            by,
+          )
       by_test false e = below early is (lt-next (length early.steps) number inside e) by
 
   pub behind-inside : (early : Point) → IsPointOf point.steps early → length early.steps < length point.steps

@@ -42,6 +42,7 @@ module _ (script : Script) (point : Point) (session : SessionId) where
     where
       there : judgement ≡ judged (state_at script session point) line reply
       there = is ∙ ap (λ s. judged s line reply) (stands ∙ ap (state_of script session) whole)
+
       here : Meets script point session (state_at script session point) line reply judgement ↔ IsAnswer script point session (state_at script session point) line reply
       here = subst (λ j. Meets script point session (state_at script session point) line reply j ↔ IsAnswer script point session (state_at script session point) line reply) (sym there)
           (judged-is (state_at script session point) line reply)

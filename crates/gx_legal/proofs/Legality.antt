@@ -17,10 +17,13 @@ module _ (script : Script) (steps : List Step) (event : Event) (marks : List Mar
     where
       left : drop k marks ≡ m ∷ drop (k + 1) marks
       left = drop_more marks k m inside ∙ ap (λ x. x ∷ drop (k + 1) marks) (sym is)
+
       next : take k marks ++ m ∷ [] ≡ take (k + 1) marks
       next = ap (λ x. take k marks ++ x ∷ []) is ∙ sym (take_more marks k m inside)
+
       cut : AreLegalMarks script steps event (take k marks) (m ∷ drop (k + 1) marks) [] → LegalMark script (at (drop (k + 1) marks)) m × AreLegalMarks script steps event (take (k + 1) marks) (drop (k + 1) marks) []
       cut h = (subst (λ ms. LegalMark script (at ms) m) (append-nil (drop (k + 1) marks)) h.0, subst (λ ms. AreLegalMarks script steps event ms (drop (k + 1) marks) []) next h.1)
+
       join : LegalMark script (at (drop (k + 1) marks)) m × AreLegalMarks script steps event (take (k + 1) marks) (drop (k + 1) marks) [] → AreLegalMarks script steps event (take k marks) (m ∷ drop (k + 1) marks) []
       join h = (subst (λ ms. LegalMark script (at ms) m) (sym (append-nil (drop (k + 1) marks))) h.0, subst (λ ms. AreLegalMarks script steps event ms (drop (k + 1) marks) []) (sym next) h.1)
 
@@ -41,10 +44,13 @@ module _ (script : Script) (steps : List Step) (k : ℕ) (s : Step) (inside : k 
     where
       left : drop k steps ≡ s ∷ drop (k + 1) steps
       left = drop_more steps k s inside ∙ ap (λ x. x ∷ drop (k + 1) steps) (sym is)
+
       next : take k steps ++ s ∷ [] ≡ take (k + 1) steps
       next = ap (λ x. take k steps ++ x ∷ []) is ∙ sym (take_more steps k s inside)
+
       cut : AreLegalSteps script (take k steps) (s ∷ drop (k + 1) steps) → IsLegalStep script (take k steps) s × AreLegalSteps script (take (k + 1) steps) (drop (k + 1) steps)
       cut h = (h.0, subst (λ ss. AreLegalSteps script ss (drop (k + 1) steps)) next h.1)
+
       join : IsLegalStep script (take k steps) s × AreLegalSteps script (take (k + 1) steps) (drop (k + 1) steps) → AreLegalSteps script (take k steps) (s ∷ drop (k + 1) steps)
       join h = (h.0, subst (λ ss. AreLegalSteps script ss (drop (k + 1) steps)) (sym next) h.1)
 

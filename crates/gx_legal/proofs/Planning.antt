@@ -67,10 +67,13 @@ module _ (script : Script) (language : IsScript script) (schema : Schema) where
   plannable (stmt.Update table assigns found) is on short = tt
   plannable (stmt.Delete table found) is on short = tt
   plannable (stmt.Lock table mode) is on short = tt
-  plannable (stmt.Insert table tuples) is on short = (short, λ k tuple inside. record {
-    constants = All-from_recursion IsConstant _ (some-kinds _ (column_kinds schema.columns) (over k tuple inside));
-    key = has-key schema.columns schema.dist _ (table-in script.tables table.0 schema (recursion_from_All IsTable script.tables language.tables) on).schema.key (over k tuple inside);
-  })
+  plannable (stmt.Insert table tuples) is on short = (
+    short,
+    λ k tuple inside. record {
+      constants = All-from_recursion IsConstant _ (some-kinds _ (column_kinds schema.columns) (over k tuple inside));
+      key = has-key schema.columns schema.dist _ (table-in script.tables table.0 schema (recursion_from_All IsTable script.tables language.tables) on).schema.key (over k tuple inside);
+    },
+  )
     where
       over : All (IsTuple schema.columns) tuples
       over = subst (λ (s : Schema). All (IsTuple s.columns) tuples) (some-same is.0 schema (sym is.1 ∙ on)) is.2

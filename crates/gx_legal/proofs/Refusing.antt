@@ -31,13 +31,16 @@ module _ (point : Point) (round : ℕ) (g : Gxid) (marks : List Mark) (same : ma
     where
       here : session_of (before point) g ≡ Some session
       here = subst (λ ms. session_of ms g ≡ Some session) same of
+
       to : IsTrue (aborted && refused) → IsCancelled point round g
       to t = let r = refusal-among session round point.later (h.0 (and-second aborted refused t)) in
           record { aborted = sym a ∙ and-first aborted refused t; session = session; number = r.0; of = here; refused = r.1 }
+
       both : (x y : Bool) → x ≡ true → y ≡ true → (x && y) ≡ true
       both true true e f = refl
       both false y e f = absurd (false-true e)
       both true false e f = absurd (false-true f)
+
       back : IsCancelled point round g → IsTrue (aborted && refused)
       back is = let s : session ≡ is.session = some-same session is.session (sym here ∙ is.of) in
           both aborted refused (a ∙ is.aborted) (h.1 (among-refusal session round is.number point.later (subst (λ (x : SessionId). Contains point.later (Answer x is.number (Refused (Victim round)))) (sym s) is.refused)))

@@ -33,6 +33,7 @@ seen-commits (Commit g ∷ ms) snapshot f = (f g (here (eqb g.0 g.0) (is_committ
     here : (a b : Bool) → a ≡ true → (a || b) ≡ true
     here true b e = refl
     here false b e = absurd (false-true e)
+
     there : (a b : Bool) → b ≡ true → (a || b) ≡ true
     there true b e = refl
     there false b e = e

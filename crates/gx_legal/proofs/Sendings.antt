@@ -102,14 +102,17 @@ module _ (g : Gxid) (said : Word) (from to : Node) (steps : List Step) (number :
           by_test : (b : Bool) → nat_lt place mark ≡ b → mark ≤ place
           by_test true e = absurd (is.1.1 place (lt-of place mark e) sends.0 sends.1 sends.2)
           by_test false e = le-of place mark e
+
       least : (n place : ℕ) → SendsFrom g said from to steps n place → (number < n) ⊎ ((number ≡ n) × (mark ≤ place))
       least n place sends = by_order (nat_lt n number) refl
         where
           same : number ≡ n → sends.0 ≡ step
           same e = some-same sends.0 step (sym sends.1 ∙ ap (slice_get steps) (sym e) ∙ at)
+
           by_same : (b : Bool) → eqb number n ≡ b → number ≤ n → (number < n) ⊎ ((number ≡ n) × (mark ≤ place))
           by_same true e le = let k : number ≡ n = eqb-true number n e in inr (k, at-least place (subst (λ (s : Step). SendsWordAt g said to s.marks place) (same k) sends.3))
           by_same false e le = let k : number + 1 ≤ n = le-apart number n le e in inl (omega (arith, k))
+
           by_order : (b : Bool) → nat_lt n number ≡ b → (number < n) ⊎ ((number ≡ n) × (mark ≤ place))
           by_order true e = absurd (none n (lt-of n number e) place sends)
           by_order false e = by_same (eqb number n) refl (le-of n number e)
@@ -138,9 +141,18 @@ module _ (point : Point) (level : Level) (g : Gxid) (c : Cid) (rid : Rid) (h : G
       where
         upto : take (first.start + first.mark) marks ≡ marks_before point.steps first.step first.mark
         upto = first-marks g c (cause.Serialization rid h) from the_coordinator point.steps first point.earlier marks is whole
+
         to-there : IsTrue b → IsOvertakenThere point level g c table found rid h
-        to-there t = (from, received-is.0 heard, (marks_before point.steps first.step first.mark, first-is g c (cause.Serialization rid h) from the_coordinator point.steps first is,
-            subst (λ ms. IsOvertakenRow ms level g c table found rid h) upto (row.0 t)))
+        to-there t = (
+          from,
+          received-is.0 heard,
+          (
+            marks_before point.steps first.step first.mark,
+            first-is g c (cause.Serialization rid h) from the_coordinator point.steps first is,
+            subst (λ ms. IsOvertakenRow ms level g c table found rid h) upto (row.0 t),
+          ),
+        )
+
         from-there : IsOvertakenThere point level g c table found rid h → IsTrue b
         from-there there =
             let sent = subst (λ (n : Node). IsFirstSent point.steps n the_coordinator (message.Answer g (reply.Failed c (cause.Serialization rid h))) there.2.0) (its-sender there) there.2.1 in

@@ -10,7 +10,9 @@ ghost use Rattle.gx_legal.specs.Deeds.{May, doing_of};
 use crate::deed::{Act, Deed};
 use crate::lines::is_on_rows;
 use gx_ids::{Mem, Rid};
-use gx_legal_rows::{Command, RowAt, has_own_snapshot, is_fault_of, is_late_write_of, is_skip_of, is_write_of};
+use gx_legal_rows::{
+    Command, RowAt, has_own_snapshot, is_fault_of, is_late_write_of, is_skip_of, is_write_of,
+};
 use gx_meaning::ArithFault;
 use gx_script::Script;
 use gx_store::Mark;
@@ -27,7 +29,15 @@ fn may_skip(stmt: &Stmt) -> bool
 }
 
 // A command that has its snapshot may write the image.
-fn may_write(alloc: Global, script: &Script, marks: &[Mark], command: Command, stmt: &Stmt, row: RowAt, image: &Option<Row>) -> Mem<bool>
+fn may_write(
+    alloc: Global,
+    script: &Script,
+    marks: &[Mark],
+    command: Command,
+    stmt: &Stmt,
+    row: RowAt,
+    image: &Option<Row>,
+) -> Mem<bool>
     requires { IsScript script.now }
     ensures { IfOk result (λ may. IsTrue may ↔ ((is_served command.level marks.now command.gxid command.cid ≡ true)
         × IsWriteOf script.now marks.now command.level command.gxid command.cid stmt.now row.node row.table row.rid image.now)) }
@@ -39,13 +49,36 @@ fn may_write(alloc: Global, script: &Script, marks: &[Mark], command: Command, s
 }
 
 // Some fault of the command's is on this image of the row.
-fn may_fault(alloc: Global, marks: &[Mark], command: Command, stmt: &Stmt, rid: Rid, image: &Option<Row>) -> Mem<bool>
+fn may_fault(
+    alloc: Global,
+    marks: &[Mark],
+    command: Command,
+    stmt: &Stmt,
+    rid: Rid,
+    image: &Option<Row>,
+) -> Mem<bool>
     ensures { IfOk result (λ may. IsTrue may ↔ ((fault : OneFault) × IsFaultOf marks.now command.level command.gxid command.cid stmt.now rid image.now fault)) }
 {
-    if is_fault_of(alloc, marks, command, stmt, rid, image, ArithFault::Overflow)? {
+    if is_fault_of(
+        alloc,
+        marks,
+        command,
+        stmt,
+        rid,
+        image,
+        ArithFault::Overflow,
+    )? {
         return Ok(true);
     }
-    is_fault_of(alloc, marks, command, stmt, rid, image, ArithFault::DivisionByZero)
+    is_fault_of(
+        alloc,
+        marks,
+        command,
+        stmt,
+        rid,
+        image,
+        ArithFault::DivisionByZero,
+    )
 }
 
 /// Whether the command of this statement, at this level, may do it.

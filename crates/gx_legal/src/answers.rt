@@ -43,7 +43,15 @@ fn has_aborted(script: &Script, moment: &Moment<'_>, session: SessionId) -> bool
     }
 }
 
-fn meets(alloc: Global, script: &Script, moment: &Moment<'_>, session: SessionId, line: &Stmt, answer: &StmtAnswer, judgement: Judgement) -> Mem<bool>
+fn meets(
+    alloc: Global,
+    script: &Script,
+    moment: &Moment<'_>,
+    session: SessionId,
+    line: &Stmt,
+    answer: &StmtAnswer,
+    judgement: Judgement,
+) -> Mem<bool>
     requires script { IsScript script.now }
     requires line { IsStmtOf script.now.tables line.now }
     ensures { IfOk result (λ is. IsTrue is ↔ Meets script.now (point_of moment.now) session (state_at script.now session (point_of moment.now)) line.now answer.now judgement) }
@@ -59,12 +67,23 @@ fn meets(alloc: Global, script: &Script, moment: &Moment<'_>, session: SessionId
     }
 }
 
-fn is_answer(alloc: Global, script: &Script, moment: &Moment<'_>, session: SessionId, line: &Stmt, answer: &StmtAnswer) -> Mem<bool>
+fn is_answer(
+    alloc: Global,
+    script: &Script,
+    moment: &Moment<'_>,
+    session: SessionId,
+    line: &Stmt,
+    answer: &StmtAnswer,
+) -> Mem<bool>
     requires script { IsScript script.now }
     requires line { IsStmtOf script.now.tables line.now }
     ensures { IfOk result (λ is. IsTrue is ↔ IsAnswer script.now (point_of moment.now) session (state_at script.now session (point_of moment.now)) line.now answer.now) }
 {
-    let judgement = judge(standing_of(script, session, moment.before).block, line, answer);
+    let judgement = judge(
+        standing_of(script, session, moment.before).block,
+        line,
+        answer,
+    );
     meets(alloc, script, moment, session, line, answer, judgement)
 }
 
@@ -74,7 +93,14 @@ fn is_next(script: &Script, moment: &Moment<'_>, session: SessionId, number: u32
     number as usize == standing_of(script, session, moment.before).answered + 1
 }
 
-fn may_answer(alloc: Global, script: &Script, moment: &Moment<'_>, line: (SessionId, u32), stmt: &Stmt, answer: &StmtAnswer) -> Mem<bool>
+fn may_answer(
+    alloc: Global,
+    script: &Script,
+    moment: &Moment<'_>,
+    line: (SessionId, u32),
+    stmt: &Stmt,
+    answer: &StmtAnswer,
+) -> Mem<bool>
     requires script { IsScript script.now }
     requires line { IsStmtOf script.now.tables stmt.now }
     ensures { IfOk result (λ is. IsTrue is ↔ MayAnswer script.now (point_of moment.now) line.0 line.1 answer.now stmt.now) }
@@ -86,7 +112,13 @@ fn may_answer(alloc: Global, script: &Script, moment: &Moment<'_>, line: (Sessio
 }
 
 /// Whether the session's line of this number may have this answer.
-pub fn is_legal_answer(alloc: Global, script: &Script, moment: &Moment<'_>, line: (SessionId, u32), answer: &StmtAnswer) -> Mem<bool>
+pub fn is_legal_answer(
+    alloc: Global,
+    script: &Script,
+    moment: &Moment<'_>,
+    line: (SessionId, u32),
+    answer: &StmtAnswer,
+) -> Mem<bool>
     requires { IsScript script.now }
     ensures { IfOk result (λ is. IsTrue is ↔ LegalAnswer script.now (point_of moment.now) line.0 line.1 answer.now) }
 {

@@ -24,7 +24,14 @@ pub fn level_at(script: &Script, moment: &Moment<'_>, session: SessionId) -> Lev
 }
 
 // Whether the line is the command of this number in this transaction, which has not ended.
-fn is_command_of(script: &Script, moment: &Moment<'_>, session: SessionId, stmt: &Stmt, gxid: Gxid, cid: Cid) -> bool
+fn is_command_of(
+    script: &Script,
+    moment: &Moment<'_>,
+    session: SessionId,
+    stmt: &Stmt,
+    gxid: Gxid,
+    cid: Cid,
+) -> bool
     ensures { IsTrue result ↔ IsCommandOf script.now (point_of moment.now) session stmt.now gxid cid }
 {
     let block = standing_of(script, session, moment.before).block;
@@ -35,7 +42,13 @@ fn is_command_of(script: &Script, moment: &Moment<'_>, session: SessionId, stmt:
 }
 
 /// The statement of the session's line under way, where it is the command of this number in this transaction, which has not ended.
-pub fn command_under_way<'a>(script: &'a Script, moment: &Moment<'_>, session: SessionId, gxid: Gxid, cid: Cid) -> Option<&'a Stmt>
+pub fn command_under_way<'a>(
+    script: &'a Script,
+    moment: &Moment<'_>,
+    session: SessionId,
+    gxid: Gxid,
+    cid: Cid,
+) -> Option<&'a Stmt>
     ensures { (stmt : OneStmt) (level : OneLevel) → IsUnderWay script.now (point_of moment.now) session stmt level gxid cid
         ↔ ((option_copied result ≡ Some stmt) × (level ≡ level_of (state_at script.now session (point_of moment.now)))) }
 {

@@ -31,7 +31,10 @@ fn is_answer_to(mark: &Mark, session: SessionId) -> bool
     ensures { result ≡ was_answered session (mark.now ∷ []) }
 {
     match mark {
-        Mark::Answer { session: answered, .. } => answered.0 == session.0,
+        Mark::Answer {
+            session: answered,
+            ..
+        } => answered.0 == session.0,
         _ => false,
     }
 }

@@ -17,7 +17,14 @@ use gx_tree::Row;
 use std::alloc::Global;
 
 // A command under way does so, or one that was late does.
-fn is_by_either(alloc: Global, script: &Script, moment: &Moment<'_>, command: (Gxid, Cid), live: Act<'_>, late: Act<'_>) -> Mem<bool>
+fn is_by_either(
+    alloc: Global,
+    script: &Script,
+    moment: &Moment<'_>,
+    command: (Gxid, Cid),
+    live: Act<'_>,
+    late: Act<'_>,
+) -> Mem<bool>
     requires { IsScript script.now }
     ensures { IfOk result (λ is. IsTrue is ↔ IsByEither script.now (point_of moment.now) command.0 command.1 live.entry late.entry) }
 {
@@ -40,25 +47,66 @@ fn is_by_either(alloc: Global, script: &Script, moment: &Moment<'_>, command: (G
 }
 
 /// Whether the command may write this image of the row.
-pub fn is_legal_write(alloc: Global, script: &Script, moment: &Moment<'_>, command: (Gxid, Cid), row: RowAt, image: &Option<Row>) -> Mem<bool>
+pub fn is_legal_write(
+    alloc: Global,
+    script: &Script,
+    moment: &Moment<'_>,
+    command: (Gxid, Cid),
+    row: RowAt,
+    image: &Option<Row>,
+) -> Mem<bool>
     requires { IsScript script.now }
     ensures { IfOk result (λ is. IsTrue is ↔ LegalWrite script.now (point_of moment.now) command.0 command.1 row.node row.table row.rid image.now) }
 {
-    is_by_either(alloc, script, moment, command, Act::Write { row, image }, Act::LateWrite(row))
+    is_by_either(
+        alloc,
+        script,
+        moment,
+        command,
+        Act::Write { row, image },
+        Act::LateWrite(row),
+    )
 }
 
 /// Whether the command may leave the row as it is.
-pub fn is_legal_skip(alloc: Global, script: &Script, moment: &Moment<'_>, command: (Gxid, Cid), rid: Rid) -> Mem<bool>
+pub fn is_legal_skip(
+    alloc: Global,
+    script: &Script,
+    moment: &Moment<'_>,
+    command: (Gxid, Cid),
+    rid: Rid,
+) -> Mem<bool>
     requires { IsScript script.now }
     ensures { IfOk result (λ is. IsTrue is ↔ LegalSkip script.now (point_of moment.now) command.0 command.1 rid) }
 {
-    is_by_either(alloc, script, moment, command, Act::Skip(rid), Act::LateSkip)
+    is_by_either(
+        alloc,
+        script,
+        moment,
+        command,
+        Act::Skip(rid),
+        Act::LateSkip,
+    )
 }
 
 /// Whether an evaluation of the command may fault on this image of the row.
-pub fn is_legal_fault(alloc: Global, script: &Script, moment: &Moment<'_>, command: (Gxid, Cid), rid: Rid, image: &Option<Row>) -> Mem<bool>
+pub fn is_legal_fault(
+    alloc: Global,
+    script: &Script,
+    moment: &Moment<'_>,
+    command: (Gxid, Cid),
+    rid: Rid,
+    image: &Option<Row>,
+) -> Mem<bool>
     requires { IsScript script.now }
     ensures { IfOk result (λ is. IsTrue is ↔ LegalFault script.now (point_of moment.now) command.0 command.1 rid image.now) }
 {
-    is_by_either(alloc, script, moment, command, Act::Fault { rid, image }, Act::LateFault)
+    is_by_either(
+        alloc,
+        script,
+        moment,
+        command,
+        Act::Fault { rid, image },
+        Act::LateFault,
+    )
 }

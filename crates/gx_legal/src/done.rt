@@ -57,7 +57,13 @@ fn are_back(moment: &Moment<'_>, command: Command, pieces: &[Piece]) -> bool
 }
 
 // Whether each node to which the command goes has answered that it is done.
-fn is_back(alloc: Global, script: &Script, moment: &Moment<'_>, command: Command, stmt: &Stmt) -> Mem<bool>
+fn is_back(
+    alloc: Global,
+    script: &Script,
+    moment: &Moment<'_>,
+    command: Command,
+    stmt: &Stmt,
+) -> Mem<bool>
     requires script { IsScript script.now }
     requires line { IsStmtOf script.now.tables stmt.now }
     ensures { IfOk result (λ is. IsTrue is ↔ IsBack script.now (point_of moment.now) command.gxid command.cid stmt.now) }
@@ -67,7 +73,15 @@ fn is_back(alloc: Global, script: &Script, moment: &Moment<'_>, command: Command
 }
 
 // Whether the transaction's command did what its answer says.
-fn is_done_by(alloc: Global, script: &Script, moment: &Moment<'_>, block: Block, gxid: Gxid, line: &Stmt, answer: &StmtAnswer) -> Mem<bool>
+fn is_done_by(
+    alloc: Global,
+    script: &Script,
+    moment: &Moment<'_>,
+    block: Block,
+    gxid: Gxid,
+    line: &Stmt,
+    answer: &StmtAnswer,
+) -> Mem<bool>
     requires script { IsScript script.now }
     requires line { IsStmtOf script.now.tables line.now }
     ensures { IfOk result (λ is. IsTrue is ↔ IsDoneBy script.now (point_of moment.now) (state_in block) gxid line.now answer.now) }
@@ -87,7 +101,14 @@ fn is_done_by(alloc: Global, script: &Script, moment: &Moment<'_>, block: Block,
 }
 
 /// Whether the session's line is a command, which succeeded with this answer.
-pub fn is_done(alloc: Global, script: &Script, moment: &Moment<'_>, session: SessionId, line: &Stmt, answer: &StmtAnswer) -> Mem<bool>
+pub fn is_done(
+    alloc: Global,
+    script: &Script,
+    moment: &Moment<'_>,
+    session: SessionId,
+    line: &Stmt,
+    answer: &StmtAnswer,
+) -> Mem<bool>
     requires script { IsScript script.now }
     requires line { IsStmtOf script.now.tables line.now }
     ensures { IfOk result (λ is. IsTrue is ↔ IsDone script.now (point_of moment.now) session (state_at script.now session (point_of moment.now)) line.now answer.now) }

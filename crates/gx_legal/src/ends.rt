@@ -33,7 +33,14 @@ fn may_end(how: End, block: Block, line: &Stmt) -> bool
     }
 }
 
-fn ends_with(script: &Script, moment: &Moment<'_>, gxid: Gxid, how: End, session: SessionId, line: &Stmt) -> bool
+fn ends_with(
+    script: &Script,
+    moment: &Moment<'_>,
+    gxid: Gxid,
+    how: End,
+    session: SessionId,
+    line: &Stmt,
+) -> bool
     ensures { IsTrue result ↔ EndsWith script.now (point_of moment.now) gxid how session line.now }
 {
     transaction_in(script, moment.before, session) == Some(gxid)

@@ -34,7 +34,8 @@ pub fn is_legal_event(script: &Script, steps: &[Step], marks: &[Mark], event: Ev
     ensures { IsTrue result ↔ LegalEvent script.now steps.now event }
 {
     match event {
-        Event::Start(session) => is_idle(script, session, steps, marks) && next_line(script, marks, session).is_some(),
+        Event::Start(session) => is_idle(script, session, steps, marks)
+            && next_line(script, marks, session).is_some(),
         Event::End(session) => is_legal_end(script, session, steps, marks),
         _ => true,
     }
@@ -51,7 +52,13 @@ fn draws_if_due(script: &Script, session: SessionId, marks: &[Mark], made: &[Mar
 }
 
 /// Whether a line that draws a transaction draws it among the marks that its step made.
-pub fn is_drawn(script: &Script, steps: &[Step], marks: &[Mark], event: Event, made: &[Mark]) -> bool
+pub fn is_drawn(
+    script: &Script,
+    steps: &[Step],
+    marks: &[Mark],
+    event: Event,
+    made: &[Mark],
+) -> bool
     requires { marks.now ≡ marks_in steps.now }
     ensures { IsTrue result ↔ IsDrawn script.now steps.now event made.now }
 {

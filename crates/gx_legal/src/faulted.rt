@@ -15,7 +15,15 @@ use gx_tree::Stmt;
 use std::alloc::Global;
 
 // The mark at this place, behind these marks, notes such a fault.
-fn is_fault_by(alloc: Global, moment: &Moment<'_>, place: usize, stmt: &Stmt, command: Command, why: (ArithFault, Cause), mark: &Mark) -> Mem<bool>
+fn is_fault_by(
+    alloc: Global,
+    moment: &Moment<'_>,
+    place: usize,
+    stmt: &Stmt,
+    command: Command,
+    why: (ArithFault, Cause),
+    mark: &Mark,
+) -> Mem<bool>
     requires { place < length moment.now.before.now }
     ensures { IfOk result (λ is. IsTrue is ↔ FaultsBy (point_of moment.now) (take place moment.now.before.now) place stmt.now command.level command.gxid command.cid why.0 why.1 mark.now) }
 {
@@ -44,15 +52,36 @@ fn is_fault_by(alloc: Global, moment: &Moment<'_>, place: usize, stmt: &Stmt, co
     is_fault_of(alloc, marks, command, stmt, *rid, image, why.0)
 }
 
-fn is_fault_at(alloc: Global, moment: &Moment<'_>, place: usize, stmt: &Stmt, command: Command, why: (ArithFault, Cause)) -> Mem<bool>
+fn is_fault_at(
+    alloc: Global,
+    moment: &Moment<'_>,
+    place: usize,
+    stmt: &Stmt,
+    command: Command,
+    why: (ArithFault, Cause),
+) -> Mem<bool>
     requires { place < length moment.now.before.now }
     ensures { IfOk result (λ is. IsTrue is ↔ FaultsAt (point_of moment.now) stmt.now command.level command.gxid command.cid why.0 why.1 place) }
 {
-    is_fault_by(alloc, moment, place, stmt, command, why, &moment.before[place])
+    is_fault_by(
+        alloc,
+        moment,
+        place,
+        stmt,
+        command,
+        why,
+        &moment.before[place],
+    )
 }
 
 /// Whether an evaluation of the command gave this fault before its transaction aborted, and is why it is refused.
-pub fn has_faulted(alloc: Global, moment: &Moment<'_>, stmt: &Stmt, command: Command, why: (ArithFault, Cause)) -> Mem<bool>
+pub fn has_faulted(
+    alloc: Global,
+    moment: &Moment<'_>,
+    stmt: &Stmt,
+    command: Command,
+    why: (ArithFault, Cause),
+) -> Mem<bool>
     ensures { IfOk result (λ is. IsTrue is ↔ HasFaulted (point_of moment.now) stmt.now command.level command.gxid command.cid why.0 why.1) }
 {
     for place in 0..moment.before.len() {

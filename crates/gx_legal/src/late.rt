@@ -47,7 +47,12 @@ fn moment_behind<'a>(moment: &Moment<'a>, number: usize, step: &'a Step, start: 
 }
 
 // At the point or at an earlier one of its step.
-fn is_by_earlier_in_step(alloc: Global, script: &Script, moment: &Moment<'_>, deed: &Deed<'_>) -> Mem<bool>
+fn is_by_earlier_in_step(
+    alloc: Global,
+    script: &Script,
+    moment: &Moment<'_>,
+    deed: &Deed<'_>,
+) -> Mem<bool>
     requires { IsScript script.now }
     ensures { IfOk result (λ is. IsTrue is ↔ IsByEarlierInStep script.now (point_of moment.now) (doing_of deed.now)) }
 {
@@ -60,7 +65,12 @@ fn is_by_earlier_in_step(alloc: Global, script: &Script, moment: &Moment<'_>, de
 }
 
 // At a point of an earlier step.
-fn is_by_earlier_step(alloc: Global, script: &Script, moment: &Moment<'_>, deed: &Deed<'_>) -> Mem<bool>
+fn is_by_earlier_step(
+    alloc: Global,
+    script: &Script,
+    moment: &Moment<'_>,
+    deed: &Deed<'_>,
+) -> Mem<bool>
     requires { IsScript script.now }
     ensures { IfOk result (λ is. IsTrue is ↔ IsByEarlierStep script.now (point_of moment.now) (doing_of deed.now)) }
 {
@@ -84,5 +94,8 @@ pub fn is_late(alloc: Global, script: &Script, moment: &Moment<'_>, deed: &Deed<
     if !is_aborted(moment.before, deed.gxid) {
         return Ok(false);
     }
-    Ok(is_by_earlier_step(alloc, script, moment, deed)? || is_by_earlier_in_step(alloc, script, moment, deed)?)
+    Ok(
+        is_by_earlier_step(alloc, script, moment, deed)?
+            || is_by_earlier_in_step(alloc, script, moment, deed)?,
+    )
 }

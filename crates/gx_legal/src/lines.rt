@@ -86,7 +86,11 @@ fn has_started(script: &Script, moment: &Moment<'_>, session: SessionId) -> bool
 }
 
 /// The statement that the session has under way: started, and not answered.
-pub fn line_under_way<'a>(script: &'a Script, moment: &Moment<'_>, session: SessionId) -> Option<&'a Stmt>
+pub fn line_under_way<'a>(
+    script: &'a Script,
+    moment: &Moment<'_>,
+    session: SessionId,
+) -> Option<&'a Stmt>
     ensures { (stmt : OneStmt) → (option_copied result ≡ Some stmt) ↔ RunsLine script.now (point_of moment.now) session stmt }
 {
     if has_started(script, moment, session) {

@@ -92,7 +92,13 @@ fn is_word(moment: &Moment<'_>, evaluation: Evaluation<'_>, reason: Cause) -> bo
 
 /// Whether the fault that is noted at this place is why the command is refused: an INSERT's in the point's own step, another's by the word
 /// of a segment.
-pub fn is_heard(moment: &Moment<'_>, place: usize, stmt: &Stmt, evaluation: Evaluation<'_>, reason: Cause) -> bool
+pub fn is_heard(
+    moment: &Moment<'_>,
+    place: usize,
+    stmt: &Stmt,
+    evaluation: Evaluation<'_>,
+    reason: Cause,
+) -> bool
     ensures { IsTrue result ↔ IsHeard (point_of moment.now) place stmt.now evaluation.entry.gxid evaluation.entry.cid evaluation.entry.rid evaluation.entry.image.now reason }
 {
     match stmt {

@@ -15,7 +15,14 @@ use gx_tree::{Cond, Level, Stmt};
 use std::alloc::Global;
 
 // A row of the table, by the word that the point's step receives, and when the segment first said so.
-fn is_overtaken_there(alloc: Global, moment: &Moment<'_>, command: Command, table: Table, cond: &Option<Cond>, row: (Rid, Gxid)) -> Mem<bool>
+fn is_overtaken_there(
+    alloc: Global,
+    moment: &Moment<'_>,
+    command: Command,
+    table: Table,
+    cond: &Option<Cond>,
+    row: (Rid, Gxid),
+) -> Mem<bool>
     ensures { IfOk result (λ is. IsTrue is ↔ IsOvertakenThere (point_of moment.now) command.level command.gxid command.cid table cond.now row.0 row.1) }
 {
     let Event::Receive { from, .. } = moment.event else {
@@ -38,14 +45,22 @@ fn is_overtaken_there(alloc: Global, moment: &Moment<'_>, command: Command, tabl
 }
 
 /// Whether, at repeatable read, the row's current write is of this transaction, which committed after the command's snapshot.
-pub fn is_overtaken(alloc: Global, moment: &Moment<'_>, stmt: &Stmt, command: Command, row: (Rid, Gxid)) -> Mem<bool>
+pub fn is_overtaken(
+    alloc: Global,
+    moment: &Moment<'_>,
+    stmt: &Stmt,
+    command: Command,
+    row: (Rid, Gxid),
+) -> Mem<bool>
     ensures { IfOk result (λ is. IsTrue is ↔ IsOvertaken (point_of moment.now) stmt.now command.level command.gxid command.cid row.0 row.1) }
 {
     if command.level != Level::RepeatableRead {
         return Ok(false);
     }
     match stmt {
-        Stmt::Update(table, _, cond) => is_overtaken_there(alloc, moment, command, *table, cond, row),
+        Stmt::Update(table, _, cond) => is_overtaken_there(
+            alloc, moment, command, *table, cond, row,
+        ),
         Stmt::Delete(table, cond) => is_overtaken_there(alloc, moment, command, *table, cond, row),
         _ => Ok(false),
     }

@@ -20,7 +20,10 @@ fn table_of(stmt: &Stmt) -> Option<Table>
 {
     match stmt {
         Stmt::Select(query) => Some(query.table),
-        Stmt::Insert(table, _) | Stmt::Update(table, _, _) | Stmt::Delete(table, _) | Stmt::Lock(table, _) => Some(*table),
+        Stmt::Insert(table, _)
+        | Stmt::Update(table, _, _)
+        | Stmt::Delete(table, _)
+        | Stmt::Lock(table, _) => Some(*table),
         Stmt::Begin(_) | Stmt::Commit | Stmt::Rollback => None,
     }
 }
@@ -56,14 +59,27 @@ fn no_pieces(alloc: Global) -> Vec<Piece>
 }
 
 // Where a constant of the command faults it goes nowhere.
-fn planned(alloc: Global, script: &Script, schema: &Schema, command: Command, stmt: &Stmt) -> Mem<Vec<Piece>>
+fn planned(
+    alloc: Global,
+    script: &Script,
+    schema: &Schema,
+    command: Command,
+    stmt: &Stmt,
+) -> Mem<Vec<Piece>>
     requires script { IsScript script.now }
     requires line { IsStmtOf script.now.tables stmt.now }
     requires on { IsOn script.now.tables stmt.now schema.now }
     requires short { IsShort stmt.now }
     ensures { IfOk result (λ pieces. AreSent script.now command.gxid command.cid stmt.now pieces.items) }
 {
-    match plan(alloc, stmt, schema, command.gxid, command.cid, script.segments) {
+    match plan(
+        alloc,
+        stmt,
+        schema,
+        command.gxid,
+        command.cid,
+        script.segments,
+    ) {
         Ok(pieces) => Ok(pieces),
         Err(EvalFault::OutOfMemory) => Err(OutOfMemory),
         Err(EvalFault::Overflow) => Ok(no_pieces(alloc)),

@@ -41,13 +41,31 @@ fn may_refuse(block: Block, stmt: &Stmt, reason: Refused) -> bool
     }
 }
 
-fn is_cause(alloc: Global, moment: &Moment<'_>, stmt: &Stmt, command: Command, reason: Refused) -> Mem<bool>
+fn is_cause(
+    alloc: Global,
+    moment: &Moment<'_>,
+    stmt: &Stmt,
+    command: Command,
+    reason: Refused,
+) -> Mem<bool>
     ensures { IfOk result (λ is. IsTrue is ↔ IsCause (point_of moment.now) stmt.now command.level command.gxid command.cid reason) }
 {
     match reason {
-        Refused::Serialization(rid, writer) => is_overtaken(alloc, moment, stmt, command, (rid, writer)),
+        Refused::Serialization(rid, writer) => is_overtaken(
+            alloc,
+            moment,
+            stmt,
+            command,
+            (rid, writer),
+        ),
         Refused::Victim(round) => Ok(is_named(moment.earlier, round, command.gxid)),
-        Refused::Overflow => has_faulted(alloc, moment, stmt, command, (ArithFault::Overflow, Cause::Overflow)),
+        Refused::Overflow => has_faulted(
+            alloc,
+            moment,
+            stmt,
+            command,
+            (ArithFault::Overflow, Cause::Overflow),
+        ),
         Refused::DivisionByZero => has_faulted(
             alloc,
             moment,
@@ -61,7 +79,13 @@ fn is_cause(alloc: Global, moment: &Moment<'_>, stmt: &Stmt, command: Command, r
 }
 
 // The command's transaction has aborted in the point's step, and for this cause.
-fn is_refused_for(alloc: Global, moment: &Moment<'_>, stmt: &Stmt, command: Command, reason: Refused) -> Mem<bool>
+fn is_refused_for(
+    alloc: Global,
+    moment: &Moment<'_>,
+    stmt: &Stmt,
+    command: Command,
+    reason: Refused,
+) -> Mem<bool>
     ensures { IfOk result (λ is. IsTrue is ↔ IsRefusedFor (point_of moment.now) stmt.now command.level command.gxid command.cid reason) }
 {
     if !is_aborted(moment.earlier, command.gxid) {
@@ -71,7 +95,14 @@ fn is_refused_for(alloc: Global, moment: &Moment<'_>, stmt: &Stmt, command: Comm
 }
 
 /// Whether the session's line, which has a transaction, may be refused so.
-pub fn is_refusal(alloc: Global, script: &Script, moment: &Moment<'_>, session: SessionId, line: &Stmt, reason: Refused) -> Mem<bool>
+pub fn is_refusal(
+    alloc: Global,
+    script: &Script,
+    moment: &Moment<'_>,
+    session: SessionId,
+    line: &Stmt,
+    reason: Refused,
+) -> Mem<bool>
     ensures { IfOk result (λ is. IsTrue is ↔ IsRefusal script.now (point_of moment.now) session (state_at script.now session (point_of moment.now)) line.now reason) }
 {
     let block = standing_of(script, session, moment.before).block;

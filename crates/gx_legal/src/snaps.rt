@@ -59,7 +59,13 @@ fn sees_ended(marks: &[Mark], snapshot: &Snapshot) -> bool
 }
 
 /// Whether the command may take this snapshot.
-pub fn is_legal_snap(alloc: Global, script: &Script, moment: &Moment<'_>, command: (Gxid, Cid), snapshot: &Snapshot) -> Mem<bool>
+pub fn is_legal_snap(
+    alloc: Global,
+    script: &Script,
+    moment: &Moment<'_>,
+    command: (Gxid, Cid),
+    snapshot: &Snapshot,
+) -> Mem<bool>
     requires { IsScript script.now }
     ensures { IfOk result (λ is. IsTrue is ↔ LegalSnap script.now (point_of moment.now) command.0 command.1 snapshot.now) }
 {

@@ -103,7 +103,13 @@ fn block_behind(block: Block, stmt: Option<&Stmt>, reply: &StmtAnswer) -> Block
     }
 }
 
-fn begin(_script: &Script, standing: Standing, session: SessionId, starter: SessionId, gxid: Gxid) -> Standing
+fn begin(
+    _script: &Script,
+    standing: Standing,
+    session: SessionId,
+    starter: SessionId,
+    gxid: Gxid,
+) -> Standing
     ensures is { IsMoved _script.now session standing (Start gxid starter ∷ []) result }
     ensures room { HasRoom standing result }
 {
@@ -118,7 +124,13 @@ fn begin(_script: &Script, standing: Standing, session: SessionId, starter: Sess
     }
 }
 
-fn answered(script: &Script, standing: Standing, session: SessionId, line: (SessionId, u32), reply: &StmtAnswer) -> Standing
+fn answered(
+    script: &Script,
+    standing: Standing,
+    session: SessionId,
+    line: (SessionId, u32),
+    reply: &StmtAnswer,
+) -> Standing
     requires commands { commands_in standing.block + 1 < 2 ^ 64 }
     requires answers { standing.answered + 1 < 2 ^ 64 }
     ensures is { IsMoved script.now session standing (Answer line.0 line.1 reply.now ∷ []) result }

@@ -20,7 +20,13 @@ fn is_next(marks: &[Mark], gxid: Gxid) -> bool
     gxid.0 == start_count(marks) as u64 + 1
 }
 
-fn starts_with(script: &Script, moment: &Moment<'_>, gxid: Gxid, session: SessionId, line: &Stmt) -> bool
+fn starts_with(
+    script: &Script,
+    moment: &Moment<'_>,
+    gxid: Gxid,
+    session: SessionId,
+    line: &Stmt,
+) -> bool
     ensures { IsTrue result ↔ StartsWith script.now (point_of moment.now) gxid session line.now }
 {
     let standing = standing_of(script, session, moment.before);

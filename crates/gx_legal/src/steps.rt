@@ -2,7 +2,7 @@
 ghost use Rattle.std.specs.Prelude.{◌≡◌, ◌↔◌, ◌≤◌, ◌+◌, ◌++◌, ◌∷◌, [], IfOk, IsTrue, Some, drop, length, slice_get, take};
 ghost use Rattle.gx_store.specs.declared.mark.Mark.{Mark as OneMark};
 ghost use Rattle.gx_store.specs.Language.{IsScript};
-ghost use Rattle.gx_store.specs.Legal.{AreLegalMarks, IsLegalStep, LegalMark};
+ghost use Rattle.gx_store.specs.Legal.{AreLegalMarks, AreLegalSteps, IsLegalStep, LegalMark};
 ghost use Rattle.gx_store.specs.Points.{marks_in};
 ghost use Rattle.gx_store.specs.Runs.{IsLegalHistory};
 ghost use Rattle.gx_legal.specs.Moments.{point_of};
@@ -77,7 +77,13 @@ pub fn is_legal_mark(alloc: Global, script: &Script, moment: &Moment<'_>, mark: 
 }
 
 // The point of a step before its mark of a number, where `all` are the marks up to the step's end and beyond.
-fn moment_before<'a>(steps: &'a [Step], step: &'a Step, all: &'a [Mark], start: usize, number: usize) -> Moment<'a>
+fn moment_before<'a>(
+    steps: &'a [Step],
+    step: &'a Step,
+    all: &'a [Mark],
+    start: usize,
+    number: usize,
+) -> Moment<'a>
     requires start { start ≡ length (marks_in steps.now) }
     requires all { take (start + length step.now.marks) all.now ≡ marks_in steps.now ++ step.now.marks }
     requires number { number + 1 ≤ length step.now.marks }
@@ -93,7 +99,14 @@ fn moment_before<'a>(steps: &'a [Step], step: &'a Step, all: &'a [Mark], start: 
     }
 }
 
-fn are_legal_marks(alloc: Global, script: &Script, steps: &[Step], step: &Step, all: &[Mark], start: usize) -> Mem<bool>
+fn are_legal_marks(
+    alloc: Global,
+    script: &Script,
+    steps: &[Step],
+    step: &Step,
+    all: &[Mark],
+    start: usize,
+) -> Mem<bool>
     requires script { IsScript script.now }
     requires start { start ≡ length (marks_in steps.now) }
     requires all { take (start + length step.now.marks) all.now ≡ marks_in steps.now ++ step.now.marks }
@@ -109,7 +122,14 @@ fn are_legal_marks(alloc: Global, script: &Script, steps: &[Step], step: &Step, 
     Ok(true)
 }
 
-fn is_legal_step(alloc: Global, script: &Script, steps: &[Step], step: &Step, all: &[Mark], start: usize) -> Mem<bool>
+fn is_legal_step(
+    alloc: Global,
+    script: &Script,
+    steps: &[Step],
+    step: &Step,
+    all: &[Mark],
+    start: usize,
+) -> Mem<bool>
     requires script { IsScript script.now }
     requires start { start ≡ length (marks_in steps.now) }
     requires all { take (start + length step.now.marks) all.now ≡ marks_in steps.now ++ step.now.marks }
@@ -126,6 +146,22 @@ fn is_legal_step(alloc: Global, script: &Script, steps: &[Step], step: &Step, al
     are_legal_marks(alloc, script, steps, step, all, start)
 }
 
+fn are_legal_steps(alloc: Global, script: &Script, steps: &[Step], all: &[Mark]) -> Mem<bool>
+    requires script { IsScript script.now }
+    requires all { all.now ≡ marks_in steps.now }
+    ensures { IfOk result (λ are. IsTrue are ↔ AreLegalSteps script.now [] steps.now) }
+{
+    let mut start = 0;
+    for number in 0..steps.len() {
+        let step = &steps[number];
+        if !is_legal_step(alloc, script, &steps[..number], step, all, start)? {
+            return Ok(false);
+        }
+        start += step.marks.len();
+    }
+    Ok(true)
+}
+
 /// Whether the run of the script is a legal history.
 pub fn legal(alloc: Global, script: &Script, run: &Run) -> Mem<bool>
     requires { IsScript script.now }
@@ -133,13 +169,5 @@ pub fn legal(alloc: Global, script: &Script, run: &Run) -> Mem<bool>
 {
     let steps = run.steps.as_slice();
     let all = all_marks(alloc, steps)?;
-    let mut start = 0;
-    for number in 0..steps.len() {
-        let step = &steps[number];
-        if !is_legal_step(alloc, script, &steps[..number], step, &all, start)? {
-            return Ok(false);
-        }
-        start += step.marks.len();
-    }
-    Ok(true)
+    are_legal_steps(alloc, script, steps, &all)
 }

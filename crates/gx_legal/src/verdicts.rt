@@ -52,7 +52,8 @@ fn is_cancelled(moment: &Moment<'_>, round: u64, gxid: Gxid) -> bool
     ensures { IsTrue result ↔ IsCancelled (point_of moment.now) round gxid }
 {
     match session_of(moment.before, gxid) {
-        Some(session) => is_aborted(moment.later, gxid) && has_refusal(moment.later, session, round),
+        Some(session) => is_aborted(moment.later, gxid)
+            && has_refusal(moment.later, session, round),
         None => false,
     }
 }

@@ -30,7 +30,8 @@ fn is_reply(reply: &Reply, word: Word) -> bool
 {
     match (reply, word) {
         (Reply::Done { cid, .. }, Word::Done(done)) => *cid == done,
-        (Reply::Failed { cid, cause }, Word::Failed(failed, why)) => *cid == failed && *cause == why,
+        (Reply::Failed { cid, cause }, Word::Failed(failed, why)) => *cid == failed
+            && *cause == why,
         (Reply::Jfault, Word::Jfault) => true,
         _ => false,
     }
@@ -92,7 +93,9 @@ pub fn delivers(steps: &[Step], event: Event, report: Report) -> bool
     ensures { IsTrue result ↔ Delivers report.gxid report.word report.from report.to steps.now event }
 {
     match event {
-        Event::Receive { from, to, number } => from == report.from && to == report.to && is_sent(steps, report, number),
+        Event::Receive { from, to, number } => from == report.from
+            && to == report.to
+            && is_sent(steps, report, number),
         _ => false,
     }
 }

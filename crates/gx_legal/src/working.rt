@@ -20,7 +20,13 @@ pub fn session_at(place: usize) -> SessionId
     SessionId(place as u8)
 }
 
-fn is_by_command_of(alloc: Global, script: &Script, moment: &Moment<'_>, deed: &Deed<'_>, session: SessionId) -> Mem<bool>
+fn is_by_command_of(
+    alloc: Global,
+    script: &Script,
+    moment: &Moment<'_>,
+    deed: &Deed<'_>,
+    session: SessionId,
+) -> Mem<bool>
     requires { IsScript script.now }
     ensures { IfOk result (λ is. IsTrue is ↔ IsByCommandOf script.now (point_of moment.now) (doing_of deed.now) session) }
 {
@@ -31,7 +37,12 @@ fn is_by_command_of(alloc: Global, script: &Script, moment: &Moment<'_>, deed: &
 }
 
 /// Whether some session's command under way may do it.
-pub fn is_by_command(alloc: Global, script: &Script, moment: &Moment<'_>, deed: &Deed<'_>) -> Mem<bool>
+pub fn is_by_command(
+    alloc: Global,
+    script: &Script,
+    moment: &Moment<'_>,
+    deed: &Deed<'_>,
+) -> Mem<bool>
     requires { IsScript script.now }
     ensures { IfOk result (λ is. IsTrue is ↔ IsByCommand script.now (point_of moment.now) (doing_of deed.now)) }
 {

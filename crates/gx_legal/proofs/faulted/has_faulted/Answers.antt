@@ -16,7 +16,9 @@ loop-place-preserved c =
 pub returns : goal.returns
 returns c =
     let m = c.args.moment.now in
-    let k = c.args.command in
-    (λ t. absurd (false-true t), λ has. absurd (c.loop-place.invariant has.place
-    (let inside : has.place < length m.before.now = faulted-inside (point_of m) c.args.stmt.now k.level k.gxid k.cid c.args.why.0 c.args.why.1 m.before.now m.whole has in omega arith)
-    (of-faulted (point_of m) c.args.stmt.now k.level k.gxid k.cid c.args.why.0 c.args.why.1 has)))
+    let k = c.args.command in (
+      λ t. absurd (false-true t),
+      λ has. absurd (c.loop-place.invariant has.place
+          (let inside : has.place < length m.before.now = faulted-inside (point_of m) c.args.stmt.now k.level k.gxid k.cid c.args.why.0 c.args.why.1 m.before.now m.whole has in omega arith)
+          (of-faulted (point_of m) c.args.stmt.now k.level k.gxid k.cid c.args.why.0 c.args.why.1 has)),
+    )

@@ -13,9 +13,11 @@ returns-then-branch c =
     let m = c.args.moment.now in
     let step = get_or m.steps.now c.loop-number.number c.index-moment-number.result in
     let at : slice_get m.steps.now c.loop-number.number ≡ Some step = slice_get-get_or m.steps.now c.loop-number.number c.index-moment-number.result c.loop-number-test.true in
-    let P : Point → Type 0 = λ p. IsByEarlierInStep c.args.script.now p (doing_of c.args.deed.now) in
-    (λ t. behind-some c.args.script.now (point_of m) (doing_of c.args.deed.now) c.loop-number.number step (split-at m.steps.now c.loop-number.number step at)
-    (subst P c.moment_behind-behind.ensures (c.in_ok-is_by_earlier_in_step.ensures.0 c.if-branch.true)), λ by. refl)
+    let P : Point → Type 0 = λ p. IsByEarlierInStep c.args.script.now p (doing_of c.args.deed.now) in (
+      λ t. behind-some c.args.script.now (point_of m) (doing_of c.args.deed.now) c.loop-number.number step (split-at m.steps.now c.loop-number.number step at)
+          (subst P c.moment_behind-behind.ensures (c.in_ok-is_by_earlier_in_step.ensures.0 c.if-branch.true)),
+      λ by. refl,
+    )
 
 pub loop-number-preserved : goal.loop-number-preserved
 loop-number-preserved c =

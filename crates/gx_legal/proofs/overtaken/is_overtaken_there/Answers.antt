@@ -11,16 +11,18 @@ use Rattle.gx_legal.proofs.overtaken.is_overtaken_there.Goals as goal
 
 pub returns-in_default-first_sending : goal.returns-in_default-first_sending
 returns-in_default-first_sending c =
-    let k = c.args.command in
-    (λ t. absurd (false-true t), λ there. absurd (there-unsent (point_of c.args.moment.now) k.level k.gxid k.cid c.args.row.0 c.args.row.1 c.args.table c.args.cond.now c.in-Receive.from c.in-Receive.to c.in-Receive.number
-    c.delivers.result c.in-Receive.is c.delivers.ensures c.in_default-first_sending.ensures there))
+    let k = c.args.command in (
+      λ t. absurd (false-true t),
+      λ there. absurd (there-unsent (point_of c.args.moment.now) k.level k.gxid k.cid c.args.row.0 c.args.row.1 c.args.table c.args.cond.now c.in-Receive.from c.in-Receive.to c.in-Receive.number
+          c.delivers.result c.in-Receive.is c.delivers.ensures c.in_default-first_sending.ensures there),
+    )
 
 pub overflow_add-then : goal.overflow_add-then
 overflow_add-then c =
     let m = c.args.moment.now in
     let k = c.args.command in
     let inside : c.in-Some.first.start + c.in-Some.first.mark ≤ length m.before.now =
-        first-inside k.gxid (Failed k.cid (Serialization c.args.row.0 c.args.row.1)) c.in-Receive.from the_coordinator m.steps.now c.in-Some.first m.earlier.now m.before.now c.in-Some.ensures m.whole in
+    first-inside k.gxid (Failed k.cid (Serialization c.args.row.0 c.args.row.1)) c.in-Receive.from the_coordinator m.steps.now c.in-Some.first m.earlier.now m.before.now c.in-Some.ensures m.whole in
     omega arith
 
 pub slice_bounds-then-end : goal.slice_bounds-then-end

@@ -1,4 +1,5 @@
-use Rattle.std.proofs.Common.{Err, ◌≡◌, subst, sym, arith, common_steps}
+use Rattle.std.proofs.Common.{Err, ◌≡◌, subst, sym, arith}
+use Rattle.std.proofs.lemmas.Grind.{common_steps}
 use Rattle.gx_eval.specs.declared.fault.EvalFault.TheVariants as eval
 use Rattle.gx_meaning.specs.declared.fault.ArithFault.TheVariants as arithmetic
 use Rattle.gx_legal.proofs.Planning.{fault-sent, pieces-sent, plannable}
@@ -22,5 +23,5 @@ pub returns-in-Err-DivisionByZero : goal.returns-in-Err-DivisionByZero
 returns-in-Err-DivisionByZero c =
     let k = c.args.command in
     let was : c.plan.result ≡ Err eval.DivisionByZero = grind (arith, common_steps) in
-    subst (AreSent c.args.script.now k.gxid k.cid c.args.stmt.now) (sym c.no_pieces.ensures)
+    subst (AreSent c.args.script.now k.gxid k.cid c.args.stmt.now) (sym c.no_pieces-in-Err-DivisionByZero.ensures)
     (fault-sent c.args.script.now k.gxid k.cid c.args.stmt.now c.args.schema.now arithmetic.DivisionByZero c.requires.on (c.plan.ensures.fault arithmetic.DivisionByZero was))

@@ -7,4 +7,4 @@ pub returns-in-Overflow : goal.returns-in-Overflow
 returns-in-Overflow c = rw c.in-Overflow.is c.has_faulted.ensures
 
 pub returns-in-DivisionByZero : goal.returns-in-DivisionByZero
-returns-in-DivisionByZero c = rw c.in-DivisionByZero.is c.has_faulted.ensures
+returns-in-DivisionByZero c = rw c.in-DivisionByZero.is c.has_faulted-in-DivisionByZero.ensures
