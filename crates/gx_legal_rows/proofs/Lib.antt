@@ -1,0 +1,17 @@
+pub mod Decided
+pub mod Equal
+pub mod Views
+pub mod Snapshots
+pub mod Selections
+pub mod Skipping
+pub mod Overtaking
+pub mod Lateness
+pub mod Changes
+pub mod Insertions
+pub mod Faulting
+pub mod Doing
+pub mod Holding
+pub mod Inserting
+pub mod OnePart
+pub mod Answering
+pub mod Telling

@@ -1,0 +1,13 @@
+pub mod Numbers
+pub mod Images
+pub mod Places
+pub mod Viewed
+pub mod Written
+pub mod Selected
+pub mod Changed
+pub mod Late
+pub mod Inserted
+pub mod Writes
+pub mod Faulted
+pub mod Done
+pub mod Told
