@@ -1,0 +1,12 @@
+use Rattle.gx_legal.proofs.UnderWay.{found-none, found-other, found-some}
+use Rattle.gx_legal.proofs.Sessions.{no-longer}
+use Rattle.gx_legal.proofs.commands.command_under_way.Goals as goal
+
+pub returns-then-is_command_of : goal.returns-then-is_command_of
+returns-then-is_command_of c = found-some _ _ _ _ _ _ c.in-Some.ensures (c.is_command_of.ensures.0 c.if-is_command_of.true)
+
+pub returns-else-is_command_of : goal.returns-else-is_command_of
+returns-else-is_command_of c = found-other _ _ _ _ _ _ c.in-Some.ensures (no-longer _ c.is_command_of.ensures c.if-is_command_of.false)
+
+pub returns-in_default : goal.returns-in_default
+returns-in_default c = found-none _ _ _ _ _ c.in_default.ensures

@@ -1,0 +1,62 @@
+-- By what an answer to a line is judged.
+use Rattle.std.specs.Prelude.{◌≡◌, ◌+◌, ℕ, true}
+use Rattle.gx_ids.specs.declared.ids.SessionId.{SessionId}
+use Rattle.gx_script.specs.declared.Script.{Script}
+use Rattle.gx_store.specs.declared.answer.Refused.TheVariants.{InFailedBlock, NotInBlock}
+use Rattle.gx_store.specs.declared.answer.StmtAnswer.{StmtAnswer}
+use Rattle.gx_store.specs.declared.answer.StmtAnswer.TheVariants.{Begin, Commit, Rollback, Refused}
+use Rattle.gx_store.specs.Answers.{HasAborted, HasCommitted, IsAnswer, IsDone}
+use Rattle.gx_store.specs.Commands.{state_at}
+use Rattle.gx_store.specs.Lines.{BlockState, Outside, InBlock, Failed}
+use Rattle.gx_store.specs.Marks.{answer_count, is_begun}
+use Rattle.gx_store.specs.Points.{Point, before}
+use Rattle.gx_store.specs.Refusals.{IsRefusal}
+use Rattle.gx_tree.specs.declared.stmt.Stmt.{Stmt}
+use Rattle.gx_tree.specs.declared.stmt.Stmt.TheVariants as stmt
+use Rattle.gx_legal.specs.declared.judgement.Judgement.{Judgement}
+use Rattle.gx_legal.specs.declared.judgement.Judgement.TheVariants as by
+
+abbrev pub judged_reply : StmtAnswer → Judgement
+judged_reply (Refused reason) = by.Refused reason
+judged_reply _ = by.Done
+
+abbrev pub judged_outside : Stmt → StmtAnswer → Judgement
+judged_outside (stmt.Begin level) Begin = by.Begun
+judged_outside stmt.Commit Commit = by.Holds
+judged_outside stmt.Rollback Rollback = by.Holds
+judged_outside (stmt.Lock table mode) (Refused NotInBlock) = by.Holds
+judged_outside line reply = judged_reply reply
+
+abbrev pub judged_inside : Stmt → StmtAnswer → Judgement
+judged_inside (stmt.Begin level) Begin = by.Holds
+judged_inside stmt.Commit Commit = by.Committed
+judged_inside stmt.Rollback Rollback = by.Aborted
+judged_inside line reply = judged_reply reply
+
+abbrev pub judged_failed : Stmt → StmtAnswer → Judgement
+judged_failed stmt.Commit Rollback = by.Holds
+judged_failed stmt.Rollback Rollback = by.Holds
+judged_failed stmt.Commit reply = by.Fails
+judged_failed stmt.Rollback reply = by.Fails
+judged_failed line (Refused InFailedBlock) = by.Holds
+judged_failed line reply = by.Fails
+
+abbrev pub judged : BlockState → Stmt → StmtAnswer → Judgement
+judged Outside line reply = judged_outside line reply
+judged (InBlock level commands) line reply = judged_inside line reply
+judged Failed line reply = judged_failed line reply
+
+-- what so judged an answer has to meet
+abbrev pub Meets : Script → Point → SessionId → BlockState → Stmt → StmtAnswer → Judgement → Type 0
+Meets script point session state line reply by.Holds = Unit {0}
+Meets script point session state line reply by.Fails = ⊥
+Meets script point session state line reply by.Begun = is_begun session (before point) ≡ true
+Meets script point session state line reply by.Committed = HasCommitted point session state
+Meets script point session state line reply by.Aborted = HasAborted point session state
+Meets script point session state line reply (by.Refused reason) = IsRefusal script point session state line reason
+Meets script point session state line reply by.Done = IsDone script point session state line reply
+
+-- the session's line of this number, which is this one, may have the answer
+abbrev pub MayAnswer : Script → Point → SessionId → ℕ → StmtAnswer → Stmt → Type 0
+MayAnswer script point session number answer line =
+    (number ≡ answer_count session (before point) + 1) × IsAnswer script point session (state_at script session point) line answer

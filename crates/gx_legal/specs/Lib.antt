@@ -1,0 +1,14 @@
+pub mod Answers
+pub mod Causes
+pub mod Commands
+pub mod Deeds
+pub mod Done
+pub mod Ends
+pub mod Events
+pub mod Firsts
+pub mod Moments
+pub mod Snaps
+pub mod Standings
+pub mod Tables
+pub mod Verdicts
+pub mod Words

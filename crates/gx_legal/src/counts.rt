@@ -1,0 +1,76 @@
+// Counts of marks.
+ghost use Rattle.std.specs.Prelude.{◌≡◌, ◌≤◌, ◌∷◌, [], length};
+ghost use Rattle.gx_store.specs.Marks.{is_answered as was_answered, session_of as starter_of, start_count as count_of};
+
+use gx_ids::{Gxid, SessionId};
+use gx_store::Mark;
+
+fn starts(mark: &Mark) -> usize
+    ensures is { result ≡ count_of (mark.now ∷ []) }
+    ensures room { result ≤ 1 }
+{
+    match mark {
+        Mark::Start { .. } => 1,
+        _ => 0,
+    }
+}
+
+/// How many transactions were started.
+pub fn start_count(marks: &[Mark]) -> usize
+    ensures is { result ≡ count_of marks.now }
+    ensures room { result ≤ length marks.now }
+{
+    let mut count = 0;
+    for mark in marks {
+        count += starts(mark);
+    }
+    count
+}
+
+fn is_answer_to(mark: &Mark, session: SessionId) -> bool
+    ensures { result ≡ was_answered session (mark.now ∷ []) }
+{
+    match mark {
+        Mark::Answer {
+            session: answered,
+            ..
+        } => answered.0 == session.0,
+        _ => false,
+    }
+}
+
+/// Whether a line of the session was answered.
+pub fn is_answered(session: SessionId, marks: &[Mark]) -> bool
+    ensures { result ≡ was_answered session marks.now }
+{
+    for mark in marks {
+        if is_answer_to(mark, session) {
+            return true;
+        }
+    }
+    false
+}
+
+fn starter_in(mark: &Mark, gxid: Gxid) -> Option<SessionId>
+    ensures { result ≡ starter_of (mark.now ∷ []) gxid }
+{
+    match mark {
+        Mark::Start {
+            gxid: started,
+            session,
+        } if started.0 == gxid.0 => Some(*session),
+        _ => None,
+    }
+}
+
+/// The session that started the transaction.
+pub fn session_of(marks: &[Mark], gxid: Gxid) -> Option<SessionId>
+    ensures { result ≡ starter_of marks.now gxid }
+{
+    for mark in marks {
+        if let Some(session) = starter_in(mark, gxid) {
+            return Some(session);
+        }
+    }
+    None
+}

@@ -1,0 +1,28 @@
+// What a command does by a mark, and whether one under way may do it.
+
+use gx_ids::{Cid, Gxid, Rid};
+use gx_legal_rows::RowAt;
+use gx_store::Mark;
+use gx_tree::Row;
+
+/// What a mark says that a command did: it took its snapshot, wrote, skipped or faulted; or wrote, skipped or faulted late, behind the abort
+/// of its transaction.
+#[derive(Clone, Copy)]
+pub enum Act<'a> {
+    Snap,
+    Write { row: RowAt, image: &'a Option<Row> },
+    Skip(Rid),
+    Fault { rid: Rid, image: &'a Option<Row> },
+    LateWrite(RowAt),
+    LateSkip,
+    LateFault,
+}
+
+/// What a command of a number in a transaction did behind these marks.
+#[derive(Clone, Copy)]
+pub struct Deed<'a> {
+    pub gxid: Gxid,
+    pub cid: Cid,
+    pub marks: &'a [Mark],
+    pub act: Act<'a>,
+}

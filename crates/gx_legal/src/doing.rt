@@ -1,0 +1,112 @@
+// Whether a mark of a command may stand at a point.
+ghost use Rattle.std.specs.Prelude.{◌↔◌, IfOk, IsTrue};
+ghost use Rattle.gx_store.specs.Faults.{LegalFault};
+ghost use Rattle.gx_store.specs.Language.{IsScript};
+ghost use Rattle.gx_store.specs.Writes.{LegalSkip, LegalWrite};
+ghost use Rattle.gx_legal.specs.Deeds.{IsByEither};
+ghost use Rattle.gx_legal.specs.Moments.{point_of};
+
+use crate::deed::{Act, Deed};
+use crate::late::is_late;
+use crate::moment::Moment;
+use crate::working::is_by_command;
+use gx_ids::{Cid, Gxid, Mem, Rid};
+use gx_legal_rows::RowAt;
+use gx_script::Script;
+use gx_tree::Row;
+use std::alloc::Global;
+
+// A command under way does so, or one that was late does.
+fn is_by_either(
+    alloc: Global,
+    script: &Script,
+    moment: &Moment<'_>,
+    command: (Gxid, Cid),
+    live: Act<'_>,
+    late: Act<'_>,
+) -> Mem<bool>
+    requires { IsScript script.now }
+    ensures { IfOk result (λ is. IsTrue is ↔ IsByEither script.now (point_of moment.now) command.0 command.1 live.entry late.entry) }
+{
+    let live = Deed {
+        gxid: command.0,
+        cid: command.1,
+        marks: moment.before,
+        act: live,
+    };
+    if is_by_command(alloc, script, moment, &live)? {
+        return Ok(true);
+    }
+    let late = Deed {
+        gxid: command.0,
+        cid: command.1,
+        marks: moment.before,
+        act: late,
+    };
+    is_late(alloc, script, moment, &late)
+}
+
+/// Whether the command may write this image of the row.
+pub fn is_legal_write(
+    alloc: Global,
+    script: &Script,
+    moment: &Moment<'_>,
+    command: (Gxid, Cid),
+    row: RowAt,
+    image: &Option<Row>,
+) -> Mem<bool>
+    requires { IsScript script.now }
+    ensures { IfOk result (λ is. IsTrue is ↔ LegalWrite script.now (point_of moment.now) command.0 command.1 row.node row.table row.rid image.now) }
+{
+    is_by_either(
+        alloc,
+        script,
+        moment,
+        command,
+        Act::Write { row, image },
+        Act::LateWrite(row),
+    )
+}
+
+/// Whether the command may leave the row as it is.
+pub fn is_legal_skip(
+    alloc: Global,
+    script: &Script,
+    moment: &Moment<'_>,
+    command: (Gxid, Cid),
+    rid: Rid,
+) -> Mem<bool>
+    requires { IsScript script.now }
+    ensures { IfOk result (λ is. IsTrue is ↔ LegalSkip script.now (point_of moment.now) command.0 command.1 rid) }
+{
+    is_by_either(
+        alloc,
+        script,
+        moment,
+        command,
+        Act::Skip(rid),
+        Act::LateSkip,
+    )
+}
+
+/// Whether an evaluation of the command may fault on this image of the row.
+pub fn is_legal_fault(
+    alloc: Global,
+    script: &Script,
+    moment: &Moment<'_>,
+    command: (Gxid, Cid),
+    rid: Rid,
+    image: &Option<Row>,
+) -> Mem<bool>
+    requires { IsScript script.now }
+    ensures { IfOk result (λ is. IsTrue is ↔ LegalFault script.now (point_of moment.now) command.0 command.1 rid image.now) }
+{
+    is_by_either(
+        alloc,
+        script,
+        moment,
+        command,
+        Act::Fault { rid, image },
+        Act::LateFault,
+    )
+}

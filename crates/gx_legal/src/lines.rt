@@ -1,0 +1,216 @@
+// The line that a session has under way, and what it may do there.
+ghost use Rattle.std.specs.Prelude.{◌≡◌, ◌↔◌, ◌+◌, ◌<◌, ◌^◌, IfOk, IsTrue, Some};
+ghost use Rattle.std.specs.Option.{option_copied};
+ghost use Rattle.gx_store.specs.declared.event.Event.TheVariants.{End, Start};
+ghost use Rattle.gx_store.specs.Commands.{RunsLine};
+ghost use Rattle.gx_store.specs.Legal.{draws as may_draw, is_in_block as has_block, may_abort as can_abort, may_commit as can_commit};
+ghost use Rattle.gx_store.specs.Lines.{cid_of, is_command as is_command_in, is_on_rows as concerns_rows, level_of, next_stmt, state_of, transaction_of};
+ghost use Rattle.gx_store.specs.Marks.{answer_count};
+ghost use Rattle.gx_store.specs.Points.{before, ends_in, starts_at as starts_up_to, starts_in};
+ghost use Rattle.gx_tree.specs.declared.stmt.Stmt.{Stmt as OneStmt};
+ghost use Rattle.gx_legal.specs.Moments.{point_of};
+ghost use Rattle.gx_legal.specs.Standings.{commands_in, state_in};
+
+use crate::moment::Moment;
+use crate::standing::{Block, standing_of, stmt_at};
+use gx_ids::{Cid, Gxid, Mem, OutOfMemory, SessionId};
+use gx_script::Script;
+use gx_store::{Event, Mark, Step};
+use gx_tree::{Level, Stmt};
+
+/// Whether the event starts a line of the session.
+pub fn is_start_of(event: Event, session: SessionId) -> bool
+    ensures { IsTrue result ↔ (event ≡ Start session) }
+{
+    match event {
+        Event::Start(starter) => starter == session,
+        _ => false,
+    }
+}
+
+/// Whether the event ends the session.
+pub fn is_end_of(event: Event, session: SessionId) -> bool
+    ensures { IsTrue result ↔ (event ≡ End session) }
+{
+    match event {
+        Event::End(ended) => ended == session,
+        _ => false,
+    }
+}
+
+/// How many lines of the session these steps start.
+pub fn start_count_of(session: SessionId, steps: &[Step]) -> usize
+    ensures { result ≡ starts_in session steps.now }
+{
+    let mut count = 0;
+    for step in steps {
+        if is_start_of(step.event, session) {
+            count += 1;
+        }
+    }
+    count
+}
+
+/// How often these steps end the session.
+pub fn end_count_of(session: SessionId, steps: &[Step]) -> usize
+    ensures { result ≡ ends_in session steps.now }
+{
+    let mut count = 0;
+    for step in steps {
+        if is_end_of(step.event, session) {
+            count += 1;
+        }
+    }
+    count
+}
+
+/// The statement of the session's first line that isn't answered.
+pub fn next_line<'a>(script: &'a Script, marks: &[Mark], session: SessionId) -> Option<&'a Stmt>
+    ensures { option_copied result ≡ next_stmt session script.now marks.now }
+{
+    let answered = standing_of(script, session, marks).answered;
+    stmt_at(script.lines.as_slice(), session, answered + 1)
+}
+
+// Whether the session has started one line more than were answered.
+fn has_started(script: &Script, moment: &Moment<'_>, session: SessionId) -> bool
+    ensures { IsTrue result ↔ (starts_up_to session (point_of moment.now) ≡ answer_count session (before (point_of moment.now)) + 1) }
+{
+    let answered = standing_of(script, session, moment.before).answered;
+    let started = start_count_of(session, moment.steps);
+    if is_start_of(moment.event, session) {
+        started == answered
+    } else {
+        started == answered + 1
+    }
+}
+
+/// The statement that the session has under way: started, and not answered.
+pub fn line_under_way<'a>(
+    script: &'a Script,
+    moment: &Moment<'_>,
+    session: SessionId,
+) -> Option<&'a Stmt>
+    ensures { (stmt : OneStmt) → (option_copied result ≡ Some stmt) ↔ RunsLine script.now (point_of moment.now) session stmt }
+{
+    if has_started(script, moment, session) {
+        next_line(script, moment.before, session)
+    } else {
+        None
+    }
+}
+
+/// SELECT, INSERT, UPDATE and DELETE.
+pub fn is_on_rows(stmt: &Stmt) -> bool
+    ensures { result ≡ concerns_rows stmt.now }
+{
+    match stmt {
+        Stmt::Select(_) | Stmt::Insert(_, _) | Stmt::Update(_, _, _) | Stmt::Delete(_, _) => true,
+        _ => false,
+    }
+}
+
+/// Whether the line is a command there.
+pub fn is_command(block: Block, stmt: &Stmt) -> bool
+    ensures { result ≡ is_command_in (state_in block) stmt.now }
+{
+    match (block, stmt) {
+        (Block::Inside { .. }, Stmt::Lock(_, _)) => true,
+        (Block::Failed, _) => false,
+        _ => is_on_rows(stmt),
+    }
+}
+
+/// The level at which a line runs there.
+pub fn level_in(block: Block) -> Level
+    ensures { result ≡ level_of (state_in block) }
+{
+    match block {
+        Block::Inside { level, .. } => level,
+        _ => Level::ReadCommitted,
+    }
+}
+
+/// Whether this is the number of the command there.
+pub fn is_number_in(block: Block, cid: Cid) -> bool
+    requires { commands_in block + 1 < 2 ^ 64 }
+    ensures { IsTrue result ↔ (cid ≡ cid_of (state_in block)) }
+{
+    match block {
+        Block::Inside { commands, .. } => cid.0 as u64 == commands as u64 + 1,
+        _ => cid.0 == 1,
+    }
+}
+
+fn cid_behind(commands: usize) -> Mem<Cid>
+    ensures { IfOk result (λ number. number.0 ≡ commands + 1) }
+{
+    if commands >= 4_294_967_295 {
+        return Err(OutOfMemory);
+    }
+    Ok(Cid(commands as u32 + 1))
+}
+
+/// The number of the command there. A block of more commands than there are numbers has no room.
+pub fn number_in(block: Block) -> Mem<Cid>
+    ensures { IfOk result (λ number. number ≡ cid_of (state_in block)) }
+{
+    match block {
+        Block::Inside { commands, .. } => cid_behind(commands),
+        _ => Ok(Cid(1)),
+    }
+}
+
+/// The transaction that the session is in.
+pub fn transaction_in(script: &Script, marks: &[Mark], session: SessionId) -> Option<Gxid>
+    ensures { result ≡ transaction_of (state_of script.now session marks.now) session marks.now }
+{
+    let standing = standing_of(script, session, marks);
+    match standing.block {
+        Block::Outside if !standing.begun => None,
+        Block::Failed => None,
+        _ => standing.started,
+    }
+}
+
+/// Whether the line draws a transaction there.
+pub fn draws(block: Block, stmt: &Stmt) -> bool
+    ensures { result ≡ may_draw (state_in block) stmt.now }
+{
+    match (block, stmt) {
+        (Block::Outside, Stmt::Begin(_)) => true,
+        (Block::Outside, _) => is_on_rows(stmt),
+        _ => false,
+    }
+}
+
+/// Whether a transaction may commit with the line there.
+pub fn may_commit(block: Block, stmt: &Stmt) -> bool
+    ensures { result ≡ can_commit (state_in block) stmt.now }
+{
+    match (block, stmt) {
+        (Block::Outside, _) => is_on_rows(stmt),
+        (Block::Inside { .. }, Stmt::Commit) => true,
+        _ => false,
+    }
+}
+
+/// Whether a transaction may abort with the line there.
+pub fn may_abort(block: Block, stmt: &Stmt) -> bool
+    ensures { result ≡ can_abort (state_in block) stmt.now }
+{
+    match (block, stmt) {
+        (Block::Inside { .. }, Stmt::Commit | Stmt::Rollback) => true,
+        _ => is_command(block, stmt),
+    }
+}
+
+/// Whether the session is in a block, a failed one included.
+pub fn is_in_block(block: Block) -> bool
+    ensures { result ≡ has_block (state_in block) }
+{
+    match block {
+        Block::Outside => false,
+        _ => true,
+    }
+}

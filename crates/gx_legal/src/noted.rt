@@ -1,0 +1,108 @@
+// Whether a segment has noted a fault, and said so.
+ghost use Rattle.std.specs.Prelude.{◌≡◌, ◌↔◌, ℕ, IsTrue};
+ghost use Rattle.gx_store.specs.declared.mark.Mark.TheVariants.{Fault};
+ghost use Rattle.gx_store.specs.Refusals.{IsHeard, IsWord};
+ghost use Rattle.gx_legal.specs.Causes.{NotesIn, NotesInStep, StandsAt};
+ghost use Rattle.gx_legal.specs.Moments.{point_of};
+
+use crate::moment::Moment;
+use crate::word::{Report, Word, delivers};
+use gx_ids::{Cid, Gxid, Node, Rid};
+use gx_legal_rows::is_same_image;
+use gx_msg::Cause;
+use gx_store::{Event, Mark, Step};
+use gx_tree::{Row, Stmt};
+
+/// An evaluation of a command that faulted: on which image of which row.
+#[derive(Clone, Copy)]
+pub struct Evaluation<'a> {
+    pub gxid: Gxid,
+    pub cid: Cid,
+    pub rid: Rid,
+    pub image: &'a Option<Row>,
+}
+
+fn is_same(image: &Option<Row>, other: &Option<Row>) -> bool
+    ensures { IsTrue result ↔ (image.now ≡ other.now) }
+{
+    let is = is_same_image(image, other);
+    is
+}
+
+fn is_note(mark: &Mark, evaluation: Evaluation<'_>) -> bool
+    ensures { IsTrue result ↔ (mark.now ≡ Fault evaluation.entry.gxid evaluation.entry.cid evaluation.entry.rid evaluation.entry.image.now) }
+{
+    match mark {
+        Mark::Fault {
+            gxid,
+            cid,
+            rid,
+            image,
+        } => *gxid == evaluation.gxid
+            && *cid == evaluation.cid
+            && *rid == evaluation.rid
+            && is_same(image, evaluation.image),
+        _ => false,
+    }
+}
+
+fn is_note_among(marks: &[Mark], evaluation: Evaluation<'_>) -> bool
+    ensures { IsTrue result ↔ ((place : ℕ) × StandsAt (Fault evaluation.entry.gxid evaluation.entry.cid evaluation.entry.rid evaluation.entry.image.now) marks.now place) }
+{
+    for mark in marks {
+        if is_note(mark, evaluation) {
+            return true;
+        }
+    }
+    false
+}
+
+fn is_note_in(step: &Step, evaluation: Evaluation<'_>, node: Node) -> bool
+    ensures { IsTrue result ↔ NotesIn evaluation.entry.gxid evaluation.entry.cid evaluation.entry.rid evaluation.entry.image.now node step.now }
+{
+    step.stamp.node == node && is_note_among(step.marks.as_slice(), evaluation)
+}
+
+fn has_noted(steps: &[Step], evaluation: Evaluation<'_>, node: Node) -> bool
+    ensures { IsTrue result ↔ ((place : ℕ) × NotesInStep evaluation.entry.gxid evaluation.entry.cid evaluation.entry.rid evaluation.entry.image.now node steps.now place) }
+{
+    for step in steps {
+        if is_note_in(step, evaluation, node) {
+            return true;
+        }
+    }
+    false
+}
+
+// The step receives the word of a segment that has noted it.
+fn is_word(moment: &Moment<'_>, evaluation: Evaluation<'_>, reason: Cause) -> bool
+    ensures { IsTrue result ↔ IsWord (point_of moment.now) evaluation.entry.gxid evaluation.entry.cid evaluation.entry.rid evaluation.entry.image.now reason }
+{
+    let Event::Receive { from, .. } = moment.event else {
+        return false;
+    };
+    let report = Report {
+        gxid: evaluation.gxid,
+        word: Word::Failed(evaluation.cid, reason),
+        from,
+        to: Node(0),
+    };
+    delivers(moment.steps, moment.event, report) && has_noted(moment.steps, evaluation, from)
+}
+
+/// Whether the fault that is noted at this place is why the command is refused: an INSERT's in the point's own step, another's by the word
+/// of a segment.
+pub fn is_heard(
+    moment: &Moment<'_>,
+    place: usize,
+    stmt: &Stmt,
+    evaluation: Evaluation<'_>,
+    reason: Cause,
+) -> bool
+    ensures { IsTrue result ↔ IsHeard (point_of moment.now) place stmt.now evaluation.entry.gxid evaluation.entry.cid evaluation.entry.rid evaluation.entry.image.now reason }
+{
+    match stmt {
+        Stmt::Insert(_, _) => moment.before.len() - moment.earlier.len() <= place,
+        _ => is_word(moment, evaluation, reason),
+    }
+}

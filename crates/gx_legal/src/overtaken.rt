@@ -1,0 +1,67 @@
+// Whether a row that a command has selected was overtaken.
+ghost use Rattle.std.specs.Prelude.{◌↔◌, IfOk, IsTrue};
+ghost use Rattle.gx_store.specs.Refusals.{IsOvertaken};
+ghost use Rattle.gx_legal.specs.Causes.{IsOvertakenThere};
+ghost use Rattle.gx_legal.specs.Moments.{point_of};
+
+use crate::firsts::first_sending;
+use crate::moment::Moment;
+use crate::word::{Report, Word, delivers};
+use gx_ids::{Gxid, Mem, Node, Rid, Table};
+use gx_legal_rows::{Command, is_overtaken_row};
+use gx_msg::Cause;
+use gx_store::Event;
+use gx_tree::{Cond, Level, Stmt};
+use std::alloc::Global;
+
+// A row of the table, by the word that the point's step receives, and when the segment first said so.
+fn is_overtaken_there(
+    alloc: Global,
+    moment: &Moment<'_>,
+    command: Command,
+    table: Table,
+    cond: &Option<Cond>,
+    row: (Rid, Gxid),
+) -> Mem<bool>
+    ensures { IfOk result (λ is. IsTrue is ↔ IsOvertakenThere (point_of moment.now) command.level command.gxid command.cid table cond.now row.0 row.1) }
+{
+    let Event::Receive { from, .. } = moment.event else {
+        return Ok(false);
+    };
+    let report = Report {
+        gxid: command.gxid,
+        word: Word::Failed(command.cid, Cause::Serialization(row.0, row.1)),
+        from,
+        to: Node(0),
+    };
+    if !delivers(moment.steps, moment.event, report) {
+        return Ok(false);
+    }
+    let Some(first) = first_sending(moment, report) else {
+        return Ok(false);
+    };
+    let then = &moment.before[..first.start + first.mark];
+    is_overtaken_row(alloc, then, command, table, cond, row.0, row.1)
+}
+
+/// Whether, at repeatable read, the row's current write is of this transaction, which committed after the command's snapshot.
+pub fn is_overtaken(
+    alloc: Global,
+    moment: &Moment<'_>,
+    stmt: &Stmt,
+    command: Command,
+    row: (Rid, Gxid),
+) -> Mem<bool>
+    ensures { IfOk result (λ is. IsTrue is ↔ IsOvertaken (point_of moment.now) stmt.now command.level command.gxid command.cid row.0 row.1) }
+{
+    if command.level != Level::RepeatableRead {
+        return Ok(false);
+    }
+    match stmt {
+        Stmt::Update(table, _, cond) => is_overtaken_there(
+            alloc, moment, command, *table, cond, row,
+        ),
+        Stmt::Delete(table, cond) => is_overtaken_there(alloc, moment, command, *table, cond, row),
+        _ => Ok(false),
+    }
+}

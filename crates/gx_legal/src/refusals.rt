@@ -1,0 +1,121 @@
+// Whether a line may be refused.
+ghost use Rattle.std.specs.Prelude.{◌≡◌, ◌↔◌, IfOk, IsTrue};
+ghost use Rattle.gx_store.specs.Commands.{state_at};
+ghost use Rattle.gx_store.specs.Refusals.{IsCause, IsRefusal, is_journal as is_of_journal, may_refuse as can_refuse};
+ghost use Rattle.gx_legal.specs.Causes.{IsRefusedFor};
+ghost use Rattle.gx_legal.specs.Moments.{point_of};
+ghost use Rattle.gx_legal.specs.Standings.{state_in};
+
+use crate::faulted::has_faulted;
+use crate::journals::has_journal_failed;
+use crate::lines::{is_command, level_in, number_in, transaction_in};
+use crate::moment::Moment;
+use crate::named::is_named;
+use crate::overtaken::is_overtaken;
+use crate::standing::{Block, standing_of};
+use gx_ids::{Mem, SessionId};
+use gx_legal_rows::{Command, is_aborted};
+use gx_meaning::ArithFault;
+use gx_msg::Cause;
+use gx_script::Script;
+use gx_store::Refused;
+use gx_tree::Stmt;
+use std::alloc::Global;
+
+fn is_journal(reason: Refused) -> bool
+    ensures { result ≡ is_of_journal reason }
+{
+    match reason {
+        Refused::JournalFault(_) => true,
+        _ => false,
+    }
+}
+
+fn may_refuse(block: Block, stmt: &Stmt, reason: Refused) -> bool
+    ensures { result ≡ can_refuse (state_in block) stmt.now reason }
+{
+    match (block, stmt) {
+        (Block::Inside { .. }, Stmt::Commit) => is_journal(reason),
+        (Block::Inside { .. }, _) => is_command(block, stmt) && !is_journal(reason),
+        _ => is_command(block, stmt),
+    }
+}
+
+fn is_cause(
+    alloc: Global,
+    moment: &Moment<'_>,
+    stmt: &Stmt,
+    command: Command,
+    reason: Refused,
+) -> Mem<bool>
+    ensures { IfOk result (λ is. IsTrue is ↔ IsCause (point_of moment.now) stmt.now command.level command.gxid command.cid reason) }
+{
+    match reason {
+        Refused::Serialization(rid, writer) => is_overtaken(
+            alloc,
+            moment,
+            stmt,
+            command,
+            (rid, writer),
+        ),
+        Refused::Victim(round) => Ok(is_named(moment.earlier, round, command.gxid)),
+        Refused::Overflow => has_faulted(
+            alloc,
+            moment,
+            stmt,
+            command,
+            (ArithFault::Overflow, Cause::Overflow),
+        ),
+        Refused::DivisionByZero => has_faulted(
+            alloc,
+            moment,
+            stmt,
+            command,
+            (ArithFault::DivisionByZero, Cause::DivisionByZero),
+        ),
+        Refused::JournalFault(node) => Ok(has_journal_failed(moment, command.gxid, node)),
+        Refused::InFailedBlock | Refused::NotInBlock => Ok(false),
+    }
+}
+
+// The command's transaction has aborted in the point's step, and for this cause.
+fn is_refused_for(
+    alloc: Global,
+    moment: &Moment<'_>,
+    stmt: &Stmt,
+    command: Command,
+    reason: Refused,
+) -> Mem<bool>
+    ensures { IfOk result (λ is. IsTrue is ↔ IsRefusedFor (point_of moment.now) stmt.now command.level command.gxid command.cid reason) }
+{
+    if !is_aborted(moment.earlier, command.gxid) {
+        return Ok(false);
+    }
+    is_cause(alloc, moment, stmt, command, reason)
+}
+
+/// Whether the session's line, which has a transaction, may be refused so.
+pub fn is_refusal(
+    alloc: Global,
+    script: &Script,
+    moment: &Moment<'_>,
+    session: SessionId,
+    line: &Stmt,
+    reason: Refused,
+) -> Mem<bool>
+    ensures { IfOk result (λ is. IsTrue is ↔ IsRefusal script.now (point_of moment.now) session (state_at script.now session (point_of moment.now)) line.now reason) }
+{
+    let block = standing_of(script, session, moment.before).block;
+    if !may_refuse(block, line, reason) {
+        return Ok(false);
+    }
+    let Some(gxid) = transaction_in(script, moment.before, session) else {
+        return Ok(false);
+    };
+    let command = Command {
+        level: level_in(block),
+        gxid,
+        cid: number_in(block)?,
+    };
+    is_refused_for(alloc, moment, line, command, reason)
+}

@@ -1,0 +1,47 @@
+// Whether a transaction may start.
+ghost use Rattle.std.specs.Prelude.{◌≡◌, ◌↔◌, ◌+◌, IsTrue};
+ghost use Rattle.gx_store.specs.Legal.{LegalStart};
+ghost use Rattle.gx_store.specs.Marks.{start_count as count_of};
+ghost use Rattle.gx_legal.specs.Commands.{StartsWith};
+ghost use Rattle.gx_legal.specs.Moments.{point_of};
+
+use crate::counts::start_count;
+use crate::lines::{draws, is_start_of, line_under_way};
+use crate::moment::Moment;
+use crate::standing::standing_of;
+use gx_ids::{Gxid, SessionId};
+use gx_script::Script;
+use gx_store::Mark;
+use gx_tree::Stmt;
+
+fn is_next(marks: &[Mark], gxid: Gxid) -> bool
+    ensures { IsTrue result ↔ (gxid.0 ≡ count_of marks.now + 1) }
+{
+    gxid.0 == start_count(marks) as u64 + 1
+}
+
+fn starts_with(
+    script: &Script,
+    moment: &Moment<'_>,
+    gxid: Gxid,
+    session: SessionId,
+    line: &Stmt,
+) -> bool
+    ensures { IsTrue result ↔ StartsWith script.now (point_of moment.now) gxid session line.now }
+{
+    let standing = standing_of(script, session, moment.before);
+    is_next(moment.before, gxid)
+        && is_start_of(moment.event, session)
+        && draws(standing.block, line)
+        && !standing.begun
+}
+
+/// Whether the session may start this transaction.
+pub fn is_legal_start(script: &Script, moment: &Moment<'_>, gxid: Gxid, session: SessionId) -> bool
+    ensures { IsTrue result ↔ LegalStart script.now (point_of moment.now) gxid session }
+{
+    match line_under_way(script, moment, session) {
+        Some(line) => starts_with(script, moment, gxid, session, line),
+        None => false,
+    }
+}
