@@ -1,5 +1,5 @@
 -- Causes of refusals, part by part.
-use Rattle.std.proofs.Common.{◌≡◌, ◌↔◌, ◌&&◌, ◌<◌, ◌≤◌, ℕ, zero, suc, Bool, true, false, IsTrue, Option, List, [], ◌∷◌, Some, length, take, slice_get, refl, sym, subst, ap, ◌∙◌, arith}
+use Rattle.std.proofs.Common.{◌≡◌, ◌↔◌, ◌&&◌, ℕ, zero, suc, Bool, true, false, IsTrue, Option, List, [], ◌∷◌, Some, slice_get, refl, sym, subst, ap, ◌∙◌, arith}
 use Rattle.std.specs.Prelude.{Contains}
 use Rattle.gx_ids.specs.declared.ids.Cid.{Cid}
 use Rattle.gx_ids.specs.declared.ids.Gxid.{Gxid}
@@ -68,12 +68,14 @@ module _ (g : Gxid) (from to : Node) (steps : List Step) (event : Event) (b : Bo
       of (told, (answer, e, i), r) = subst (λ (t : Message). Receives steps event from to t) (e ∙ ap (λ a. message.Answer g a) i) r
 
 -- JOURNALS
-pub journal-here : (point : Point) (g : Gxid) (n : ℕ) (b : Bool) → n ≡ 0 → IsTrue b ↔ Contains point.earlier (JournalFailed (record { 0 = n }) g) → IsTrue b ↔ HasJournalFailed point g (record { 0 = n })
+pub journal-here : (point : Point) (g : Gxid) (n : ℕ) (b : Bool) → n ≡ 0 → IsTrue b ↔ Contains point.earlier (JournalFailed (record { 0 = n }) g)
+    → IsTrue b ↔ HasJournalFailed point g (record { 0 = n })
 journal-here point g zero b e h = h
 journal-here point g (suc n) b e h = absurd (omega (arith, e))
 
 pub journal-there : (point : Point) (g : Gxid) (n : ℕ) (b : Bool) → (n ≡ 0 → ⊥)
-    → IsTrue b ↔ (Receives point.steps point.event (record { 0 = n }) the_coordinator (message.Answer g reply.Jfault) × Contains (before point) (JournalFailed (record { 0 = n }) g)) → IsTrue b ↔ HasJournalFailed point g (record { 0 = n })
+    → IsTrue b ↔ (Receives point.steps point.event (record { 0 = n }) the_coordinator (message.Answer g reply.Jfault) × Contains (before point) (JournalFailed (record { 0 = n }) g))
+    → IsTrue b ↔ HasJournalFailed point g (record { 0 = n })
 journal-there point g zero b e h = absurd (e refl)
 journal-there point g (suc n) b e h = h
 

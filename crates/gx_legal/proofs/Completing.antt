@@ -1,5 +1,6 @@
 -- When a command is done: what it goes to, and what comes back.
-use Rattle.std.proofs.Common.{◌≡◌, ◌↔◌, ◌<◌, ◌≤◌, ◌^◌, ◌∙◌, ℕ, zero, suc, Bool, true, false, IsTrue, List, [], ◌∷◌, Option, Some, None, Result, Ok, Err, All, length, map, slice_get, refl, sym, subst, ap, arith}
+use Rattle.std.proofs.Common.{◌≡◌, ◌↔◌, ◌∙◌, zero, suc, Bool, true, IsTrue, List, []}
+use Rattle.std.proofs.Common.{◌∷◌, Some, map, refl, sym, subst, ap, arith}
 use Rattle.std.specs.List.{AllByRecursion}
 use Rattle.std.specs.Prelude.{Contains}
 use Rattle.gx_ids.specs.declared.ids.Cid.{Cid}
@@ -29,7 +30,11 @@ use Rattle.gx_legal.specs.declared.word.Word.TheVariants as word
 
 -- WHAT CAME BACK
 pub returned-is : (point : Point) (g : Gxid) (c : Cid) (node : Node) (b : Bool) → IsTrue b ↔ HasHeard g (word.Done c) node the_coordinator point → IsTrue b ↔ IsReturned point g c node
-returned-is point g c node b heard = (λ t. of (heard.0 t), λ r. heard.1 (message.Answer g (reply.Done c r.wrote r.count r.part), (reply.Done c r.wrote r.count r.part, refl, (r.wrote, r.count, r.part, refl)), r.received))
+returned-is point g c node b heard = (
+  λ t. of (heard.0 t),
+  λ r. heard.1
+      (message.Answer g (reply.Done c r.wrote r.count r.part), (reply.Done c r.wrote r.count r.part, refl, (r.wrote, r.count, r.part, refl)), r.received),
+)
   where
     of : HasHeard g (word.Done c) node the_coordinator point → IsReturned point g c node
     of (told, (answer, e, (wrote, count, part, i)), r) = record {
@@ -48,19 +53,26 @@ all-at P [] node all h = absurd (omega (arith, h.1))
 all-at P (p ∷ ps) node all (zero, inside, is) = subst P is all.0
 all-at P (p ∷ ps) node all (suc k, inside, is) = all-at P ps node all.1 (k, omega (arith, inside), is)
 
-pub back-is : (script : Script) (point : Point) (g : Gxid) (c : Cid) (line : Stmt) (pieces : List Piece) (b : Bool) → AreSent script g c line pieces → IsTrue b ↔ AllByRecursion (IsPieceBack point g c) pieces
+pub back-is : (script : Script) (point : Point) (g : Gxid) (c : Cid) (line : Stmt) (pieces : List Piece) (b : Bool) → AreSent script g c line pieces
+    → IsTrue b ↔ AllByRecursion (IsPieceBack point g c) pieces
     → IsTrue b ↔ IsBack script point g c line
 back-is script point g c line pieces b sent all =
     (λ t node goes. all-at (IsReturned point g c) pieces node (all.0 t) ((sent node).0 goes), λ back. all.1 (every (IsReturned point g c) pieces (λ node h. back node ((sent node).1 h))))
 
 -- WHETHER IT IS DONE
 module _ (script : Script) (point : Point) (line : Stmt) (reply : StmtAnswer) (state : BlockState) (marks : List Mark) (whole : marks ≡ before point) where
-  pub done-by : (g : Gxid) (level : Level) (c : Cid) (b : Bool) → level ≡ level_of state → c ≡ cid_of state → IsAtItsEnd state point g → Tells script marks level g c line reply → IsTrue b ↔ IsBack script point g c line
+  pub done-by : (g : Gxid) (level : Level) (c : Cid) (b : Bool) → level ≡ level_of state → c ≡ cid_of state → IsAtItsEnd state point g → Tells script marks level g c line reply
+      → IsTrue b ↔ IsBack script point g c line
       → IsTrue b ↔ IsDoneBy script point state g line reply
-  done-by g level c b is-level is-number end told back = (λ t. (end, there, subst (λ d. IsBack script point g d line) is-number (back.0 t)), λ done. back.1 (subst (λ d. IsBack script point g d line) (sym is-number) done.2))
+  done-by g level c b is-level is-number end told back = (
+    λ t. (end, there, subst (λ d. IsBack script point g d line) is-number (back.0 t)),
+    λ done. back.1
+        (subst (λ d. IsBack script point g d line) (sym is-number) done.2),
+  )
     where
       there : Tells script (before point) (level_of state) g (cid_of state) line reply
-      there = subst (λ ms. Tells script ms (level_of state) g (cid_of state) line reply) whole (subst (λ d. Tells script marks (level_of state) g d line reply) is-number (subst (λ l. Tells script marks l g c line reply) is-level told))
+      there = subst (λ ms. Tells script ms (level_of state) g (cid_of state) line reply) whole
+          (subst (λ d. Tells script marks (level_of state) g d line reply) is-number (subst (λ l. Tells script marks l g c line reply) is-level told))
 
   module _ (session : SessionId) (stands : state ≡ state_of script session marks) where
     at-point : state ≡ state_at script session point
@@ -68,7 +80,11 @@ module _ (script : Script) (point : Point) (line : Stmt) (reply : StmtAnswer) (s
 
     pub done-is : (g : Gxid) (b : Bool) → is_command state line ≡ true → transaction_of (state_of script session marks) session marks ≡ Some g → IsTrue b ↔ IsDoneBy script point state g line reply
         → IsTrue b ↔ IsDone script point session (state_at script session point) line reply
-    done-is g b command transaction is = (λ t. to (subst (λ s. IsDoneBy script point s g line reply) at-point (is.0 t)), λ done. is.1 (subst (λ s. IsDoneBy script point s g line reply) (sym at-point) (from done)))
+    done-is g b command transaction is = (
+      λ t. to (subst (λ s. IsDoneBy script point s g line reply) at-point (is.0 t)),
+      λ done. is.1
+          (subst (λ s. IsDoneBy script point s g line reply) (sym at-point) (from done)),
+    )
       where
         here : transaction_of (state_at script session point) session (before point) ≡ Some g
         here = subst (λ ms. transaction_of (state_of script session ms) session ms ≡ Some g) whole transaction

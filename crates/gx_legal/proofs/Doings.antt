@@ -39,7 +39,8 @@ module _ (script : Script) (point : Point) (g : Gxid) (c : Cid) where
   either-late live late marks b e none is = subst P (sym e) at none is
     where
       P : List Mark → Type 0
-      P ms = (IsByCommand script point (record { marks = ms; g = g; c = c; act = live }) → ⊥) → IsTrue b ↔ IsLateDoing script point (record { marks = ms; g = g; c = c; act = late }) → IsTrue b ↔ IsByEither script point g c live late
+      P ms = (IsByCommand script point (record { marks = ms; g = g; c = c; act = live }) → ⊥) → IsTrue b ↔ IsLateDoing script point (record { marks = ms; g = g; c = c; act = late })
+          → IsTrue b ↔ IsByEither script point g c live late
 
       at : P (before point)
       at n h = (λ t. inr (h.0 t), back)
@@ -48,7 +49,8 @@ module _ (script : Script) (point : Point) (g : Gxid) (c : Cid) where
           back (inl by) = absurd (n by)
           back (inr by) = h.1 by
 
-  pub write-either : (row : RowAt) (image : Bor (Option (List Value))) → IsByEither script point g c (act.Write row image) (act.LateWrite row) ↔ LegalWrite script point g c row.node row.table row.rid image.now
+  pub write-either : (row : RowAt) (image : Bor (Option (List Value)))
+      → IsByEither script point g c (act.Write row image) (act.LateWrite row) ↔ LegalWrite script point g c row.node row.table row.rid image.now
   write-either row image = (to, back)
     where
       to : IsByEither script point g c (act.Write row image) (act.LateWrite row) → LegalWrite script point g c row.node row.table row.rid image.now

@@ -43,7 +43,8 @@ by-command-like script p q doing s e m by =
 
 module _ (script : Script) (point : Point) (doing : Doing) where
   -- IN THE POINT'S STEP
-  pub in-step-none : (count : ℕ) → ((early : Point) → IsBeforeInStep early point → length early.earlier < count → IsByCommand script early doing → ⊥) → (IsByCommand script (in_step point count) doing → ⊥)
+  pub in-step-none : (count : ℕ) → ((early : Point) → IsBeforeInStep early point → length early.earlier < count → IsByCommand script early doing → ⊥)
+      → (IsByCommand script (in_step point count) doing → ⊥)
       → (early : Point) → IsBeforeInStep early point → length early.earlier < count + 1 → IsByCommand script early doing → ⊥
   in-step-none count below here early is inside by = by_test (eqb (length early.earlier) count) refl
     where
@@ -62,7 +63,8 @@ module _ (script : Script) (point : Point) (doing : Doing) where
       inside a b d e = omega arith
 
   -- IN EARLIER STEPS
-  pub behind-some : (number : ℕ) (step : Step) → point.steps ≡ take number point.steps ++ step ∷ drop (number + 1) point.steps → IsByEarlierInStep script (behind point number step) doing → IsByEarlierStep script point doing
+  pub behind-some : (number : ℕ) (step : Step) → point.steps ≡ take number point.steps ++ step ∷ drop (number + 1) point.steps → IsByEarlierInStep script (behind point number step) doing
+      → IsByEarlierStep script point doing
   behind-some number step split by =
       let early : Point = by.0 in
       let is : IsBeforeInStep early (behind point number step) = by.1 in (
@@ -71,7 +73,8 @@ module _ (script : Script) (point : Point) (doing : Doing) where
         by-command-like script early (record { steps = early.steps; event = early.event; earlier = early.earlier; later = is.between }) doing refl refl refl by.2,
       )
 
-  pub behind-none : (number : ℕ) (step : Step) → slice_get point.steps number ≡ Some step → ((early : Point) → IsPointOf point.steps early → length early.steps < number → IsByCommand script early doing → ⊥)
+  pub behind-none : (number : ℕ) (step : Step) → slice_get point.steps number ≡ Some step
+      → ((early : Point) → IsPointOf point.steps early → length early.steps < number → IsByCommand script early doing → ⊥)
       → (IsByEarlierInStep script (behind point number step) doing → ⊥) → (early : Point) → IsPointOf point.steps early → length early.steps < number + 1 → IsByCommand script early doing → ⊥
   behind-none number step at below here early is inside by = by_test (eqb (length early.steps) number) refl
     where

@@ -36,7 +36,8 @@ module _ (script : Script) (point : Point) (session : SessionId) where
   judged-is state line (Refused reason) = same
   judged-is state line reply = same
 
-  pub answer-is : (state : BlockState) (marks : List Mark) (line : Stmt) (reply : StmtAnswer) (judgement : Judgement) (b : Bool) → state ≡ state_of script session marks → marks ≡ before point → judgement ≡ judged state line reply
+  pub answer-is : (state : BlockState) (marks : List Mark) (line : Stmt) (reply : StmtAnswer) (judgement : Judgement) (b : Bool) → state ≡ state_of script session marks → marks ≡ before point
+      → judgement ≡ judged state line reply
       → IsTrue b ↔ Meets script point session (state_at script session point) line reply judgement → IsTrue b ↔ IsAnswer script point session (state_at script session point) line reply
   answer-is state marks line reply judgement b stands whole is meets = (λ t. here.0 (meets.0 t), λ answers. meets.1 (here.1 answers))
     where

@@ -12,7 +12,8 @@ module _ (script : Script) (steps : List Step) (event : Event) (marks : List Mar
   abbrev at : List Mark → Point
   at later = record { steps = steps; event = event; earlier = take k marks; later = later }
 
-  pub marks-left : AreLegalMarks script steps event (take k marks) (drop k marks) [] ↔ (LegalMark script (at (drop (k + 1) marks)) m × AreLegalMarks script steps event (take (k + 1) marks) (drop (k + 1) marks) [])
+  pub marks-left : AreLegalMarks script steps event (take k marks) (drop k marks) [] ↔
+      (LegalMark script (at (drop (k + 1) marks)) m × AreLegalMarks script steps event (take (k + 1) marks) (drop (k + 1) marks) [])
   marks-left = (λ h. cut (subst (λ ms. AreLegalMarks script steps event (take k marks) ms []) left h), λ h. subst (λ ms. AreLegalMarks script steps event (take k marks) ms []) (sym left) (join h))
     where
       left : drop k marks ≡ m ∷ drop (k + 1) marks
@@ -21,10 +22,12 @@ module _ (script : Script) (steps : List Step) (event : Event) (marks : List Mar
       next : take k marks ++ m ∷ [] ≡ take (k + 1) marks
       next = ap (λ x. take k marks ++ x ∷ []) is ∙ sym (take_more marks k m inside)
 
-      cut : AreLegalMarks script steps event (take k marks) (m ∷ drop (k + 1) marks) [] → LegalMark script (at (drop (k + 1) marks)) m × AreLegalMarks script steps event (take (k + 1) marks) (drop (k + 1) marks) []
+      cut : AreLegalMarks script steps event (take k marks) (m ∷ drop (k + 1) marks) []
+          → LegalMark script (at (drop (k + 1) marks)) m × AreLegalMarks script steps event (take (k + 1) marks) (drop (k + 1) marks) []
       cut h = (subst (λ ms. LegalMark script (at ms) m) (append-nil (drop (k + 1) marks)) h.0, subst (λ ms. AreLegalMarks script steps event ms (drop (k + 1) marks) []) next h.1)
 
-      join : LegalMark script (at (drop (k + 1) marks)) m × AreLegalMarks script steps event (take (k + 1) marks) (drop (k + 1) marks) [] → AreLegalMarks script steps event (take k marks) (m ∷ drop (k + 1) marks) []
+      join : LegalMark script (at (drop (k + 1) marks)) m × AreLegalMarks script steps event (take (k + 1) marks) (drop (k + 1) marks) []
+          → AreLegalMarks script steps event (take k marks) (m ∷ drop (k + 1) marks) []
       join h = (subst (λ ms. LegalMark script (at ms) m) (sym (append-nil (drop (k + 1) marks))) h.0, subst (λ ms. AreLegalMarks script steps event ms (drop (k + 1) marks) []) (sym next) h.1)
 
   -- behind a legal mark the others decide, behind another nothing does
@@ -35,7 +38,8 @@ module _ (script : Script) (steps : List Step) (event : Event) (marks : List Mar
   pub marks-stop : {W : Type 0} → (LegalMark script (at (drop (k + 1) marks)) m → ⊥) → AreLegalMarks script steps event (take k marks) (drop k marks) [] ↔ W → W → ⊥
   marks-stop illegal left w = illegal (marks-left.0 (left.1 w)).0
 
-pub marks-end : (script : Script) (steps : List Step) (event : Event) (marks : List Mark) (k : ℕ) {W : Type 0} → length marks ≤ k → AreLegalMarks script steps event (take k marks) (drop k marks) [] ↔ W → W
+pub marks-end : (script : Script) (steps : List Step) (event : Event) (marks : List Mark) (k : ℕ) {W : Type 0} → length marks ≤ k
+    → AreLegalMarks script steps event (take k marks) (drop k marks) [] ↔ W → W
 marks-end script steps event marks k past left = left.0 (subst (λ ms. AreLegalMarks script steps event (take k marks) ms []) (sym (drop_all k marks past)) tt)
 
 module _ (script : Script) (steps : List Step) (k : ℕ) (s : Step) (inside : k < length steps) (is : s ≡ get_or steps k s) where

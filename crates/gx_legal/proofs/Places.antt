@@ -1,5 +1,6 @@
 -- Marks of steps as one list, and places in lists one by one.
-use Rattle.std.proofs.Common.{◌≡◌, ◌≤◌, ◌<◌, ◌+◌, ◌-◌, ℕ, Bool, true, false, List, [], ◌∷◌, ◌++◌, Some, length, take, drop, slice_get, get_or, refl, sym, subst, ap, ◌∙◌, zero, suc, eqb, arith, append_assoc, length-append}
+use Rattle.std.proofs.Common.{◌≡◌, ◌≤◌, ◌<◌, ◌+◌, ◌-◌, ℕ, Bool, true, false, List, [], ◌∷◌, ◌++◌, Some, length}
+use Rattle.std.proofs.Common.{take, drop, slice_get, get_or, refl, sym, subst, ap, ◌∙◌, zero, suc, eqb, arith, append_assoc, length-append}
 use Rattle.std.proofs.lemmas.Bool.{eqb-true}
 use Rattle.std.proofs.lemmas.List.Concat.{flat_map-append}
 use Rattle.std.proofs.lemmas.List.{take_more}
@@ -52,21 +53,27 @@ through-inside before xs ys zs ws n e k = inside (length xs) (length ys) (length
 pub marks-split : (steps : List Step) (k : ℕ) (step : Step) → slice_get steps k ≡ Some step → marks_in steps ≡ marks_in (take k steps) ++ (step.marks ++ marks_in (drop (k + 1) steps))
 marks-split steps k step e = ap marks_in (split-at steps k step e) ∙ flat_map-append (λ (s : Step). s.marks) (take k steps) (step ∷ drop (k + 1) steps)
 
-pub step-whole : (steps : List Step) (k : ℕ) (step : Step) (earlier before : List Mark) (n : ℕ) → slice_get steps k ≡ Some step → before ≡ marks_in steps ++ earlier → n ≡ length (marks_in (take k steps)) + length step.marks
+pub step-whole : (steps : List Step) (k : ℕ) (step : Step) (earlier before : List Mark) (n : ℕ) → slice_get steps k ≡ Some step → before ≡ marks_in steps ++ earlier
+    → n ≡ length (marks_in (take k steps)) + length step.marks
     → take n before ≡ marks_in (take k steps) ++ step.marks
-step-whole steps k step earlier before n at e is = take-through before (marks_in (take k steps)) step.marks (marks_in (drop (k + 1) steps)) earlier n (e ∙ ap (λ l. l ++ earlier) (marks-split steps k step at)) is
+step-whole steps k step earlier before n at e is = take-through before (marks_in (take k steps)) step.marks (marks_in (drop (k + 1) steps)) earlier n (e
+    ∙ ap (λ l. l ++ earlier) (marks-split steps k step at)) is
 
-pub step-inside : (steps : List Step) (k : ℕ) (step : Step) (earlier before : List Mark) (n : ℕ) → slice_get steps k ≡ Some step → before ≡ marks_in steps ++ earlier → n ≡ length (marks_in (take k steps)) + length step.marks → n ≤ length before
-step-inside steps k step earlier before n at e is = through-inside before (marks_in (take k steps)) step.marks (marks_in (drop (k + 1) steps)) earlier n (e ∙ ap (λ l. l ++ earlier) (marks-split steps k step at)) is
+pub step-inside : (steps : List Step) (k : ℕ) (step : Step) (earlier before : List Mark) (n : ℕ) → slice_get steps k ≡ Some step → before ≡ marks_in steps ++ earlier
+    → n ≡ length (marks_in (take k steps)) + length step.marks → n ≤ length before
+step-inside steps k step earlier before n at e is = through-inside before (marks_in (take k steps)) step.marks (marks_in (drop (k + 1) steps)) earlier n (e
+    ∙ ap (λ l. l ++ earlier) (marks-split steps k step at)) is
 
 -- and those through some of its own step's
 pub part-whole : (all earlier before : List Mark) (count : ℕ) → before ≡ all ++ earlier → take (length before - length earlier + count) before ≡ all ++ take count earlier
 part-whole all earlier before count e =
-    ap (λ n. take (n + count) before) (left (length all) (length earlier) (length before) (ap length e ∙ length-append all earlier)) ∙ ap (take (length all + count)) e ∙ take-append-add all earlier count
+    ap (λ n. take (n + count) before) (left (length all) (length earlier) (length before) (ap length e ∙ length-append all earlier)) ∙ ap (take (length all + count)) e
+    ∙ take-append-add all earlier count
   where
     left : (a b d : ℕ) → d ≡ a + b → d - b ≡ a
     left a b d f = omega arith
 
 pub marks-through : (steps : List Step) (k : ℕ) (step : Step) → slice_get steps k ≡ Some step → length (marks_in (take k steps)) + length step.marks ≡ length (marks_in (take (k + 1) steps))
 marks-through steps k step at =
-    sym (ap (λ ss. length (marks_in ss)) (sym (take-next steps k step (place-below steps k step at) (sym (get_or_from_slice_get steps k step step at)))) ∙ ap length (marks_in-push (take k steps) step) ∙ length-append (marks_in (take k steps)) step.marks)
+    sym (ap (λ ss. length (marks_in ss)) (sym (take-next steps k step (place-below steps k step at) (sym (get_or_from_slice_get steps k step step at))))
+    ∙ ap length (marks_in-push (take k steps) step) ∙ length-append (marks_in (take k steps)) step.marks)

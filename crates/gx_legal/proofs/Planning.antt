@@ -1,5 +1,5 @@
 -- The plan of a line of a script: its table, that it can be planned, and the nodes that its pieces are for.
-use Rattle.std.proofs.Common.{◌≡◌, ◌∙◌, ◌<◌, ◌^◌, ℕ, zero, suc, List, [], ◌∷◌, Option, Some, None, Result, Ok, Err, All, IsSome, length, map, slice_get, refl, sym, subst, ap, arith}
+use Rattle.std.proofs.Common.{◌≡◌, ◌∙◌, ℕ, zero, suc, List, [], ◌∷◌, Option, Some, None, Result, Ok, Err, All, IsSome, length, map, slice_get, refl, sym, subst, ap, arith}
 use Rattle.std.proofs.lemmas.List.{length-map}
 use Rattle.std.proofs.lemmas.List.Elements.{All-from_recursion, recursion_from_All}
 use Rattle.std.specs.List.{AllByRecursion}
@@ -90,7 +90,11 @@ module _ (script : Script) (g : Gxid) (c : Cid) (line : Stmt) where
   plan-there schema goes on = sym (ap (λ d. plan_of script.segments d g c line) (on-table schema goes.1.table on goes.1.of)) ∙ goes.1.plan
 
   pub pieces-sent : (schema : Schema) (pieces : List Piece) → IsOn script.tables line schema → plan_of script.segments schema.dist g c line ≡ Ok pieces → AreSent script g c line pieces
-  pieces-sent schema pieces on plan node = (λ goes. subst (λ ps. Contains (map node_of ps) node) (sym (ok-same (sym plan ∙ plan-there schema (node, goes) on))) goes.among, λ among. at (table_of line) refl among)
+  pieces-sent schema pieces on plan node = (
+    λ goes. subst (λ ps. Contains (map node_of ps) node) (sym (ok-same (sym plan
+        ∙ plan-there schema (node, goes) on))) goes.among,
+    λ among. at (table_of line) refl among,
+  )
     where
       at : (o : Option Table) → table_of line ≡ o → Contains (map node_of pieces) node → GoesTo script g c line node
       at None e among = absurd (none-some _ schema (ap (table_at script.tables) e) on)
@@ -106,7 +110,8 @@ module _ (script : Script) (g : Gxid) (c : Cid) (line : Stmt) where
       clash pieces e = cc
 
   pub unplanned-sent : IsStmtOf script.tables line → table_at script.tables (table_of line) ≡ None → AreSent script g c line []
-  unplanned-sent is none = none-sent (λ node goes. there goes.table (subst (λ o. MatchOption o (Unit {0}) (λ table. (schema : Schema) × IsAt script.tables table schema × IsOver schema line)) goes.of is)
+  unplanned-sent is none = none-sent (λ node goes. there goes.table
+      (subst (λ o. MatchOption o (Unit {0}) (λ table. (schema : Schema) × IsAt script.tables table schema × IsOver schema line)) goes.of is)
       (subst (λ o. table_at script.tables o ≡ None) goes.of none))
     where
       there : (table : Table) → (schema : Schema) × IsAt script.tables table schema × IsOver schema line → slice_get script.tables table.0 ≡ None → ⊥

@@ -1,5 +1,5 @@
 -- Whom a round cancels.
-use Rattle.std.proofs.Common.{◌≡◌, ◌↔◌, ◌&&◌, ◌∙◌, ℕ, zero, suc, Bool, true, false, IsTrue, List, [], ◌∷◌, Some, None, inl, inr, length, refl, sym, subst, arith}
+use Rattle.std.proofs.Common.{◌≡◌, ◌↔◌, ◌&&◌, ◌∙◌, ℕ, zero, suc, Bool, true, false, IsTrue, List, [], ◌∷◌, Some, None, inl, inr, refl, sym, subst, arith}
 use Rattle.std.specs.Prelude.{Contains}
 use Rattle.gx_ids.specs.declared.ids.Gxid.{Gxid}
 use Rattle.gx_ids.specs.declared.ids.SessionId.{SessionId}
@@ -43,7 +43,8 @@ module _ (point : Point) (round : ℕ) (g : Gxid) (marks : List Mark) (same : ma
 
       back : IsCancelled point round g → IsTrue (aborted && refused)
       back is = let s : session ≡ is.session = some-same session is.session (sym here ∙ is.of) in
-          both aborted refused (a ∙ is.aborted) (h.1 (among-refusal session round is.number point.later (subst (λ (x : SessionId). Contains point.later (Answer x is.number (Refused (Victim round)))) (sym s) is.refused)))
+          both aborted refused (a ∙ is.aborted) (h.1 (among-refusal session round is.number point.later
+          (subst (λ (x : SessionId). Contains point.later (Answer x is.number (Refused (Victim round)))) (sym s) is.refused)))
 
   pub cancelled-none : session_of marks g ≡ None → IsCancelled point round g → ⊥
   cancelled-none of is = none (sym (subst (λ ms. session_of ms g ≡ None) same of) ∙ is.of)

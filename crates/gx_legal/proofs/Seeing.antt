@@ -40,7 +40,8 @@ seen-commits (Commit g ∷ ms) snapshot f = (f g (here (eqb g.0 g.0) (is_committ
 seen-commits (_ ∷ ms) snapshot f = (tt, seen-commits ms snapshot f)
 
 module _ (script : Script) (point : Point) (g : Gxid) (c : Cid) (snapshot : Snapshot) where
-  pub snap-of : SeesCommits (before point) snapshot → SeesEnded (before point) snapshot → IsByCommand script point (record { marks = before point; g = g; c = c; act = act.Snap }) → LegalSnap script point g c snapshot
+  pub snap-of : SeesCommits (before point) snapshot → SeesEnded (before point) snapshot → IsByCommand script point (record { marks = before point; g = g; c = c; act = act.Snap })
+      → LegalSnap script point g c snapshot
   snap-of commits ended by = record {
     session = by.0;
     line = by.1.0;
@@ -60,7 +61,8 @@ module _ (script : Script) (point : Point) (g : Gxid) (c : Cid) (snapshot : Snap
   snap-is marks b e = subst P (sym e) (λ commits ended by. (λ t. snap-of commits ended (by.0 t), λ snap. by.1 (of-snap snap)))
     where
       P : List Mark → Type 0
-      P ms = SeesCommits ms snapshot → SeesEnded ms snapshot → IsTrue b ↔ IsByCommand script point (record { marks = ms; g = g; c = c; act = act.Snap }) → IsTrue b ↔ LegalSnap script point g c snapshot
+      P ms = SeesCommits ms snapshot → SeesEnded ms snapshot → IsTrue b ↔ IsByCommand script point (record { marks = ms; g = g; c = c; act = act.Snap })
+          → IsTrue b ↔ LegalSnap script point g c snapshot
 
   pub snap-sees : (marks : List Mark) → marks ≡ before point → LegalSnap script point g c snapshot → SeesCommits marks snapshot
   snap-sees marks e snap = subst (λ ms. SeesCommits ms snapshot) (sym e) (seen-commits (before point) snapshot snap.committed)

@@ -1,5 +1,6 @@
 -- The first sending of a segment's word, and rows that were overtaken when it was said.
-use Rattle.std.proofs.Common.{◌≡◌, ◌↔◌, ◌⊎◌, ◌∙◌, ◌<◌, ◌≤◌, ◌+◌, ◌++◌, ℕ, zero, suc, eqb, nat_lt, Bool, true, false, IsTrue, Option, List, [], ◌∷◌, Some, None, inl, inr, length, take, drop, slice_get, refl, sym, subst, ap, arith}
+use Rattle.std.proofs.Common.{◌≡◌, ◌↔◌, ◌⊎◌, ◌∙◌, ◌<◌, ◌≤◌, ◌+◌, ◌++◌, ℕ, zero, suc, eqb, nat_lt, Bool, true, false, IsTrue}
+use Rattle.std.proofs.Common.{Option, List, [], ◌∷◌, Some, None, inl, inr, length, take, drop, slice_get, refl, sym, subst, ap, arith}
 use Rattle.std.proofs.lemmas.Bool.{eqb-true}
 use Rattle.std.proofs.lemmas.List.{append-nil}
 use Rattle.gx_ids.specs.declared.ids.Cid.{Cid}
@@ -40,10 +41,12 @@ own-marks [] s step at = absurd (cc)
 own-marks (t ∷ ts) zero step at = append-nil t.marks ∙ ap (λ (x : Step). x.marks) (some-same t step at)
 own-marks (t ∷ ts) (suc s) step at = own-marks ts s step at
 
-marks-up-to : (steps : List Step) (s m start : ℕ) (step : Step) (earlier all : List Mark) → slice_get steps s ≡ Some step → m ≤ length step.marks → all ≡ marks_in steps ++ earlier → start ≡ length (marks_in (take s steps))
+marks-up-to : (steps : List Step) (s m start : ℕ) (step : Step) (earlier all : List Mark) → slice_get steps s ≡ Some step → m ≤ length step.marks → all ≡ marks_in steps ++ earlier
+    → start ≡ length (marks_in (take s steps))
     → take (start + m) all ≡ marks_before steps s m
 marks-up-to steps s m start step earlier all at inside whole is =
-    take-part all (marks_in (take s steps)) step.marks start (length step.marks) m is (step-whole steps s step earlier all (start + length step.marks) at whole (ap (λ k. k + length step.marks) is)) inside
+    take-part all (marks_in (take s steps)) step.marks start (length step.marks) m is
+    (step-whole steps s step earlier all (start + length step.marks) at whole (ap (λ k. k + length step.marks) is)) inside
     ∙ ap (λ l. marks_in (take s steps) ++ take m l) (sym (own-marks steps s step at))
 
 -- THE FIRST SENDING
@@ -62,7 +65,8 @@ module _ (g : Gxid) (c : Cid) (why : Cause) (from to : Node) (steps : List Step)
   first-is first is = let s = sending-of first.step first.mark is.0 in
       record { step = first.step; mark = first.mark; number = s.0; sending = s.1; first = λ t m n other. is.1 t m (of-sending t m n other); before = refl }
 
-  first-only : (first : Sending) (marks : List Mark) → IsFirstSending g (word.Failed c why) from to steps (Some first) → IsFirstSent steps from to told marks → marks ≡ marks_before steps first.step first.mark
+  first-only : (first : Sending) (marks : List Mark) → IsFirstSending g (word.Failed c why) from to steps (Some first) → IsFirstSent steps from to told marks
+      → marks ≡ marks_before steps first.step first.mark
   first-only first marks is sent =
       let s = sending-of first.step first.mark is.0 in
       sent.before ∙ same (sent.first first.step first.mark s.0 s.1) (is.1 sent.step sent.mark (of-sending sent.step sent.mark sent.number sent.sending))
@@ -77,13 +81,15 @@ module _ (g : Gxid) (c : Cid) (why : Cause) (from to : Node) (steps : List Step)
   none-first : IsFirstSending g (word.Failed c why) from to steps None → (marks : List Mark) → IsFirstSent steps from to told marks → ⊥
   none-first is marks sent = is sent.step sent.mark (of-sending sent.step sent.mark sent.number sent.sending)
 
-  first-marks : (first : Sending) (earlier all : List Mark) → IsFirstSending g (word.Failed c why) from to steps (Some first) → all ≡ marks_in steps ++ earlier → take (first.start + first.mark) all ≡ marks_before steps first.step first.mark
+  first-marks : (first : Sending) (earlier all : List Mark) → IsFirstSending g (word.Failed c why) from to steps (Some first) → all ≡ marks_in steps ++ earlier
+      → take (first.start + first.mark) all ≡ marks_before steps first.step first.mark
   first-marks first earlier all is whole =
       let s = is.0 in
       let below : first.mark < length s.0.marks = place-below s.0.marks first.mark s.3.0 s.3.1 in
       marks-up-to steps first.step first.mark first.start s.0 earlier all s.1 (omega (arith, below)) whole is.2
 
-pub first-inside : (g : Gxid) (said : Word) (from to : Node) (steps : List Step) (first : Sending) (earlier all : List Mark) → IsFirstSending g said from to steps (Some first) → all ≡ marks_in steps ++ earlier → first.start + first.mark ≤ length all
+pub first-inside : (g : Gxid) (said : Word) (from to : Node) (steps : List Step) (first : Sending) (earlier all : List Mark) → IsFirstSending g said from to steps (Some first)
+    → all ≡ marks_in steps ++ earlier → first.start + first.mark ≤ length all
 first-inside g said from to steps first earlier all is whole =
     let s = is.0 in
     let below : first.mark < length s.0.marks = place-below s.0.marks first.mark s.3.0 s.3.1 in
@@ -93,7 +99,8 @@ first-inside g said from to steps first earlier all is whole =
 -- FINDING IT
 module _ (g : Gxid) (said : Word) (from to : Node) (steps : List Step) (number : ℕ) (step : Step) (at : slice_get steps number ≡ Some step)
     (none : (n : ℕ) → n < number → (place : ℕ) → SendsFrom g said from to steps n place → ⊥) where
-  pub found-here : (mark start : ℕ) → IsFirstIn g said from to step (Some mark) → start ≡ length (marks_in (take number steps)) → IsFirstSending g said from to steps (Some (record { step = number; mark = mark; start = start }))
+  pub found-here : (mark start : ℕ) → IsFirstIn g said from to step (Some mark) → start ≡ length (marks_in (take number steps))
+      → IsFirstSending g said from to steps (Some (record { step = number; mark = mark; start = start }))
   found-here mark start is begins = ((step, at, is.0, is.1.0), least, begins)
     where
       at-least : (place : ℕ) → SendsWordAt g said to step.marks place → mark ≤ place
@@ -135,7 +142,8 @@ module _ (point : Point) (level : Level) (g : Gxid) (c : Cid) (rid : Rid) (h : G
     its-sender : (there : IsOvertakenThere point level g c table found rid h) → there.0 ≡ from
     its-sender there = sender-same there.0 the_coordinator from to there.1.number number (sym there.1.is ∙ event-is)
 
-    pub there-is : (first : Sending) (marks : List Mark) (b : Bool) → told ≡ true → IsFirstSending g (word.Failed c (cause.Serialization rid h)) from the_coordinator point.steps (Some first) → marks ≡ before point
+    pub there-is : (first : Sending) (marks : List Mark) (b : Bool) → told ≡ true → IsFirstSending g (word.Failed c (cause.Serialization rid h)) from the_coordinator point.steps (Some first)
+        → marks ≡ before point
         → IsTrue b ↔ IsOvertakenRow (take (first.start + first.mark) marks) level g c table found rid h → IsTrue b ↔ IsOvertakenThere point level g c table found rid h
     there-is first marks b heard is whole row = (to-there, from-there)
       where
@@ -156,7 +164,8 @@ module _ (point : Point) (level : Level) (g : Gxid) (c : Cid) (rid : Rid) (h : G
         from-there : IsOvertakenThere point level g c table found rid h → IsTrue b
         from-there there =
             let sent = subst (λ (n : Node). IsFirstSent point.steps n the_coordinator (message.Answer g (reply.Failed c (cause.Serialization rid h))) there.2.0) (its-sender there) there.2.1 in
-            row.1 (subst (λ ms. IsOvertakenRow ms level g c table found rid h) (first-only g c (cause.Serialization rid h) from the_coordinator point.steps first there.2.0 is sent ∙ sym upto) there.2.2)
+            row.1 (subst (λ ms. IsOvertakenRow ms level g c table found rid h) (first-only g c (cause.Serialization rid h) from the_coordinator point.steps first there.2.0 is sent
+            ∙ sym upto) there.2.2)
 
     pub there-unsent : IsFirstSending g (word.Failed c (cause.Serialization rid h)) from the_coordinator point.steps None → IsOvertakenThere point level g c table found rid h → ⊥
     there-unsent is there = none-first g c (cause.Serialization rid h) from the_coordinator point.steps is there.2.0

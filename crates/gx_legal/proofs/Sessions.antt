@@ -22,20 +22,25 @@ none-up-to P n below here s inside p = by_test (eqb s.0 n) refl
     by_test false e = below s (lt-next s.0 n inside e) p
 
 -- a line of the script keeps the rules over its tables
-pub stmt-inside : (tables : List Schema) (count : ℕ) (session : SessionId) (number : ℕ) (lines : List Line) (stmt : Stmt) → All (IsLine tables count) lines → stmt_of session number lines ≡ Some stmt → IsStmtOf tables stmt
+pub stmt-inside : (tables : List Schema) (count : ℕ) (session : SessionId) (number : ℕ) (lines : List Line) (stmt : Stmt) → All (IsLine tables count) lines
+    → stmt_of session number lines ≡ Some stmt → IsStmtOf tables stmt
 stmt-inside tables count session number [] stmt are e = absurd (cc)
-stmt-inside tables count session number (l ∷ ls) stmt are e = by_test (is_same_session l.session session && (l.number == number)) e (stmt-inside tables count session number ls stmt (λ k d i. are (suc k) d (omega arith)))
+stmt-inside tables count session number (l ∷ ls) stmt are e = by_test (is_same_session l.session session && (l.number == number)) e
+    (stmt-inside tables count session number ls stmt (λ k d i. are (suc k) d (omega arith)))
   where
     by_test : (b : Bool) → cond b (Some l.stmt) (stmt_of session number ls) ≡ Some stmt → (stmt_of session number ls ≡ Some stmt → IsStmtOf tables stmt) → IsStmtOf tables stmt
     by_test true f rest = subst (IsStmtOf tables) (some-same l.stmt stmt f) (are 0 l (omega arith)).1
     by_test false f rest = rest f
 
 -- a session with a line is one of the script
-pub session-inside : (tables : List Schema) (count : ℕ) (session : SessionId) (number : ℕ) (lines : List Line) (stmt : Stmt) → All (IsLine tables count) lines → stmt_of session number lines ≡ Some stmt → session.0 < count
+pub session-inside : (tables : List Schema) (count : ℕ) (session : SessionId) (number : ℕ) (lines : List Line) (stmt : Stmt) → All (IsLine tables count) lines
+    → stmt_of session number lines ≡ Some stmt → session.0 < count
 session-inside tables count session number [] stmt are e = absurd (cc)
-session-inside tables count session number (l ∷ ls) stmt are e = by_test (is_same_session l.session session && (l.number == number)) refl e (session-inside tables count session number ls stmt (λ k d i. are (suc k) d (omega arith)))
+session-inside tables count session number (l ∷ ls) stmt are e = by_test (is_same_session l.session session && (l.number == number)) refl e
+    (session-inside tables count session number ls stmt (λ k d i. are (suc k) d (omega arith)))
   where
-    by_test : (b : Bool) → (is_same_session l.session session && (l.number == number)) ≡ b → cond b (Some l.stmt) (stmt_of session number ls) ≡ Some stmt → (stmt_of session number ls ≡ Some stmt → session.0 < count) → session.0 < count
+    by_test : (b : Bool) → (is_same_session l.session session && (l.number == number)) ≡ b → cond b (Some l.stmt) (stmt_of session number ls) ≡ Some stmt
+        → (stmt_of session number ls ≡ Some stmt → session.0 < count) → session.0 < count
     by_test true same f rest = subst (λ (k : ℕ). k < count) (eqb-true l.session.0 session.0 (and-first _ _ same)) (are 0 l (omega arith)).0
     by_test false other f rest = rest f
 

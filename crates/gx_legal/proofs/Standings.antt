@@ -11,7 +11,8 @@ use Rattle.gx_store.proofs.Marks.{answer_count-append, is_begun_after-append, st
 use Rattle.gx_legal.specs.declared.standing.Standing.{Standing}
 use Rattle.gx_legal.specs.Standings.{IsMoved}
 
-pub moved-append : (script : Script) (session : SessionId) (old mid new : Standing) (xs ys : List Mark) → IsMoved script session old xs mid → IsMoved script session mid ys new → IsMoved script session old (xs ++ ys) new
+pub moved-append : (script : Script) (session : SessionId) (old mid new : Standing) (xs ys : List Mark) → IsMoved script session old xs mid → IsMoved script session mid ys new
+    → IsMoved script session old (xs ++ ys) new
 moved-append script session old mid new xs ys m n = record {
   state = n.state ∙ ap (λ s. state_from script session s ys) m.state ∙ sym (state_from-append script session _ xs ys);
   begun = n.begun ∙ ap (λ b. is_begun_after session b ys) m.begun ∙ sym (is_begun_after-append session old.begun xs ys);

@@ -68,7 +68,8 @@ by-none script point session doing found by = none (((found by.0 by.1).0 by.2).0
 
 -- A LINE
 module _ (script : Script) (point : Point) (session : SessionId) (Q : Stmt → Type 0) where
-  pub line-some : (line : Stmt) (b : Bool) → ((stmt : Stmt) → (Some line ≡ Some stmt) ↔ RunsLine script point session stmt) → IsTrue b ↔ Q line → IsTrue b ↔ ((stmt : Stmt) × RunsLine script point session stmt × Q stmt)
+  pub line-some : (line : Stmt) (b : Bool) → ((stmt : Stmt) → (Some line ≡ Some stmt) ↔ RunsLine script point session stmt) → IsTrue b ↔ Q line
+      → IsTrue b ↔ ((stmt : Stmt) × RunsLine script point session stmt × Q stmt)
   line-some line b runs is = (λ t. (line, (runs line).0 refl, is.0 t), λ of. is.1 (subst Q (sym (some-same line of.0 ((runs of.0).1 of.1))) of.2))
 
   pub line-none : ((stmt : Stmt) → (None ≡ Some stmt) ↔ RunsLine script point session stmt) → (stmt : Stmt) × RunsLine script point session stmt × Q stmt → ⊥

@@ -1,5 +1,5 @@
 -- Why a line is refused, part by part.
-use Rattle.std.specs.Prelude.{◌≡◌, ℕ, ◌<◌, ◌≤◌, Bool, true, false, List, length, take, slice_get, Some, None, Contains}
+use Rattle.std.specs.Prelude.{◌≡◌, ℕ, true, false, List, take, slice_get, Some, Contains}
 use Rattle.std.specs.declared.option.Option.{Option}
 use Rattle.gx_ids.specs.declared.ids.Cid.{Cid}
 use Rattle.gx_ids.specs.declared.ids.Gxid.{Gxid}

@@ -1,4 +1,4 @@
-use Rattle.std.proofs.Common.{◌≡◌, ◌≤◌, ◌<◌, ◌+◌, ◌∙◌, Some, slice_get, get_or, sym, subst, refl, ap, length, arith}
+use Rattle.std.proofs.Common.{◌≡◌, ◌≤◌, ◌<◌, ◌+◌, ◌∙◌, Some, slice_get, get_or, ap, length, arith}
 use Rattle.std.proofs.lemmas.Option.{slice_get-get_or}
 use Rattle.gx_lemmas.proofs.Lists.{place-below}
 use Rattle.gx_legal.proofs.Places.{marks-through, step-inside}
@@ -10,7 +10,8 @@ overflow_add-start c =
     let m = c.args.moment.now in
     let step = get_or m.steps.now c.loop-number.number c.index-moment-number.result in
     let at : slice_get m.steps.now c.loop-number.number ≡ Some step = slice_get-get_or m.steps.now c.loop-number.number c.index-moment-number.result c.loop-number-test.true in
-    let inside : c.loop-number.start + length step.marks ≤ length m.before.now = step-inside m.steps.now c.loop-number.number step m.earlier.now m.before.now (c.loop-number.start + length step.marks) at m.whole (ap (λ n. n + length step.marks) c.loop-number.invariant.start) in
+    let inside : c.loop-number.start + length step.marks ≤ length m.before.now = step-inside m.steps.now c.loop-number.number step m.earlier.now m.before.now
+    (c.loop-number.start + length step.marks) at m.whole (ap (λ n. n + length step.marks) c.loop-number.invariant.start) in
     omega (arith, inside, c.len-start.ensures)
 
 pub returns-in-Some : goal.returns-in-Some
@@ -33,4 +34,5 @@ loop-number-preserved c =
     }
 
 pub returns : goal.returns
-returns c = λ number place sends. c.loop-number.invariant.none number (let inside : number < length c.args.moment.now.steps.now = place-below c.args.moment.now.steps.now number sends.0 sends.1 in omega arith) place sends
+returns c = λ number place sends. c.loop-number.invariant.none number
+    (let inside : number < length c.args.moment.now.steps.now = place-below c.args.moment.now.steps.now number sends.0 sends.1 in omega arith) place sends

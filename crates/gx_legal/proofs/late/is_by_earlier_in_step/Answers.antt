@@ -8,8 +8,11 @@ use Rattle.gx_legal.proofs.late.is_by_earlier_in_step.Goals as goal
 
 pub returns-then-branch : goal.returns-then-branch
 returns-then-branch c =
-    let P : Point → Type 0 = λ p. IsByCommand c.args.script.now p (doing_of c.args.deed.now) in
-    (λ t. in-step-some c.args.script.now (point_of c.args.moment.now) (doing_of c.args.deed.now) c.loop-count.count (subst P c.moment_in_step.ensures (c.in_ok-is_by_command.ensures.0 c.if-branch.true)), λ by. refl)
+    let P : Point → Type 0 = λ p. IsByCommand c.args.script.now p (doing_of c.args.deed.now) in (
+      λ t. in-step-some c.args.script.now (point_of c.args.moment.now) (doing_of c.args.deed.now) c.loop-count.count
+          (subst P c.moment_in_step.ensures (c.in_ok-is_by_command.ensures.0 c.if-branch.true)),
+      λ by. refl,
+    )
 
 pub loop-count-preserved : goal.loop-count-preserved
 loop-count-preserved c =

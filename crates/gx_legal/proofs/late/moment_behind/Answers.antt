@@ -23,5 +23,6 @@ invariant_of-result c =
 pub slice_bounds-result-end-3 : goal.slice_bounds-result-end-3
 slice_bounds-result-end-3 c =
     let m = c.args.moment.now in
-    length-taken m.before.now (c.args.start + length c.as_slice-marks.result.now) (step-inside m.steps.now c.args.number c.args.step.now m.earlier.now m.before.now (c.args.start + length c.as_slice-marks.result.now) c.requires.step m.whole
+    length-taken m.before.now (c.args.start + length c.as_slice-marks.result.now)
+    (step-inside m.steps.now c.args.number c.args.step.now m.earlier.now m.before.now (c.args.start + length c.as_slice-marks.result.now) c.requires.step m.whole
     (ap (λ n. n + length c.as_slice-marks.result.now) c.requires.start ∙ ap (λ (l : List Mark). length (marks_in (take c.args.number m.steps.now)) + length l) c.as_slice-marks.ensures))

@@ -28,7 +28,8 @@ returns-then-not-branch c =
     let is : m ≡ get_or s.marks k m = c.index-marks-number.is ∙ ap (λ (l : List Mark). get_or l k m) c.as_slice-marks.ensures in (
       λ t. absurd (false-true t),
       λ all. absurd (marks-stop c.args.script.now c.args.steps.now s.event s.marks k m inside is
-          (λ legal. no-longer c.in_ok-is_legal_mark.field-0 c.in_ok-is_legal_mark.ensures c.if-not-branch.true (subst (λ (p : Point). LegalMark c.args.script.now p m) (sym c.moment_before-moment.ensures) legal)) c.loop-number.invariant all),
+          (λ legal. no-longer c.in_ok-is_legal_mark.field-0 c.in_ok-is_legal_mark.ensures c.if-not-branch.true
+          (subst (λ (p : Point). LegalMark c.args.script.now p m) (sym c.moment_before-moment.ensures) legal)) c.loop-number.invariant all),
     )
 
 pub returns : goal.returns

@@ -1,8 +1,7 @@
-use Rattle.std.proofs.Common.{◌≡◌, ◌≤◌, ◌<◌, ◌+◌, ◌∙◌, Some, List, [], length, get_or, slice_get, refl, sym, ap, arith}
+use Rattle.std.proofs.Common.{◌≡◌, ◌≤◌, ◌+◌, ◌∙◌, Some, [], length, slice_get, refl, sym, ap, arith}
 use Rattle.std.proofs.lemmas.List.{append-nil}
 use Rattle.std.proofs.lemmas.Option.{slice_get_read}
 use Rattle.gx_lemmas.proofs.Tests.{false-true}
-use Rattle.gx_store.specs.declared.mark.Mark.{Mark}
 use Rattle.gx_store.specs.Points.{marks_in}
 use Rattle.gx_legal.proofs.Legality.{steps-end, steps-next, steps-stop}
 use Rattle.gx_legal.proofs.Places.{marks-through, step-inside, step-whole}
@@ -14,7 +13,8 @@ is_legal_step-requires-clause-all c =
     let ss = c.args.steps.now in
     let s = c.index-steps-number.result in
     let at : slice_get ss c.loop-number.number ≡ Some s = slice_get_read ss (length ss) c.loop-number.number s refl c.loop-number-test.true c.index-steps-number.is in
-    step-whole ss c.loop-number.number s [] c.args.all.now (c.loop-number.start + length s.marks) at (c.requires.all ∙ sym (append-nil (marks_in ss))) (ap (λ n. n + length s.marks) c.loop-number.invariant.start)
+    step-whole ss c.loop-number.number s [] c.args.all.now (c.loop-number.start + length s.marks) at (c.requires.all
+    ∙ sym (append-nil (marks_in ss))) (ap (λ n. n + length s.marks) c.loop-number.invariant.start)
 
 pub overflow_add-start : goal.overflow_add-start
 overflow_add-start c =
@@ -22,7 +22,8 @@ overflow_add-start c =
     let s = c.index-steps-number.result in
     let at : slice_get ss c.loop-number.number ≡ Some s = slice_get_read ss (length ss) c.loop-number.number s refl c.loop-number-test.true c.index-steps-number.is in
     let inside : c.loop-number.start + length s.marks ≤ length c.args.all.now =
-    step-inside ss c.loop-number.number s [] c.args.all.now (c.loop-number.start + length s.marks) at (c.requires.all ∙ sym (append-nil (marks_in ss))) (ap (λ n. n + length s.marks) c.loop-number.invariant.start) in
+    step-inside ss c.loop-number.number s [] c.args.all.now (c.loop-number.start + length s.marks) at (c.requires.all
+    ∙ sym (append-nil (marks_in ss))) (ap (λ n. n + length s.marks) c.loop-number.invariant.start) in
     omega (arith, inside, c.len.ensures)
 
 pub loop-number-preserved : goal.loop-number-preserved

@@ -13,5 +13,8 @@ loop-place-preserved c =
 
 pub returns : goal.returns
 returns c =
-    let s = c.args.script.now in
-    (λ t. absurd (false-true t), λ by. absurd (c.loop-place.invariant by.0 (let inside : by.0.0 < length s.sessions = session-inside s.tables _ by.0 _ s.lines by.1.0 c.requires.lines by.1.2.runs.line.line in omega arith) by.1))
+    let s = c.args.script.now in (
+      λ t. absurd (false-true t),
+      λ by. absurd (c.loop-place.invariant by.0
+          (let inside : by.0.0 < length s.sessions = session-inside s.tables _ by.0 _ s.lines by.1.0 c.requires.lines by.1.2.runs.line.line in omega arith) by.1),
+    )
