@@ -1,0 +1,55 @@
+-- What the judge says of a script, and why.
+use Rattle.std.specs.Prelude.{◌≡◌, ℕ, List, [], Option, None, Some, Result, Ok, string_bytes}
+use Rattle.gx_words.specs.declared.options.Options.{Options}
+use Rattle.gx_script.specs.declared.Script.{Script}
+use Rattle.gx_store.specs.declared.run.Run.{Run}
+use Rattle.gx_store.specs.declared.run.Step.{Step}
+use Rattle.gx_store.specs.Runs.{IsLegalHistory}
+use Rattle.gx_sql.specs.Script.{Reads}
+use Rattle.gx_drive.specs.Ordered.{AreFirst}
+use Rattle.gx_drive.specs.Seeded.{AreDrawn}
+use Rattle.gx_judge.specs.declared.verdict.Verdict.{Verdict}
+use Rattle.gx_judge.specs.declared.verdict.Verdict.TheVariants.{Legal, NotLegal, NoRun, OutOfMemory}
+
+-- the most bytes of a script
+abbrev pub limit : ℕ
+limit = 16777216
+
+-- each event is the one among all that may happen then that the seed draws, or the first of these where no seed is given
+abbrev pub AreDriven : Option ℕ → Script → List Step → Type 0
+AreDriven None script steps = AreFirst script [] steps
+AreDriven (Some seed) script steps = AreDrawn script seed [] steps
+
+-- that a run is legal is said of one that is a legal history, and that it isn't of one that is none
+abbrev pub IsSaid : Script → Run → Verdict → Type 0
+IsSaid script run Legal = IsLegalHistory script run
+IsSaid script run NotLegal = IsLegalHistory script run → ⊥
+IsSaid script run NoRun = ⊥
+IsSaid script run OutOfMemory = ⊥
+
+-- so much is said of a run that the driver has made of the script
+pub record IsJudged (script : Script) (options : Options) (verdict : Verdict) : Type 0 where
+  pub run : Run
+  pub driven : AreDriven options.seed script run.steps
+  pub said : IsSaid script run verdict
+
+-- of bytes that are read as a script its run is judged, and a run is judged of no other bytes
+abbrev pub IsOfBytes : List ℕ → Options → Verdict → Type 0
+IsOfBytes bytes options Legal = (script : Script) × Reads bytes (Ok script) × IsJudged script options Legal
+IsOfBytes bytes options NotLegal = (script : Script) × Reads bytes (Ok script) × IsJudged script options NotLegal
+IsOfBytes bytes options NoRun = (script : Script) → Reads bytes (Ok script) → ⊥
+IsOfBytes bytes options OutOfMemory = Unit {0}
+
+-- the verdict as it is printed
+abbrev pub line_of : Verdict → List ℕ
+line_of Legal = codes "legal\n"
+line_of NotLegal = codes "not legal\n"
+line_of NoRun = codes "no run\n"
+line_of OutOfMemory = codes "out of memory\n"
+
+-- and as a status
+abbrev pub status_of : Verdict → ℕ
+status_of Legal = 0
+status_of NotLegal = 1
+status_of NoRun = 3
+status_of OutOfMemory = 6
