@@ -1,5 +1,6 @@
 -- What the judge says of a script, and why.
-use Rattle.std.specs.Prelude.{◌≡◌, ℕ, List, [], Option, None, Some, Result, Ok, string_bytes}
+use Rattle.std.specs.Prelude.{◌≡◌, ℕ, List, [], Option, None, Some, Result, Ok, codes}
+use Rattle.gx_words.specs.Words.{IsCommand}
 use Rattle.gx_words.specs.declared.options.Options.{Options}
 use Rattle.gx_script.specs.declared.Script.{Script}
 use Rattle.gx_store.specs.declared.run.Run.{Run}
@@ -39,6 +40,20 @@ IsOfBytes bytes options Legal = (script : Script) × Reads bytes (Ok script) × 
 IsOfBytes bytes options NotLegal = (script : Script) × Reads bytes (Ok script) × IsJudged script options NotLegal
 IsOfBytes bytes options NoRun = (script : Script) → Reads bytes (Ok script) → ⊥
 IsOfBytes bytes options OutOfMemory = Unit {0}
+
+-- a script's run is judged that is driven as these options say
+abbrev pub IsOfOptions : Options → Verdict → Type 0
+IsOfOptions options Legal = (script : Script) × IsJudged script options Legal
+IsOfOptions options NotLegal = (script : Script) × IsJudged script options NotLegal
+IsOfOptions options NoRun = Unit {0}
+IsOfOptions options OutOfMemory = Unit {0}
+
+-- or as the words ask
+abbrev pub IsOfWords : List (List ℕ) → Verdict → Type 0
+IsOfWords words Legal = (options : Options) × IsCommand words options × IsOfOptions options Legal
+IsOfWords words NotLegal = (options : Options) × IsCommand words options × IsOfOptions options NotLegal
+IsOfWords words NoRun = Unit {0}
+IsOfWords words OutOfMemory = Unit {0}
 
 -- the verdict as it is printed
 abbrev pub line_of : Verdict → List ℕ

@@ -1,9 +1,9 @@
 // From the words and the source to the verdict.
-ghost use Rattle.std.specs.Prelude.{◌≡◌, ◌≤◌, IfOk, length, map};
+ghost use Rattle.std.specs.Prelude.{◌≡◌, ◌≤◌, IfOk, length, map, string_bytes};
 ghost use Rattle.gx_outside.specs.Memory.{shelf_of};
 ghost use Rattle.gx_outside.specs.Shelves.{AreEmpty};
 ghost use Rattle.gx_store.specs.Language.{IsScript};
-ghost use Rattle.gx_judge.specs.Judged.{IsJudged, IsOfBytes, limit};
+ghost use Rattle.gx_judge.specs.Judged.{IsJudged, IsOfBytes, IsOfOptions, IsOfWords, limit};
 
 use crate::driving::drive;
 use crate::verdict::Verdict;
@@ -28,6 +28,7 @@ pub fn judge<S: Source>(
 ) -> Verdict
     requires journals { length journals.old.items ≡ 17 }
     requires empty { AreEmpty (map shelf_of journals.old.items) }
+    ensures { IsOfWords (map string_bytes words.now) result }
 {
     match read_words(alloc, words) {
         Ok(options) => judge_source(alloc, options, source, journals),
@@ -45,6 +46,7 @@ fn judge_source<S: Source>(
     requires turns { options.turns ≤ 10000000 }
     requires journals { length journals.old.items ≡ 17 }
     requires empty { AreEmpty (map shelf_of journals.old.items) }
+    ensures { IsOfOptions options result }
 {
     let bytes = match options.work {
         Some(number) => generate(alloc, number).map_err(|_| ReadFault::OutOfMemory),
