@@ -167,7 +167,9 @@ pub(crate) fn rows_for(
     own: Option<Lxid>,
     cid: Cid,
 ) -> Mem<Vec<KeyedRow>>
-    requires { IsKeyed dists.now index.now tables.now.entries xids.now }
+    ghost all: { List Dist }
+    requires dists { dists.now ≡ all }
+    requires keyed { IsKeyed all index.now tables.now.entries xids.now }
     ensures rising { IfOk result (λ rows. AreRising rows.items) }
     ensures images { IfOk result (λ rows. (rid : Rid) → IsShownFor cond.now (image_at (versions_in tables.now.entries table) xids.now snap.now own cid rid) (row_at rows.items rid)) }
 {

@@ -16,7 +16,7 @@ use std::alloc::Global;
 use std::collections::BTreeMap;
 
 // The value of the distribution column in an image.
-fn key_in(dist: Option<&Dist>, image: &Option<Row>) -> Option<&Value>
+fn key_in<'a>(dist: Option<&Dist>, image: &'a Option<Row>) -> Option<&'a Value>
     ensures { option_copied result ≡ key_in (option_copied dist.entry) image.now }
 {
     match (dist, image) {

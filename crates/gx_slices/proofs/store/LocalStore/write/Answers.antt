@@ -1,11 +1,13 @@
-use Rattle.std.proofs.Common.{◌≡◌, ◌≢◌, ◌++◌, ◌∷◌, [], ◌⊎◌, subst}
+use Rattle.std.proofs.Common.{◌≡◌, ◌≢◌, ◌++◌, ◌∷◌, [], ◌⊎◌, List, slice_get, subst}
 use Rattle.std.specs.Prelude.{OnOk, OnErr, Some, unwrap_or}
 use Rattle.gx_ids.specs.declared.ids.Gxid.{Gxid}
 use Rattle.gx_ids.specs.declared.ids.Table.{Table}
 use Rattle.gx_ids.specs.declared.rid.Rid.{Rid}
+use Rattle.gx_tree.specs.declared.schema.Dist.{Dist}
 use Rattle.gx_rows.specs.declared.status.LocalStatus.TheVariants.{Running}
 use Rattle.gx_slices.specs.Store.{Store, status_of, writes_of}
 use Rattle.gx_slices.specs.Filed.{store_of}
+use Rattle.gx_slices.specs.Keyed.{IsUnder}
 use Rattle.gx_slices.proofs.Keyed.{IsIndexed-tried}
 use Rattle.gx_slices.proofs.Writes.{IsSound-tried, OnErr-status, OnErr-writes, OnOk-weaker, status_of-tried_other, status_of-writer, writes_of-written, writes_of-written_row, writes_of-written_table}
 use Rattle.gx_slices.proofs.store.LocalStore.write.Goals as goal
@@ -18,7 +20,9 @@ invariant_of-self c =
     let e = c.write_keyed.ensures in
     let was = c.self.invariant in record {
       sound = IsSound-tried _ _ _ _ c.args.gxid c.args.cid c.args.table c.args.rid c.args.image was.sound c.write_keyed.result e.ok e.err e.tried;
-      indexed = IsIndexed-tried _ _ _ _ _ _ _ c.args.gxid c.args.cid c.args.table c.args.rid c.args.image c.write_keyed.result was.indexed e.kept e.ok e.err e.under;
+      indexed =
+          IsIndexed-tried _ c.self.inside.index c.write_keyed.new.index c.self.inside.tables.entries c.write_keyed.new.tables.entries c.self.inside.xids c.write_keyed.new.xids c.args.gxid c.args.cid c.args.table c.args.rid c.args.image c.write_keyed.result was.indexed e.kept e.ok e.err
+          (subst (λ (dists : List Dist). OnOk c.write_keyed.result (IsUnder c.write_keyed.new.index (slice_get dists c.args.table.0) c.args.table c.args.rid c.args.image)) c.as_slice.ensures.value e.under);
     }
 
 pub returns-clause-written : goal.returns-clause-written
