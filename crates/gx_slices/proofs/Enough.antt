@@ -95,8 +95,6 @@ module _ (c : Cond) (p : KeyedRow → Bool) where
 
 -- A ROW OF RISING ROWS STANDS AT ITS IDENTITY
 
-
-
 behind : (x : KeyedRow) (all ys : List KeyedRow) → AllByRecursion (λ r. rid_order x.rid r ≡ Less) (map (λ row. row.rid) ys) → AllByRecursion (λ row. row_at all row.rid ≡ Some row.row) ys → AllByRecursion (λ row. row_at (x ∷ all) row.rid ≡ Some row.row) ys
 behind x all [] above at = tt
 behind x all (y ∷ ys) above at = (ap (λ (b : Bool). cond b (Some x.row) (row_at all y.rid)) (less_apart_back x.rid y.rid above.0) ∙ at.0, behind x all ys above.1 at.1)

@@ -106,7 +106,9 @@ fn rows_with(
 {
     let rids = index.find(table, value)?;
     let list = rids.as_slice();
-    rows_among(alloc, tables, xids, list, table, column, value, snap, own, cid)
+    rows_among(
+        alloc, tables, xids, list, table, column, value, snap, own, cid,
+    )
 }
 
 fn key_column(dists: &[Dist], table: Table) -> Option<u8>
@@ -149,7 +151,9 @@ fn rows_by(
     ensures images { IfOk result (λ rows. (rid : Rid) → IsShownFor cond.now (image_at (versions_in tables.now.entries table) xids.now snap.now own cid rid) (row_at rows.items rid)) }
 {
     match wanted(column, cond) {
-        Some(value) => rows_with(alloc, index, tables, xids, table, column, value, snap, own, cid),
+        Some(value) => rows_with(
+            alloc, index, tables, xids, table, column, value, snap, own, cid,
+        ),
         None => rows_in(alloc, tables, xids, table, snap, own, cid),
     }
 }
@@ -174,7 +178,9 @@ pub(crate) fn rows_for(
     ensures images { IfOk result (λ rows. (rid : Rid) → IsShownFor cond.now (image_at (versions_in tables.now.entries table) xids.now snap.now own cid rid) (row_at rows.items rid)) }
 {
     match key_column(dists, table) {
-        Some(column) => rows_by(alloc, index, tables, xids, table, column, cond, snap, own, cid),
+        Some(column) => rows_by(
+            alloc, index, tables, xids, table, column, cond, snap, own, cid,
+        ),
         None => rows_in(alloc, tables, xids, table, snap, own, cid),
     }
 }

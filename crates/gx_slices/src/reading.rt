@@ -80,7 +80,12 @@ fn rows_of(
 }
 
 // Adds a row, if there is one.
-pub(crate) fn push_keyed(alloc: Global, rows: &mut Vec<KeyedRow>, rid: Rid, row: Option<&Row>) -> Mem<()>
+pub(crate) fn push_keyed(
+    alloc: Global,
+    rows: &mut Vec<KeyedRow>,
+    rid: Rid,
+    row: Option<&Row>,
+) -> Mem<()>
     ensures { OnOk result (rows.new.items ≡ rows.old.items ++ keyed rid (option_copied row.entry)) }
 {
     if let Some(row) = row {
