@@ -7,8 +7,11 @@ use Rattle.gx_store.specs.declared.run.Run.{Run}
 use Rattle.gx_store.specs.declared.run.Step.{Step}
 use Rattle.gx_store.specs.Runs.{IsLegalHistory}
 use Rattle.gx_sql.specs.Script.{Reads}
+use Rattle.gx_law_runs.specs.Reached.{IsReached}
+use Rattle.gx_drive.specs.Ends.{IsEnd}
 use Rattle.gx_drive.specs.Ordered.{AreFirst}
 use Rattle.gx_drive.specs.Seeded.{AreDrawn}
+use Rattle.gx_drive.specs.declared.end.End.{End}
 use Rattle.gx_judge.specs.declared.verdict.Verdict.{Verdict}
 use Rattle.gx_judge.specs.declared.verdict.Verdict.TheVariants.{Legal, NotLegal, NoRun, OutOfMemory}
 
@@ -28,10 +31,13 @@ IsSaid script run NotLegal = IsLegalHistory script run → ⊥
 IsSaid script run NoRun = ⊥
 IsSaid script run OutOfMemory = ⊥
 
--- so much is said of a run that the driver has made of the script
+-- so much is said of the run that the driver has made of the script, which came to its end: whole, stuck, or with all turns spent
 pub record IsJudged (script : Script) (options : Options) (verdict : Verdict) : Type 0 where
   pub run : Run
+  pub end : End
+  pub reached : IsReached script run.steps
   pub driven : AreDriven options.seed script run.steps
+  pub ended : IsEnd script run.steps options.turns end
   pub said : IsSaid script run verdict
 
 -- of bytes that are read as a script its run is judged, and a run is judged of no other bytes

@@ -1,10 +1,11 @@
 // Driving a script by the schedule that is asked for.
-ghost use Rattle.std.specs.Prelude.{◌≡◌, ◌≤◌, [], false, OnOk, length, map};
+ghost use Rattle.std.specs.Prelude.{◌≡◌, ◌≤◌, [], false, IfOk, length, map};
 ghost use Rattle.gx_outside.specs.Memory.{shelf_of};
 ghost use Rattle.gx_outside.specs.Shelves.{AreEmpty};
+ghost use Rattle.gx_drive.specs.Ends.{IsEnd};
 ghost use Rattle.gx_judge.specs.Judged.{AreDriven};
 
-use gx_drive::{run_ordered, run_seeded};
+use gx_drive::{End, run_ordered, run_seeded};
 use gx_ids::Mem;
 use gx_outside::{JournalMem, PassGate};
 use gx_words::Options;
@@ -17,18 +18,18 @@ pub fn drive(
     world: &mut World,
     options: Options,
     journals: &mut [JournalMem],
-) -> Mem<()>
+) -> Mem<End>
     requires new { world.old.run.steps ≡ [] }
     requires usable { world.old.spent ≡ false }
     requires journals { length journals.old ≡ 17 }
     requires empty { AreEmpty (map shelf_of journals.old) }
     requires turns { options.turns ≤ 10000000 }
     ensures script { world.new.script ≡ world.old.script }
-    ensures driven { OnOk result (AreDriven options.seed world.old.script world.new.run.steps) }
+    ensures driven { AreDriven options.seed world.old.script world.new.run.steps }
+    ensures end { IfOk result (IsEnd world.old.script world.new.run.steps options.turns) }
 {
     match options.seed {
-        Some(seed) => run_seeded(alloc, world, journals, &PassGate, options.turns, seed)?,
-        None => run_ordered(alloc, world, journals, &PassGate, options.turns)?,
-    };
-    Ok(())
+        Some(seed) => run_seeded(alloc, world, journals, &PassGate, options.turns, seed),
+        None => run_ordered(alloc, world, journals, &PassGate, options.turns),
+    }
 }

@@ -50,9 +50,10 @@ fn judge_source<S: Source>(
 {
     let bytes = match options.work {
         Some(number) => generate(alloc, number).map_err(|_| ReadFault::OutOfMemory),
-        None => read_up_to(alloc, source, LIMIT),
+        None => read_up_to(alloc, source, LIMIT + 1),
     };
     match bytes {
+        Ok(bytes) if bytes.len() > LIMIT => Verdict::NoRun,
         Ok(bytes) => judge_bytes(alloc, options, bytes.as_slice(), journals),
         Err(ReadFault::Failed) => Verdict::NoRun,
         Err(ReadFault::OutOfMemory) => Verdict::OutOfMemory,
@@ -96,7 +97,7 @@ fn judge_script(
     ensures { IfOk result (IsJudged script options) }
 {
     let mut world = World::new(alloc, script)?;
-    drive(alloc, &mut world, options, journals.as_mut_slice())?;
+    let _end = drive(alloc, &mut world, options, journals.as_mut_slice())?;
     if legal(alloc, world.script(), world.run())? {
         Ok(Verdict::Legal)
     } else {
