@@ -44,8 +44,8 @@ fn main(rt: HostRuntime) -> ExitCode {
     let mut source = StdinSource::new(rt.reader());
     let verdict = judge(alloc, words.as_slice(), &mut source, &mut journals);
     let mut sink = StdoutSink::new(io::writer(&rt));
-    match write_whole(&mut sink, line_of(&verdict)) {
-        Ok(()) => ExitCode::from(status_of(&verdict)),
+    match write_whole(&mut sink, line_of(verdict)) {
+        Ok(()) => ExitCode::from(status_of(verdict)),
         Err(Failed) => ExitCode::from(5),
     }
 }
