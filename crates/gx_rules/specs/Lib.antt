@@ -21,5 +21,4 @@ pub mod Expected
 pub mod WaitRuns
 pub mod RoundRuns
 pub mod ChangeRuns
-pub mod UpdateRuns
 pub mod Last
