@@ -6,6 +6,7 @@ pub mod Complete
 pub mod Awaited
 pub mod Marks
 pub mod Removing
+pub mod Counting
 pub mod Stuck
 pub mod Graphs
 pub mod Listed

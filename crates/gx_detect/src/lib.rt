@@ -4,10 +4,12 @@
 #![tactic(auto)]
 
 pub mod choice;
+mod counts;
 pub mod detector;
 mod edges;
 pub mod laws;
 mod names;
+mod node_counts;
 mod place;
 mod probe;
 mod reduced;

@@ -1,15 +1,18 @@
 ghost use Rattle.std.specs.Prelude.{◌≡◌, ◌≢◌, ◌<◌, ◌+◌, ◌^◌, IfOk, IsTrue, OnOk, count_by, nat_lt};
 
+use crate::counts::Counts;
+use crate::node_counts::NodeCounts;
 use crate::place::Place;
 use gx_ids::{Gxid, Mem};
 use gx_waits::PlacedEdge;
 use std::alloc::Global;
-use std::collections::BTreeMap;
 
 /// How many edges count in each place.
 #[derive(Drop)]
 pub struct Tally {
-    counts: BTreeMap<Place, usize>,
+    anywhere: Counts,
+    at: NodeCounts,
+    awaited: Counts,
 }
 
 impl Tally {
@@ -24,7 +27,9 @@ impl Tally {
         ensures { (place : Place) → count_at result place ≡ 0 }
     {
         Tally {
-            counts: BTreeMap::new(alloc),
+            anywhere: Counts::new(alloc),
+            at: NodeCounts::new(alloc),
+            awaited: Counts::new(alloc),
         }
     }
 
@@ -32,7 +37,11 @@ impl Tally {
     pub fn count(&self, place: Place) -> usize
         ensures { result ≡ count_at self.now place }
     {
-        self.counts.get(&place).copied().unwrap_or(0)
+        match place {
+            Place::Anywhere(gxid) => self.anywhere.count(gxid),
+            Place::At(node, gxid) => self.at.count(node, gxid),
+            Place::Awaited(gxid) => self.awaited.count(gxid),
+        }
     }
 
     /// One more counts in the place.
@@ -41,13 +50,11 @@ impl Tally {
         ensures there { OnOk result (count_at self.new place ≡ count_at self.old place + 1) }
         ensures elsewhere { OnOk result ((p : Place) → p ≢ place → count_at self.new p ≡ count_at self.old p) }
     {
-        match self.counts.get_mut(&place) {
-            Some(count) => *count += 1,
-            None => {
-                self.counts.insert(place, 1)?;
-            }
+        match place {
+            Place::Anywhere(gxid) => self.anywhere.raise(gxid),
+            Place::At(node, gxid) => self.at.raise(node, gxid),
+            Place::Awaited(gxid) => self.awaited.raise(gxid),
         }
-        Ok(())
     }
 
     /// One less counts in the place. The answer is how many are left.
@@ -57,12 +64,10 @@ impl Tally {
         ensures elsewhere { (p : Place) → p ≢ place → count_at self.new p ≡ count_at self.old p }
         ensures left { result ≡ count_at self.new place }
     {
-        match self.counts.get_mut(&place) {
-            Some(count) => {
-                *count -= 1;
-                *count
-            }
-            None => unreachable!(),
+        match place {
+            Place::Anywhere(gxid) => self.anywhere.lower(gxid),
+            Place::At(node, gxid) => self.at.lower(node, gxid),
+            Place::Awaited(gxid) => self.awaited.lower(gxid),
         }
     }
 
