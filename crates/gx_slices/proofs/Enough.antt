@@ -28,6 +28,10 @@ use Rattle.gx_slices.specs.declared.picking.Picked.{Picked}
 use Rattle.gx_slices.specs.declared.picking.Picked.TheVariants as picked
 
 -- ROWS BY A TEST OF THEIR IDENTITY
+one_either_way : (o : Option (List Value)) (b : Bool) → o ≡ cond b o o
+one_either_way o true = refl
+one_either_way o false = refl
+
 module _ (t : Rid → Bool) where
   abbrev left : List KeyedRow → List KeyedRow
   left xs = filter (λ row. t row.rid) xs
@@ -42,11 +46,7 @@ module _ (t : Rid → Bool) where
   row_once x xs q false false is at more = more
 
   row_at-left : (xs : List KeyedRow) (q : Rid) → row_at (left xs) q ≡ cond (t q) (row_at xs q) None
-  row_at-left [] q = nothing (t q)
-    where
-      nothing : (b : Bool) → None ≡ cond b None None
-      nothing true = refl
-      nothing false = refl
+  row_at-left [] q = one_either_way None (t q)
   row_at-left (x ∷ xs) q = row_once x xs q (is_same_rid x.rid q) (t x.rid) refl refl (row_at-left xs q)
 
   rids_once : (x : KeyedRow) (xs : List KeyedRow) (b : Bool) → map (λ row. row.rid) (cond b (x ∷ xs) xs) ≡ cond b (x.rid ∷ map (λ row. row.rid) xs) (map (λ row. row.rid) xs)
