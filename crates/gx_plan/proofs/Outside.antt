@@ -1,5 +1,7 @@
 -- Outside its target a condition is false.
-use Rattle.std.proofs.Common.{ℕ, zero, suc, ◌≡◌, ◌≢◌, ◌∙◌, ◌<◌, sym, ap, refl, subst, List, [], ◌∷◌, length, Ok, Some, None, Option, Result, Bool, false, cond, slice_get, ◌==◌, arith}
+use Rattle.std.proofs.Common.{ℕ, zero, suc, ◌≡◌, ◌≢◌, ◌∙◌, ◌<◌, sym, ap, refl, subst, List, [], ◌∷◌, length, Ok, Some, None, Option, Result, Bool, true, false, cond, slice_get, ◌==◌, arith}
+use Rattle.std.specs.Prelude.{IfSome, is_some}
+use Rattle.std.proofs.lemmas.Bool.{and_parts}
 use Rattle.std.specs.Ordering.{is_eq}
 use Rattle.std.specs.declared.cmp.Ordering.{Ordering}
 use Rattle.std.specs.declared.cmp.Ordering.TheVariants.{Less, Equal, Greater}
@@ -18,12 +20,15 @@ use Rattle.gx_tree.specs.declared.cond.Cond.TheOpen.{Cond-F}
 use Rattle.gx_tree.specs.declared.cond.Cond.TheViews.{roll-Cond}
 use Rattle.gx_tree.specs.declared.cond.Cond.TheFolds.{fold-roll-Cond, ind-Cond}
 use Rattle.gx_meaning.specs.Expressions.{truth_of, truth_step, and_then, value_of, order_of, column_of}
+use Rattle.gx_tree.specs.declared.schema.Kind.{Kind}
+use Rattle.gx_tree.specs.declared.schema.Kind.TheVariants as kind
+use Rattle.gx_meaning.specs.Kinds.{IsTyped, are_comparable, is_typed, kind_of, kinds_of, typed_step}
 use Rattle.gx_meaning.specs.declared.fault.ArithFault.{ArithFault}
-use Rattle.gx_meaning.proofs.Nodes.{value_of-lit, value_of-col}
+use Rattle.gx_meaning.proofs.Nodes.{kind_of-col, value_of-lit, value_of-col}
 use Rattle.gx_meaning.specs.Target.{IsFalseOutside, key_of, key_step, key_target, literal_of, target_of}
 use Rattle.gx_meaning.specs.Place.{key_place}
 
-same_value : (a b : Value) → value_order a b ≡ Equal → a ≡ b
+pub same_value : (a b : Value) → value_order a b ≡ Equal → a ≡ b
 same_value (Int m) (Int n) h = ap Int (exact_signed m n h)
 same_value (Text s) (Text t) h = ap Text (exact_bytes s t h)
 same_value (Int m) (Text t) h = cc
@@ -87,6 +92,58 @@ get-column : (row : List Value) (column : ℕ) → column < length row → slice
 get-column [] column h = absurd (omega (arith, h))
 get-column (v ∷ row) zero h = refl
 get-column (v ∷ row) (suc column) h = get-column row column (omega arith)
+
+-- WITH ANOTHER VALUE
+abbrev Names : List Value → ℕ → Cond → Type 0
+Names row key c = (value : Value) → key_of key c ≡ Some value → is_typed (kinds_of row) c ≡ true → key < length row
+
+within : (row : List Value) (key : ℕ) → is_some (slice_get (kinds_of row) key) ≡ true → key < length row
+within [] key e = absurd (cc)
+within (v ∷ row) zero e = omega arith
+within (v ∷ row) (suc key) e = let rest : key < length row = within row key e in omega (arith, rest)
+
+comparable_left : (k l : Option Kind) → are_comparable k l ≡ true → is_some k ≡ true
+comparable_left None l e = absurd (cc)
+comparable_left (Some k) l e = refl
+
+comparable_right : (k l : Option Kind) → are_comparable k l ≡ true → is_some l ≡ true
+comparable_right (Some kind.Int) None e = absurd (cc)
+comparable_right (Some kind.Text) None e = absurd (cc)
+comparable_right None None e = absurd (cc)
+comparable_right k (Some l) e = refl
+
+names_equal : (row : List Value) (key : ℕ) (l r : Expr) (value : Value) → literal_of key l r ≡ Some value → are_comparable (kind_of (kinds_of row) l) (kind_of (kinds_of row) r) ≡ true → key < length row
+names_equal row key (Col column) (Lit v) value h e =
+    let same : (column ≡ key) × (v ≡ value) = named column key v value h in
+    subst (λ k. k < length row) same.0 (within row column (ap is_some (sym (kind_of-col (kinds_of row) column)) ∙ comparable_left (kind_of (kinds_of row) (Col column)) (kind_of (kinds_of row) (Lit v)) e))
+names_equal row key (Lit v) (Col column) value h e =
+    let same : (column ≡ key) × (v ≡ value) = named column key v value h in
+    subst (λ k. k < length row) same.0 (within row column (ap is_some (sym (kind_of-col (kinds_of row) column)) ∙ comparable_right (kind_of (kinds_of row) (Lit v)) (kind_of (kinds_of row) (Col column)) e))
+names_equal row key _ _ value h e = cc
+
+names_step : (row : List Value) (key : ℕ) (o : CmpOp) (l r : Expr) (value : Value) → key_step key (Cond-F.Cmp o l r) ≡ Some value → typed_step (kinds_of row) (Cond-F.Cmp o l r) ≡ true → key < length row
+names_step row key op.Eq l r value h e = names_equal row key l r value h e
+names_step row key _ l r value h e = cc
+
+typed_at : (kinds : List Kind) (x : Cond-F Cond) → is_typed kinds (roll-Cond x) ≡ typed_step kinds (map-Cond Cond Bool (is_typed kinds) x)
+typed_at kinds x = fold-roll-Cond Bool (typed_step kinds) x
+
+-- a typed condition names a column that the row has
+names : (row : List Value) (key : ℕ) (c : Cond) → Names row key c
+names row key = ind-Cond (Names row key) (λ x y is. (elim y as (λ u. map-Cond _ Cond (λ e. e.0) u ≡ x → Names row key (roll-Cond x)) [
+  | Cond-F.Cmp o l r ↦ λ at. subst (λ z. Names row key (roll-Cond z)) at (λ value h e.
+      names_step row key o l r value (sym (key_at key (Cond-F.Cmp o l r)) ∙ h) (sym (typed_at (kinds_of row) (Cond-F.Cmp o l r)) ∙ e))
+  | Cond-F.And l r ↦ λ at. subst (λ z. Names row key (roll-Cond z)) at (λ value h e.
+      l.1 value (sym (key_at key (Cond-F.And l.0 r.0)) ∙ h) (and_parts (is_typed (kinds_of row) l.0) (is_typed (kinds_of row) r.0) (sym (typed_at (kinds_of row) (Cond-F.And l.0 r.0)) ∙ e)).0)
+  | Cond-F.Or l r ↦ λ at. subst (λ z. Names row key (roll-Cond z)) at (λ value h e. cc (key_at key (Cond-F.Or l.0 r.0), h))
+  | Cond-F.Not inner ↦ λ at. subst (λ z. Names row key (roll-Cond z)) at (λ value h e. cc (key_at key (Cond-F.Not inner.0), h))
+]) is)
+
+-- on a row with another value in the column the condition is false
+pub denied : (column : ℕ) (c : Cond) (key : Option Value) → key_of column c ≡ key → IfSome key (λ value. (row : List Value) → IsTyped (kinds_of row) c → slice_get row column ≢ Some value → truth_of row c ≡ Ok false)
+denied column c None is = tt
+denied column c (Some value) is = λ row typed other.
+    denies row column c value is (λ e. other (get-column row column (names row column c value is typed) ∙ ap Some e))
 
 outside_key : (n column : ℕ) (c : Cond) (key : Option Value) → key_of column c ≡ key → IsFalseOutside n (By column) (Some c) (key_target n key)
 outside_key n column c None is row rid within out = absurd out

@@ -12,4 +12,4 @@ mod tuple;
 
 pub use placement::{place, place_value};
 pub use planning::plan;
-pub use targets::target;
+pub use targets::{target, wanted_key};

@@ -1,6 +1,9 @@
-ghost use Rattle.std.specs.Prelude.{◌≡◌, ◌≤◌};
+ghost use Rattle.std.specs.Prelude.{◌≡◌, ◌≢◌, ◌≤◌, List, slice_get, Some, IfSome, false, Ok};
 ghost use Rattle.std.specs.Option.{option_copied};
+ghost use Rattle.gx_meaning.specs.Expressions.{truth_of};
+ghost use Rattle.gx_meaning.specs.Kinds.{IsTyped, kinds_of};
 ghost use Rattle.gx_meaning.specs.Target.{IsFalseOutside, key_of, key_target, literal_of, target_of};
+ghost use Rattle.gx_tree.specs.declared.value.Value.{Value};
 
 use crate::placement::place_value;
 use gx_meaning::Target;
@@ -29,6 +32,15 @@ fn key_target(key: Option<&Value>, n: u8) -> Target
         Some(value) => Target::One(place_value(value, n)),
         None => Target::All,
     }
+}
+
+/// The literal that the leftmost conjunct of a condition's top-level AND chain sets a column equal to. On a row that has another value
+/// there the condition is false, without a fault.
+pub fn wanted_key(column: u8, cond: &Cond) -> Option<&Value>
+    ensures key { option_copied result ≡ key_of column cond.now }
+    ensures denied { IfSome (option_copied result) (λ value. (row : List Value) → IsTyped (kinds_of row) cond.now → slice_get row column ≢ Some value → truth_of row cond.now ≡ Ok false) }
+{
+    key(column, cond)
 }
 
 // The literal that the leftmost conjunct sets the column equal to. The recursion goes as deep as the condition is nested.

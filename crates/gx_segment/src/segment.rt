@@ -44,7 +44,7 @@ impl Segment {
         ensures script { IfOk result (λ segment. segment.script ≡ script) }
     {
         let held = Held {
-            store: LocalStore::new(alloc)?,
+            store: LocalStore::new(alloc, script.tables.as_slice())?,
             entries: BTreeMap::new(alloc),
             holders: BTreeSet::new(alloc),
             locks: LockTable::new(alloc, node)?,

@@ -89,3 +89,11 @@ module _ (store : Store) (s : Seg) (is : IsStored store s) (snap : Snapshot) (g 
         let vs = counting s snap g c table in
         rows-same rows (shown s snap g c table) rising (rising-rows_in (last_images vs) (in_order-last_images vs))
         (λ rid. images rid ∙ shown_row_from-counting rid ∙ sym (row_at-rows_in (last_images vs) rid (in_order-last_images vs) ∙ ap row_of (image_in-last_images vs rid)))
+
+    pub rising-shown : AreRising (shown s snap g c table)
+    rising-shown = let vs = counting s snap g c table in rising-rows_in (last_images vs) (in_order-last_images vs)
+
+    pub row_at-shown : (rid : Rid) → row_at (shown s snap g c table) rid ≡ shown_row_from store snap (Some g) c table rid
+    row_at-shown rid =
+        let vs = counting s snap g c table in
+        row_at-rows_in (last_images vs) rid (in_order-last_images vs) ∙ ap row_of (image_in-last_images vs rid) ∙ sym (shown_row_from-counting rid)

@@ -18,6 +18,9 @@ pub mod Readers
 pub mod Shown
 pub mod Statuses
 pub mod Writes
+pub mod Keyed
+pub mod Enough
+pub mod Looked
 pub mod NewestOf
 pub mod Stops
 pub mod Awaiting

@@ -65,7 +65,7 @@ module _ (f : Rid → Option (List Value)) where
   row_at-keyed (r ∷ rs) q = row_once q r rs (f r) (is_same_rid r q) refl refl (row_at-keyed rs q)
 
 -- A ROW THAT THE TABLE LACKS
-same_order : (q r : Rid) → is_eq (rid_cmp q r) ≡ is_same_rid r q
+pub same_order : (q r : Rid) → is_eq (rid_cmp q r) ≡ is_same_rid r q
 same_order q r = grind (arith, nat_tests)
 
 module _ (gxids : List Gxid) (table : Table) (q : Rid) where

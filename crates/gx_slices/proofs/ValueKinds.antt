@@ -1,5 +1,5 @@
 -- A value is of its expression's kind.
-use Rattle.std.proofs.Common.{◌≡◌, ◌<◌, ℕ, zero, suc, ℤ, neg_ℤ, Bool, true, false, if◌then◌else◌, eqb, List, [], ◌∷◌, length, slice_get, Option, Some, None, Result, Ok, Err, refl, sym, ap, ◌∙◌, subst, arith}
+use Rattle.std.proofs.Common.{◌≡◌, ◌<◌, ℕ, zero, suc, ℤ, neg_ℤ, Bool, true, false, if◌then◌else◌, eqb, List, [], ◌∷◌, length, slice_get, Option, Some, None, Result, Ok, Err, sym, ap, ◌∙◌, subst, arith}
 use Rattle.std.specs.Prelude.{◌+ℤ◌, ◌-ℤ◌, ◌*ℤ◌, int_div, int_rem, unsigned_abs}
 use Rattle.gx_tree.specs.declared.expr.ArithOp.{ArithOp}
 use Rattle.gx_tree.specs.declared.expr.ArithOp.TheVariants.{Add, Sub, Mul, Div, Rem}
@@ -10,7 +10,7 @@ use Rattle.gx_tree.specs.declared.expr.Expr.TheVariants.{rolls-Neg, rolls-Bin, r
 use Rattle.gx_tree.specs.declared.schema.Kind.{Kind}
 use Rattle.gx_tree.specs.declared.schema.Kind.TheVariants as kind
 use Rattle.gx_tree.specs.declared.value.Value.{Value}
-use Rattle.gx_tree.specs.declared.value.Value.TheVariants.{Int, Text}
+use Rattle.gx_tree.specs.declared.value.Value.TheVariants.{Int}
 use Rattle.gx_meaning.specs.Expressions.{and_then, arithmetic, column_of, in_range, is_in_range, number_in, value_of}
 use Rattle.gx_meaning.specs.Kinds.{kind_of, kinds_of, number_kind, value_kind}
 use Rattle.gx_meaning.specs.declared.fault.ArithFault.{ArithFault}

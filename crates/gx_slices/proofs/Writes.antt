@@ -77,13 +77,13 @@ horizon-with_writer x g = either (is_some (lxid_of x g))
     either false = refl
 
 -- A VERSION MORE
-table_cases : (t u : Table) → (t ≡ u) ⊎ (t ≢ u)
+pub table_cases : (t u : Table) → (t ≡ u) ⊎ (t ≢ u)
 table_cases t u = ⊎_elim (λ (e : t.0 ≡ u.0). inl (whole t u e)) (λ (other : t.0 ≡ u.0 → ⊥). inr (λ e. other (ap (λ (k : Table). k.0) e))) (cases_eq t.0 u.0)
   where
     whole : (t u : Table) → t.0 ≡ u.0 → t ≡ u
     whole t u e = ap (λ (n : ℕ). record { 0 = n }) e
 
-rid_cases : (r q : Rid) → (r ≡ q) ⊎ (r ≢ q)
+pub rid_cases : (r q : Rid) → (r ≡ q) ⊎ (r ≢ q)
 rid_cases r q =
     ⊎_elim
     (λ (a : r.gxid.0 ≡ q.gxid.0).

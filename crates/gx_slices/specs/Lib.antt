@@ -9,6 +9,7 @@ pub mod Inserts
 pub mod Picked
 pub mod Store
 pub mod Filed
+pub mod Keyed
 pub mod Setting
 pub mod Changing
 pub mod Stopping

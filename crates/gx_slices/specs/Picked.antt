@@ -35,6 +35,12 @@ abbrev pub IsPicked : Option Cond → List KeyedRow → Picked → Type 0
 IsPicked cond rows (picked.Rows kept) = (first_fault cond rows ≡ None) × (kept.items ≡ filter (keeps cond) rows)
 IsPicked cond rows (picked.Fault row fault) = first_fault cond rows ≡ Some (row, fault)
 
+-- the condition makes of these rows what it makes of all
+pub record AreEnough (cond : Option Cond) (all rows : List KeyedRow) : Type 0 where
+  pub typed : AreTypedOn cond rows
+  pub faults : first_fault cond rows ≡ first_fault cond all
+  pub kept : filter (keeps cond) rows ≡ filter (keeps cond) all
+
 -- a SELECT's mark and answer
 abbrev pub select_marks : Gxid → Cid → Option (KeyedRow × ArithFault) → List Mark
 select_marks g c None = []

@@ -20,19 +20,38 @@ pub(crate) fn has_written(phase: Phase) -> bool
     }
 }
 
+// The entry with its last command and the answer to it.
+fn answered(mut entry: Entry, cid: Cid, reply: Reply) -> Entry
+    ensures { result ≡ answered entry cid reply }
+{
+    entry.local.last = cid.0;
+    drop(entry.local.answer.replace(reply));
+    entry
+}
+
+fn put_back(held: &mut Held, gxid: Gxid, cid: Cid, entry: Entry) -> Mem<()>
+    ensures { OnOk result (IsBack held.old held.new gxid cid entry) }
+{
+    put_entry(&mut held.entries, gxid, entry)?;
+    set_holder(&mut held.holders, gxid, cid.0 > 0)
+}
+
 // Puts back the entry of a transaction that has neither promised nor ended here, with its last command and the answer to it.
 pub(crate) fn keep_answer(
     alloc: Global,
     held: &mut Held,
     gxid: Gxid,
     cid: Cid,
-    mut entry: Entry,
+    entry: Entry,
     reply: &Reply,
 ) -> Mem<()>
     ensures { OnOk result (IsBack held.old held.new gxid cid (answered entry cid reply.now)) }
 {
-    entry.local.last = cid.0;
-    entry.local.answer = Some(reply.copy(alloc)?);
-    put_entry(&mut held.entries, gxid, entry)?;
-    set_holder(&mut held.holders, gxid, cid.0 > 0)
+    match reply.copy(alloc) {
+        Ok(reply) => put_back(held, gxid, cid, answered(entry, cid, reply)),
+        Err(error) => {
+            drop(entry);
+            Err(error)
+        }
+    }
 }

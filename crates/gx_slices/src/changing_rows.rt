@@ -397,7 +397,7 @@ fn pick_shown(alloc: Global, held: &Held, change: &Change) -> Mem<Picked>
     } = change.writer;
     let rows = held
         .store
-        .shown_rows_from(table, &change.snapshot, Some(gxid), cid)?;
+        .shown_rows_for(table, &change.cond, &change.snapshot, Some(gxid), cid)?;
     let picked = pick(alloc, &change.cond, rows)?;
     Ok(picked)
 }

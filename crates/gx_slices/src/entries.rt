@@ -33,7 +33,7 @@ pub(crate) fn put_entry(entries: &mut BTreeMap<Gxid, Entry>, gxid: Gxid, entry: 
     ensures here { OnOk result (get gxid_cmp entries.new gxid ≡ Some entry) }
     ensures others { OnOk result ((h : Gxid) → h.0 ≢ gxid.0 → get gxid_cmp entries.new h ≡ get gxid_cmp entries.old h) }
 {
-    entries.insert(gxid, entry)?;
+    drop(entries.insert(gxid, entry)?);
     Ok(())
 }
 

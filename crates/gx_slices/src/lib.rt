@@ -9,6 +9,7 @@ mod changing_row;
 mod changing_rows;
 pub mod current;
 mod entries;
+mod finding;
 pub mod held;
 mod inserting;
 pub mod kept;

@@ -80,7 +80,12 @@ fn rows_of(
 }
 
 // Adds a row, if there is one.
-fn push_keyed(alloc: Global, rows: &mut Vec<KeyedRow>, rid: Rid, row: Option<&Row>) -> Mem<()>
+pub(crate) fn push_keyed(
+    alloc: Global,
+    rows: &mut Vec<KeyedRow>,
+    rid: Rid,
+    row: Option<&Row>,
+) -> Mem<()>
     ensures { OnOk result (rows.new.items ≡ rows.old.items ++ keyed rid (option_copied row.entry)) }
 {
     if let Some(row) = row {
@@ -91,7 +96,7 @@ fn push_keyed(alloc: Global, rows: &mut Vec<KeyedRow>, rid: Rid, row: Option<&Ro
 }
 
 // The row that a rid shows, none where it is gone or unknown.
-fn row_shown<'a>(
+pub(crate) fn row_shown<'a>(
     versions: &'a Versions,
     xids: &XidMap,
     rid: Rid,

@@ -58,7 +58,7 @@ fn select_by(
 {
     let rows = held
         .store
-        .shown_rows_from(query.table, snapshot, Some(gxid), cid)?;
+        .shown_rows_for(query.table, &query.cond, snapshot, Some(gxid), cid)?;
     let entry = take_entry(alloc, &mut held.entries, gxid);
     let wrote = has_written(entry.local.phase);
     let ran = selection(alloc, gxid, cid, wrote, &query, rows)?;

@@ -5,47 +5,57 @@ ghost use Rattle.gx_ids.specs.declared.ids.Table.{Table};
 ghost use Rattle.gx_ids.specs.declared.rid.Rid.{Rid};
 ghost use Rattle.gx_meaning.specs.Answer.{AreRising};
 ghost use Rattle.gx_store.specs.Rows.{row_at};
+ghost use Rattle.gx_slices.specs.Keyed.{IsShownFor};
 ghost use Rattle.gx_slices.specs.Store.{empty, writes_of, status_of, shown_row, shown_row_from, newest_of, current_of, greater};
 
 use crate::current::Current;
+use crate::finding::rows_for;
 use crate::reading::{current_in, current_row_in, own_lxid, rows_in};
-use crate::writing::{set_status_in, status_in, write_in};
+use crate::writing::{set_status_in, status_in, write_keyed};
 use gx_dsnap::Snapshot;
 use gx_ids::{Cid, Gxid, Mem, Rid, Table};
 use gx_rows::{LocalStatus, Versions, XidMap};
-use gx_tree::{KeyedRow, Row};
+use gx_sweep::KeyIndex;
+use gx_tree::{Cond, Dist, KeyedRow, Row, Schema};
 use std::alloc::Global;
 use std::collections::BTreeMap;
 use std::marker::Model;
 
 /// What one segment keeps of rows: the writes to each row of each table, what became here of each transaction that wrote
 /// here, and the horizon, below which nobody asks for a transaction any more (Lyu et al., SIGMOD 2021). Contracts see all
-/// of it by gxids.
+/// of it by gxids. How the tables are distributed, and which rows stand under which value of the distribution column, is kept besides,
+/// so that rows are found by it; nobody sees that.
 #[derive(Drop)]
 pub struct LocalStore {
     alloc: Global,
+    dists: Vec<Dist>,
+    index: KeyIndex,
     tables: BTreeMap<Table, Versions>,
     xids: XidMap,
 }
 
 impl Model for LocalStore {
     ghost use Rattle.gx_slices.specs.Store.{Store};
-    ghost use Rattle.gx_slices.specs.Filed.{store_of, IsSound};
+    ghost use Rattle.gx_slices.specs.Filed.{store_of};
+    ghost use Rattle.gx_slices.specs.Keyed.{IsKeyed};
 
     ghost Value = { Store };
 
     ghost view = { λ a. store_of a.tables.entries a.xids };
 
-    ghost invariant = { λ a. IsSound a.tables.entries a.xids };
+    ghost invariant = { λ a. IsKeyed a.dists.items a.index a.tables.entries a.xids };
 }
 
 impl LocalStore {
-    /// A store without writes, and a horizon below each transaction.
-    pub fn new(alloc: Global) -> Mem<LocalStore>
+    /// A store of these tables without writes, and a horizon below each transaction.
+    pub fn new(alloc: Global, tables: &[Schema]) -> Mem<LocalStore>
         ensures { IfOk result (λ store. store ≡ empty) }
     {
+        let dists: Vec<Dist> = tables.iter().map(|schema| schema.dist).collect(alloc)?;
         Ok(LocalStore {
             alloc,
+            dists,
+            index: KeyIndex::new(alloc),
             tables: BTreeMap::new(alloc),
             xids: XidMap::new(alloc)?,
         })
@@ -71,8 +81,10 @@ impl LocalStore {
         ensures err { OnErr result ((t : Table) (r : Rid) → writes_of self.new t r ≡ writes_of self.old t r) }
         ensures tried { OnErr result ((status_of self.new gxid ≡ status_of self.old gxid) ⊎ (status_of self.new gxid ≡ Some (unwrap_or (status_of self.old gxid) LocalStatus.Running))) }
     {
-        write_in(
+        write_keyed(
             self.alloc,
+            self.dists.as_slice(),
+            &mut self.index,
             &mut self.tables,
             &mut self.xids,
             gxid,
@@ -150,6 +162,34 @@ impl LocalStore {
     {
         let own = own_lxid(&self.xids, own);
         rows_in(self.alloc, &self.tables, &self.xids, table, snap, own, cid)
+    }
+
+    /// These rows without some on which a condition is false.
+    pub fn shown_rows_for(
+        &self,
+        table: Table,
+        cond: &Option<Cond>,
+        snap: &Snapshot,
+        own: Option<Gxid>,
+        cid: Cid,
+    ) -> Mem<Vec<KeyedRow>>
+        requires alive { ForSome own (λ g. self.now.horizon.0 ≤ g.0) }
+        ensures rising { IfOk result (λ rows. AreRising rows.items) }
+        ensures images { IfOk result (λ rows. (rid : Rid) → IsShownFor cond.now (shown_row_from self.now snap.now own cid table rid) (row_at rows.items rid)) }
+    {
+        let own = own_lxid(&self.xids, own);
+        rows_for(
+            self.alloc,
+            self.dists.as_slice(),
+            &self.index,
+            &self.tables,
+            &self.xids,
+            table,
+            cond,
+            snap,
+            own,
+            cid,
+        )
     }
 
     /// The newest write to a row that isn't aborted here, none where there is none.

@@ -1,16 +1,73 @@
-ghost use Rattle.std.specs.Prelude.{◌≡◌, ◌≤◌, ◌⊎◌, Some, IfOk, OnOk, OnErr, option_map};
+ghost use Rattle.std.specs.Prelude.{◌≡◌, ◌≤◌, ◌⊎◌, true, Some, IfOk, OnOk, OnErr, option_map, slice_get};
 ghost use Rattle.std.specs.BTreeMap.{IsUnchanged};
+ghost use Rattle.std.specs.Option.{option_copied};
+ghost use Rattle.gx_ids.specs.declared.rid.Rid.{Rid};
 ghost use Rattle.gx_rows.specs.Xids.{lxid_of, status_of};
+ghost use Rattle.gx_sweep.specs.Index.{has_under};
+ghost use Rattle.gx_sweep.specs.declared.table_key.TableKey.{TableKey};
 ghost use Rattle.gx_slices.specs.Filed.{IsWritten, filed, with_status_at, with_writer};
+ghost use Rattle.gx_slices.specs.Keyed.{IsUnder, key_in};
 
 use gx_ids::{Cid, Gxid, Lxid, Mem, Rid, Table};
 use gx_rows::{LocalStatus, Versions, XidMap};
-use gx_tree::Row;
+use gx_sweep::KeyIndex;
+use gx_tree::{Dist, Row, Value};
 use std::alloc::Global;
 use std::collections::BTreeMap;
 
+// The value of the distribution column in an image.
+fn key_in<'a>(dist: Option<&Dist>, image: &'a Option<Row>) -> Option<&'a Value>
+    ensures { option_copied result ≡ key_in (option_copied dist.entry) image.now }
+{
+    match (dist, image) {
+        (Some(Dist::By(column)), Some(row)) => row.as_slice().get(*column as usize),
+        _ => None,
+    }
+}
+
+// Puts a row under its key, if it has one.
+fn index_row(
+    dists: &[Dist],
+    index: &mut KeyIndex,
+    table: Table,
+    rid: Rid,
+    image: &Option<Row>,
+) -> Mem<()>
+    ensures under { OnOk result (IsUnder index.new (slice_get dists.now table.0) table rid image.now) }
+    ensures kept { (at : TableKey) (q : Rid) → has_under index.old at q ≡ true → has_under index.new at q ≡ true }
+{
+    match key_in(dists.get(table.0 as usize), image) {
+        Some(key) => index.add(table, key, rid),
+        None => Ok(()),
+    }
+}
+
+// The row stands under its key before it is there: after want of memory the index may have more than the table.
+pub(crate) fn write_keyed(
+    alloc: Global,
+    dists: &[Dist],
+    index: &mut KeyIndex,
+    tables: &mut BTreeMap<Table, Versions>,
+    xids: &mut XidMap,
+    gxid: Gxid,
+    cid: Cid,
+    table: Table,
+    rid: Rid,
+    image: Option<Row>,
+) -> Mem<()>
+    requires { xids.old.horizon.0 ≤ gxid.0 }
+    ensures ok { OnOk result (IsWritten tables.old.entries tables.new.entries xids.old xids.new gxid cid table rid image) }
+    ensures err { OnErr result (IsUnchanged tables.old tables.new) }
+    ensures tried { OnErr result ((xids.new ≡ xids.old) ⊎ (xids.new ≡ with_writer xids.old gxid)) }
+    ensures under { OnOk result (IsUnder index.new (slice_get dists.now table.0) table rid image) }
+    ensures kept { (at : TableKey) (q : Rid) → has_under index.old at q ≡ true → has_under index.new at q ≡ true }
+{
+    index_row(dists, index, table, rid, &image)?;
+    write_in(alloc, tables, xids, gxid, cid, table, rid, image)
+}
+
 // Gives the writer its lxid, where it has none, and adds the version.
-pub(crate) fn write_in(
+fn write_in(
     alloc: Global,
     tables: &mut BTreeMap<Table, Versions>,
     xids: &mut XidMap,

@@ -7,5 +7,5 @@ use Rattle.gx_slices.proofs.store.LocalStore.current.Goals as goal
 pub returns : goal.returns
 returns c =
     c.current_in.ensures
-    ∙ current_of-newest c.self.inside.tables.entries c.self.inside.xids c.self.invariant c.args.table c.args.rid
+    ∙ current_of-newest c.self.inside.tables.entries c.self.inside.xids c.self.invariant.sound c.args.table c.args.rid
     ∙ ap (λ (s : Store). option_map (current_of s) (newest_of s c.args.table c.args.rid)) c.self.view_is

@@ -20,9 +20,9 @@ returns-clause-images c =
     _
     (λ rows whole rid.
     ap (λ items. row_at items rid) whole
-    ∙ row_at-rows_at (versions_in tables c.args.table) x c.args.table c.args.snap.now c.own_lxid-own.result c.args.cid rid (c.self.invariant.filed c.args.table rid)
+    ∙ row_at-rows_at (versions_in tables c.args.table) x c.args.table c.args.snap.now c.own_lxid-own.result c.args.cid rid (c.self.invariant.sound.filed c.args.table rid)
     ∙ ap (λ (own : Option Lxid). image_at (versions_in tables c.args.table) x c.args.snap.now own c.args.cid rid) c.own_lxid-own.ensures
-    ∙ shown_row_from-shown_of tables x c.self.invariant c.args.table rid c.args.snap.now c.args.own c.args.cid
+    ∙ shown_row_from-shown_of tables x c.self.invariant.sound c.args.table rid c.args.snap.now c.args.own c.args.cid
     (subst (λ (s : Store). ForSome c.args.own (λ g. s.horizon.0 ≤ g.0)) (sym c.self.view_is) c.requires.alive)
     ∙ ap (λ (s : Store). shown_row_from s c.args.snap.now c.args.own c.args.cid c.args.table rid) c.self.view_is)
     c.rows_in.ensures.whole

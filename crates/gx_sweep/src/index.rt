@@ -1,0 +1,85 @@
+ghost use Rattle.std.specs.Prelude.{◌≡◌, ◌≢◌, [], true, IfOk, OnOk, OnErr};
+ghost use Rattle.std.specs.BTreeSet.{IsOrdered, insert_key, keys};
+ghost use Rattle.std.specs.List.Sorted.{IsStrictlySortedBy};
+ghost use Rattle.gx_ids.specs.declared.rid.Rid.{Rid};
+ghost use Rattle.gx_sweep.specs.declared.table_key.TableKey.{TableKey};
+ghost use Rattle.gx_rows.specs.Rids.{rid_cmp};
+
+use crate::table_key::TableKey;
+use gx_ids::{Duplicate, Mem, Rid, Table};
+use gx_tree::Value;
+use std::alloc::Global;
+use std::collections::{BTreeMap, BTreeSet};
+
+/// Which rows were put under a value of a table's distribution column. It only grows.
+#[derive(Drop)]
+pub struct KeyIndex {
+    alloc: Global,
+    places: BTreeMap<TableKey, BTreeSet<Rid>>,
+}
+
+impl KeyIndex {
+    ghost use Rattle.gx_sweep.specs.Index.{has_under, key_at, rids_under};
+
+    /// An index without rows.
+    pub fn new(alloc: Global) -> KeyIndex
+        ensures { (at : TableKey) → rids_under result at ≡ [] }
+    {
+        KeyIndex {
+            alloc,
+            places: BTreeMap::new(alloc),
+        }
+    }
+
+    /// Puts a row under a key, once.
+    pub fn add(&mut self, table: Table, key: &Value, rid: Rid) -> Mem<()>
+        ensures there { OnOk result (rids_under self.new (key_at table key.now) ≡ insert_key rid_cmp (rids_under self.old (key_at table key.now)) rid) }
+        ensures elsewhere { (at : TableKey) → at ≢ key_at table key.now → rids_under self.new at ≡ rids_under self.old at }
+        ensures err { OnErr result (rids_under self.new (key_at table key.now) ≡ rids_under self.old (key_at table key.now)) }
+        ensures has { OnOk result (has_under self.new (key_at table key.now) rid ≡ true) }
+        ensures kept { (at : TableKey) (q : Rid) → has_under self.old at q ≡ true → has_under self.new at q ≡ true }
+    {
+        let key = key.copy(self.alloc)?;
+        self.add_at(TableKey { table, key }, rid)
+    }
+
+    #[tactic(auto, using(crate::proofs::Places::elsewhere_than))]
+    fn add_at(&mut self, at: TableKey, rid: Rid) -> Mem<()>
+        ensures there { OnOk result (rids_under self.new at ≡ insert_key rid_cmp (rids_under self.old at) rid) }
+        ensures elsewhere { (q : TableKey) → q ≢ at → rids_under self.new q ≡ rids_under self.old q }
+        ensures err { OnErr result (rids_under self.new at ≡ rids_under self.old at) }
+    {
+        match self.places.get_mut(&at) {
+            Some(rids) => {
+                rids.insert(rid)?;
+                Ok(())
+            }
+            None => {
+                let mut rids = BTreeSet::new(self.alloc);
+                rids.insert(rid)?;
+                self.places.insert(at, rids)?;
+                Ok(())
+            }
+        }
+    }
+
+    /// The rows under a key, rising.
+    pub fn find(&self, table: Table, key: &Value) -> Mem<Vec<Rid>>
+        ensures found { IfOk result (λ rids. rids.items ≡ rids_under self.now (key_at table key.now)) }
+        ensures rising { IfOk result (λ rids. IsStrictlySortedBy rid_cmp rids.items) }
+    {
+        let key = key.copy(self.alloc)?;
+        match self.places.get(&TableKey { table, key }) {
+            Some(rids) => listed(self.alloc, rids),
+            None => Ok(Vec::new(self.alloc)),
+        }
+    }
+}
+
+fn listed(alloc: Global, rids: &BTreeSet<Rid>) -> Mem<Vec<Rid>>
+    ensures whole { IfOk result (λ list. list.items ≡ keys rids.now) }
+    ensures ordered { IsOrdered rid_cmp rids.now }
+{
+    let list: Vec<Rid> = rids.iter().copied().collect(alloc)?;
+    Ok(list)
+}
