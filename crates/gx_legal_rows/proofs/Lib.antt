@@ -1,6 +1,8 @@
 pub mod Decided
 pub mod Equal
 pub mod Views
+pub mod Lasts
+pub mod Gathered
 pub mod Snapshots
 pub mod Selections
 pub mod Skipping

@@ -66,9 +66,13 @@ whole_answer query rows = merged_answer query (part_of query (met_rows query.con
 abbrev pub is_shown_by : Query → List (List Cell) → List KeyedRow → Bool
 is_shown_by query answer rows = faults_on_none query.cond rows && is_same_answer answer (whole_answer query rows)
 
+-- the same on the rows that the command sees by the snapshot at this place
+abbrev pub is_shown_at : List Mark → Gxid → Cid → Query → List (List Cell) → ℕ → Bool
+is_shown_at marks g c query answer place = is_shown_by query answer (view_rows marks (take place marks) (Some (g, c)) query.table)
+
 abbrev pub has_shown : List Mark → Level → Gxid → Cid → Query → List (List Cell) → Bool
 has_shown marks level g c query answer =
-    list_any (λ place. is_shown_by query answer (view_rows marks (take place marks) (Some (g, c)) query.table)) (snapshots marks level g c)
+    list_any (is_shown_at marks g c query answer) (snapshots marks level g c)
 
 -- INSERT
 -- the command's own row that has so many before it

@@ -39,10 +39,11 @@ fn are_own_done(marks: &[Mark], command: Command, tuples: &[Seq<Expr>]) -> bool
 }
 
 // Whether the command has written its own row that has so many before it.
+#[tactic(auto, using(crate::proofs::Lasts::tests))]
 fn is_own_done(marks: &[Mark], command: Command, place: usize) -> bool
     ensures { result ≡ was_processed marks.now command.gxid command.cid (own_row command.gxid command.cid place) }
 {
-    for mark in marks {
+    for mark in marks.iter().rev() {
         if is_own_doing(mark, command, place) {
             return true;
         }

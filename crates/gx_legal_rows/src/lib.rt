@@ -5,6 +5,7 @@
 mod arithmetic;
 pub mod changed;
 pub mod command;
+mod committed;
 mod constants;
 mod evaluation;
 pub mod faults;
@@ -16,6 +17,7 @@ pub mod late;
 pub mod marks;
 pub mod overtaken;
 mod places;
+mod processed;
 mod selecting;
 mod setting;
 mod shown;

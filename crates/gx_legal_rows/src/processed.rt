@@ -1,0 +1,46 @@
+// What a command has written or skipped.
+ghost use Rattle.std.specs.Prelude.{◌≡◌, IfOk};
+ghost use Rattle.std.specs.BTreeSet.{contains};
+ghost use Rattle.gx_ids.specs.declared.rid.Rid.{Rid};
+ghost use Rattle.gx_meaning.specs.Order.{rid_order};
+ghost use Rattle.gx_store.specs.Marks.{is_processed};
+ghost use Rattle.gx_legal_rows.specs.Done.{done_row, row_of as row_done};
+
+use crate::command::Command;
+use gx_ids::{Cid, Gxid, Mem, Rid};
+use gx_store::Mark;
+use std::alloc::Global;
+use std::collections::BTreeSet;
+
+/// The rows that the command has written or skipped.
+pub(crate) fn processed(alloc: Global, marks: &[Mark], command: Command) -> Mem<BTreeSet<Rid>>
+    ensures { IfOk result (λ rids. (rid : Rid) → contains rid_order rids rid ≡ is_processed marks.now command.gxid command.cid rid) }
+{
+    let mut rids = BTreeSet::new(alloc);
+    for mark in marks {
+        if let Some(rid) = row_of(mark, command) {
+            rids.insert(rid)?;
+        }
+    }
+    Ok(rids)
+}
+
+fn row_of(mark: &Mark, command: Command) -> Option<Rid>
+    ensures { result ≡ row_done command.gxid command.cid mark.now }
+{
+    match mark {
+        Mark::Write { gxid, cid, rid, .. } => own_row(command, *gxid, *cid, *rid),
+        Mark::Skip { gxid, cid, rid } => own_row(command, *gxid, *cid, *rid),
+        _ => None,
+    }
+}
+
+fn own_row(command: Command, gxid: Gxid, cid: Cid, rid: Rid) -> Option<Rid>
+    ensures { result ≡ done_row command.gxid command.cid gxid cid rid }
+{
+    if gxid == command.gxid && cid == command.cid {
+        Some(rid)
+    } else {
+        None
+    }
+}
