@@ -6,7 +6,7 @@ use Rattle.std.specs.List.{AllByRecursion}
 use Rattle.std.specs.List.Sorted.{IsStrictlySortedBy}
 use Rattle.std.specs.Map.{keys_of, lookup}
 use Rattle.std.specs.BTreeMap.{insert_entry, is_at}
-use Rattle.std.specs.BTreeSet.{BTreeSet, contains}
+use Rattle.std.specs.BTreeSet.{BTreeSet}
 use Rattle.std.specs.Cmp.{on_total}
 use Rattle.std.specs.Ordering.{is_eq, match_ordering}
 use Rattle.std.specs.declared.cmp.Ordering.{Ordering}
@@ -15,7 +15,6 @@ use Rattle.gx_ids.specs.declared.ids.Cid.{Cid}
 use Rattle.gx_ids.specs.declared.ids.Gxid.{Gxid}
 use Rattle.gx_ids.specs.declared.ids.Table.{Table}
 use Rattle.gx_ids.specs.declared.rid.Rid.{Rid}
-use Rattle.gx_dsnap.specs.Gxids.{gxid_cmp}
 use Rattle.gx_meaning.specs.Answer.{AreRising}
 use Rattle.gx_meaning.specs.Order.{rid_order}
 use Rattle.gx_rows.proofs.Entries.{lookup-insert_entry_other, lookup-insert_entry_same, rid_cmp-total}
@@ -27,9 +26,11 @@ use Rattle.gx_tree.specs.declared.value.Value.{Value}
 use Rattle.gx_store.proofs.Rows.{same_rid}
 use Rattle.gx_store.specs.declared.mark.Mark.{Mark}
 use Rattle.gx_store.specs.declared.mark.Mark.TheVariants as mark
-use Rattle.gx_store.specs.Marks.{is_committed, is_same_gxid, is_same_rid}
+use Rattle.gx_store.specs.Marks.{is_same_gxid, is_same_rid}
 use Rattle.gx_store.specs.Rows.{row_at}
 use Rattle.gx_store.specs.View.{IsView, Reader, image_after, is_shown_to}
+use Rattle.gx_legal_rows.specs.Gathered.{committed_from}
+use Rattle.gx_legal_rows.proofs.Gathered.{committed-gathered}
 use Rattle.gx_legal_rows.specs.Viewed.{Images, images_from, is_seen_by, listed, row_in, view_rows}
 
 abbrev Image : Type 0
@@ -178,13 +179,13 @@ view-is marks before reader table =
       images = λ rid. row_at-listed (images_from shown table [] marks) rid rising ∙ image_in-images shown table rid [] marks;
     }
 
-seen-shown : (committed : BTreeSet Gxid) (before : List Mark) (reader : Reader) → ((g : Gxid) → contains gxid_cmp committed g ≡ is_committed before g) → is_seen_by reader committed ≡ is_shown_to reader before
-seen-shown committed before None same = fun_ext (λ g. fun_ext (λ c. same g))
-seen-shown committed before (Some own) same = fun_ext (λ g. fun_ext (λ c. ap (λ b. b || (is_same_gxid own.0 g && nat_lt c.0 own.1.0)) (same g)))
+seen-shown : (committed : BTreeSet Gxid) (before : List Mark) (reader : Reader) → committed.keys ≡ committed_from [] before → is_seen_by reader committed ≡ is_shown_to reader before
+seen-shown committed before None gathered = fun_ext (λ g. fun_ext (λ c. committed-gathered committed before gathered g))
+seen-shown committed before (Some own) gathered = fun_ext (λ g. fun_ext (λ c. ap (λ b. b || (is_same_gxid own.0 g && nat_lt c.0 own.1.0)) (committed-gathered committed before gathered g)))
 
 -- the rows as the code gathers them
-pub view-gathered : (marks before : List Mark) (committed : BTreeSet Gxid) (reader : Reader) (table : Table) → ((g : Gxid) → contains gxid_cmp committed g ≡ is_committed before g) → listed (images_from (is_seen_by reader committed) table [] marks) ≡ view_rows marks before reader table
-view-gathered marks before committed reader table same = ap (λ (shown : Gxid → Cid → Bool). listed (images_from shown table [] marks)) (seen-shown committed before reader same)
+pub view-gathered : (marks before : List Mark) (committed : BTreeSet Gxid) (reader : Reader) (table : Table) → committed.keys ≡ committed_from [] before → listed (images_from (is_seen_by reader committed) table [] marks) ≡ view_rows marks before reader table
+view-gathered marks before committed reader table gathered = ap (λ (shown : Gxid → Cid → Bool). listed (images_from shown table [] marks)) (seen-shown committed before reader gathered)
 
 -- ROWS ARE THEIR IMAGES
 module _ (q : Rid) where

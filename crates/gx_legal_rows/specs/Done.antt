@@ -1,5 +1,5 @@
 -- Whether a command has done what it says of rows, as tests.
-use Rattle.std.specs.Prelude.{ℕ, ◌==◌, Bool, not, ◌&&◌, ◌||◌, List, take, Some, None, if◌then◌else◌}
+use Rattle.std.specs.Prelude.{ℕ, ◌==◌, Bool, not, ◌&&◌, ◌||◌, List, take, Some}
 use Rattle.std.specs.BTreeSet.{BTreeSet, contains}
 use Rattle.std.specs.List.{list_all, list_any}
 use Rattle.std.specs.declared.option.Option.{Option}
@@ -12,9 +12,8 @@ use Rattle.gx_tree.specs.declared.cond.Cond.{Cond}
 use Rattle.gx_tree.specs.declared.row.KeyedRow.{KeyedRow}
 use Rattle.gx_tree.specs.declared.stmt.Level.{Level}
 use Rattle.gx_store.specs.declared.mark.Mark.{Mark}
-use Rattle.gx_store.specs.declared.mark.Mark.TheVariants.{Write, Skip}
 use Rattle.gx_store.specs.Commands.{condition_on}
-use Rattle.gx_store.specs.Marks.{is_command_of, is_processed, write_count}
+use Rattle.gx_store.specs.Marks.{is_processed, write_count}
 use Rattle.gx_legal_rows.specs.Faulted.{is_whole}
 use Rattle.gx_legal_rows.specs.Places.{snapshots}
 use Rattle.gx_legal_rows.specs.Selected.{is_met}
@@ -27,15 +26,6 @@ faults_on_none cond rows = list_all (λ row. is_whole (condition_on cond row.row
 -- the command has written or skipped each of the rows on which the condition is true
 abbrev pub are_done : List Mark → Gxid → Cid → Option Cond → List KeyedRow → Bool
 are_done marks g c cond rows = list_all (λ row. not (is_met (condition_on cond row.row)) || is_processed marks g c row.rid) rows
-
--- the row that a mark of the command has done
-abbrev pub done_row : Gxid → Cid → Gxid → Cid → Rid → Option Rid
-done_row g c h d rid = if is_command_of g c h d then Some rid else None
-
-abbrev pub row_of : Gxid → Cid → Mark → Option Rid
-row_of g c (Write h d node table rid image) = done_row g c h d rid
-row_of g c (Skip h d rid) = done_row g c h d rid
-row_of g c _ = None
 
 -- each of them is in the set
 abbrev pub are_done_in : BTreeSet Rid → Option Cond → List KeyedRow → Bool

@@ -1,7 +1,7 @@
 ghost use Rattle.std.specs.Prelude.{◌≡◌, ◌↔◌, IfOk, IsTrue};
 ghost use Rattle.gx_store.specs.Answers.{Changes};
 ghost use Rattle.gx_legal_rows.specs.Faulted.{is_whole as has_truth};
-ghost use Rattle.gx_legal_rows.specs.Done.{are_done_in as are_all_in, faults_on_none as fault_on_none, has_changed as may_have_changed, is_done_at as was_done_at, is_done_by as was_done_by};
+ghost use Rattle.gx_legal_rows.specs.Done.{are_done as were_done, are_done_in as are_all_in, faults_on_none as fault_on_none, has_changed as may_have_changed, is_done_at as was_done_at, is_done_by as was_done_by};
 
 use crate::command::Command;
 use crate::marks::write_count;
@@ -78,11 +78,7 @@ fn is_done_by(
 ) -> Mem<bool>
     ensures { IfOk result (λ holds. holds ≡ was_done_by marks.now command.gxid command.cid cond.now rows.now) }
 {
-    if !faults_on_none(alloc, cond, rows)? {
-        return Ok(false);
-    }
-    let done = processed(alloc, marks, command)?;
-    are_done(alloc, &done, cond, rows)
+    Ok(faults_on_none(alloc, cond, rows)? && are_done(alloc, marks, command, cond, rows)?)
 }
 
 // Whether the condition faults on none of the rows.
@@ -106,8 +102,21 @@ fn is_whole(truth: Result<bool, ArithFault>) -> bool
     }
 }
 
-// Whether each of the rows on which the condition is true is among those that are done.
 fn are_done(
+    alloc: Global,
+    marks: &[Mark],
+    command: Command,
+    cond: &Option<Cond>,
+    rows: &[KeyedRow],
+) -> Mem<bool>
+    ensures { IfOk result (λ holds. holds ≡ were_done marks.now command.gxid command.cid cond.now rows.now) }
+{
+    let done = processed(alloc, marks, command)?;
+    are_done_in(alloc, &done, cond, rows)
+}
+
+// Whether each of the rows on which the condition is true is in the set.
+fn are_done_in(
     alloc: Global,
     done: &BTreeSet<Rid>,
     cond: &Option<Cond>,

@@ -1,10 +1,6 @@
 // What a command has written or skipped.
-ghost use Rattle.std.specs.Prelude.{◌≡◌, IfOk};
-ghost use Rattle.std.specs.BTreeSet.{contains};
-ghost use Rattle.gx_ids.specs.declared.rid.Rid.{Rid};
-ghost use Rattle.gx_meaning.specs.Order.{rid_order};
-ghost use Rattle.gx_store.specs.Marks.{is_processed};
-ghost use Rattle.gx_legal_rows.specs.Done.{done_row, row_of as row_done};
+ghost use Rattle.std.specs.Prelude.{◌≡◌, [], IfOk};
+ghost use Rattle.gx_legal_rows.specs.Gathered.{own_row as row_of_own, processed_from, row_of as row_done};
 
 use crate::command::Command;
 use gx_ids::{Cid, Gxid, Mem, Rid};
@@ -14,7 +10,7 @@ use std::collections::BTreeSet;
 
 /// The rows that the command has written or skipped.
 pub(crate) fn processed(alloc: Global, marks: &[Mark], command: Command) -> Mem<BTreeSet<Rid>>
-    ensures { IfOk result (λ rids. (rid : Rid) → contains rid_order rids rid ≡ is_processed marks.now command.gxid command.cid rid) }
+    ensures { IfOk result (λ rids. rids.keys ≡ processed_from command.gxid command.cid [] marks.now) }
 {
     let mut rids = BTreeSet::new(alloc);
     for mark in marks {
@@ -36,7 +32,7 @@ fn row_of(mark: &Mark, command: Command) -> Option<Rid>
 }
 
 fn own_row(command: Command, gxid: Gxid, cid: Cid, rid: Rid) -> Option<Rid>
-    ensures { result ≡ done_row command.gxid command.cid gxid cid rid }
+    ensures { result ≡ row_of_own command.gxid command.cid gxid cid rid }
 {
     if gxid == command.gxid && cid == command.cid {
         Some(rid)
