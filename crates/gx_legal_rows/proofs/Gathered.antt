@@ -1,11 +1,11 @@
 -- What sets that were gathered of marks contain.
-use Rattle.std.proofs.Common.{◌≡◌, ◌∙◌, ◌==◌, ◌&&◌, ◌||◌, Bool, true, false, cond, not, List, [], ◌∷◌, Option, Some, None, refl, ap, sym, arith}
+use Rattle.std.proofs.Common.{◌≡◌, ◌∙◌, ℕ, ◌+◌, ◌==◌, ◌&&◌, ◌||◌, Bool, true, false, cond, not, List, [], ◌∷◌, Option, Some, None, refl, ap, sym, arith}
 use Rattle.std.proofs.Math.Path.{fun_ext}
 use Rattle.std.proofs.lemmas.Bool.Decides.{nat_tests}
 use Rattle.std.specs.BTreeMap.{is_at}
 use Rattle.std.specs.BTreeSet.{BTreeSet, contains, insert_key}
 use Rattle.std.specs.List.{list_all, list_any}
-use Rattle.std.specs.Ordering.{is_eq, match_ordering}
+use Rattle.std.specs.Ordering.{is_eq, match_ordering, nat_cmp}
 use Rattle.std.specs.declared.cmp.Ordering.{Ordering}
 use Rattle.std.specs.declared.cmp.Ordering.TheVariants.{Less, Equal, Greater}
 use Rattle.gx_dsnap.specs.Gxids.{gxid_cmp}
@@ -15,14 +15,16 @@ use Rattle.gx_ids.specs.declared.rid.Rid.{Rid}
 use Rattle.gx_lemmas.proofs.Tests.{or-assoc, or-false}
 use Rattle.gx_meaning.specs.Order.{rid_order}
 use Rattle.gx_tree.specs.declared.cond.Cond.{Cond}
+use Rattle.gx_tree.specs.declared.expr.Expr.{Expr}
 use Rattle.gx_tree.specs.declared.row.KeyedRow.{KeyedRow}
 use Rattle.gx_store.specs.declared.mark.Mark.{Mark}
 use Rattle.gx_store.specs.declared.mark.Mark.TheVariants.{Commit, Skip, Write}
 use Rattle.gx_store.specs.Commands.{condition_on}
 use Rattle.gx_store.specs.Marks.{is_command_of, is_committed, is_processed, is_same_gxid, is_same_rid}
 use Rattle.gx_legal_rows.specs.Done.{are_done, are_done_in}
-use Rattle.gx_legal_rows.specs.Gathered.{committed_from, processed_from, row_of, with_row}
+use Rattle.gx_legal_rows.specs.Gathered.{committed_from, ordinals_from, own_ordinal, processed_from, row_of, with_ordinal, with_row}
 use Rattle.gx_legal_rows.specs.Selected.{is_met}
+use Rattle.gx_legal_rows.specs.Told.{are_ordinals_in, are_own_done, own_row}
 
 -- A KEY MORE
 or-second : (a b c : Bool) → (a || (b || c)) ≡ (b || (a || c))
@@ -114,3 +116,50 @@ has-processed g c q rids (m ∷ ms) =
 pub all-done : (marks : List Mark) (g : Gxid) (c : Cid) (done : BTreeSet Rid) (cond : Option Cond) (rows : List KeyedRow) → done.keys ≡ processed_from g c [] marks → are_done_in done cond rows ≡ are_done marks g c cond rows
 all-done marks g c done cond rows gathered =
     ap (λ (among : Rid → Bool). list_all (λ row. not (is_met (condition_on cond row.row)) || among row.rid) rows) (fun_ext (λ q. ap (has_rid q) gathered ∙ has-processed g c q [] marks))
+
+-- THE ORDINALS OF ITS OWN ROWS
+numbers-alike : (m n q : ℕ) → nat_cmp m n ≡ Equal → is_eq (nat_cmp q m) ≡ is_eq (nat_cmp q n)
+numbers-alike m n q e = grind (arith, nat_tests)
+
+number-test : (q n : ℕ) → is_eq (nat_cmp q n) ≡ (n == q)
+number-test q n = grind (arith, nat_tests)
+
+abbrev has_number : ℕ → List ℕ → Bool
+has_number q ns = has nat_cmp numbers-alike q ns
+
+module _ (g : Gxid) (c : Cid) (q : ℕ) where
+  abbrev row : Rid
+  row = record { gxid = g; cid = c; ordinal = q }
+
+  abbrev is_number : Option ℕ → Bool
+  is_number None = false
+  is_number (Some n) = n == q
+
+  has-number : (ns : List ℕ) (o : Option ℕ) → has_number q (with_ordinal ns o) ≡ (is_number o || has_number q ns)
+  has-number ns None = refl
+  has-number ns (Some n) = has-insert nat_cmp numbers-alike q ns n ∙ ap (λ b. b || has_number q ns) (number-test q n)
+
+  of-number : (a b : Bool) (n : ℕ) → is_number (cond (a && b) (Some n) None) ≡ (a && (b && (n == q)))
+  of-number true true n = refl
+  of-number true false n = refl
+  of-number false b n = refl
+
+  number-row : (o : Option Rid) → is_number (own_ordinal g c o) ≡ is_row o row
+  number-row None = refl
+  number-row (Some r) = of-number (is_same_gxid r.gxid g) (r.cid.0 == c.0) r.ordinal
+
+  has-ordinals : (ns : List ℕ) (ms : List Mark) → has_number q (ordinals_from g c ns ms) ≡ (has_number q ns || is_processed ms g c row)
+  has-ordinals ns [] = sym (or-false (has_number q ns))
+  has-ordinals ns (m ∷ ms) =
+      has-ordinals (with_ordinal ns (own_ordinal g c (row_of g c m))) ms
+      ∙ ap (λ b. b || is_processed ms g c row) (has-number ns (own_ordinal g c (row_of g c m)) ∙ ap (λ b. b || has_number q ns) (number-row (row_of g c m)))
+      ∙ sym (or-assoc (is_row (row_of g c m) row) (has_number q ns) (is_processed ms g c row))
+      ∙ or-second (is_row (row_of g c m) row) (has_number q ns) (is_processed ms g c row)
+      ∙ ap (λ b. has_number q ns || b) (sym (processed-next m ms g c row))
+
+-- each tuple's row is done
+pub all-own : (marks : List Mark) (g : Gxid) (c : Cid) (ordinals : BTreeSet ℕ) (place : ℕ) (tuples : List (List Expr)) → ordinals.keys ≡ ordinals_from g c [] marks → are_ordinals_in ordinals place tuples ≡ are_own_done marks g c place tuples
+all-own marks g c ordinals place [] gathered = refl
+all-own marks g c ordinals place (tuple ∷ tuples) gathered =
+    ap (λ b. b && are_ordinals_in ordinals (place + 1) tuples) (ap (has_number (place + 1)) gathered ∙ has-ordinals g c (place + 1) [] marks)
+    ∙ ap (λ b. is_processed marks g c (own_row g c place) && b) (all-own marks g c ordinals (place + 1) tuples gathered)

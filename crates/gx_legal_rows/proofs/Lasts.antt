@@ -1,6 +1,7 @@
 -- What lists of marks say with one more at their end, for loops from the last mark to the first.
-use Rattle.std.proofs.Common.{◌≡◌, ◌∙◌, ℕ, zero, suc, ◌+◌, ◌==◌, ◌&&◌, ◌||◌, Bool, true, false, cond, if◌then◌else◌, List, [], ◌∷◌, ◌++◌, length, Option, Some, None, refl, ap, arith}
+use Rattle.std.proofs.Common.{◌≡◌, ◌∙◌, ℕ, zero, suc, ◌+◌, ◌==◌, ◌&&◌, ◌||◌, Bool, true, false, cond, not, if◌then◌else◌, List, [], ◌∷◌, ◌++◌, length, Option, Some, None, refl, ap, arith}
 use Rattle.std.specs.List.{list_any}
+use Rattle.std.specs.Prelude.{unwrap_or}
 use Rattle.gx_ids.specs.declared.ids.Gxid.{Gxid}
 use Rattle.gx_ids.specs.declared.ids.Cid.{Cid}
 use Rattle.gx_ids.specs.declared.ids.Node.{Node}
@@ -10,11 +11,15 @@ use Rattle.gx_lemmas.proofs.Numbers.{same-plus-none}
 use Rattle.gx_tree.specs.declared.value.Value.{Value}
 use Rattle.gx_store.proofs.Marks as marks
 use Rattle.gx_store.specs.declared.mark.Mark.{Mark}
-use Rattle.gx_store.specs.declared.mark.Mark.TheVariants.{Write}
-use Rattle.gx_store.specs.Marks.{has_snapshot, is_aborted, is_committed, is_processed, is_same_rid, is_snapped}
+use Rattle.gx_store.specs.declared.mark.Mark.TheVariants.{Hold, Release, Write}
+use Rattle.gx_store.specs.Marks.{has_snapshot, is_aborted, is_committed, is_same_rid, is_snapped}
 use Rattle.gx_store.specs.View.{image_after}
 use Rattle.gx_store.specs.Writes.{Written, last_write}
+use Rattle.gx_store.specs.Waits.{claim}
+use Rattle.gx_waits.specs.Claim.{same_claim}
+use Rattle.gx_waits.specs.declared.claim.Claim.{Claim}
 use Rattle.gx_legal_rows.specs.Places.{places_from}
+use Rattle.gx_legal_rows.specs.Told.{held_after, held_by, held_from}
 
 or-swap : (a b : Bool) → (a || b) ≡ (b || a)
 or-swap true true = refl
@@ -35,10 +40,7 @@ snapped-last xs m g c = marks.is_snapped-append xs (m ∷ []) g c ∙ or-swap (i
 pub snapshot-last : (xs : List Mark) (m : Mark) (g : Gxid) → has_snapshot (xs ++ m ∷ []) g ≡ (has_snapshot (m ∷ []) g || has_snapshot xs g)
 snapshot-last xs m g = marks.has_snapshot-append xs (m ∷ []) g ∙ or-swap (has_snapshot xs g) (has_snapshot (m ∷ []) g)
 
-pub processed-last : (xs : List Mark) (m : Mark) (g : Gxid) (c : Cid) (rid : Rid) → is_processed (xs ++ m ∷ []) g c rid ≡ (is_processed (m ∷ []) g c rid || is_processed xs g c rid)
-processed-last xs m g c rid = marks.is_processed-append xs (m ∷ []) g c rid ∙ or-swap (is_processed xs g c rid) (is_processed (m ∷ []) g c rid)
-
-pub ruleset tests = (committed-last, aborted-last, snapped-last, snapshot-last, processed-last)
+pub ruleset tests = (committed-last, aborted-last, snapped-last, snapshot-last)
 
 -- THE WRITES TO A ROW
 rotated : (a b c : Bool) → (a && (b && c)) ≡ (c && (b && a))
@@ -104,3 +106,29 @@ module _ (q : ℕ → Bool) (test : Mark → Bool) where
       by_test true e = ap (λ b. q k || b) e ∙ or-second (q k) (test m && q (k + suc (length xs))) (found (k + 1) xs)
       by_test false e = e
 pub ruleset snapshots = (any-places)
+
+-- LOCKS
+held_from-append : (node : ℕ) (wanted : Claim) (held : Bool) (xs ys : List Mark) → held_from node wanted held (xs ++ ys) ≡ held_from node wanted (held_from node wanted held xs) ys
+held_from-append node wanted held [] ys = refl
+held_from-append node wanted held (m ∷ xs) ys = held_from-append node wanted (held_after node wanted held m) xs ys
+
+held-or : (b held : Bool) → (held || b) ≡ unwrap_or (cond b (Some true) None) held
+held-or true true = refl
+held-or true false = refl
+held-or false true = refl
+held-or false false = refl
+
+held-and : (b held : Bool) → (held && not b) ≡ unwrap_or (cond b (Some false) None) held
+held-and true true = refl
+held-and true false = refl
+held-and false true = refl
+held-and false false = refl
+
+held-after : (node : ℕ) (wanted : Claim) (held : Bool) (m : Mark) → held_after node wanted held m ≡ unwrap_or (held_by node wanted m) held
+held-after node wanted held (Hold n g object mode) = held-or ((n.0 == node) && same_claim wanted (claim g object mode)) held
+held-after node wanted held (Release n g object mode) = held-and ((n.0 == node) && same_claim (claim g object mode) wanted) held
+held-after node wanted held _ = refl
+
+pub held-last : (node : ℕ) (wanted : Claim) (xs : List Mark) (m : Mark) → held_from node wanted false (xs ++ m ∷ []) ≡ unwrap_or (held_by node wanted m) (held_from node wanted false xs)
+held-last node wanted xs m = held_from-append node wanted false xs (m ∷ []) ∙ held-after node wanted (held_from node wanted false xs) m
+pub ruleset holds = (held-last)

@@ -38,7 +38,7 @@ pub(crate) fn is_shown(before: &[Mark], reader: Option<(Gxid, Cid)>, gxid: Gxid,
 {
     match reader {
         None => is_committed(before, gxid),
-        Some((own, number)) => is_committed(before, gxid) || own == gxid && cid < number,
+        Some((own, number)) => own == gxid && cid < number || is_committed(before, gxid),
     }
 }
 
