@@ -24,19 +24,10 @@ use Rattle.gx_store.specs.Marks.{is_command_of, is_committed, is_processed, is_s
 use Rattle.gx_legal_rows.specs.Done.{are_done, are_done_in}
 use Rattle.gx_legal_rows.specs.Gathered.{committed_from, ordinals_from, own_ordinal, processed_from, row_of, with_ordinal, with_row}
 use Rattle.gx_legal_rows.specs.Selected.{is_met}
+use Rattle.gx_legal_rows.proofs.Turned.{or-across, or-twice}
 use Rattle.gx_legal_rows.specs.Told.{are_ordinals_in, are_own_done, own_row}
 
 -- A KEY MORE
-or-second : (a b c : Bool) → (a || (b || c)) ≡ (b || (a || c))
-or-second true true c = refl
-or-second true false c = refl
-or-second false b c = refl
-
-or-twice : (a b c : Bool) → a ≡ b → (a || (b || c)) ≡ (a || c)
-or-twice true b c e = refl
-or-twice false true c e = absurd (cc)
-or-twice false false c e = refl
-
 -- a set has a key that is put in, and what it had before
 module _ {K : Type 0} (compare : K → K → Ordering) (alike : (k x q : K) → compare k x ≡ Equal → is_eq (compare q k) ≡ is_eq (compare q x)) (q : K) where
   abbrev has : List K → Bool
@@ -51,7 +42,7 @@ module _ {K : Type 0} (compare : K → K → Ordering) (alike : (k x q : K) → 
       by_order Equal is more =
           let same = alike k x q is in
           ap (λ b. b || has xs) (sym same) ∙ sym (or-twice (is_eq (compare q k)) (is_eq (compare q x)) (has xs) same)
-      by_order Greater is more = ap (λ b. is_eq (compare q x) || b) more ∙ or-second (is_eq (compare q x)) (is_eq (compare q k)) (has xs)
+      by_order Greater is more = ap (λ b. is_eq (compare q x) || b) more ∙ or-across (is_eq (compare q x)) (is_eq (compare q k)) (has xs)
 
 -- WHO HAS COMMITTED
 gxids-alike : (g h q : Gxid) → gxid_cmp g h ≡ Equal → is_eq (gxid_cmp q g) ≡ is_eq (gxid_cmp q h)
@@ -69,7 +60,7 @@ has-committed q gxids (Commit g ∷ ms) =
     has-committed q (insert_key gxid_cmp gxids g) ms
     ∙ ap (λ b. b || is_committed ms q) (has-insert gxid_cmp gxids-alike q gxids g ∙ ap (λ b. b || has_gxid q gxids) (gxid-test q g))
     ∙ sym (or-assoc (is_same_gxid g q) (has_gxid q gxids) (is_committed ms q))
-    ∙ or-second (is_same_gxid g q) (has_gxid q gxids) (is_committed ms q)
+    ∙ or-across (is_same_gxid g q) (has_gxid q gxids) (is_committed ms q)
 has-committed q gxids (_ ∷ ms) = has-committed q gxids ms
 
 pub committed-gathered : (set : BTreeSet Gxid) (marks : List Mark) → set.keys ≡ committed_from [] marks → (q : Gxid) → contains gxid_cmp set q ≡ is_committed marks q
@@ -109,7 +100,7 @@ has-processed g c q rids (m ∷ ms) =
     has-processed g c q (with_row rids (row_of g c m)) ms
     ∙ ap (λ b. b || is_processed ms g c q) (has-with q rids (row_of g c m))
     ∙ sym (or-assoc (is_row (row_of g c m) q) (has_rid q rids) (is_processed ms g c q))
-    ∙ or-second (is_row (row_of g c m) q) (has_rid q rids) (is_processed ms g c q)
+    ∙ or-across (is_row (row_of g c m) q) (has_rid q rids) (is_processed ms g c q)
     ∙ ap (λ b. has_rid q rids || b) (sym (processed-next m ms g c q))
 
 -- all are done that are to be
@@ -154,7 +145,7 @@ module _ (g : Gxid) (c : Cid) (q : ℕ) where
       has-ordinals (with_ordinal ns (own_ordinal g c (row_of g c m))) ms
       ∙ ap (λ b. b || is_processed ms g c row) (has-number ns (own_ordinal g c (row_of g c m)) ∙ ap (λ b. b || has_number q ns) (number-row (row_of g c m)))
       ∙ sym (or-assoc (is_row (row_of g c m) row) (has_number q ns) (is_processed ms g c row))
-      ∙ or-second (is_row (row_of g c m) row) (has_number q ns) (is_processed ms g c row)
+      ∙ or-across (is_row (row_of g c m) row) (has_number q ns) (is_processed ms g c row)
       ∙ ap (λ b. has_number q ns || b) (sym (processed-next m ms g c row))
 
 -- each tuple's row is done

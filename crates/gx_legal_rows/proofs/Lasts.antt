@@ -19,51 +19,30 @@ use Rattle.gx_store.specs.Waits.{claim}
 use Rattle.gx_waits.specs.Claim.{same_claim}
 use Rattle.gx_waits.specs.declared.claim.Claim.{Claim}
 use Rattle.gx_legal_rows.specs.Places.{places_from}
+use Rattle.gx_legal_rows.proofs.Turned.{and-across, and-turned, or-across, or-turned}
 use Rattle.gx_legal_rows.specs.Told.{held_after, held_by, held_from}
-
-or-swap : (a b : Bool) → (a || b) ≡ (b || a)
-or-swap true true = refl
-or-swap true false = refl
-or-swap false true = refl
-or-swap false false = refl
 
 -- WHO HAS ENDED, AND WHO READS
 pub committed-last : (xs : List Mark) (m : Mark) (g : Gxid) → is_committed (xs ++ m ∷ []) g ≡ (is_committed (m ∷ []) g || is_committed xs g)
-committed-last xs m g = marks.is_committed-append xs (m ∷ []) g ∙ or-swap (is_committed xs g) (is_committed (m ∷ []) g)
+committed-last xs m g = marks.is_committed-append xs (m ∷ []) g ∙ or-turned (is_committed xs g) (is_committed (m ∷ []) g)
 
 pub aborted-last : (xs : List Mark) (m : Mark) (g : Gxid) → is_aborted (xs ++ m ∷ []) g ≡ (is_aborted (m ∷ []) g || is_aborted xs g)
-aborted-last xs m g = marks.is_aborted-append xs (m ∷ []) g ∙ or-swap (is_aborted xs g) (is_aborted (m ∷ []) g)
+aborted-last xs m g = marks.is_aborted-append xs (m ∷ []) g ∙ or-turned (is_aborted xs g) (is_aborted (m ∷ []) g)
 
 pub snapped-last : (xs : List Mark) (m : Mark) (g : Gxid) (c : Cid) → is_snapped (xs ++ m ∷ []) g c ≡ (is_snapped (m ∷ []) g c || is_snapped xs g c)
-snapped-last xs m g c = marks.is_snapped-append xs (m ∷ []) g c ∙ or-swap (is_snapped xs g c) (is_snapped (m ∷ []) g c)
+snapped-last xs m g c = marks.is_snapped-append xs (m ∷ []) g c ∙ or-turned (is_snapped xs g c) (is_snapped (m ∷ []) g c)
 
 pub snapshot-last : (xs : List Mark) (m : Mark) (g : Gxid) → has_snapshot (xs ++ m ∷ []) g ≡ (has_snapshot (m ∷ []) g || has_snapshot xs g)
-snapshot-last xs m g = marks.has_snapshot-append xs (m ∷ []) g ∙ or-swap (has_snapshot xs g) (has_snapshot (m ∷ []) g)
+snapshot-last xs m g = marks.has_snapshot-append xs (m ∷ []) g ∙ or-turned (has_snapshot xs g) (has_snapshot (m ∷ []) g)
 
 pub ruleset tests = (committed-last, aborted-last, snapped-last, snapshot-last)
 
 -- THE WRITES TO A ROW
-rotated : (a b c : Bool) → (a && (b && c)) ≡ (c && (b && a))
-rotated true true true = refl
-rotated true true false = refl
-rotated true false true = refl
-rotated true false false = refl
-rotated false true true = refl
-rotated false true false = refl
-rotated false false true = refl
-rotated false false false = refl
-
-swapped : (a b : Bool) → (a && b) ≡ (b && a)
-swapped true true = refl
-swapped true false = refl
-swapped false true = refl
-swapped false false = refl
-
 pub image-last : (shown : Gxid → Cid → Bool) (table : Table) (rid : Rid) (xs : List Mark) (m : Mark) → image_after shown table rid None (xs ++ m ∷ []) ≡ image_after shown table rid (image_after shown table rid None xs) (m ∷ [])
 image-last shown table rid xs m = marks.image_after-append shown table rid None xs (m ∷ [])
 
 pub image-write : (shown : Gxid → Cid → Bool) (table : Table) (rid : Rid) (image : Option (List Value)) (g : Gxid) (c : Cid) (n : Node) (t : Table) (r : Rid) (written : Option (List Value)) → image_after shown table rid image (Write g c n t r written ∷ []) ≡ (if is_same_rid r rid && ((t.0 == table.0) && shown g c) then written else image)
-image-write shown table rid image g c n t r written = ap (λ (b : Bool). if b then written else image) (rotated (shown g c) (t.0 == table.0) (is_same_rid r rid))
+image-write shown table rid image g c n t r written = ap (λ (b : Bool). if b then written else image) (and-across (shown g c) (t.0 == table.0) (is_same_rid r rid))
 
 next-place : (k n : ℕ) → k + 1 + n ≡ k + suc n
 next-place k n = omega arith
@@ -80,16 +59,11 @@ pub written-last : (counts : Gxid → Cid → Bool) (rid : Rid) (k : ℕ) (xs : 
 written-last counts rid k xs m = last_write-append counts rid k None xs (m ∷ [])
 
 pub written-write : (counts : Gxid → Cid → Bool) (rid : Rid) (k : ℕ) (last : Option Written) (g : Gxid) (c : Cid) (n : Node) (t : Table) (r : Rid) (written : Option (List Value)) → last_write counts rid k last (Write g c n t r written ∷ []) ≡ (if is_same_rid r rid && counts g c then Some (record { place = k; gxid = g; cid = c; image = written }) else last)
-written-write counts rid k last g c n t r written = ap (λ (b : Bool). if b then Some (record { place = k; gxid = g; cid = c; image = written }) else last) (swapped (counts g c) (is_same_rid r rid))
+written-write counts rid k last g c n t r written = ap (λ (b : Bool). if b then Some (record { place = k; gxid = g; cid = c; image = written }) else last) (and-turned (counts g c) (is_same_rid r rid))
 
 pub ruleset writes = (image-last, image-write, written-last, written-write)
 
 -- SNAPSHOTS
-or-second : (a b c : Bool) → (a || (b || c)) ≡ (b || (a || c))
-or-second true true c = refl
-or-second true false c = refl
-or-second false b c = refl
-
 module _ (q : ℕ → Bool) (test : Mark → Bool) where
   abbrev found : ℕ → List Mark → Bool
   found k xs = list_any q (places_from test k xs)
@@ -103,8 +77,9 @@ module _ (q : ℕ → Bool) (test : Mark → Bool) where
   any-places k (x ∷ xs) m = by_test (test x) (any-places (k + 1) xs m ∙ ap (λ n. (test m && q n) || found (k + 1) xs) (next-place k (length xs)))
     where
       by_test : (b : Bool) → found (k + 1) (xs ++ m ∷ []) ≡ ((test m && q (k + suc (length xs))) || found (k + 1) xs) → list_any q (if b then k ∷ places_from test (k + 1) (xs ++ m ∷ []) else places_from test (k + 1) (xs ++ m ∷ [])) ≡ ((test m && q (k + suc (length xs))) || list_any q (if b then k ∷ places_from test (k + 1) xs else places_from test (k + 1) xs))
-      by_test true e = ap (λ b. q k || b) e ∙ or-second (q k) (test m && q (k + suc (length xs))) (found (k + 1) xs)
+      by_test true e = ap (λ b. q k || b) e ∙ or-across (q k) (test m && q (k + suc (length xs))) (found (k + 1) xs)
       by_test false e = e
+
 pub ruleset snapshots = (any-places)
 
 -- LOCKS
@@ -131,4 +106,5 @@ held-after node wanted held _ = refl
 
 pub held-last : (node : ℕ) (wanted : Claim) (xs : List Mark) (m : Mark) → held_from node wanted false (xs ++ m ∷ []) ≡ unwrap_or (held_by node wanted m) (held_from node wanted false xs)
 held-last node wanted xs m = held_from-append node wanted false xs (m ∷ []) ∙ held-after node wanted (held_from node wanted false xs) m
+
 pub ruleset holds = (held-last)

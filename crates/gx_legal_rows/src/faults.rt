@@ -47,36 +47,31 @@ fn is_stmt_fault(
     ensures { IfOk result (λ holds. holds ≡ may_be_fault marks.now command.level command.gxid command.cid stmt.now rid image.now fault) }
 {
     match stmt {
-        Stmt::Select(query) => is_seen_fault(
-            alloc,
-            marks,
-            choice_of(command, query.table, &query.cond, rid),
-            image,
-            fault,
-        ),
-        Stmt::Insert(_, tuples) => is_constant_fault(
-            alloc,
-            command,
-            tuples.as_slice(),
-            rid,
-            image,
-            fault,
-        ),
-        Stmt::Update(table, assigns, cond) => is_update_fault(
-            alloc,
-            marks,
-            choice_of(command, *table, cond, rid),
-            assigns.as_slice(),
-            image,
-            fault,
-        ),
-        Stmt::Delete(table, cond) => is_condition_fault(
-            alloc,
-            marks,
-            choice_of(command, *table, cond, rid),
-            image,
-            fault,
-        ),
+        Stmt::Select(query) => {
+            let choice = choice_of(command, query.table, &query.cond, rid);
+            is_seen_fault(alloc, marks, choice, image, fault)
+        }
+        Stmt::Insert(_, tuples) => {
+            is_constant_fault(alloc, command, tuples.as_slice(), rid, image, fault)
+        }
+        Stmt::Update(table, assigns, cond) => {
+            let choice = Choice {
+                command,
+                table: *table,
+                cond,
+                rid,
+            };
+            is_update_fault(alloc, marks, choice, assigns.as_slice(), image, fault)
+        }
+        Stmt::Delete(table, cond) => {
+            let choice = Choice {
+                command,
+                table: *table,
+                cond,
+                rid,
+            };
+            is_condition_fault(alloc, marks, choice, image, fault)
+        }
         _ => Ok(false),
     }
 }

@@ -28,12 +28,7 @@ pub(crate) fn has_inserted(
     Ok(are_whole(alloc, tuples)? && are_own_done(alloc, marks, command, tuples)?)
 }
 
-fn are_own_done(
-    alloc: Global,
-    marks: &[Mark],
-    command: Command,
-    tuples: &[Seq<Expr>],
-) -> Mem<bool>
+fn are_own_done(alloc: Global, marks: &[Mark], command: Command, tuples: &[Seq<Expr>]) -> Mem<bool>
     ensures { IfOk result (λ holds. holds ≡ were_own_done marks.now command.gxid command.cid 0 tuples.now) }
 {
     let ordinals = processed_ordinals(alloc, marks, command)?;

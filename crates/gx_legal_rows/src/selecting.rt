@@ -182,9 +182,7 @@ pub(crate) fn is_unseen(
         choice.entry.table choice.entry.cond.now choice.entry.rid writer) }
 {
     for (place, mark) in marks.iter().enumerate().rev() {
-        if is_snapshot(mark, choice.command)
-            && is_unseen_at(alloc, marks, choice, writer, place)?
-        {
+        if is_snapshot(mark, choice.command) && is_unseen_at(alloc, marks, choice, writer, place)? {
             return Ok(true);
         }
     }

@@ -57,12 +57,7 @@ fn last_images(
 }
 
 // Whether a reader that sees who has committed is shown the writes of a command.
-fn is_seen(
-    committed: &BTreeSet<Gxid>,
-    reader: Option<(Gxid, Cid)>,
-    gxid: Gxid,
-    cid: Cid,
-) -> bool
+fn is_seen(committed: &BTreeSet<Gxid>, reader: Option<(Gxid, Cid)>, gxid: Gxid, cid: Cid) -> bool
     ensures { result ≡ is_seen_by reader committed.now gxid cid }
 {
     match reader {

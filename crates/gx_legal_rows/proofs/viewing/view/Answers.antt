@@ -14,5 +14,5 @@ pub returns-clause-view : goal.returns-clause-view
 returns-clause-view c =
     let a = c.args in
     let same : c.in_ok-rows.rows.items ≡ view_rows a.marks.now a.before.now a.reader a.table =
-        c.in_ok-rows.ensures ∙ ap listed c.in_ok-images.ensures ∙ view-gathered a.marks.now a.before.now c.in_ok-committed.committed a.reader a.table c.in_ok-committed.ensures in
+    c.in_ok-rows.ensures ∙ ap listed c.in_ok-images.ensures ∙ view-gathered a.marks.now a.before.now c.in_ok-committed.committed a.reader a.table c.in_ok-committed.ensures in
     subst (λ (rows : List KeyedRow). IsView a.marks.now a.before.now a.reader a.table rows) (sym same) (view-is a.marks.now a.before.now a.reader a.table)
