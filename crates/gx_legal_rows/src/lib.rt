@@ -1,5 +1,5 @@
 //! Whether a mark about rows may stand behind other marks: the definitions of legal writes, skips, faults and answers, each decided in
-//! both directions for any marks. It may be slow: nothing is kept from one question to the next.
+//! both directions for any marks. Nothing is kept from one question to the next: each walks the marks a few times, mostly from the last on.
 #![tactic(auto)]
 
 mod arithmetic;
