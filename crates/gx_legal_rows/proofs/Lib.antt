@@ -1,6 +1,9 @@
 pub mod Decided
 pub mod Equal
 pub mod Views
+pub mod Turned
+pub mod Lasts
+pub mod Gathered
 pub mod Snapshots
 pub mod Selections
 pub mod Skipping

@@ -1,10 +1,12 @@
 -- Every view has its rows, and no others.
-use Rattle.std.proofs.Common.{◌≡◌, ◌==◌, ◌&&◌, List, [], ◌∷◌, ◌++◌, Option, Some, None, Bool, true, false, refl, sym, ap, ◌∙◌, cond, if◌then◌else◌, filter, map, arith, subst}
+use Rattle.std.proofs.Common.{◌≡◌, ◌==◌, nat_lt, ◌&&◌, ◌||◌, List, [], ◌∷◌, ◌++◌, Option, Some, None, Bool, true, false, refl, sym, ap, ◌∙◌, cond, if◌then◌else◌, filter, map, arith, subst}
 use Rattle.std.proofs.lemmas.Bool.Decides.{nat_tests}
+use Rattle.std.proofs.Math.Path.{fun_ext}
 use Rattle.std.specs.List.{AllByRecursion}
 use Rattle.std.specs.List.Sorted.{IsStrictlySortedBy}
 use Rattle.std.specs.Map.{keys_of, lookup}
 use Rattle.std.specs.BTreeMap.{insert_entry, is_at}
+use Rattle.std.specs.BTreeSet.{BTreeSet}
 use Rattle.std.specs.Cmp.{on_total}
 use Rattle.std.specs.Ordering.{is_eq, match_ordering}
 use Rattle.std.specs.declared.cmp.Ordering.{Ordering}
@@ -24,10 +26,12 @@ use Rattle.gx_tree.specs.declared.value.Value.{Value}
 use Rattle.gx_store.proofs.Rows.{same_rid}
 use Rattle.gx_store.specs.declared.mark.Mark.{Mark}
 use Rattle.gx_store.specs.declared.mark.Mark.TheVariants as mark
-use Rattle.gx_store.specs.Marks.{is_same_rid}
+use Rattle.gx_store.specs.Marks.{is_same_gxid, is_same_rid}
 use Rattle.gx_store.specs.Rows.{row_at}
 use Rattle.gx_store.specs.View.{IsView, Reader, image_after, is_shown_to}
-use Rattle.gx_legal_rows.specs.Viewed.{Images, images_from, listed, row_in, view_rows}
+use Rattle.gx_legal_rows.specs.Gathered.{committed_from}
+use Rattle.gx_legal_rows.proofs.Gathered.{committed-gathered}
+use Rattle.gx_legal_rows.specs.Viewed.{Images, images_from, is_seen_by, listed, row_in, view_rows}
 
 abbrev Image : Type 0
 Image = Option (List Value)
@@ -96,7 +100,7 @@ module _ (shown : Gxid → Cid → Bool) (table : Table) where
       by_test
       (rises-images (insert_entry rid_order images rid image) ms (rises-insert images rid image rising))
       (rises-images images ms rising)
-      (shown g c && (t.0 == table.0))
+      ((t.0 == table.0) && shown g c)
     where
       by_test : Rises (images_from shown table (insert_entry rid_order images rid image) ms) → Rises (images_from shown table images ms) → (b : Bool) → Rises (images_from shown table (if b then insert_entry rid_order images rid image else images) ms)
       by_test put same true = put
@@ -112,10 +116,11 @@ module _ (shown : Gxid → Cid → Bool) (table : Table) where
       (shown g c)
       (t.0 == table.0)
     where
-      by_test : image_in q (images_from shown table (insert_entry rid_order images rid image) ms) ≡ image_after shown table q (if is_same_rid rid q then image else image_in q images) ms → image_in q (images_from shown table images ms) ≡ image_after shown table q (image_in q images) ms → (a b : Bool) → image_in q (images_from shown table (if a && b then insert_entry rid_order images rid image else images) ms) ≡ image_after shown table q (if a && (b && is_same_rid rid q) then image else image_in q images) ms
+      by_test : image_in q (images_from shown table (insert_entry rid_order images rid image) ms) ≡ image_after shown table q (if is_same_rid rid q then image else image_in q images) ms → image_in q (images_from shown table images ms) ≡ image_after shown table q (image_in q images) ms → (a b : Bool) → image_in q (images_from shown table (if b && a then insert_entry rid_order images rid image else images) ms) ≡ image_after shown table q (if a && (b && is_same_rid rid q) then image else image_in q images) ms
       by_test put same true true = put
       by_test put same true false = same
-      by_test put same false b = same
+      by_test put same false true = same
+      by_test put same false false = same
   image_in-images q images (_ ∷ ms) = image_in-images q images ms
 
 -- THE ROWS
@@ -173,6 +178,14 @@ view-is marks before reader table =
       rising = rising-listed (images_from shown table [] marks) rising;
       images = λ rid. row_at-listed (images_from shown table [] marks) rid rising ∙ image_in-images shown table rid [] marks;
     }
+
+seen-shown : (committed : BTreeSet Gxid) (before : List Mark) (reader : Reader) → committed.keys ≡ committed_from [] before → is_seen_by reader committed ≡ is_shown_to reader before
+seen-shown committed before None gathered = fun_ext (λ g. fun_ext (λ c. committed-gathered committed before gathered g))
+seen-shown committed before (Some own) gathered = fun_ext (λ g. fun_ext (λ c. ap (λ b. b || (is_same_gxid own.0 g && nat_lt c.0 own.1.0)) (committed-gathered committed before gathered g)))
+
+-- the rows as the code gathers them
+pub view-gathered : (marks before : List Mark) (committed : BTreeSet Gxid) (reader : Reader) (table : Table) → committed.keys ≡ committed_from [] before → listed (images_from (is_seen_by reader committed) table [] marks) ≡ view_rows marks before reader table
+view-gathered marks before committed reader table gathered = ap (λ (shown : Gxid → Cid → Bool). listed (images_from shown table [] marks)) (seen-shown committed before reader gathered)
 
 -- ROWS ARE THEIR IMAGES
 module _ (q : Rid) where

@@ -1,5 +1,5 @@
 -- Whether an evaluation of a command gives a fault, as tests.
-use Rattle.std.specs.Prelude.{◌-◌, Bool, true, false, ◌&&◌, ◌||◌, List, [], take, slice_get, Some, None, Ok, Err, Result}
+use Rattle.std.specs.Prelude.{ℕ, ◌-◌, Bool, true, false, ◌&&◌, ◌||◌, List, [], take, slice_get, Some, None, Ok, Err, Result}
 use Rattle.std.specs.List.{list_all, list_any}
 use Rattle.std.specs.declared.option.Option.{Option}
 use Rattle.gx_ids.specs.declared.ids.Gxid.{Gxid}
@@ -40,9 +40,13 @@ abbrev pub is_image_fault : Option Cond → Option (List Value) → ArithFault �
 is_image_fault cond meant fault None = false
 is_image_fault cond meant fault (Some row) = is_same_image meant (Some row) && is_fault (condition_on cond row) fault
 
+-- it faults so on what the command sees of the row by the snapshot at this place
+abbrev pub is_seen_fault_at : List Mark → Gxid → Cid → Table → Option Cond → Rid → Option (List Value) → ArithFault → ℕ → Bool
+is_seen_fault_at marks g c table cond rid meant fault place = is_image_fault cond meant fault (image_at marks g c table rid place)
+
 abbrev pub is_seen_fault : List Mark → Level → Gxid → Cid → Table → Option Cond → Rid → Option (List Value) → ArithFault → Bool
 is_seen_fault marks level g c table cond rid meant fault =
-    list_any (λ place. is_image_fault cond meant fault (image_at marks g c table rid place)) (snapshots marks level g c)
+    list_any (is_seen_fault_at marks g c table cond rid meant fault) (snapshots marks level g c)
 
 abbrev pub is_write_fault : Option Cond → Option (List Value) → ArithFault → Option Written → Bool
 is_write_fault cond meant fault None = false

@@ -1,6 +1,7 @@
 pub mod Numbers
 pub mod Images
 pub mod Places
+pub mod Gathered
 pub mod Viewed
 pub mod Written
 pub mod Selected

@@ -64,10 +64,14 @@ abbrev pub is_current_at : List Mark → Level → Gxid → Cid → Option Cond 
 is_current_at marks ReadCommitted g c cond rid write old place = is_met (condition_on cond old)
 is_current_at marks RepeatableRead g c cond rid write old place = is_write (shown_write marks (take place marks) g c rid) write
 
+-- by the snapshot at this place, the command has selected the row, and may change it from this current write and its image
+abbrev pub is_changeable_at : List Mark → Level → Gxid → Cid → Table → Option Cond → Rid → Written → List Value → ℕ → Bool
+is_changeable_at marks level g c table cond rid write old place = is_chosen_at marks g c table cond rid place && is_current_at marks level g c cond rid write old place
+
 -- a selected row may be changed from this current write and its image
 abbrev pub is_changeable : List Mark → Level → Gxid → Cid → Table → Option Cond → Rid → Written → List Value → Bool
 is_changeable marks level g c table cond rid write old =
-    list_any (λ place. is_chosen_at marks g c table cond rid place && is_current_at marks level g c cond rid write old place) (snapshots marks level g c)
+    list_any (is_changeable_at marks level g c table cond rid write old) (snapshots marks level g c)
 
 -- by the snapshot at this place, the command has selected the row, and doesn't see that the transaction has committed
 abbrev pub is_unseen_at : List Mark → Gxid → Cid → Table → Option Cond → Rid → Gxid → ℕ → Bool

@@ -1,8 +1,9 @@
 -- Whether a command has done what its answer says, as tests.
-use Rattle.std.specs.Prelude.{ℕ, zero, suc, ◌+◌, ◌==◌, nat_eq, Bool, true, false, not, ◌&&◌, ◌||◌, List, [], ◌∷◌, length, filter, take, Some}
+use Rattle.std.specs.Prelude.{ℕ, zero, suc, ◌+◌, ◌==◌, nat_eq, Bool, true, false, not, ◌&&◌, ◌||◌, List, [], ◌∷◌, length, filter, take, Some, None, if◌then◌else◌}
+use Rattle.std.specs.BTreeSet.{BTreeSet, contains}
 use Rattle.std.specs.Cmp.Lexicographic.{pointwise}
 use Rattle.std.specs.List.{list_all, list_any, zip}
-use Rattle.std.specs.Ordering.{int_eq}
+use Rattle.std.specs.Ordering.{int_eq, nat_cmp}
 use Rattle.std.specs.declared.option.Option.{Option}
 use Rattle.gx_ids.specs.declared.ids.Gxid.{Gxid}
 use Rattle.gx_ids.specs.declared.ids.Cid.{Cid}
@@ -66,9 +67,13 @@ whole_answer query rows = merged_answer query (part_of query (met_rows query.con
 abbrev pub is_shown_by : Query → List (List Cell) → List KeyedRow → Bool
 is_shown_by query answer rows = faults_on_none query.cond rows && is_same_answer answer (whole_answer query rows)
 
+-- the same on the rows that the command sees by the snapshot at this place
+abbrev pub is_shown_at : List Mark → Gxid → Cid → Query → List (List Cell) → ℕ → Bool
+is_shown_at marks g c query answer place = is_shown_by query answer (view_rows marks (take place marks) (Some (g, c)) query.table)
+
 abbrev pub has_shown : List Mark → Level → Gxid → Cid → Query → List (List Cell) → Bool
 has_shown marks level g c query answer =
-    list_any (λ place. is_shown_by query answer (view_rows marks (take place marks) (Some (g, c)) query.table)) (snapshots marks level g c)
+    list_any (is_shown_at marks g c query answer) (snapshots marks level g c)
 
 -- INSERT
 -- the command's own row that has so many before it
@@ -79,6 +84,11 @@ own_row g c place = record { gxid = g; cid = c; ordinal = place + 1 }
 abbrev pub are_own_done : List Mark → Gxid → Cid → ℕ → List (List Expr) → Bool
 are_own_done marks g c place [] = true
 are_own_done marks g c place (tuple ∷ tuples) = is_processed marks g c (own_row g c place) && are_own_done marks g c (place + 1) tuples
+
+-- the ordinal of each tuple's row is in the set
+abbrev pub are_ordinals_in : BTreeSet ℕ → ℕ → List (List Expr) → Bool
+are_ordinals_in ordinals place [] = true
+are_ordinals_in ordinals place (tuple ∷ tuples) = contains nat_cmp ordinals (place + 1) && are_ordinals_in ordinals (place + 1) tuples
 
 abbrev pub has_inserted : List Mark → Level → Gxid → Cid → List (List Expr) → ℕ → Bool
 has_inserted marks level g c tuples n = (n == length tuples) && (has_own_snapshot level marks g c && (are_whole tuples && are_own_done marks g c 0 tuples))
@@ -93,6 +103,12 @@ held_after node wanted held _ = held
 abbrev pub held_from : ℕ → Claim → Bool → List Mark → Bool
 held_from node wanted held [] = held
 held_from node wanted held (m ∷ ms) = held_from node wanted (held_after node wanted held m) ms
+
+-- whether it is held at the node by what one mark does to it there, if it does anything to it
+abbrev pub held_by : ℕ → Claim → Mark → Option Bool
+held_by node wanted (Hold n g object mode) = if (n.0 == node) && same_claim wanted (claim g object mode) then Some true else None
+held_by node wanted (Release n g object mode) = if (n.0 == node) && same_claim (claim g object mode) wanted then Some false else None
+held_by node wanted _ = None
 
 -- it is held at each of the first nodes
 abbrev pub is_held_below : List Mark → Claim → ℕ → Bool

@@ -3,12 +3,12 @@ ghost use Rattle.std.specs.Option.{option_copied};
 ghost use Rattle.gx_store.specs.Faults.{IsFaultOf};
 ghost use Rattle.gx_legal_rows.specs.Changed.{is_changed as was_changed};
 ghost use Rattle.gx_legal_rows.specs.Faulted.{is_current_fault as may_be_current, is_fault as is_that_fault, is_image_fault as may_be_image, is_same_fault as same_faults};
-ghost use Rattle.gx_legal_rows.specs.Faulted.{is_seen_fault as may_be_seen, is_set_fault as may_be_set, is_stmt_fault as may_be_fault};
+ghost use Rattle.gx_legal_rows.specs.Faulted.{is_seen_fault as may_be_seen, is_seen_fault_at as may_be_seen_at, is_set_fault as may_be_set, is_stmt_fault as may_be_fault};
 
 use crate::command::{Choice, Command};
 use crate::constants::is_constant_fault;
 use crate::images::is_image;
-use crate::places::snapshots;
+use crate::places::is_snapshot;
 use crate::selecting::{condition, image_at, is_changeable, is_selected};
 use crate::setting::set_row;
 use crate::skips::choice_of;
@@ -47,21 +47,13 @@ fn is_stmt_fault(
     ensures { IfOk result (λ holds. holds ≡ may_be_fault marks.now command.level command.gxid command.cid stmt.now rid image.now fault) }
 {
     match stmt {
-        Stmt::Select(query) => is_seen_fault(
-            alloc,
-            marks,
-            choice_of(command, query.table, &query.cond, rid),
-            image,
-            fault,
-        ),
-        Stmt::Insert(_, tuples) => is_constant_fault(
-            alloc,
-            command,
-            tuples.as_slice(),
-            rid,
-            image,
-            fault,
-        ),
+        Stmt::Select(query) => {
+            let choice = choice_of(command, query.table, &query.cond, rid);
+            is_seen_fault(alloc, marks, choice, image, fault)
+        }
+        Stmt::Insert(_, tuples) => {
+            is_constant_fault(alloc, command, tuples.as_slice(), rid, image, fault)
+        }
         Stmt::Update(table, assigns, cond) => {
             let choice = Choice {
                 command,
@@ -125,6 +117,7 @@ fn is_condition_fault(
 }
 
 // Whether the condition faults on what the command sees of the row, by one of its snapshots.
+#[tactic(auto, using(crate::proofs::Lasts::snapshots))]
 fn is_seen_fault(
     alloc: Global,
     marks: &[Mark],
@@ -135,19 +128,34 @@ fn is_seen_fault(
     ensures { IfOk result (λ holds. holds ≡ may_be_seen marks.now choice.entry.command.level choice.entry.command.gxid choice.entry.command.cid
         choice.entry.table choice.entry.cond.now choice.entry.rid image.now fault) }
 {
-    let places = snapshots(alloc, marks, choice.command)?;
-    for place in &places {
-        if is_image_fault(
-            alloc,
-            choice.cond,
-            image,
-            fault,
-            image_at(marks, choice, *place),
-        )? {
+    for (place, mark) in marks.iter().enumerate().rev() {
+        if is_snapshot(mark, choice.command)
+            && is_fault_at(alloc, marks, choice, image, fault, place)?
+        {
             return Ok(true);
         }
     }
     Ok(false)
+}
+
+fn is_fault_at(
+    alloc: Global,
+    marks: &[Mark],
+    choice: Choice<'_>,
+    image: &Option<Row>,
+    fault: ArithFault,
+    place: usize,
+) -> Mem<bool>
+    ensures { IfOk result (λ holds. holds ≡ may_be_seen_at marks.now choice.entry.command.gxid choice.entry.command.cid
+        choice.entry.table choice.entry.cond.now choice.entry.rid image.now fault place) }
+{
+    is_image_fault(
+        alloc,
+        choice.cond,
+        image,
+        fault,
+        image_at(marks, choice, place),
+    )
 }
 
 fn is_image_fault(

@@ -1,7 +1,7 @@
 // Whether a lock is held at every node.
 ghost use Rattle.std.specs.Prelude.{◌≡◌, ◌+◌, false};
 ghost use Rattle.gx_store.specs.Waits.{claim as claim_on};
-ghost use Rattle.gx_legal_rows.specs.Told.{has_locked as did_lock, held_after as is_held_then, held_from, is_held_below as are_held};
+ghost use Rattle.gx_legal_rows.specs.Told.{has_locked as did_lock, held_by as is_held_by, held_from, is_held_below as are_held};
 
 use gx_ids::{Gxid, Table};
 use gx_locks::is_same_claim;
@@ -28,18 +28,21 @@ fn is_held_below(marks: &[Mark], wanted: &Claim, nodes: usize) -> bool
     held
 }
 
+#[tactic(auto, using(crate::proofs::Lasts::holds))]
 fn is_held(marks: &[Mark], node: usize, wanted: &Claim) -> bool
     ensures { result ≡ held_from node wanted.now false marks.now }
 {
-    let mut held = false;
-    for mark in marks {
-        held = held_after(node, wanted, held, mark);
+    for mark in marks.iter().rev() {
+        if let Some(held) = held_by(node, wanted, mark) {
+            return held;
+        }
     }
-    held
+    false
 }
 
-fn held_after(node: usize, wanted: &Claim, held: bool, mark: &Mark) -> bool
-    ensures { result ≡ is_held_then node wanted.now held mark.now }
+// Whether the claim is held at the node by what the mark does to it there; `None` where it does nothing to it.
+fn held_by(node: usize, wanted: &Claim, mark: &Mark) -> Option<bool>
+    ensures { result ≡ is_held_by node wanted.now mark.now }
 {
     match mark {
         Mark::Hold {
@@ -47,17 +50,22 @@ fn held_after(node: usize, wanted: &Claim, held: bool, mark: &Mark) -> bool
             gxid,
             object,
             mode,
-        } => held
-            || usize::from(at.0) == node && is_same_claim(wanted, &claim_of(*gxid, *object, *mode)),
+        } => {
+            let held = usize::from(at.0) == node
+                && is_same_claim(wanted, &claim_of(*gxid, *object, *mode));
+            held.then_some(true)
+        }
         Mark::Release {
             node: at,
             gxid,
             object,
             mode,
-        } => held
-            && !(usize::from(at.0) == node
-                && is_same_claim(&claim_of(*gxid, *object, *mode), wanted)),
-        _ => held,
+        } => {
+            let released = usize::from(at.0) == node
+                && is_same_claim(&claim_of(*gxid, *object, *mode), wanted);
+            released.then_some(false)
+        }
+        _ => None,
     }
 }
 

@@ -1,15 +1,16 @@
 // Whether an INSERT has written its rows.
-ghost use Rattle.std.specs.Prelude.{◌≡◌, ◌∷◌, [], IfOk};
-ghost use Rattle.gx_store.specs.Marks.{is_processed as was_processed, is_same_rid};
-ghost use Rattle.gx_legal_rows.specs.Told.{are_own_done as were_own_done, has_inserted as did_insert, own_row};
+ghost use Rattle.std.specs.Prelude.{◌≡◌, IfOk};
+ghost use Rattle.gx_legal_rows.specs.Told.{are_ordinals_in as are_all_in, are_own_done as were_own_done, has_inserted as did_insert};
 
 use crate::command::Command;
 use crate::constants::are_whole;
 use crate::marks::has_own_snapshot;
-use gx_ids::{Mem, Rid, Seq};
+use crate::processed::processed_ordinals;
+use gx_ids::{Mem, Seq};
 use gx_store::Mark;
 use gx_tree::Expr;
 use std::alloc::Global;
+use std::collections::BTreeSet;
 
 /// Whether the command has its snapshot and has written the row of each tuple, which are so many.
 pub(crate) fn has_inserted(
@@ -24,50 +25,24 @@ pub(crate) fn has_inserted(
     if count != tuples.len() as u128 || !has_own_snapshot(marks, command) {
         return Ok(false);
     }
-    Ok(are_whole(alloc, tuples)? && are_own_done(marks, command, tuples))
+    Ok(are_whole(alloc, tuples)? && are_own_done(alloc, marks, command, tuples)?)
 }
 
-fn are_own_done(marks: &[Mark], command: Command, tuples: &[Seq<Expr>]) -> bool
-    ensures { result ≡ were_own_done marks.now command.gxid command.cid 0 tuples.now }
+fn are_own_done(alloc: Global, marks: &[Mark], command: Command, tuples: &[Seq<Expr>]) -> Mem<bool>
+    ensures { IfOk result (λ holds. holds ≡ were_own_done marks.now command.gxid command.cid 0 tuples.now) }
+{
+    let ordinals = processed_ordinals(alloc, marks, command)?;
+    Ok(are_ordinals_in(&ordinals, tuples))
+}
+
+// Whether the ordinal of each tuple is in the set.
+fn are_ordinals_in(ordinals: &BTreeSet<u64>, tuples: &[Seq<Expr>]) -> bool
+    ensures { result ≡ are_all_in ordinals.now 0 tuples.now }
 {
     for (place, _tuple) in tuples.iter().enumerate() {
-        if !is_own_done(marks, command, place) {
+        if !ordinals.contains(&(place as u64 + 1)) {
             return false;
         }
     }
     true
-}
-
-// Whether the command has written its own row that has so many before it.
-fn is_own_done(marks: &[Mark], command: Command, place: usize) -> bool
-    ensures { result ≡ was_processed marks.now command.gxid command.cid (own_row command.gxid command.cid place) }
-{
-    for mark in marks {
-        if is_own_doing(mark, command, place) {
-            return true;
-        }
-    }
-    false
-}
-
-fn is_own_doing(mark: &Mark, command: Command, place: usize) -> bool
-    ensures { result ≡ was_processed (mark.now ∷ []) command.gxid command.cid (own_row command.gxid command.cid place) }
-{
-    match mark {
-        Mark::Write { gxid, cid, rid, .. } => {
-            *gxid == command.gxid && *cid == command.cid && is_own_row(*rid, command, place)
-        }
-        Mark::Skip { gxid, cid, rid } => {
-            *gxid == command.gxid && *cid == command.cid && is_own_row(*rid, command, place)
-        }
-        _ => false,
-    }
-}
-
-fn is_own_row(rid: Rid, command: Command, place: usize) -> bool
-    ensures { result ≡ is_same_rid rid (own_row command.gxid command.cid place) }
-{
-    rid.gxid == command.gxid
-        && rid.cid == command.cid
-        && u128::from(rid.ordinal) == place as u128 + 1
 }

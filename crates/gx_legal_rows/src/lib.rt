@@ -1,10 +1,11 @@
 //! Whether a mark about rows may stand behind other marks: the definitions of legal writes, skips, faults and answers, each decided in
-//! both directions for any marks. It may be slow: nothing is kept from one question to the next.
+//! both directions for any marks. Nothing is kept from one question to the next: each walks the marks a few times, mostly from the last on.
 #![tactic(auto)]
 
 mod arithmetic;
 pub mod changed;
 pub mod command;
+mod committed;
 mod constants;
 mod evaluation;
 pub mod faults;
@@ -16,6 +17,7 @@ pub mod late;
 pub mod marks;
 pub mod overtaken;
 mod places;
+mod processed;
 mod selecting;
 mod setting;
 mod shown;

@@ -1,4 +1,4 @@
-// What is looked up in a list of marks.
+// What is looked up in a list of marks, from the last to the first where it is mostly among the last.
 ghost use Rattle.std.specs.Prelude.{◌≡◌, ◌∷◌, []};
 ghost use Rattle.gx_store.specs.Commands.{has_own_snapshot as is_served};
 ghost use Rattle.gx_store.specs.Marks.{has_snapshot as is_read_by, is_aborted as has_aborted, is_committed as has_committed, is_ended as has_ended, is_processed as was_processed};
@@ -10,10 +10,11 @@ use gx_store::Mark;
 use gx_tree::Level;
 
 /// Whether the transaction has committed.
+#[tactic(auto, using(crate::proofs::Lasts::tests))]
 pub fn is_committed(marks: &[Mark], gxid: Gxid) -> bool
     ensures { result ≡ has_committed marks.now gxid }
 {
-    for mark in marks {
+    for mark in marks.iter().rev() {
         if is_commit(mark, gxid) {
             return true;
         }
@@ -31,17 +32,25 @@ fn is_commit(mark: &Mark, gxid: Gxid) -> bool
 }
 
 /// Whether the transaction has aborted.
+#[tactic(auto, using(crate::proofs::Lasts::tests))]
 pub fn is_aborted(marks: &[Mark], gxid: Gxid) -> bool
     ensures { result ≡ has_aborted marks.now gxid }
 {
-    for mark in marks {
-        if let Mark::Abort { gxid: aborted } = mark {
-            if *aborted == gxid {
-                return true;
-            }
+    for mark in marks.iter().rev() {
+        if is_abort(mark, gxid) {
+            return true;
         }
     }
     false
+}
+
+fn is_abort(mark: &Mark, gxid: Gxid) -> bool
+    ensures { result ≡ has_aborted (mark.now ∷ []) gxid }
+{
+    match mark {
+        Mark::Abort { gxid: aborted } => *aborted == gxid,
+        _ => false,
+    }
 }
 
 /// Whether the transaction has committed or aborted.
@@ -61,35 +70,50 @@ pub fn has_own_snapshot(marks: &[Mark], command: Command) -> bool
     }
 }
 
+#[tactic(auto, using(crate::proofs::Lasts::tests))]
 fn is_snapped(marks: &[Mark], gxid: Gxid, cid: Cid) -> bool
     ensures { result ≡ was_snapped marks.now gxid cid }
 {
-    for mark in marks {
-        if let Mark::Snap {
-            gxid: g,
-            cid: c,
-            ..
-        } = mark
-        {
-            if *g == gxid && *c == cid {
-                return true;
-            }
+    for mark in marks.iter().rev() {
+        if is_own_snap(mark, gxid, cid) {
+            return true;
         }
     }
     false
 }
 
+fn is_own_snap(mark: &Mark, gxid: Gxid, cid: Cid) -> bool
+    ensures { result ≡ was_snapped (mark.now ∷ []) gxid cid }
+{
+    match mark {
+        Mark::Snap {
+            gxid: g,
+            cid: c,
+            ..
+        } => *g == gxid && *c == cid,
+        _ => false,
+    }
+}
+
+#[tactic(auto, using(crate::proofs::Lasts::tests))]
 fn has_snapshot(marks: &[Mark], gxid: Gxid) -> bool
     ensures { result ≡ is_read_by marks.now gxid }
 {
-    for mark in marks {
-        if let Mark::Snap { gxid: g, .. } = mark {
-            if *g == gxid {
-                return true;
-            }
+    for mark in marks.iter().rev() {
+        if is_snap(mark, gxid) {
+            return true;
         }
     }
     false
+}
+
+fn is_snap(mark: &Mark, gxid: Gxid) -> bool
+    ensures { result ≡ is_read_by (mark.now ∷ []) gxid }
+{
+    match mark {
+        Mark::Snap { gxid: g, .. } => *g == gxid,
+        _ => false,
+    }
 }
 
 // Whether the row was written.

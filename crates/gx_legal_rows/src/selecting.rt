@@ -3,14 +3,14 @@ ghost use Rattle.std.specs.Prelude.{◌≡◌, IfOk, take};
 ghost use Rattle.std.specs.Option.{option_copied, option_map};
 ghost use Rattle.gx_store.specs.Commands.{condition_on};
 ghost use Rattle.gx_store.specs.Writes.{shown_write};
-ghost use Rattle.gx_legal_rows.specs.Selected.{image_at as seen_at, is_changeable as may_change, is_chosen as would_choose, is_chosen_at as has_chosen, is_current_at as stands, is_met as meets};
+ghost use Rattle.gx_legal_rows.specs.Selected.{image_at as seen_at, is_changeable as may_change, is_changeable_at as may_change_at, is_chosen as would_choose, is_chosen_at as has_chosen, is_current_at as stands, is_met as meets};
 ghost use Rattle.gx_legal_rows.specs.Selected.{is_missed as misses, is_selected as has_selected, is_unseen as was_unseen, is_unseen_at as was_unseen_at, is_write as is_that};
 ghost use Rattle.gx_legal_rows.specs.Written.{written_of};
 
 use crate::command::Choice;
 use crate::evaluation::truth;
 use crate::marks::is_committed;
-use crate::places::snapshots;
+use crate::places::is_snapshot;
 use crate::writing::{Writing, before, image, is_same_write, last_write};
 use gx_ids::{Gxid, Mem};
 use gx_meaning::ArithFault;
@@ -81,13 +81,13 @@ pub(crate) fn image_at<'a>(marks: &'a [Mark], choice: Choice<'_>, place: usize) 
 }
 
 /// Whether the command has selected the row by one of its snapshots.
+#[tactic(auto, using(crate::proofs::Lasts::snapshots))]
 pub(crate) fn is_selected(alloc: Global, marks: &[Mark], choice: Choice<'_>) -> Mem<bool>
     ensures { IfOk result (λ holds. holds ≡ has_selected marks.now choice.entry.command.level choice.entry.command.gxid choice.entry.command.cid
         choice.entry.table choice.entry.cond.now choice.entry.rid) }
 {
-    let places = snapshots(alloc, marks, choice.command)?;
-    for place in &places {
-        if is_chosen_at(alloc, marks, choice, *place)? {
+    for (place, mark) in marks.iter().enumerate().rev() {
+        if is_snapshot(mark, choice.command) && is_chosen_at(alloc, marks, choice, place)? {
             return Ok(true);
         }
     }
@@ -95,6 +95,7 @@ pub(crate) fn is_selected(alloc: Global, marks: &[Mark], choice: Choice<'_>) -> 
 }
 
 /// Whether the command has selected the row by a snapshot by which it may change it from this current write and its image.
+#[tactic(auto, using(crate::proofs::Lasts::snapshots))]
 pub(crate) fn is_changeable(
     alloc: Global,
     marks: &[Mark],
@@ -105,15 +106,31 @@ pub(crate) fn is_changeable(
     ensures { IfOk result (λ holds. holds ≡ may_change marks.now choice.entry.command.level choice.entry.command.gxid choice.entry.command.cid
         choice.entry.table choice.entry.cond.now choice.entry.rid (written_of write.entry) old.now) }
 {
-    let places = snapshots(alloc, marks, choice.command)?;
-    for place in &places {
-        if is_chosen_at(alloc, marks, choice, *place)?
-            && is_current_at(alloc, marks, choice, write, old, *place)?
+    for (place, mark) in marks.iter().enumerate().rev() {
+        if is_snapshot(mark, choice.command)
+            && is_changeable_at(alloc, marks, choice, write, old, place)?
         {
             return Ok(true);
         }
     }
     Ok(false)
+}
+
+fn is_changeable_at(
+    alloc: Global,
+    marks: &[Mark],
+    choice: Choice<'_>,
+    write: Writing<'_>,
+    old: &Row,
+    place: usize,
+) -> Mem<bool>
+    ensures { IfOk result (λ holds. holds ≡ may_change_at marks.now choice.entry.command.level choice.entry.command.gxid choice.entry.command.cid
+        choice.entry.table choice.entry.cond.now choice.entry.rid (written_of write.entry) old.now place) }
+{
+    Ok(
+        is_chosen_at(alloc, marks, choice, place)?
+            && is_current_at(alloc, marks, choice, write, old, place)?,
+    )
 }
 
 fn is_current_at(
@@ -154,6 +171,7 @@ fn is_write(shown: Option<Writing<'_>>, write: Writing<'_>) -> bool
 }
 
 /// Whether the command has selected the row by a snapshot that doesn't see that the transaction has committed.
+#[tactic(auto, using(crate::proofs::Lasts::snapshots))]
 pub(crate) fn is_unseen(
     alloc: Global,
     marks: &[Mark],
@@ -163,9 +181,8 @@ pub(crate) fn is_unseen(
     ensures { IfOk result (λ holds. holds ≡ was_unseen marks.now choice.entry.command.level choice.entry.command.gxid choice.entry.command.cid
         choice.entry.table choice.entry.cond.now choice.entry.rid writer) }
 {
-    let places = snapshots(alloc, marks, choice.command)?;
-    for place in &places {
-        if is_unseen_at(alloc, marks, choice, writer, *place)? {
+    for (place, mark) in marks.iter().enumerate().rev() {
+        if is_snapshot(mark, choice.command) && is_unseen_at(alloc, marks, choice, writer, place)? {
             return Ok(true);
         }
     }

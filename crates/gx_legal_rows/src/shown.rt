@@ -1,10 +1,10 @@
 // Whether a SELECT has answered its query on the rows that it sees.
 ghost use Rattle.std.specs.Prelude.{◌≡◌, IfOk};
-ghost use Rattle.gx_legal_rows.specs.Told.{are_same_cells as same_cells, has_shown as did_show, is_same_answer as same_answers, is_shown_by as was_shown_by, met_rows as rows_met, whole_answer as answer_on};
+ghost use Rattle.gx_legal_rows.specs.Told.{are_same_cells as same_cells, has_shown as did_show, is_same_answer as same_answers, is_shown_at as was_shown_at, is_shown_by as was_shown_by, met_rows as rows_met, whole_answer as answer_on};
 
 use crate::changed::faults_on_none;
 use crate::command::Command;
-use crate::places::snapshots;
+use crate::places::is_snapshot;
 use crate::selecting::{condition, is_met};
 use crate::viewing::view;
 use crate::writing::before;
@@ -15,6 +15,7 @@ use gx_tree::{Cell, Cond, KeyedRow, OutRow, Query};
 use std::alloc::Global;
 
 /// Whether by one of the command's snapshots the query has this answer, and its condition faults on none of the rows.
+#[tactic(auto, using(crate::proofs::Lasts::snapshots))]
 pub(crate) fn has_shown(
     alloc: Global,
     marks: &[Mark],
@@ -24,15 +25,27 @@ pub(crate) fn has_shown(
 ) -> Mem<bool>
     ensures { IfOk result (λ holds. holds ≡ did_show marks.now command.level command.gxid command.cid query.now answer.now) }
 {
-    let places = snapshots(alloc, marks, command)?;
-    for place in &places {
-        let reader = Some((command.gxid, command.cid));
-        let rows = view(alloc, marks, before(marks, *place), reader, query.table)?;
-        if is_shown_by(alloc, query, answer, rows.as_slice())? {
+    for (place, mark) in marks.iter().enumerate().rev() {
+        if is_snapshot(mark, command) && is_shown_at(alloc, marks, command, query, answer, place)? {
             return Ok(true);
         }
     }
     Ok(false)
+}
+
+fn is_shown_at(
+    alloc: Global,
+    marks: &[Mark],
+    command: Command,
+    query: &Query,
+    answer: &[OutRow],
+    place: usize,
+) -> Mem<bool>
+    ensures { IfOk result (λ holds. holds ≡ was_shown_at marks.now command.gxid command.cid query.now answer.now place) }
+{
+    let reader = Some((command.gxid, command.cid));
+    let rows = view(alloc, marks, before(marks, place), reader, query.table)?;
+    is_shown_by(alloc, query, answer, rows.as_slice())
 }
 
 fn is_shown_by(alloc: Global, query: &Query, answer: &[OutRow], rows: &[KeyedRow]) -> Mem<bool>

@@ -51,19 +51,13 @@ fn is_write(
     ensures { IfOk result (λ holds. holds ≡ may_write script.now marks.now command.level command.gxid command.cid stmt.now row.node row.table row.rid image.now) }
 {
     match stmt {
-        Stmt::Insert(table, tuples) => Ok(
-            *table == row.table
-                && is_inserted(
-                    alloc,
-                    script,
-                    marks,
-                    command,
-                    *table,
-                    tuples.as_slice(),
-                    row,
-                    image,
-                )?,
-        ),
+        Stmt::Insert(table, tuples) => {
+            let tuples = tuples.as_slice();
+            Ok(
+                *table == row.table
+                    && is_inserted(alloc, script, marks, command, *table, tuples, row, image)?,
+            )
+        }
         Stmt::Update(table, assigns, cond) => {
             let choice = choice_of(command, *table, cond, row.rid);
             Ok(

@@ -38,11 +38,12 @@ pub(crate) fn is_shown(before: &[Mark], reader: Option<(Gxid, Cid)>, gxid: Gxid,
 {
     match reader {
         None => is_committed(before, gxid),
-        Some((own, number)) => is_committed(before, gxid) || own == gxid && cid < number,
+        Some((own, number)) => own == gxid && cid < number || is_committed(before, gxid),
     }
 }
 
 /// The row's image for a reader whose point has the marks `before`.
+#[tactic(auto, using(crate::proofs::Lasts::writes))]
 pub(crate) fn image<'a>(
     marks: &'a [Mark],
     before: &[Mark],
@@ -52,23 +53,22 @@ pub(crate) fn image<'a>(
 ) -> Option<&'a Row>
     ensures { option_copied result ≡ image_of marks.now before.now reader table rid }
 {
-    let mut image = None;
-    for mark in marks {
+    for mark in marks.iter().rev() {
         if let Mark::Write {
             gxid,
             cid,
             table: written,
             rid: row,
-            image: next,
+            image,
             ..
         } = mark
         {
-            if is_shown(before, reader, *gxid, *cid) && *written == table && *row == rid {
-                image = next.as_ref();
+            if *row == rid && *written == table && is_shown(before, reader, *gxid, *cid) {
+                return image.as_ref();
             }
         }
     }
-    image
+    None
 }
 
 /// The row's current write.
@@ -79,6 +79,7 @@ pub(crate) fn current(marks: &[Mark], rid: Rid) -> Option<Writing<'_>>
 }
 
 /// The last of the writes to the row that the reader is shown; with no reader, of those whose transactions haven't aborted.
+#[tactic(auto, using(crate::proofs::Lasts::writes))]
 pub(crate) fn last_write<'a>(
     marks: &'a [Mark],
     before: &[Mark],
@@ -87,8 +88,7 @@ pub(crate) fn last_write<'a>(
 ) -> Option<Writing<'a>>
     ensures { option_map written_of result ≡ last_of (counts_for reader before.now) rid 0 None marks.now }
 {
-    let mut last = None;
-    for (place, mark) in marks.iter().enumerate() {
+    for (place, mark) in marks.iter().enumerate().rev() {
         if let Mark::Write {
             gxid,
             cid,
@@ -97,8 +97,8 @@ pub(crate) fn last_write<'a>(
             ..
         } = mark
         {
-            if counts(before, reader, *gxid, *cid) && *row == rid {
-                last = Some(Writing {
+            if *row == rid && counts(before, reader, *gxid, *cid) {
+                return Some(Writing {
                     place,
                     gxid: *gxid,
                     cid: *cid,
@@ -107,7 +107,7 @@ pub(crate) fn last_write<'a>(
             }
         }
     }
-    last
+    None
 }
 
 fn counts(before: &[Mark], reader: Option<(Gxid, Cid)>, gxid: Gxid, cid: Cid) -> bool

@@ -1,6 +1,6 @@
-use Rattle.std.proofs.Common.{◌≡◌, drop}
+use Rattle.std.proofs.Common.{◌≡◌}
 use Rattle.gx_store.specs.Marks.{has_snapshot}
 use Rattle.gx_legal_rows.proofs.marks.has_snapshot.Given as goal
 
 abbrev pub invariant-loop-mark : goal.invariant-loop-mark
-invariant-loop-mark l = has_snapshot (drop l.mark-index l.marks) l.gxid ≡ has_snapshot l.marks l.gxid
+invariant-loop-mark l = has_snapshot l.mark-iterator.iter.rest.now l.gxid ≡ has_snapshot l.marks l.gxid

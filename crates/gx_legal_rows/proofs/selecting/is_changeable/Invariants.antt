@@ -1,13 +1,13 @@
-use Rattle.std.proofs.Common.{◌≡◌, ◌&&◌, drop}
+use Rattle.std.proofs.Common.{◌≡◌}
 use Rattle.std.specs.List.{list_any}
-use Rattle.gx_legal_rows.specs.Selected.{is_changeable, is_chosen_at, is_current_at}
+use Rattle.gx_legal_rows.specs.Places.{is_snapshot, places_from}
+use Rattle.gx_legal_rows.specs.Selected.{is_changeable, is_changeable_at}
 use Rattle.gx_legal_rows.specs.Written.{written_of}
 use Rattle.gx_legal_rows.proofs.selecting.is_changeable.Given as goal
 
 abbrev pub invariant-loop-place : goal.invariant-loop-place
 invariant-loop-place l =
-    let k = l.choice in
-    let g = k.command.gxid in
-    let n = k.command.cid in
-    list_any (λ place. is_chosen_at l.marks g n k.table k.cond.now k.rid place && is_current_at l.marks k.command.level g n k.cond.now k.rid (written_of l.write) l.old place) (drop l.place-index l.place-items)
-    ≡ is_changeable l.marks k.command.level g n k.table k.cond.now k.rid (written_of l.write) l.old
+    let k = l.choice.command in
+    let c = l.choice in
+    list_any (is_changeable_at l.marks k.level k.gxid k.cid c.table c.cond.now c.rid (written_of l.write) l.old) (places_from (is_snapshot k.level k.gxid k.cid) l.place-iterator.iter.count l.place-iterator.iter.iter.rest.now)
+    ≡ is_changeable l.marks k.level k.gxid k.cid c.table c.cond.now c.rid (written_of l.write) l.old
