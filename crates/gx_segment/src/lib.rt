@@ -11,6 +11,7 @@ mod ordering;
 mod probe;
 pub mod segment;
 mod sending;
+mod single;
 mod starting;
 mod stepping;
 mod waits;
