@@ -125,13 +125,7 @@ struct Asked {
 }
 
 // Asks for a lock, with its mark.
-fn ask(
-    alloc: Global,
-    node: Node,
-    locks: &mut LockTable,
-    slice: &Slice,
-    wanted: Claim,
-) -> Mem<Asked>
+fn ask(alloc: Global, node: Node, locks: &mut LockTable, slice: &Slice, wanted: Claim) -> Mem<Asked>
     requires { list_any (is_of wanted.gxid) locks.old.waits ≡ false }
     ensures granted { IfOk result (λ asked. asked.granted ≡ is_free locks.old.holds wanted) }
     ensures locks { IfOk result (λ asked. locks.new ≡ asked_locks locks.old wanted asked.granted) }
