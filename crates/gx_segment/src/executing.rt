@@ -1,5 +1,5 @@
 // EXEC.
-ghost use Rattle.std.specs.Prelude.{◌≡◌, ◌<◌, ◌≤◌, [], false, None, IfOk};
+ghost use Rattle.std.specs.Prelude.{◌≡◌, ◌<◌, ◌≤◌, None, IfOk};
 ghost use Rattle.std.specs.BTreeMap.{get};
 ghost use Rattle.gx_ids.specs.declared.ids.Gxid.{Gxid};
 ghost use Rattle.gx_dsnap.specs.Gxids.{gxid_cmp};
