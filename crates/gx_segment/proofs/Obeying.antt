@@ -15,7 +15,7 @@ use Rattle.gx_node.specs.declared.local.Phase.{Phase}
 use Rattle.gx_node.specs.declared.local.Taken.{Taken}
 use Rattle.gx_rules.specs.Segments as rule
 use Rattle.gx_rules.specs.Segments.{has_ended}
-use Rattle.gx_slices.specs.Agrees.{entry_at, local_in, rows_in}
+use Rattle.gx_slices.specs.Agrees.{local_in, rows_in}
 use Rattle.gx_slices.specs.declared.held.Entry.{Entry}
 use Rattle.gx_slices.specs.declared.held.Held.{Held}
 use Rattle.gx_rows.specs.declared.status.LocalStatus.{LocalStatus}

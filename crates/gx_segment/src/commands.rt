@@ -3,11 +3,12 @@ ghost use Rattle.std.specs.Prelude.{◌≡◌, ◌≤◌, ◌&&◌, ◌||◌, is
 ghost use Rattle.std.specs.BTreeMap.{get};
 ghost use Rattle.std.specs.BTreeSet.{contains};
 ghost use Rattle.gx_dsnap.specs.Gxids.{gxid_cmp};
-ghost use Rattle.gx_node.specs.Phases.{local_of};
+ghost use Rattle.gx_node.specs.Phases.{local_of, phase_of};
 ghost use Rattle.gx_rules.specs.Fits.{is_waiting, reads_nothing};
 ghost use Rattle.gx_rules.specs.Maps.{each_below};
 ghost use Rattle.gx_slices.specs.Agrees.{IsHeld, local_in};
 ghost use Rattle.gx_segment.specs.Before.{Before};
+ghost use Rattle.gx_segment.specs.Ways as way;
 ghost use Rattle.gx_segment.specs.Ways.{IsWay, again_at, fits_here, way_of};
 
 use crate::entries::Entries;
@@ -76,14 +77,20 @@ fn waits_not(entries: &Entries, gxid: Gxid, cid: Cid) -> bool
 {
     match entries.get(&gxid) {
         Some(entry) => is_free_for(&entry.local, cid),
-        None => is_free_for(&Local::new(), cid),
+        None => is_free(0, false, cid),
     }
 }
 
 fn is_free_for(local: &Local, cid: Cid) -> bool
     ensures { result ≡ not (nat_lt (local_of local.now).last cid.0 && is_waiting (local_of local.now)) }
 {
-    !(local.last < cid.0 && local.is_waiting())
+    is_free(local.last, local.is_waiting(), cid)
+}
+
+fn is_free(last: u32, waits: bool, cid: Cid) -> bool
+    ensures { result ≡ not (nat_lt last cid.0 && waits) }
+{
+    !(last < cid.0 && waits)
 }
 
 // Nobody below a gxid is in the set.
@@ -100,23 +107,23 @@ fn way_at(entries: &Entries, gxid: Gxid, cid: Cid) -> Way
     ensures { result ≡ way_of (local_in (get gxid_cmp entries.now gxid)) cid }
 {
     match entries.get(&gxid) {
-        Some(entry) => way_in(&entry.local, cid),
-        None => way_in(&Local::new(), cid),
+        Some(entry) => way_in(entry.local.last, cid, entry.local.phase),
+        None => way_in(0, cid, Phase::Reading),
     }
 }
 
-fn way_in(local: &Local, cid: Cid) -> Way
-    ensures { result ≡ way_of (local_of local.now) cid }
+fn way_in(last: u32, cid: Cid, phase: Phase) -> Way
+    ensures { result ≡ way.way_in last cid (phase_of phase) }
 {
-    match local.phase {
+    match phase {
         Phase::Reading | Phase::Writing => {
-            if local.last < cid.0 {
+            if last < cid.0 {
                 Way::Runs
             } else {
-                again(local.last, cid)
+                again(last, cid)
             }
         }
-        Phase::Prepared | Phase::Committed => again(local.last, cid),
+        Phase::Prepared | Phase::Committed => again(last, cid),
         Phase::Forgotten(_) | Phase::Aborted => Way::Nothing,
     }
 }

@@ -29,7 +29,7 @@ pub(crate) fn new_entry(alloc: Global) -> Entry
 pub(crate) fn put_in(entries: &mut Entries, gxid: Gxid, entry: Entry) -> Mem<()>
     ensures { OnOk result (Updates gxid_cmp entries.old entries.new gxid (Some entry)) }
 {
-    entries.insert(gxid, entry)?;
+    drop(entries.insert(gxid, entry)?);
     Ok(())
 }
 

@@ -1,5 +1,5 @@
 // EXEC.
-ghost use Rattle.std.specs.Prelude.{◌≡◌, ◌<◌, ◌≤◌, [], false, None, IfOk};
+ghost use Rattle.std.specs.Prelude.{◌≡◌, ◌<◌, ◌≤◌, None, IfOk};
 ghost use Rattle.std.specs.BTreeMap.{get};
 ghost use Rattle.gx_ids.specs.declared.ids.Gxid.{Gxid};
 ghost use Rattle.gx_dsnap.specs.Gxids.{gxid_cmp};
@@ -23,7 +23,6 @@ use gx_outside::Gate;
 use gx_rows::drop_below;
 use gx_script::Script;
 use gx_slices::Held;
-use gx_tree::Slice;
 use std::alloc::Global;
 
 // Takes a command's part for this segment.
@@ -50,21 +49,15 @@ pub(crate) fn exec<G: Gate>(
     match find_way(script, held, *horizon, gxid, &command, low) {
         Way::Runs => run(alloc, node, script, held, horizon, gxid, command, low, gate),
         Way::Repeats => {
-            let_go(command.slice);
+            drop(command);
             repeat(alloc, held, gxid)
         }
-        Way::Nothing => Ok(leave(alloc, command.slice)),
+        Way::Nothing => {
+            drop(command);
+            Ok(nothing(alloc))
+        }
     }
 }
-
-fn leave(alloc: Global, slice: Slice) -> Done
-    ensures { result ≡ record { marks = []; answer = None; fails = false } }
-{
-    let_go(slice);
-    nothing(alloc)
-}
-
-fn let_go(_slice: Slice) {}
 
 // What was kept is answered again.
 fn repeat(alloc: Global, held: &Held, gxid: Gxid) -> Mem<Done>

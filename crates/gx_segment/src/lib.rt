@@ -1,4 +1,7 @@
 //! A segment: what comes by a link changes it by its rule.
+//!
+//! A large value that nobody takes is dropped by `drop`, also where memory has run out: what is dropped in place is taken apart in
+//! the proof of the function, field by field.
 #![tactic(auto)]
 
 pub mod collecting;
@@ -11,6 +14,7 @@ mod ordering;
 mod probe;
 pub mod segment;
 mod sending;
+mod single;
 mod starting;
 mod stepping;
 mod waits;

@@ -127,7 +127,13 @@ fn take_message<J: Journal, G: Gate>(
         Message::Abort(gxid) => take(alloc, node, held, *horizon, gxid, Order::Abort, journal),
         Message::Forget(gxid) => take(alloc, node, held, *horizon, gxid, Order::Forget, journal),
         Message::Collect(round) => collect(alloc, node, held, report, round),
-        Message::Answer(_, _reply) => Ok(nothing(alloc)),
-        Message::Graph(_, _graph) => Ok(nothing(alloc)),
+        Message::Answer(_, reply) => {
+            drop(reply);
+            Ok(nothing(alloc))
+        }
+        Message::Graph(_, graph) => {
+            drop(graph);
+            Ok(nothing(alloc))
+        }
     }
 }

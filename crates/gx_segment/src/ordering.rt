@@ -1,5 +1,5 @@
 // PREPARE, COMMIT, COMMIT PREPARED, ABORT and FORGET.
-ghost use Rattle.std.specs.Prelude.{◌≡◌, ◌≤◌, ◌==◌, ◌&&◌, Bool, false, ◌++◌, if◌then◌else◌, IfOk, OnOk};
+ghost use Rattle.std.specs.Prelude.{◌≡◌, ◌≤◌, ◌==◌, ◌&&◌, Bool, false, ◌++◌, if◌then◌else◌, None, IfOk, OnOk};
 ghost use Rattle.std.specs.BTreeMap.{get};
 ghost use Rattle.std.specs.BTreeSet.{contains};
 ghost use Rattle.gx_ids.specs.declared.ids.Gxid.{Gxid};
@@ -17,6 +17,7 @@ ghost use Rattle.gx_segment.specs.Moves.{HasMoved, HasTaken, order_turn, status_
 
 use crate::done::{Done, answer, nothing};
 use crate::entries::{Entries, new_entry, put_in};
+use crate::single::single;
 use gx_dtx::order::Order;
 use gx_ids::{Gxid, Mem, Node, Seq};
 use gx_locks::LockTable;
@@ -63,13 +64,40 @@ fn done_of(alloc: Global, node: Node, locks: &mut LockTable, gxid: Gxid, taken: 
     ensures done { IfOk result (λ done. done ≡ record { marks = marks_in taken.mark ++ left_marks taken.ends node locks.old gxid; answer = answer_of gxid taken.reply; fails = taken.fails }) }
     ensures locks { OnOk result (locks.new ≡ left_locks taken.ends locks.old gxid) }
 {
-    let mut marks = listed(alloc, taken.mark)?;
-    leave_locks(alloc, node, locks, gxid, taken.ends, &mut marks)?;
-    Ok(Done {
-        marks: Seq::from_vec(marks),
-        answer: answer(gxid, taken.reply),
-        fails: taken.fails,
-    })
+    let Taken {
+        mark,
+        reply,
+        fails,
+        ends,
+    } = taken;
+    match marks_of(alloc, node, locks, gxid, mark, ends) {
+        Ok(marks) => Ok(Done {
+            marks: Seq::from_vec(marks),
+            answer: answer(gxid, reply),
+            fails,
+        }),
+        Err(fault) => {
+            drop(reply);
+            Err(fault)
+        }
+    }
+}
+
+// The order's mark, and those of the locks that are given back.
+fn marks_of(
+    alloc: Global,
+    node: Node,
+    locks: &mut LockTable,
+    gxid: Gxid,
+    mark: Option<Mark>,
+    ends: bool,
+) -> Mem<Vec<Mark>>
+    ensures marks { IfOk result (λ marks. marks.items ≡ marks_in mark ++ left_marks ends node locks.old gxid) }
+    ensures locks { OnOk result (locks.new ≡ left_locks ends locks.old gxid) }
+{
+    let mut marks = listed(alloc, mark)?;
+    leave_locks(alloc, node, locks, gxid, ends, &mut marks)?;
+    Ok(marks)
 }
 
 fn leave_locks(
@@ -95,11 +123,7 @@ fn listed(alloc: Global, mark: Option<Mark>) -> Mem<Vec<Mark>>
     ensures { IfOk result (λ marks. marks.items ≡ marks_in mark) }
 {
     match mark {
-        Some(mark) => {
-            let mut marks = Vec::with_capacity(alloc, 2)?;
-            marks.push(mark)?;
-            Ok(marks)
-        }
+        Some(mark) => single(alloc, 2, mark),
         None => Ok(Vec::new(alloc)),
     }
 }
@@ -152,11 +176,39 @@ fn take_in<J: Journal>(
 {
     match entries.get_mut(&gxid) {
         Some(entry) => take_at(alloc, node, gxid, order, entry, phase, journal),
-        None => {
-            let mut entry = new_entry(alloc);
-            let taken = take_at(alloc, node, gxid, order, &mut entry, phase, journal)?;
-            put_in(entries, gxid, entry)?;
-            Ok(taken)
+        None => take_new(alloc, node, entries, gxid, order, phase, journal),
+    }
+}
+
+// Of a transaction of which nothing has come here.
+fn take_new<J: Journal>(
+    alloc: Global,
+    node: Node,
+    entries: &mut Entries,
+    gxid: Gxid,
+    order: Order,
+    phase: &mut Phase,
+    journal: &mut J,
+) -> Mem<Taken>
+    requires { get gxid_cmp entries.old gxid ≡ None }
+    ensures taken { IfOk result (λ taken. HasTaken entries.old entries.new gxid
+        (change_of order node gxid (rows_in (get gxid_cmp entries.old gxid)) taken.fails (local_in (get gxid_cmp entries.old gxid))) taken (phase_of phase.new)) }
+    ensures took { IfOk result (λ taken. Took (J.shelf journal.old) (J.shelf journal.new) taken.fails
+        (change_of order node gxid (rows_in (get gxid_cmp entries.old gxid)) taken.fails (local_in (get gxid_cmp entries.old gxid))).item) }
+    ensures later { IsLater (J.shelf journal.old) (J.shelf journal.new) }
+{
+    let mut entry = new_entry(alloc);
+    match take_at(alloc, node, gxid, order, &mut entry, phase, journal) {
+        Ok(taken) => match put_in(entries, gxid, entry) {
+            Ok(()) => Ok(taken),
+            Err(fault) => {
+                drop(taken);
+                Err(fault)
+            }
+        },
+        Err(fault) => {
+            drop(entry);
+            Err(fault)
         }
     }
 }

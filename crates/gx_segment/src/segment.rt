@@ -84,6 +84,7 @@ impl Segment {
         ensures untouched { self.old.spent ≡ true → (J.shelf journal.new).items ≡ (J.shelf journal.old).items }
     {
         if self.spent {
+            drop(event);
             return Err(OutOfMemory);
         }
         self.spent = true;

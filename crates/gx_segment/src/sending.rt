@@ -6,6 +6,7 @@ ghost use Rattle.gx_rules.specs.Sending.{numbered};
 ghost use Rattle.gx_segment.specs.Done.{to_coordinator};
 
 use crate::done::Done;
+use crate::single::single;
 use gx_ids::{Duplicate, Mem, Node, Seq};
 use gx_msg::{Message, Out};
 use gx_store::{Mark, NodeOut};
@@ -46,7 +47,18 @@ fn send_answer(
     ensures sent { OnOk result (sent.new ≡ sent.old + 1) }
 {
     *sent += 1;
-    let marks = mark_sent(alloc, marks, &message, *sent)?;
+    match mark_sent(alloc, marks, &message, *sent) {
+        Ok(marks) => with_message(alloc, marks, message, clock),
+        Err(fault) => {
+            drop(message);
+            Err(fault)
+        }
+    }
+}
+
+fn with_message(alloc: Global, marks: Seq<Mark>, message: Message, clock: u64) -> Mem<NodeOut>
+    ensures { IfOk result (λ out. out ≡ record { marks = marks; outs = record { node = the_coordinator; message = message } ∷ []; clock = clock }) }
+{
     let outs = alone(alloc, message)?;
     Ok(NodeOut { marks, outs, clock })
 }
@@ -68,10 +80,10 @@ fn mark_sent(alloc: Global, marks: Seq<Mark>, message: &Message, number: u64) ->
 fn alone(alloc: Global, message: Message) -> Mem<Seq<Out>>
     ensures { IfOk result (λ outs. outs ≡ record { node = the_coordinator; message = message } ∷ []) }
 {
-    let mut outs = Vec::with_capacity(alloc, 1)?;
-    outs.push(Out {
+    let out = Out {
         node: Node(0),
         message,
-    })?;
+    };
+    let outs = single(alloc, 1, out)?;
     Ok(Seq::from_vec(outs))
 }

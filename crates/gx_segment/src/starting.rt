@@ -1,6 +1,9 @@
 // A slice takes its table's lock and runs, or waits for it; and one that has waited, there or at a row, goes on.
-ghost use Rattle.std.specs.Prelude.{[], ◌≡◌, true, false, None, IfOk};
-ghost use Rattle.gx_locks.specs.Locks.{is_ready, wait_of};
+ghost use Rattle.std.specs.Prelude.{[], ◌∷◌, ◌≡◌, true, false, None, IfOk, OnOk};
+ghost use Rattle.std.specs.List.{list_any};
+ghost use Rattle.gx_locks.specs.Claims.{is_of};
+ghost use Rattle.gx_locks.specs.Locks.{is_free, is_ready, wait_of};
+ghost use Rattle.gx_node.specs.Locking.{asked_locks, asked_mark, granted_locks, granted_marks};
 ghost use Rattle.gx_rules.specs.AtSegment.{resumes};
 ghost use Rattle.gx_rules.specs.Segments.{local_of};
 ghost use Rattle.gx_node.specs.Phases.{suspended_of};
@@ -14,6 +17,7 @@ ghost use Rattle.gx_segment.specs.Ways.{starts};
 
 use crate::done::{Done, answer};
 use gx_ids::{Gxid, Mem, Node, Seq};
+use gx_locks::LockTable;
 use gx_modes::Mode;
 use gx_node::{Suspended, ask_for, changing_mode, claim_on, take_granted};
 use gx_outside::{Gate, pass};
@@ -96,14 +100,40 @@ fn request<G: Gate>(
     ensures done { IfOk result (λ done. HasDone was.script.tables held.new was.seg.horizon done (requests was.seg gxid command.cid command.level command.snapshot command.slice wanted)) }
     ensures quiet { IfOk result (λ done. IsQuiet done (requests was.seg gxid command.cid command.level command.snapshot command.slice wanted)) }
 {
-    let mut marks = room_for(alloc, &command.slice)?;
-    if ask_for(node, &mut held.locks, wanted, &mut marks)? {
-        let done = proceed(alloc, node, script, held, gxid, command, gate, marks)?;
-        Ok(done)
-    } else {
-        suspend(alloc, held, gxid, command)?;
-        Ok(waits(marks))
+    match ask(alloc, node, &mut held.locks, &command.slice, wanted) {
+        Ok(asked) => {
+            if asked.granted {
+                let done = proceed(alloc, node, script, held, gxid, command, gate, asked.marks)?;
+                Ok(done)
+            } else {
+                suspend(alloc, held, gxid, command)?;
+                Ok(waits(asked.marks))
+            }
+        }
+        Err(fault) => {
+            drop(command);
+            Err(fault)
+        }
     }
+}
+
+// What asking for a lock came to.
+#[derive(Drop)]
+struct Asked {
+    granted: bool,
+    marks: Vec<Mark>,
+}
+
+// Asks for a lock, with its mark.
+fn ask(alloc: Global, node: Node, locks: &mut LockTable, slice: &Slice, wanted: Claim) -> Mem<Asked>
+    requires { list_any (is_of wanted.gxid) locks.old.waits ≡ false }
+    ensures granted { IfOk result (λ asked. asked.granted ≡ is_free locks.old.holds wanted) }
+    ensures locks { IfOk result (λ asked. locks.new ≡ asked_locks locks.old wanted asked.granted) }
+    ensures marks { IfOk result (λ asked. asked.marks.items ≡ asked_mark node wanted asked.granted ∷ []) }
+{
+    let mut marks = room_for(alloc, slice)?;
+    let granted = ask_for(node, locks, wanted, &mut marks)?;
+    Ok(Asked { granted, marks })
 }
 
 fn waits(marks: Vec<Mark>) -> Done
@@ -169,14 +199,29 @@ pub(crate) fn resume<G: Gate>(
     ensures done { IfOk result (λ done. HasDone was.script.tables held.new was.seg.horizon done (resumes was.seg gxid (wait_of was.seg.locks gxid) (local_of was.seg gxid).suspended)) }
     ensures quiet { IfOk result (λ done. IsQuiet done (resumes was.seg gxid (wait_of was.seg.locks gxid) (local_of was.seg gxid).suspended)) }
 {
-    let mut marks = Vec::new(alloc);
     let waiting = wake(alloc, held, gxid)?;
-    take_granted(node, &mut held.locks, gxid, &mut marks)?;
     match waiting {
-        Some(command) => {
-            let done = proceed(alloc, node, script, held, gxid, command, gate, marks)?;
-            Ok(done)
-        }
+        Some(command) => match grant(alloc, node, &mut held.locks, gxid) {
+            Ok(marks) => {
+                let done = proceed(alloc, node, script, held, gxid, command, gate, marks)?;
+                Ok(done)
+            }
+            Err(fault) => {
+                drop(command);
+                Err(fault)
+            }
+        },
         None => unreachable!(),
     }
+}
+
+// What a transaction waits for is granted, with its marks.
+fn grant(alloc: Global, node: Node, locks: &mut LockTable, gxid: Gxid) -> Mem<Vec<Mark>>
+    requires { is_ready locks.old.holds (wait_of locks.old gxid) ≡ true }
+    ensures locks { OnOk result (locks.new ≡ granted_locks locks.old gxid (wait_of locks.old gxid)) }
+    ensures marks { IfOk result (λ marks. marks.items ≡ granted_marks node (wait_of locks.old gxid)) }
+{
+    let mut marks = Vec::new(alloc);
+    take_granted(node, locks, gxid, &mut marks)?;
+    Ok(marks)
 }

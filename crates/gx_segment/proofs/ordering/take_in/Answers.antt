@@ -1,12 +1,4 @@
-use Rattle.std.proofs.Common.{◌≡◌, IfOk, IsSome, Option, Some, ap, ◌∙◌, refl, subst, sym}
-use Rattle.std.specs.BTreeMap.{Updates}
-use Rattle.gx_dsnap.specs.Gxids.{gxid_cmp}
-use Rattle.gx_outside.specs.Shelves.{Shelf}
-use Rattle.gx_node.specs.Changes.{change_of}
-use Rattle.gx_node.specs.Orders.{Took}
-use Rattle.gx_node.specs.declared.local.Taken.{Taken}
-use Rattle.gx_slices.specs.Agrees.{local_in, rows_in}
-use Rattle.gx_slices.specs.declared.held.Entry.{Entry}
+use Rattle.std.proofs.Common.{IsSome, refl, subst}
 use Rattle.gx_segment.proofs.Obeying.{HasTaken-there}
 use Rattle.gx_segment.proofs.ordering.take_in.Goals as goal
 
