@@ -19,3 +19,4 @@ pub mod Numbered
 pub mod NextLines
 pub mod Again
 pub mod Oks
+pub mod Parted

@@ -4,7 +4,8 @@ use Rattle.std.proofs.lemmas.Bool.Decides.{nat_tests}
 use Rattle.std.proofs.lemmas.List.{take_more}
 use Rattle.std.specs.BTreeMap.{get, is_at}
 use Rattle.std.specs.List.{filter, list_any}
-use Rattle.std.specs.Prelude.{Option, None, unwrap_or}
+use Rattle.std.specs.Option.{option_or}
+use Rattle.std.specs.Prelude.{Option, None, Some, unwrap_or}
 use Rattle.gx_ids.specs.declared.ids.Gxid.{Gxid}
 use Rattle.gx_ids.specs.declared.ids.Node.{Node}
 use Rattle.gx_waits.specs.Claim.{same_claim, same_object}
@@ -21,9 +22,10 @@ use Rattle.gx_store.specs.Waits.{added, waits_at, waits_from, without}
 use Rattle.gx_agenda.specs.declared.asked.Asked.{Asked}
 use Rattle.gx_agenda.specs.declared.expected.Expected.{Expected}
 use Rattle.gx_agenda.specs.declared.request.Request.{Request}
-use Rattle.gx_agenda.specs.Awaited.{AreAsked, AreAwaited, AreWaits, IsIndexed, due_of, waits_in}
+use Rattle.gx_agenda.specs.Awaited.{AreAsked, AreAwaited, AreWaits, IsIndexed, awaited_at, due_of, waits_in}
 use Rattle.gx_agenda.specs.Requests.{request_cmp}
 use Rattle.gx_agenda.proofs.Changes.{is_same_request}
+use Rattle.gx_agenda.proofs.Parted.{none-first}
 
 -- THE INDEX
 tied-numbers : (a g b h : ℕ) → is_at (request_cmp (record { segment = record { 0 = a }; gxid = record { 0 = g } })) (record { segment = record { 0 = b }; gxid = record { 0 = h } }) ≡ true → (a ≡ b) × (g ≡ h)
@@ -61,6 +63,22 @@ set-here q f x d set = set q ∙ ap (λ b. cond b x (d q)) (tied-itself q)
 
 pub set-there : {X : Type 0} (q : Request) (f : Request → X) (x : X) (d : Request → X) → ((r : Request) → f r ≡ cond (is_at (request_cmp q) r) x (d r)) → (r : Request) → is_at (request_cmp q) r ≡ false → f r ≡ d r
 set-there q f x d set r e = set r ∙ ap (λ b. cond b x (d r)) e
+
+-- what is there already is put there
+pub put-again : {X : Type 0} (q : Request) (f g : Request → Option X) (x : X) → f q ≡ Some x → ((r : Request) → g r ≡ cond (is_at (request_cmp q) r) (Some x) (f r)) → (r : Request) → g r ≡ f r
+put-again {X} q f g x is set r = by (is_at (request_cmp q) r) refl
+  where
+    by : (b : Bool) → is_at (request_cmp q) r ≡ b → g r ≡ f r
+    by true e = set r ∙ ap (λ b. cond b (Some x) (f r)) e ∙ sym is ∙ ap f (tied q r e)
+    by false e = set-there q g (Some x) f set r e
+
+-- nothing is awaited, so nothing is due
+pub none-due : (q : Request) (d h : Request → Option Expected) (waits : List Claim) → option_or (d q) (h q) ≡ None → (r : Request) → d r ≡ cond (is_at (request_cmp q) r) (due_of (option_or (d q) (h q)) waits) (d r)
+none-due q d h waits none r = by (is_at (request_cmp q) r) refl
+  where
+    by : (b : Bool) → is_at (request_cmp q) r ≡ b → d r ≡ cond b (due_of (option_or (d q) (h q)) waits) (d r)
+    by true e = sym (ap d (tied q r e)) ∙ none-first (d q) (h q) none ∙ sym (ap (λ o. due_of o waits) none)
+    by false e = refl
 
 -- the waits of one request are taken out and put back, changed
 module _ (q : Request) (there : List Claim) (o0 o1 : Request → Option (List Claim)) (w : Request → List Claim)
@@ -212,11 +230,11 @@ waits-next node h ms k m inside is = ap (waits_from node h) (take_more ms k m in
 
 -- A STEP
 -- the answers were noted, and then the waits
-pub noted : (steps : List Step) (step : Step) (old mid new : Asked) → AreAsked steps old → AreAwaited (steps ++ step ∷ []) mid → mid.waiting ≡ old.waiting → IsIndexed mid → new.pending ≡ mid.pending → (ms : List Mark) → ms ≡ step.marks
+pub noted : (steps : List Step) (step : Step) (old mid new : Asked) → AreAsked steps old → AreAwaited (steps ++ step ∷ []) mid → mid.waiting ≡ old.waiting → IsIndexed mid → ((r : Request) → awaited_at new r ≡ awaited_at mid r) → (ms : List Mark) → ms ≡ step.marks
     → ((standing : Node → List Claim) → AreWaits standing mid → AreWaits (λ node. waits_from node (standing node) ms) new) → (IsIndexed mid → IsIndexed new) → AreAsked (steps ++ step ∷ []) new
-noted steps step old mid new were answers waiting index pending ms is waits due =
+noted steps step old mid new were answers waiting index awaited ms is waits due =
     record {
-      answers = λ segment g. ap (λ m. get request_cmp m (record { segment = segment; gxid = g })) pending ∙ answers segment g;
+      answers = λ segment g. awaited (record { segment = segment; gxid = g }) ∙ answers segment g;
       waits = λ node g.
           waits (waits_at (marks_in steps)) (λ n h. ap (λ m. waits_in m (record { segment = n; gxid = h })) waiting ∙ were.waits n h) node g
           ∙ ap (of_gxid g) (ap (waits_from node (waits_at (marks_in steps) node)) is ∙ sym (ap (λ xs. waits_at xs node) (marks_in-push steps step) ∙ waits_from-append node [] (marks_in steps) step.marks));

@@ -2,6 +2,7 @@
 use Rattle.std.specs.Prelude.{◌≡◌, ℕ, ◌<◌, ◌==◌, ◌&&◌, if◌then◌else◌, not, true, false, is_some, List, [], length, None, Some, Option, option_map, unwrap_or}
 use Rattle.std.specs.BTreeMap.{BTreeMap, get}
 use Rattle.std.specs.List.{filter, list_any}
+use Rattle.std.specs.Option.{option_or}
 use Rattle.gx_ids.specs.declared.ids.Gxid.{Gxid}
 use Rattle.gx_ids.specs.declared.ids.Node.{Node}
 use Rattle.gx_msg.specs.declared.message.Message.{Message}
@@ -22,9 +23,13 @@ use Rattle.gx_agenda.specs.declared.request.Request.{Request}
 use Rattle.gx_agenda.specs.Expected.{expected_of, is_command}
 use Rattle.gx_agenda.specs.Requests.{request_cmp}
 
+-- the answer that is awaited of a request, whether it may be asked for again or not
+abbrev pub awaited_at : Asked → Request → Option Expected
+awaited_at asked r = option_or (get request_cmp asked.due r) (get request_cmp asked.withheld r)
+
 -- the answer of a segment for a transaction that is awaited
 abbrev pub expected_at : Asked → Node → Gxid → Option Expected
-expected_at asked segment g = get request_cmp asked.pending (record { segment = segment; gxid = g })
+expected_at asked segment g = awaited_at asked (record { segment = segment; gxid = g })
 
 -- the waits of a transaction at a node
 abbrev pub waits_in : BTreeMap Request (List Claim) → Request → List Claim
@@ -51,7 +56,7 @@ AreWaits standing asked = (node : Node) (g : Gxid) → waits_for asked node g �
 
 -- what may be asked for again is found
 abbrev pub IsIndexed : Asked → Type 0
-IsIndexed asked = (r : Request) → get request_cmp asked.due r ≡ due_of (get request_cmp asked.pending r) (waits_in asked.waiting r)
+IsIndexed asked = (r : Request) → get request_cmp asked.due r ≡ due_of (awaited_at asked r) (waits_in asked.waiting r)
 
 -- all of it is as the steps say
 pub record AreAsked (steps : List Step) (asked : Asked) : Type 0 where

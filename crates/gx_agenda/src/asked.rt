@@ -10,7 +10,7 @@ ghost use Rattle.gx_store.specs.Journals.{is_same_node};
 ghost use Rattle.gx_store.specs.Marks.{is_same_gxid};
 ghost use Rattle.gx_store.specs.Schedule.{asked_by, first_of, is_about, is_graph_awaited, resends, segments_of, unless_answered};
 ghost use Rattle.gx_agenda.specs.declared.request.Request.{Request as OneRequest};
-ghost use Rattle.gx_agenda.specs.Awaited.{AreAsked, AreAwaited, AreResendable, IsFirstGraph, IsIndexed, IsResendable, due_of, expected_at, told_in, waits_in};
+ghost use Rattle.gx_agenda.specs.Awaited.{AreAsked, AreAwaited, AreResendable, IsFirstGraph, IsIndexed, IsResendable, awaited_at, due_of, expected_at, told_in, waits_in};
 ghost use Rattle.gx_agenda.specs.Expected.{expected_of, unless_met};
 ghost use Rattle.gx_agenda.specs.Following.{Follows, FollowsOrders, unless_told};
 ghost use Rattle.gx_agenda.specs.Requests.{request_cmp};
@@ -25,13 +25,14 @@ use gx_waits::Claim;
 use std::alloc::Global;
 use std::collections::BTreeMap;
 
-/// The answers that are awaited, the waits that stand at each node, and which of the answers may be asked for again: that to a
-/// command only while its transaction doesn't wait where it was sent.
+/// The answers that are awaited, and the waits that stand at each node.
 #[derive(Drop)]
 pub struct Asked {
-    pub pending: BTreeMap<Request, Expected>,
-    pub waiting: BTreeMap<Request, Seq<Claim>>,
+    /// The answers that may be asked for again.
     pub due: BTreeMap<Request, Expected>,
+    /// The others: those to commands whose transactions wait where they were sent.
+    pub withheld: BTreeMap<Request, Expected>,
+    pub waiting: BTreeMap<Request, Seq<Claim>>,
     pub alloc: Global,
 }
 
@@ -41,9 +42,9 @@ impl Asked {
         ensures { AreAsked [] result }
     {
         Asked {
-            pending: BTreeMap::new(alloc),
-            waiting: BTreeMap::new(alloc),
             due: BTreeMap::new(alloc),
+            withheld: BTreeMap::new(alloc),
+            waiting: BTreeMap::new(alloc),
             alloc,
         }
     }
@@ -125,7 +126,7 @@ impl Asked {
         ensures due { IsIndexed self.old → IsIndexed self.new }
     {
         let request = Request { segment, gxid };
-        if let Some(expected) = self.pending.get(&request).copied() {
+        if let Some(expected) = self.awaited(&request) {
             if is_met_by(expected, reply) {
                 self.withdraw(&request);
             }
@@ -170,61 +171,71 @@ impl Asked {
         Ok(())
     }
 
+    // The answer of a request.
+    fn awaited(&self, request: &Request) -> Option<Expected>
+        ensures { result ≡ awaited_at self.now request.now }
+    {
+        match self.due.get(request) {
+            Some(expected) => Some(*expected),
+            None => self.withheld.get(request).copied(),
+        }
+    }
+
     // An answer is awaited no more.
     fn withdraw(&mut self, request: &Request)
-        ensures pending { (r : OneRequest) → get request_cmp self.new.pending r ≡ (if is_at (request_cmp request.now) r then None else get request_cmp self.old.pending r) }
+        ensures awaited { (r : OneRequest) → awaited_at self.new r ≡ (if is_at (request_cmp request.now) r then None else awaited_at self.old r) }
         ensures waiting { self.new.waiting ≡ self.old.waiting }
         ensures due { IsIndexed self.old → IsIndexed self.new }
     {
-        self.pending.remove(request);
         self.due.remove(request);
+        self.withheld.remove(request);
     }
 
-    // An answer is awaited.
+    // An answer is awaited. Whether it may be asked for again is told by its kind and by the waits.
     fn expect(&mut self, request: Request, expected: Expected) -> Mem<()>
-        ensures pending { OnOk result ((r : OneRequest) → get request_cmp self.new.pending r ≡ (if is_at (request_cmp request) r then Some expected else get request_cmp self.old.pending r)) }
-        ensures waiting { self.new.waiting ≡ self.old.waiting }
-        ensures due { OnOk result (IsIndexed self.old → IsIndexed self.new) }
-    {
-        self.pending.insert(request, expected)?;
-        self.settle(request)
-    }
-
-    // Whether a request's answer may be asked for again is told by its answer and its waits.
-    pub(crate) fn settle(&mut self, request: Request) -> Mem<()>
-        ensures pending { self.new.pending ≡ self.old.pending }
+        ensures awaited { OnOk result ((r : OneRequest) → awaited_at self.new r ≡ (if is_at (request_cmp request) r then Some expected else awaited_at self.old r)) }
         ensures waiting { self.new.waiting ≡ self.old.waiting }
         ensures due { OnOk result ((r : OneRequest) → get request_cmp self.new.due r
-            ≡ (if is_at (request_cmp request) r then due_of (get request_cmp self.old.pending request) (waits_in self.old.waiting request) else get request_cmp self.old.due r)) }
+            ≡ (if is_at (request_cmp request) r then due_of (Some expected) (waits_in self.old.waiting request) else get request_cmp self.old.due r)) }
     {
-        match self.due_answer(&request) {
-            Some(expected) => self.offer(request, expected),
-            None => {
-                self.due.remove(&request);
-                Ok(())
-            }
+        if expected.is_command() && self.is_waiting(&request) {
+            self.withhold(request, expected)
+        } else {
+            self.offer(request, expected)
         }
     }
 
-    fn offer(&mut self, request: Request, expected: Expected) -> Mem<()>
-        ensures pending { self.new.pending ≡ self.old.pending }
+    // The waits of a request have changed.
+    pub(crate) fn settle(&mut self, request: Request) -> Mem<()>
+        ensures awaited { OnOk result ((r : OneRequest) → awaited_at self.new r ≡ awaited_at self.old r) }
         ensures waiting { self.new.waiting ≡ self.old.waiting }
-        ensures due { OnOk result ((r : OneRequest) → get request_cmp self.new.due r ≡ (if is_at (request_cmp request) r then Some expected else get request_cmp self.old.due r)) }
+        ensures due { OnOk result ((r : OneRequest) → get request_cmp self.new.due r
+            ≡ (if is_at (request_cmp request) r then due_of (awaited_at self.old request) (waits_in self.old.waiting request) else get request_cmp self.old.due r)) }
     {
-        self.due.insert(request, expected)?;
+        match self.awaited(&request) {
+            Some(expected) => self.expect(request, expected),
+            None => Ok(()),
+        }
+    }
+
+    fn withhold(&mut self, request: Request, expected: Expected) -> Mem<()>
+        ensures awaited { OnOk result ((r : OneRequest) → awaited_at self.new r ≡ (if is_at (request_cmp request) r then Some expected else awaited_at self.old r)) }
+        ensures waiting { self.new.waiting ≡ self.old.waiting }
+        ensures due { (r : OneRequest) → get request_cmp self.new.due r ≡ (if is_at (request_cmp request) r then None else get request_cmp self.old.due r) }
+    {
+        self.due.remove(&request);
+        self.withheld.insert(request, expected)?;
         Ok(())
     }
 
-    // The answer of a request, where it may be asked for again.
-    fn due_answer(&self, request: &Request) -> Option<Expected>
-        ensures { result ≡ due_of (get request_cmp self.now.pending request.now) (waits_in self.now.waiting request.now) }
+    fn offer(&mut self, request: Request, expected: Expected) -> Mem<()>
+        ensures awaited { OnOk result ((r : OneRequest) → awaited_at self.new r ≡ (if is_at (request_cmp request) r then Some expected else awaited_at self.old r)) }
+        ensures waiting { self.new.waiting ≡ self.old.waiting }
+        ensures due { OnOk result ((r : OneRequest) → get request_cmp self.new.due r ≡ (if is_at (request_cmp request) r then Some expected else get request_cmp self.old.due r)) }
     {
-        let expected = self.pending.get(request).copied()?;
-        if expected.is_command() && self.is_waiting(request) {
-            None
-        } else {
-            Some(expected)
-        }
+        self.withheld.remove(&request);
+        self.due.insert(request, expected)?;
+        Ok(())
     }
 
     // Whether the transaction of a request waits at its node.

@@ -7,7 +7,7 @@ ghost use Rattle.gx_store.specs.Waits.{added, waits_from, without};
 ghost use Rattle.gx_waits.specs.Claim.{same_claim};
 ghost use Rattle.gx_waits.specs.declared.claim.Claim.{Claim as OneClaim};
 ghost use Rattle.gx_agenda.specs.declared.request.Request.{Request as OneRequest};
-ghost use Rattle.gx_agenda.specs.Awaited.{AreWaits, IsIndexed, due_of, waits_in};
+ghost use Rattle.gx_agenda.specs.Awaited.{AreWaits, IsIndexed, awaited_at, due_of, waits_in};
 ghost use Rattle.gx_agenda.specs.Requests.{request_cmp};
 
 use crate::asked::Asked;
@@ -22,7 +22,7 @@ use std::alloc::Global;
 impl Asked {
     // A step made these marks.
     pub(crate) fn note_waits(&mut self, marks: &[Mark]) -> Mem<()>
-        ensures pending { self.new.pending ≡ self.old.pending }
+        ensures awaited { OnOk result ((r : OneRequest) → awaited_at self.new r ≡ awaited_at self.old r) }
         ensures waits { OnOk result ((standing : OneNode → List OneClaim) → AreWaits standing self.old → AreWaits (λ node. waits_from node (standing node) marks.now) self.new) }
         ensures due { OnOk result (IsIndexed self.old → IsIndexed self.new) }
     {
@@ -34,7 +34,7 @@ impl Asked {
 
     // A wait begins by its own mark, and ends by the hold or the release of the same lock.
     fn note_wait(&mut self, mark: &Mark) -> Mem<()>
-        ensures pending { self.new.pending ≡ self.old.pending }
+        ensures awaited { OnOk result ((r : OneRequest) → awaited_at self.new r ≡ awaited_at self.old r) }
         ensures waits { OnOk result ((standing : OneNode → List OneClaim) → AreWaits standing self.old → AreWaits (λ node. waits_from node (standing node) (mark.now ∷ [])) self.new) }
         ensures due { OnOk result (IsIndexed self.old → IsIndexed self.new) }
     {
@@ -62,7 +62,7 @@ impl Asked {
     }
 
     fn begin(&mut self, node: Node, claim: Claim) -> Mem<()>
-        ensures pending { self.new.pending ≡ self.old.pending }
+        ensures awaited { OnOk result ((r : OneRequest) → awaited_at self.new r ≡ awaited_at self.old r) }
         ensures waits { OnOk result ((r : OneRequest) → waits_in self.new.waiting r
             ≡ (if is_at (request_cmp (record { segment = node; gxid = claim.gxid })) r then added claim (waits_in self.old.waiting r) else waits_in self.old.waiting r)) }
         ensures due { OnOk result (IsIndexed self.old → IsIndexed self.new) }
@@ -76,7 +76,7 @@ impl Asked {
     }
 
     fn end(&mut self, node: Node, claim: Claim) -> Mem<()>
-        ensures pending { self.new.pending ≡ self.old.pending }
+        ensures awaited { OnOk result ((r : OneRequest) → awaited_at self.new r ≡ awaited_at self.old r) }
         ensures waits { OnOk result ((r : OneRequest) → waits_in self.new.waiting r
             ≡ (if is_at (request_cmp (record { segment = node; gxid = claim.gxid })) r then without claim (waits_in self.old.waiting r) else waits_in self.old.waiting r)) }
         ensures due { OnOk result (IsIndexed self.old → IsIndexed self.new) }
@@ -93,19 +93,19 @@ impl Asked {
 
     // These are the waits of a request whose waits were taken out.
     fn put(&mut self, request: Request, claims: Seq<Claim>) -> Mem<()>
-        ensures pending { self.new.pending ≡ self.old.pending }
+        ensures awaited { OnOk result ((r : OneRequest) → awaited_at self.new r ≡ awaited_at self.old r) }
         ensures waits { OnOk result ((r : OneRequest) → waits_in self.new.waiting r ≡ (if is_at (request_cmp request) r then claims else waits_in self.old.waiting r)) }
         ensures due { OnOk result ((r : OneRequest) → get request_cmp self.new.due r
-            ≡ (if is_at (request_cmp request) r then due_of (get request_cmp self.old.pending request) claims else get request_cmp self.old.due r)) }
+            ≡ (if is_at (request_cmp request) r then due_of (awaited_at self.old request) claims else get request_cmp self.old.due r)) }
     {
         self.fill(request, claims)?;
         self.settle(request)
     }
 
     fn fill(&mut self, request: Request, claims: Seq<Claim>) -> Mem<()>
-        ensures pending { self.new.pending ≡ self.old.pending }
-        ensures waits { OnOk result ((r : OneRequest) → waits_in self.new.waiting r ≡ (if is_at (request_cmp request) r then claims else waits_in self.old.waiting r)) }
         ensures due { self.new.due ≡ self.old.due }
+        ensures withheld { self.new.withheld ≡ self.old.withheld }
+        ensures waits { OnOk result ((r : OneRequest) → waits_in self.new.waiting r ≡ (if is_at (request_cmp request) r then claims else waits_in self.old.waiting r)) }
     {
         if claims.is_empty() {
             self.waiting.remove(&request);

@@ -7,7 +7,7 @@ use Rattle.gx_outside.specs.Shelves.{Shelf}
 use Rattle.gx_script.specs.declared.Script.{Script}
 use Rattle.gx_store.specs.Language.{IsScript}
 use Rattle.gx_store.specs.declared.node.NodeEvent.{NodeEvent}
-use Rattle.gx_store.specs.declared.node.NodeOut.{NodeOut}
+use Rattle.gx_store.specs.declared.mark.Mark.{Mark}
 use Rattle.gx_rules.specs.AtCoordinator.{cancels, coord_can, coord_rule, on_event}
 use Rattle.gx_rules.specs.Coordinators as rule
 use Rattle.gx_law_order.proofs.AtCoordinators.{cancel_stays, coord_stays}
@@ -38,8 +38,8 @@ pub links-cancelled : (script : Script) (k : rule.Coord) (g : Gxid) (outs : List
 links-cancelled script k g outs m h some o l = links-of script.segments m outs l (subst (λ (xs : List Out). Each (OutIn script.segments) xs) (sym o) (cancel_stays script some k g h.inside).outs)
 
 -- the step keeps all that is asked of a coordinator
-module _ (old mid : Coord) (x : NodeEvent) (before after : Shelf) (out : NodeOut) where
-  pub is-after : IsCoord old (coord_of old) → coord_can old.script.value (coord_of old) x ≡ true → (h : HasGone old mid x before after out) → IsCoord (record mid { spent = false }) (coord_rule old.script.value (coord_of old) x h.fails).coord
+module _ (old mid : Coord) (x : NodeEvent) (before after : Shelf) (marks : List Mark) where
+  pub is-after : IsCoord old (coord_of old) → coord_can old.script.value (coord_of old) x ≡ true → (h : HasGone old mid x before after marks) → IsCoord (record mid { spent = false }) (coord_rule old.script.value (coord_of old) x h.fails).coord
   is-after k ok h =
       let same : mid.script.value ≡ old.script.value = ap (λ a. a.value) h.stayed.script in
       is-coord (record mid { spent = false }) (coord_rule old.script.value (coord_of old) x h.fails).coord
@@ -51,10 +51,10 @@ module _ (old mid : Coord) (x : NodeEvent) (before after : Shelf) (out : NodeOut
       (h.stayed.segments ∙ k.segments ∙ ap (λ (s : Script). s.segments) (sym same))
       (subst (λ (s : Script). IsSound s (coord_rule old.script.value (coord_of old) x h.fails).coord) (sym same) (sound-stays old.script.value (coord_of old) k.language.some_segments k.sound x h.fails h.small ok))
 
-  stepped-own : IsCoord old (coord_of old) → coord_can old.script.value (coord_of old) x ≡ true → HasGone old mid x before after out → HasStepped old (record mid { spent = false }) (coord_of old) x before after out
-  stepped-own k ok h = record { fails = h.fails; is = is-after k ok h; script = h.stayed.script; usable = refl; marks = h.marks; outs = h.outs; clock = h.clock; took = h.took }
+  stepped-own : IsCoord old (coord_of old) → coord_can old.script.value (coord_of old) x ≡ true → HasGone old mid x before after marks → HasStepped old (record mid { spent = false }) (coord_of old) x before after marks
+  stepped-own k ok h = record { fails = h.fails; is = is-after k ok h; script = h.stayed.script; usable = refl; told = h.told; took = h.took }
 
-  pub has-stepped : (c : rule.Coord) → IsCoord old c → coord_can old.script.value c x ≡ true → HasGone old mid x before after out → HasStepped old (record mid { spent = false }) c x before after out
+  pub has-stepped : (c : rule.Coord) → IsCoord old c → coord_can old.script.value c x ≡ true → HasGone old mid x before after marks → HasStepped old (record mid { spent = false }) c x before after marks
   has-stepped c k ok h =
-      subst (λ (d : rule.Coord). HasStepped old (record mid { spent = false }) d x before after out) k.holds
+      subst (λ (d : rule.Coord). HasStepped old (record mid { spent = false }) d x before after marks) k.holds
       (stepped-own (subst (λ (d : rule.Coord). IsCoord old d) (sym k.holds) k) (subst (λ (d : rule.Coord). coord_can old.script.value d x ≡ true) (sym k.holds) ok) h)

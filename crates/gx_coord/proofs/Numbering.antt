@@ -1,11 +1,15 @@
 -- Messages are numbered one by one.
-use Rattle.std.proofs.Common.{◌≡◌, ◌<◌, ◌⊎◌, inl, inr, All, drop, ℕ, zero, suc, ◌+◌, ◌-◌, ◌^◌, List, [], ◌∷◌, Bool, true, false, refl, sym, subst, ap, ◌∙◌, if◌then◌else◌, length, get_or, slice_set, slice_index, arith, eqb}
+use Rattle.std.proofs.Common.{◌≡◌, ◌<◌, ◌⊎◌, inl, inr, All, ℕ, zero, suc, ◌+◌, ◌^◌, List, [], ◌∷◌, ◌++◌, Bool, true, false, refl, sym, subst, ap, ◌∙◌, if◌then◌else◌, length, get_or, slice_set, slice_index, arith, eqb}
 use Rattle.std.proofs.Math.Path.{fun_ext}
 use Rattle.std.proofs.lemmas.Bool.Decides.{nat_tests}
+use Rattle.std.proofs.lemmas.List.{append_assoc, length-append}
+use Rattle.std.specs.Global.{Vec}
 use Rattle.gx_msg.specs.declared.message.Out.{Out}
+use Rattle.gx_store.specs.declared.mark.Mark.{Mark}
 use Rattle.gx_store.specs.declared.mark.Mark.TheVariants as mark
 use Rattle.gx_rules.specs.Maps.{with_at}
-use Rattle.gx_rules.specs.Sending.{counted_all, numbered}
+use Rattle.gx_rules.specs.Sending.{counted, counted_all, numbered}
+use Rattle.gx_coord.proofs.Few.{few-items}
 
 index-set : (xs : List ℕ) (k n j : ℕ) (b : Bool) → eqb j k ≡ b → k < length xs → slice_index (slice_set xs k n) j ≡ (if b then n else slice_index xs j)
 index-set [] k n j b e l = absurd (omega (arith, l))
@@ -53,33 +57,58 @@ index-item [] k d l = absurd (omega (arith, l))
 index-item (x ∷ xs) zero d l = refl
 index-item (x ∷ xs) (suc k) d l = index-item xs k d (omega (arith, l))
 
-drop-step : (outs : List Out) (i : ℕ) (d : Out) → i < length outs → d ≡ get_or outs i d → drop i outs ≡ d ∷ drop (i + 1) outs
-drop-step [] i d l e = absurd (omega (arith, l))
-drop-step (o ∷ os) zero d l e = ap (λ x. x ∷ os) (sym e)
-drop-step (o ∷ os) (suc i) d l e = drop-step os i d (omega (arith, l)) e ∙ ap (λ k. d ∷ drop k (o ∷ os)) (next i)
-  where
-    next : (i : ℕ) → suc (i + 1) ≡ suc i + 1
-    next i = omega arith
+-- one message gets its link's next number
+module _ (sent : List ℕ) (k number : ℕ) (out : Out) (at : k ≡ out.node.0) (inside : k < length sent) (is : number ≡ get_or sent k 0 + 1) where
+  next-number : number ≡ slice_index sent k + 1
+  next-number = is ∙ ap (λ n. n + 1) (sym (index-item sent k 0 inside))
 
-module _ (sent : List ℕ) (outs : List Out) (i k number : ℕ) (out : Out) (l : i < length outs) (e : out ≡ get_or outs i out) (at : k ≡ out.node.0) (inside : k < length sent) (is : number ≡ slice_index sent k + 1) where
-  next-is : slice_index (slice_set sent k number) ≡ with_at (slice_index sent) out.node.0 (slice_index sent out.node.0 + 1)
-  next-is = slice_index-set sent k number inside ∙ ap (λ n. with_at (slice_index sent) k n) is ∙ ap (λ j. with_at (slice_index sent) j (slice_index sent j + 1)) at
+  pub number-is : number ≡ slice_index sent out.node.0 + 1
+  number-is = next-number ∙ ap (λ n. slice_index sent n + 1) at
 
-  pub numbered-step : numbered (slice_index sent) (drop i outs) ≡ mark.Sent out.node (slice_index sent out.node.0 + 1) out.message ∷ numbered (slice_index (slice_set sent k number)) (drop (i + 1) outs)
-  numbered-step = ap (numbered (slice_index sent)) (drop-step outs i out l e) ∙ ap (λ f. mark.Sent out.node (slice_index sent out.node.0 + 1) out.message ∷ numbered f (drop (i + 1) outs)) (sym next-is)
+  pub counted-is : slice_index (slice_set sent k number) ≡ counted (slice_index sent) out
+  counted-is = slice_index-set sent k number inside ∙ ap (λ n. with_at (slice_index sent) k n) next-number ∙ ap (λ j. with_at (slice_index sent) j (slice_index sent j + 1)) at
 
-  pub counted-step : counted_all (slice_index sent) (drop i outs) ≡ counted_all (slice_index (slice_set sent k number)) (drop (i + 1) outs)
-  counted-step = ap (counted_all (slice_index sent)) (drop-step outs i out l e) ∙ ap (λ f. counted_all f (drop (i + 1) outs)) (sym next-is)
-
-  pub room-step : All (λ n. n + (length outs - i) < 2 ^ 64) sent → All (λ n. n + (length outs - (i + 1)) < 2 ^ 64) (slice_set sent k number)
-  room-step r j d h = by (set-item sent k number j d h)
+  pub few-counted : (most : ℕ) → All (λ n. n < most) sent → All (λ n. n < most + 1) (slice_set sent k number)
+  few-counted most h j d b = by (set-item sent k number j d b)
     where
-      less : (n i m : ℕ) → i < m → n + (m - i) < 2 ^ 64 → n + 1 + (m - (i + 1)) < 2 ^ 64
-      less n i m l r = omega (arith, l, r)
+      next : (n m most : ℕ) → m ≡ n + 1 → n < most → m < most + 1
+      next n m most e l = omega (arith, e, l)
 
-      still : (n i m : ℕ) → n + (m - i) < 2 ^ 64 → n + (m - (i + 1)) < 2 ^ 64
-      still n i m r = omega (arith, r)
+      still : (n most : ℕ) → n < most → n < most + 1
+      still n most l = omega (arith, l)
 
-      by : (get_or (slice_set sent k number) j d ≡ number) ⊎ ((j < length sent) × (get_or (slice_set sent k number) j d ≡ get_or sent j d)) → get_or (slice_set sent k number) j d + (length outs - (i + 1)) < 2 ^ 64
-      by (inl q) = subst (λ n. n + (length outs - (i + 1)) < 2 ^ 64) (sym (q ∙ is ∙ ap (λ n. n + 1) (index-item sent k d inside))) (less (get_or sent k d) i (length outs) l (r k d inside))
-      by (inr q) = subst (λ n. n + (length outs - (i + 1)) < 2 ^ 64) (sym q.1) (still (get_or sent j d) i (length outs) (r j d q.0))
+      by : (get_or (slice_set sent k number) j d ≡ number) ⊎ ((j < length sent) × (get_or (slice_set sent k number) j d ≡ get_or sent j d)) → get_or (slice_set sent k number) j d < most + 1
+      by (inl q) = subst (λ n. n < most + 1) (sym q) (next (get_or sent k 0) number most is (h k 0 inside))
+      by (inr q) = subst (λ n. n < most + 1) (sym q.1) (still (get_or sent j d) most (h j d q.0))
+
+-- the first of those that are left is sent
+module _ (old new : ℕ → ℕ) (out : Out) (left rest : List Out) (before after : List Mark) (m : Mark) (first : left ≡ out ∷ rest) (counts : new ≡ counted old out) where
+  pub numbered-next : m ≡ mark.Sent out.node (old out.node.0 + 1) out.message → after ≡ before ++ m ∷ [] → after ++ numbered new rest ≡ before ++ numbered old left
+  numbered-next is pushed =
+      ap (λ xs. xs ++ numbered new rest) (pushed ∙ ap (λ x. before ++ x ∷ []) is)
+      ∙ ap (λ f. (before ++ mark.Sent out.node (old out.node.0 + 1) out.message ∷ []) ++ numbered f rest) counts
+      ∙ append_assoc before (mark.Sent out.node (old out.node.0 + 1) out.message ∷ []) (numbered (counted old out) rest)
+      ∙ ap (λ os. before ++ numbered old os) (sym first)
+
+  pub counted-next : counted_all new rest ≡ counted_all old left
+  counted-next = ap (λ f. counted_all f rest) counts ∙ ap (counted_all old) (sym first)
+
+-- one more mark
+pub few-pushed : (sent : List ℕ) (before after : List Mark) (m : Mark) → after ≡ before ++ m ∷ [] → All (λ n. n < 2 ^ 62 + length before + 1) sent → All (λ n. n < 2 ^ 62 + length after) sent
+few-pushed sent before after m e h = subst (λ k. All (λ n. n < k) sent) (same (length before) (length after) (ap length e ∙ length-append before (m ∷ []))) h
+  where
+    same : (a b : ℕ) → b ≡ a + 1 → 2 ^ 62 + a + 1 ≡ 2 ^ 62 + b
+    same a b e = omega (arith, e)
+
+-- a count that has room
+pub few-room : (n : ℕ) {X : Type 0} (v : Vec X) → n < 2 ^ 62 + length v.items → n + 1 < 2 ^ 64
+few-room n v l = omega (arith, l, few-items v)
+
+pub few-anyway : (sent : List ℕ) (marks : List Mark) → All (λ n. n < 2 ^ 62) sent → All (λ n. n < 2 ^ 62 + length marks) sent
+few-anyway sent marks h i d b = less (get_or sent i d) (length marks) (h i d b)
+  where
+    less : (n m : ℕ) → n < 2 ^ 62 → n < 2 ^ 62 + m
+    less n m l = omega (arith, l)
+
+pub all-first : {X : Type 0} (P : X → Type 0) (x : X) (xs : List X) → All P (x ∷ xs) → P x
+all-first P x xs h = h 0 x (omega arith)

@@ -14,26 +14,26 @@ use Rattle.gx_rules.specs.Sending.{clock_after, counted_all, numbered}
 use Rattle.gx_coord.specs.Books.{IsFramed, coord_of}
 use Rattle.gx_coord.specs.Sound.{IsSmall, IsSound}
 use Rattle.gx_coord.specs.Steps.{HasStayed}
-use Rattle.gx_coord.specs.Turns.{IsTurn, so_far}
+use Rattle.gx_coord.specs.Turns.{IsTurn, so_far, untold}
 use Rattle.gx_coord.specs.declared.coord.Coord.{Coord}
-use Rattle.gx_coord.proofs.Cancelled.{item-stays, without-item}
+use Rattle.gx_coord.proofs.Cancelled.{item-stays, without-item, without-outs}
 use Rattle.gx_coord.proofs.Stays.{sent-sound, turn-sound}
 use Rattle.gx_coord.proofs.Turned.{script-same}
 
-pub step-is : (old mid new : Coord) (p : Script) (x : NodeEvent) (fails : Bool) (clock : ℕ) (before marks after : List Mark) (more outs : List Out) (victims : List Gxid)
+pub step-is : (old mid new : Coord) (p : Script) (x : NodeEvent) (fails : Bool) (clock : ℕ) (before marks after : List Mark) (more : List Out) (victims : List Gxid)
     → p ≡ old.script.value → before ≡ [] → clock ≡ clock_after old.clock x
     → IsTurn old mid before marks (on_event p (coord_of old) x fails) → more ≡ (on_event p (coord_of old) x fails).outs → victims ≡ victims_at (coord_of old) x
-    → so_far (coord_of new) after outs ≡ and_cancels_all victims (coord_sends clock (so_far (coord_of mid) marks more))
-    → so_far (coord_of new) after outs ≡ record (coord_rule old.script.value (coord_of old) x fails) { item = None }
-step-is old mid new p x fails clock before marks after more outs victims same none now turn is named e =
+    → so_far (coord_of new) after [] ≡ untold (and_cancels_all victims (coord_sends clock (so_far (coord_of mid) marks more)))
+    → so_far (coord_of new) after [] ≡ record (coord_rule old.script.value (coord_of old) x fails) { outs = []; item = None }
+step-is old mid new p x fails clock before marks after more victims same none now turn is named e =
     e
-    ∙ ap (λ gs. and_cancels_all gs (coord_sends clock (so_far (coord_of mid) marks more))) named
+    ∙ ap (λ gs. untold (and_cancels_all gs (coord_sends clock (so_far (coord_of mid) marks more)))) named
     ∙ ap (λ k. all (coord_sends k (so_far (coord_of mid) marks more))) now
     ∙ ap (λ c. all (coord_sends at (so_far c marks more))) turn.coord
     ∙ ap (λ ms. all (coord_sends at (so_far u.coord ms more))) (turn.marks ∙ ap (λ ms. ms ++ u.marks) none)
     ∙ ap (λ os. all (coord_sends at (so_far u.coord u.marks os))) is
-    ∙ without-item (victims_at (coord_of old) x) (coord_turn p (coord_of old) x fails)
-    ∙ ap (λ (s : Script). record (coord_rule s (coord_of old) x fails) { item = None }) same
+    ∙ ap untold (without-item (victims_at (coord_of old) x) (coord_turn p (coord_of old) x fails))
+    ∙ ap (λ (s : Script). record (coord_rule s (coord_of old) x fails) { outs = []; item = None }) same
   where
     u : rule.CoordTurn
     u = on_event p (coord_of old) x fails
@@ -42,7 +42,7 @@ step-is old mid new p x fails clock before marks after more outs victims same no
     at = clock_after old.clock x
 
     all : rule.CoordTurn → rule.CoordTurn
-    all turn = and_cancels_all (victims_at (coord_of old) x) turn
+    all turn = untold (and_cancels_all (victims_at (coord_of old) x) turn)
 
 -- the victims' turns leave the journal alone
 pub took-is : (k : Coord) (p : Script) (x : NodeEvent) (fails : Bool) {before after : Shelf} → p ≡ k.script.value → Took before after fails (on_event p (coord_of k) x fails).item → Took before after fails (coord_rule k.script.value (coord_of k) x fails).item
@@ -68,17 +68,19 @@ sent-on old mid clock outs stayed e h =
     (subst (λ (c : rule.Coord). IsSound old.script.value c) (sym e) (sent-sound old.script.value (so_far (coord_of old) [] outs) clock h))
 
 -- messages are sent, and then the victims' turns come
-pub finish-is : (old mid new : Coord) (clock : ℕ) (marks sent after told : List Mark) (slice items more outs said : List Out) (gs victims : List Gxid)
-    → slice ≡ items → items ≡ more → gs ≡ victims → told ≡ after → said ≡ outs
-    → coord_of mid ≡ record (coord_of old) { sent = counted_all (slice_index old.sent.items) slice; clock = clock }
-    → sent ≡ marks ++ numbered (slice_index old.sent.items) slice
-    → so_far (coord_of new) after outs ≡ and_cancels_all gs (so_far (coord_of mid) sent items)
-    → so_far (coord_of new) told said ≡ and_cancels_all victims (coord_sends clock (so_far (coord_of old) marks more))
-finish-is old mid new clock marks sent after told slice items more outs said gs victims s v g m o c n e =
-    ap (λ ms. so_far (coord_of new) ms said) m
-    ∙ ap (λ os. so_far (coord_of new) after os) o
+pub finish-is : (old mid new : Coord) (clock : ℕ) (marks sent after told : List Mark) (items more : List Out) (gs victims : List Gxid)
+    → items ≡ more → gs ≡ victims → told ≡ after
+    → coord_of mid ≡ record (coord_of old) { sent = counted_all (slice_index old.sent.items) items; clock = clock }
+    → sent ≡ marks ++ numbered (slice_index old.sent.items) items
+    → so_far (coord_of new) after [] ≡ untold (and_cancels_all gs (so_far (coord_of mid) sent []))
+    → so_far (coord_of new) told [] ≡ untold (and_cancels_all victims (coord_sends clock (so_far (coord_of old) marks more)))
+finish-is old mid new clock marks sent after told items more gs victims v g m c n e =
+    ap (λ ms. so_far (coord_of new) ms []) m
     ∙ e
-    ∙ ap (λ (xs : List Gxid). and_cancels_all xs (so_far (coord_of mid) sent items)) g
-    ∙ ap (λ os. and_cancels_all victims (so_far (coord_of mid) sent os)) v
-    ∙ ap (λ k. and_cancels_all victims (so_far k sent more)) (c ∙ ap (λ os. record (coord_of old) { sent = counted_all (slice_index old.sent.items) os; clock = clock }) (s ∙ v))
-    ∙ ap (λ ms. and_cancels_all victims (so_far (record (coord_of old) { sent = counted_all (slice_index old.sent.items) more; clock = clock }) ms more)) (n ∙ ap (λ os. marks ++ numbered (slice_index old.sent.items) os) (s ∙ v))
+    ∙ ap (λ (xs : List Gxid). untold (and_cancels_all xs (so_far (coord_of mid) sent []))) g
+    ∙ ap (λ k. untold (and_cancels_all victims (so_far k sent []))) (c ∙ ap (λ os. record (coord_of old) { sent = counted_all (slice_index old.sent.items) os; clock = clock }) v)
+    ∙ ap (λ ms. untold (and_cancels_all victims (so_far mid_coord ms []))) (n ∙ ap (λ os. marks ++ numbered (slice_index old.sent.items) os) v)
+    ∙ without-outs victims (coord_sends clock (so_far (coord_of old) marks more)) []
+  where
+    mid_coord : rule.Coord
+    mid_coord = record (coord_of old) { sent = counted_all (slice_index old.sent.items) more; clock = clock }

@@ -1,9 +1,9 @@
 -- The coordinator against its rule, and what a step of it is.
-use Rattle.std.specs.Prelude.{◌≡◌, ℕ, ◌+◌, Bool, false, length, slice_get, Some}
+use Rattle.std.specs.Prelude.{◌≡◌, ℕ, ◌+◌, Bool, false, List, length, slice_get, Some}
 use Rattle.gx_outside.specs.Shelves.{Shelf}
 use Rattle.gx_node.specs.Orders.{Took}
 use Rattle.gx_store.specs.declared.node.NodeEvent.{NodeEvent}
-use Rattle.gx_store.specs.declared.node.NodeOut.{NodeOut}
+use Rattle.gx_store.specs.declared.mark.Mark.{Mark}
 use Rattle.gx_rules.specs.AtCoordinator.{coord_rule}
 use Rattle.gx_rules.specs.Coordinators as rule
 use Rattle.gx_coord.specs.declared.coord.Coord.{Coord}
@@ -27,16 +27,14 @@ pub record IsCoord (coord : Coord) (c : rule.Coord) : Type 0 where
   pub segments : coord.detector.segments ≡ coord.script.value.segments
   pub sound : IsSound coord.script.value c
 
--- The step is the rule's, for an append that fails or not: the data, the marks, the messages, the clock and what the journal
--- took.
-pub record HasStepped (old new : Coord) (c : rule.Coord) (event : NodeEvent) (before after : Shelf) (out : NodeOut) : Type 0 where
+-- The step is the rule's, for an append that fails or not: the data with the clock, the marks, which tell each message, and what
+-- the journal took.
+pub record HasStepped (old new : Coord) (c : rule.Coord) (event : NodeEvent) (before after : Shelf) (marks : List Mark) : Type 0 where
   pub fails : Bool
   pub is : IsCoord new (coord_rule old.script.value c event fails).coord
   pub script : new.script ≡ old.script
   pub usable : new.spent ≡ false
-  pub marks : out.marks ≡ (coord_rule old.script.value c event fails).marks
-  pub outs : out.outs ≡ (coord_rule old.script.value c event fails).outs
-  pub clock : out.clock ≡ new.clock
+  pub told : marks ≡ (coord_rule old.script.value c event fails).marks
   pub took : Took before after fails (coord_rule old.script.value c event fails).item
 
 -- what doesn't change in a step
@@ -48,12 +46,10 @@ pub record HasStayed (old new : Coord) : Type 0 where
   pub segments : new.detector.segments ≡ old.detector.segments
 
 -- The same of the coordinator's fields, before it is known that they are sound.
-pub record HasGone (old new : Coord) (event : NodeEvent) (before after : Shelf) (out : NodeOut) : Type 0 where
+pub record HasGone (old new : Coord) (event : NodeEvent) (before after : Shelf) (marks : List Mark) : Type 0 where
   pub fails : Bool
   pub small : IsSmall event
   pub coord : coord_of new ≡ (coord_rule old.script.value (coord_of old) event fails).coord
   pub stayed : HasStayed old new
-  pub marks : out.marks ≡ (coord_rule old.script.value (coord_of old) event fails).marks
-  pub outs : out.outs ≡ (coord_rule old.script.value (coord_of old) event fails).outs
-  pub clock : out.clock ≡ new.clock
+  pub told : marks ≡ (coord_rule old.script.value (coord_of old) event fails).marks
   pub took : Took before after fails (coord_rule old.script.value (coord_of old) event fails).item

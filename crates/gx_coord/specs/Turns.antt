@@ -152,3 +152,7 @@ is_active _ = false
 -- what a step has come to so far; its item stands elsewhere
 abbrev pub so_far : rule.Coord → List Mark → List Out → rule.CoordTurn
 so_far c marks outs = record { coord = c; marks = marks; outs = outs; item = None }
+
+-- the same without its messages, which its marks tell
+abbrev pub untold : rule.CoordTurn → rule.CoordTurn
+untold turn = record turn { outs = [] }

@@ -1,13 +1,12 @@
 // Whom a recheck has named is cancelled, one behind the other.
-ghost use Rattle.std.specs.Prelude.{◌≡◌, ◌+◌, ◌<◌, ◌≤◌, ◌++◌, ◌^◌, All, length, slice_index, true, IfOk, OnOk};
+ghost use Rattle.std.specs.Prelude.{◌≡◌, ◌+◌, ◌<◌, ◌≤◌, ◌++◌, ◌^◌, [], All, length, true, IfOk, OnOk};
 ghost use Rattle.gx_dtx.specs.Table.{find_txn};
 ghost use Rattle.gx_rules.specs.AtCoordinator as turns;
 ghost use Rattle.gx_rules.specs.Rounds as rounds;
-ghost use Rattle.gx_rules.specs.Sending.{counted_all, numbered};
 ghost use Rattle.gx_coord.specs.Books.{coord_of};
 ghost use Rattle.gx_coord.specs.Sound.{IsSound};
 ghost use Rattle.gx_coord.specs.Steps.{HasStayed};
-ghost use Rattle.gx_coord.specs.Turns.{IsTurn, is_active as is_active_status, so_far};
+ghost use Rattle.gx_coord.specs.Turns.{IsTurn, is_active as is_active_status, so_far, untold};
 
 use crate::coord::Coord;
 use crate::replies::refuse;
@@ -65,48 +64,23 @@ fn cancel(alloc: Global, coord: &mut Coord, gxid: Gxid, marks: &mut Vec<Mark>) -
     }
 }
 
-// The messages stand behind those that were sent before, and get their numbers.
-fn send_behind(
-    alloc: Global,
-    sent: &mut Vec<u64>,
-    more: Seq<Out>,
-    marks: &mut Vec<Mark>,
-    outs: &mut Vec<Out>,
-) -> Mem<()>
-    requires room { All (λ n. n < 2 ^ 62 + length outs.old.items) sent.old.items }
-    requires links { All (λ out. out.node.0 < length sent.old.items) more }
-    ensures marks { OnOk result (marks.new.items ≡ marks.old.items ++ numbered (slice_index sent.old.items) more) }
-    ensures sent { OnOk result (slice_index sent.new.items ≡ counted_all (slice_index sent.old.items) more) }
-    ensures links { OnOk result (length sent.new.items ≡ length sent.old.items) }
-    ensures outs { OnOk result (outs.new.items ≡ outs.old.items ++ more) }
-    ensures room { OnOk result (All (λ n. n < 2 ^ 62 + length outs.new.items) sent.new.items) }
-{
-    let before = outs.len();
-    let mut more = more.into_vec();
-    outs.append(&mut more)?;
-    let (_before, behind) = outs.as_slice().split_at(before);
-    number(alloc, sent, behind, marks)?;
-    Ok(())
-}
-
 // A victim's turn.
 fn turn_of_victim(
     alloc: Global,
     coord: &mut Coord,
     gxid: Gxid,
     marks: &mut Vec<Mark>,
-    outs: &mut Vec<Out>,
 ) -> Mem<()>
     requires sound { IsSound coord.old.script.value (coord_of coord.old) }
     requires some { 1 ≤ coord.old.script.value.segments }
     requires links { length coord.old.sent.items ≡ coord.old.script.value.segments + 1 }
-    requires room { All (λ n. n < 2 ^ 62 + length outs.old.items) coord.old.sent.items }
+    requires room { All (λ n. n < 2 ^ 62 + length marks.old.items) coord.old.sent.items }
     ensures stayed { OnOk result (HasStayed coord.old coord.new) }
-    ensures turn { OnOk result (so_far (coord_of coord.new) marks.new.items outs.new.items ≡ turns.and_cancels (so_far (coord_of coord.old) marks.old.items outs.old.items) gxid) }
-    ensures room { OnOk result (All (λ n. n < 2 ^ 62 + length outs.new.items) coord.new.sent.items) }
+    ensures turn { OnOk result (so_far (coord_of coord.new) marks.new.items [] ≡ untold (turns.and_cancels (so_far (coord_of coord.old) marks.old.items []) gxid)) }
+    ensures room { OnOk result (All (λ n. n < 2 ^ 62 + length marks.new.items) coord.new.sent.items) }
 {
     let more = cancel(alloc, coord, gxid, marks)?;
-    send_behind(alloc, &mut coord.sent, more, marks, outs)?;
+    number(&mut coord.sent, more.into_vec(), marks)?;
     Ok(())
 }
 
@@ -116,17 +90,16 @@ pub(crate) fn cancel_all(
     coord: &mut Coord,
     victims: &[Gxid],
     marks: &mut Vec<Mark>,
-    outs: &mut Vec<Out>,
 ) -> Mem<()>
     requires sound { IsSound coord.old.script.value (coord_of coord.old) }
     requires some { 1 ≤ coord.old.script.value.segments }
     requires links { length coord.old.sent.items ≡ coord.old.script.value.segments + 1 }
-    requires room { All (λ n. n < 2 ^ 62 + length outs.old.items) coord.old.sent.items }
+    requires room { All (λ n. n < 2 ^ 62 + length marks.old.items) coord.old.sent.items }
     ensures stayed { OnOk result (HasStayed coord.old coord.new) }
-    ensures turns { OnOk result (so_far (coord_of coord.new) marks.new.items outs.new.items ≡ turns.and_cancels_all victims.now (so_far (coord_of coord.old) marks.old.items outs.old.items)) }
+    ensures turns { OnOk result (so_far (coord_of coord.new) marks.new.items [] ≡ untold (turns.and_cancels_all victims.now (so_far (coord_of coord.old) marks.old.items []))) }
 {
     for victim in victims {
-        turn_of_victim(alloc, coord, *victim, marks, outs)?;
+        turn_of_victim(alloc, coord, *victim, marks)?;
     }
     Ok(())
 }

@@ -25,7 +25,7 @@ use gx_ids::{Gxid, Mem, Node, OutOfMemory, Seq};
 use gx_locks::LockTable;
 use gx_outside::Journal;
 use gx_script::Script;
-use gx_store::{NodeEvent, NodeOut};
+use gx_store::{Mark, NodeEvent};
 use gx_waits::LocalGraph;
 use std::alloc::Global;
 use std::collections::BTreeMap;
@@ -78,8 +78,9 @@ impl Coord {
     }
 
     /// Does one event by the coordinator's rule. What an envelope holds is tested here; what isn't awaited or doesn't fit changes
-    /// nothing but the clock. The journal takes the item of a decision before COMMIT PREPARED is sent.
-    pub fn step<J: Journal>(&mut self, event: NodeEvent, journal: &mut J) -> Mem<NodeOut>
+    /// nothing but the clock. The journal takes the item of a decision before COMMIT PREPARED is sent. What it did is told by its
+    /// marks, the messages that it sends among them.
+    pub fn step<J: Journal>(&mut self, event: NodeEvent, journal: &mut J) -> Mem<Seq<Mark>>
         ghost c: { RuleCoord }
         requires is { self.old.spent ≡ false → IsCoord self.old c }
         requires admitted { self.old.spent ≡ false → coord_can self.old.script.value c event ≡ true }
@@ -88,7 +89,7 @@ impl Coord {
         requires numbers { All (λ sent. sent < 2 ^ 62) self.old.sent.items }
         requires drawn { self.old.dtx.next.0 < 2 ^ 62 }
         requires rounds { self.old.detector.begun < 2 ^ 62 }
-        ensures stepped { IfOk result (λ out. HasStepped self.old self.new c event (J.shelf journal.old) (J.shelf journal.new) out) }
+        ensures stepped { IfOk result (HasStepped self.old self.new c event (J.shelf journal.old) (J.shelf journal.new)) }
         ensures later { IsLater (J.shelf journal.old) (J.shelf journal.new) }
         ensures spent { OnErr result (self.new.spent ≡ true) }
         ensures again { self.old.spent ≡ true → IsErr result }
@@ -98,9 +99,9 @@ impl Coord {
             return Err(OutOfMemory);
         }
         match step_on(self, event, journal) {
-            Ok(out) => {
+            Ok(marks) => {
                 self.spent = false;
-                Ok(out)
+                Ok(marks)
             }
             Err(_) => {
                 self.spent = true;

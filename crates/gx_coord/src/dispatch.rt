@@ -79,13 +79,13 @@ fn send(
     cid: Cid,
     place: usize,
     snapshot: Option<Snapshot>,
-    pieces: &[Piece],
+    pieces: Vec<Piece>,
 ) -> Mem<Seq<Out>>
     requires active { IsActive coord.old.dtx gxid }
     ensures framed { OnOk result (IsFramed coord.old coord.new) }
-    ensures coord { OnOk result (coord_of coord.new ≡ (turns.goes_out gxid cid (stmt_at coord.old.script.value.lines place) pieces.now
+    ensures coord { OnOk result (coord_of coord.new ≡ (turns.goes_out gxid cid (stmt_at coord.old.script.value.lines place) pieces.items
         (record { coord = coord_of coord.old; snapshot = snapshot; marks = [] })).coord) }
-    ensures outs { IfOk result (λ outs. outs ≡ (turns.goes_out gxid cid (stmt_at coord.old.script.value.lines place) pieces.now
+    ensures outs { IfOk result (λ outs. outs ≡ (turns.goes_out gxid cid (stmt_at coord.old.script.value.lines place) pieces.items
         (record { coord = coord_of coord.old; snapshot = snapshot; marks = [] })).outs) }
 {
     let of = Ordering {
@@ -95,9 +95,9 @@ fn send(
         snapshot,
         horizon: coord.dtx.horizon(),
     };
+    let awaited = nodes(alloc, pieces.as_slice())?;
     let orders = orders(alloc, &of, pieces)?;
     let outs = orders.copy(alloc)?;
-    let awaited = nodes(alloc, pieces)?;
     enlist_all(&mut coord.dtx, gxid, awaited.as_slice())?;
     let command = Command {
         line: place,
@@ -157,7 +157,7 @@ fn go(
     ensures outs { IfOk result (λ outs. outs ≡ (turns.goes gxid cid line.now (record { coord = coord_of coord.old; snapshot = snapshot; marks = [] }) (rule_plan script.now gxid cid line.now)).outs) }
 {
     match planned {
-        Ok(pieces) => send(alloc, coord, gxid, cid, place, snapshot, pieces.as_slice()),
+        Ok(pieces) => send(alloc, coord, gxid, cid, place, snapshot, pieces),
         Err(EvalFault::Overflow) => {
             fault(alloc, coord, gxid, cid, line, ArithFault::Overflow, marks)
         }

@@ -22,13 +22,13 @@ pub struct Ordering {
 }
 
 // The EXEC of a piece.
-fn order(alloc: Global, of: &Ordering, piece: &Piece) -> Mem<Out>
-    ensures { IfOk result (λ out. out ≡ order_of of.now.gxid of.now.cid of.now.level of.now.snapshot of.now.horizon piece.now) }
+fn order(alloc: Global, of: &Ordering, piece: Piece) -> Mem<Out>
+    ensures { IfOk result (λ out. out ≡ order_of of.now.gxid of.now.cid of.now.level of.now.snapshot of.now.horizon piece) }
 {
+    let Piece { node, slice } = piece;
     let snapshot = of.snapshot.copy(alloc)?;
-    let slice = piece.slice.copy(alloc)?;
     Ok(Out {
-        node: piece.node,
+        node,
         message: Message::Exec {
             gxid: of.gxid,
             cid: of.cid,
@@ -41,8 +41,8 @@ fn order(alloc: Global, of: &Ordering, piece: &Piece) -> Mem<Out>
 }
 
 // The EXECs of the pieces, in their order.
-pub(crate) fn orders(alloc: Global, of: &Ordering, pieces: &[Piece]) -> Mem<Seq<Out>>
-    ensures { IfOk result (λ outs. outs ≡ orders_of of.now.gxid of.now.cid of.now.level of.now.snapshot of.now.horizon pieces.now) }
+pub(crate) fn orders(alloc: Global, of: &Ordering, pieces: Vec<Piece>) -> Mem<Seq<Out>>
+    ensures { IfOk result (λ outs. outs ≡ orders_of of.now.gxid of.now.cid of.now.level of.now.snapshot of.now.horizon pieces.items) }
 {
     let mut outs = Vec::with_capacity(alloc, pieces.len())?;
     for piece in pieces {

@@ -1,11 +1,11 @@
 // How messages are numbered.
-ghost use Rattle.std.specs.Prelude.{◌≡◌, ◌+◌, ◌<◌, ◌++◌, ◌^◌, All, get_or, length, slice_index, slice_set, OnOk};
-ghost use Rattle.gx_rules.specs.Sending.{clock_after as after_event, counted_all, heard_in, numbered};
+ghost use Rattle.std.specs.Prelude.{◌≡◌, ◌+◌, ◌<◌, ◌++◌, ◌^◌, ℕ, All, get_or, length, slice_index, slice_set, OnOk};
+ghost use Rattle.gx_store.specs.declared.mark.Mark.TheVariants.{Sent};
+ghost use Rattle.gx_rules.specs.Sending.{clock_after as after_event, counted, counted_all, heard_in, numbered};
 
-use gx_ids::{Duplicate, Mem};
+use gx_ids::Mem;
 use gx_msg::Out;
 use gx_store::{Mark, NodeEvent};
-use std::alloc::Global;
 
 // The number of a link's next message.
 fn count(sent: &mut Vec<u64>, node: usize) -> u64
@@ -19,27 +19,37 @@ fn count(sent: &mut Vec<u64>, node: usize) -> u64
     number
 }
 
+// A message gets the next number of its link.
+fn send_one(sent: &mut Vec<u64>, out: Out) -> Mark
+    requires inside { out.node.0 < length sent.old.items }
+    requires room { get_or sent.old.items out.node.0 0 + 1 < 2 ^ 64 }
+    ensures mark { result ≡ Sent out.node (slice_index sent.old.items out.node.0 + 1) out.message }
+    ensures sent { slice_index sent.new.items ≡ counted (slice_index sent.old.items) out }
+    ensures links { length sent.new.items ≡ length sent.old.items }
+    ensures few { (most : ℕ) → All (λ n. n < most) sent.old.items → All (λ n. n < most + 1) sent.new.items }
+{
+    let Out { node, message } = out;
+    let place = usize::from(node.0);
+    let number = count(sent, place);
+    Mark::Sent {
+        to: node,
+        number,
+        message,
+    }
+}
+
 // Each message has the next number of its link.
-pub(crate) fn number(
-    alloc: Global,
-    sent: &mut Vec<u64>,
-    outs: &[Out],
-    marks: &mut Vec<Mark>,
-) -> Mem<()>
-    requires room { All (λ n. n + length outs.now < 2 ^ 64) sent.old.items }
-    requires links { All (λ out. out.node.0 < length sent.old.items) outs.now }
-    ensures marks { OnOk result (marks.new.items ≡ marks.old.items ++ numbered (slice_index sent.old.items) outs.now) }
-    ensures sent { OnOk result (slice_index sent.new.items ≡ counted_all (slice_index sent.old.items) outs.now) }
+pub(crate) fn number(sent: &mut Vec<u64>, outs: Vec<Out>, marks: &mut Vec<Mark>) -> Mem<()>
+    requires room { All (λ n. n < 2 ^ 62 + length marks.old.items) sent.old.items }
+    requires links { All (λ out. out.node.0 < length sent.old.items) outs.items }
+    ensures marks { OnOk result (marks.new.items ≡ marks.old.items ++ numbered (slice_index sent.old.items) outs.items) }
+    ensures sent { OnOk result (slice_index sent.new.items ≡ counted_all (slice_index sent.old.items) outs.items) }
     ensures links { OnOk result (length sent.new.items ≡ length sent.old.items) }
+    ensures room { OnOk result (All (λ n. n < 2 ^ 62 + length marks.new.items) sent.new.items) }
 {
     for out in outs {
-        let node = usize::from(out.node.0);
-        let number = count(sent, node);
-        marks.push(Mark::Sent {
-            to: out.node,
-            number,
-            message: out.message.copy(alloc)?,
-        })?;
+        let mark = send_one(sent, out);
+        marks.push(mark)?;
     }
     Ok(())
 }

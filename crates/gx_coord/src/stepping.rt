@@ -1,5 +1,5 @@
 // One step on the coordinator's parts.
-ghost use Rattle.std.specs.Prelude.{◌≡◌, ◌+◌, ◌<◌, ◌≤◌, ◌++◌, ◌^◌, All, length, slice_index, true, IfOk, OnOk};
+ghost use Rattle.std.specs.Prelude.{◌≡◌, ◌+◌, ◌<◌, ◌≤◌, ◌++◌, ◌^◌, [], All, length, slice_index, true, IfOk, OnOk};
 ghost use Rattle.gx_store.specs.Language.{IsScript};
 ghost use Rattle.gx_outside.specs.Shelves.{IsLater};
 ghost use Rattle.gx_rules.specs.AtCoordinator.{and_cancels_all, coord_can, coord_sends};
@@ -8,7 +8,7 @@ ghost use Rattle.gx_coord.specs.Books.{coord_of};
 ghost use Rattle.gx_coord.specs.Places.{AreIndexed};
 ghost use Rattle.gx_coord.specs.Sound.{IsSound};
 ghost use Rattle.gx_coord.specs.Steps.{HasGone, HasStayed};
-ghost use Rattle.gx_coord.specs.Turns.{so_far};
+ghost use Rattle.gx_coord.specs.Turns.{so_far, untold};
 
 use crate::cancelling::cancel_all;
 use crate::coord::Coord;
@@ -18,28 +18,21 @@ use crate::statuses::Turned;
 use gx_ids::{Mem, Seq};
 use gx_msg::Out;
 use gx_outside::Journal;
-use gx_store::{Mark, NodeEvent, NodeOut};
+use gx_store::{Mark, NodeEvent};
 use std::alloc::Global;
 use std::sync::Arc;
 
 // The messages have their numbers, and the clock goes on.
-fn send(
-    alloc: Global,
-    coord: &mut Coord,
-    outs: &[Out],
-    clock: u64,
-    marks: &mut Vec<Mark>,
-) -> Mem<()>
-    requires few { length outs.now < 2 ^ 63 }
+fn send(coord: &mut Coord, outs: Vec<Out>, clock: u64, marks: &mut Vec<Mark>) -> Mem<()>
     requires numbers { All (λ sent. sent < 2 ^ 62) coord.old.sent.items }
-    requires links { All (λ out. out.node.0 < length coord.old.sent.items) outs.now }
-    ensures coord { OnOk result (coord_of coord.new ≡ record (coord_of coord.old) { sent = counted_all (slice_index coord.old.sent.items) outs.now; clock = clock }) }
+    requires links { All (λ out. out.node.0 < length coord.old.sent.items) outs.items }
+    ensures coord { OnOk result (coord_of coord.new ≡ record (coord_of coord.old) { sent = counted_all (slice_index coord.old.sent.items) outs.items; clock = clock }) }
     ensures stayed { OnOk result (HasStayed coord.old coord.new) }
-    ensures marks { OnOk result (marks.new.items ≡ marks.old.items ++ numbered (slice_index coord.old.sent.items) outs.now) }
-    ensures room { OnOk result (All (λ n. n < 2 ^ 62 + length outs.now) coord.new.sent.items) }
+    ensures marks { OnOk result (marks.new.items ≡ marks.old.items ++ numbered (slice_index coord.old.sent.items) outs.items) }
+    ensures room { OnOk result (All (λ n. n < 2 ^ 62 + length marks.new.items) coord.new.sent.items) }
 {
     marks.reserve_exact(outs.len())?;
-    number(alloc, &mut coord.sent, outs, marks)?;
+    number(&mut coord.sent, outs, marks)?;
     coord.clock = clock;
     Ok(())
 }
@@ -51,26 +44,20 @@ fn send_and_cancel(
     turned: Turned,
     clock: u64,
     marks: Vec<Mark>,
-) -> Mem<NodeOut>
+) -> Mem<Seq<Mark>>
     requires some { 1 ≤ coord.old.script.value.segments }
     requires sound { IsSound coord.old.script.value (coord_of coord.old) }
     requires sent { length coord.old.sent.items ≡ coord.old.script.value.segments + 1 }
     requires numbers { All (λ sent. sent < 2 ^ 62) coord.old.sent.items }
     requires links { All (λ out. out.node.0 < length coord.old.sent.items) turned.outs }
     ensures stayed { OnOk result (HasStayed coord.old coord.new) }
-    ensures turn { IfOk result (λ out. so_far (coord_of coord.new) out.marks out.outs ≡ and_cancels_all turned.victims (coord_sends clock (so_far (coord_of coord.old) marks.items turned.outs))) }
-    ensures clock { IfOk result (λ out. out.clock ≡ coord.new.clock) }
+    ensures turn { IfOk result (λ all. so_far (coord_of coord.new) all [] ≡ untold (and_cancels_all turned.victims (coord_sends clock (so_far (coord_of coord.old) marks.items turned.outs)))) }
 {
     let mut marks = marks;
     let Turned { outs, victims, .. } = turned;
-    let mut outs = outs.into_vec();
-    send(alloc, coord, outs.as_slice(), clock, &mut marks)?;
-    cancel_all(alloc, coord, victims.as_slice(), &mut marks, &mut outs)?;
-    Ok(NodeOut {
-        marks: Seq::from_vec(marks),
-        outs: Seq::from_vec(outs),
-        clock: coord.clock,
-    })
+    send(coord, outs.into_vec(), clock, &mut marks)?;
+    cancel_all(alloc, coord, victims.as_slice(), &mut marks)?;
+    Ok(Seq::from_vec(marks))
 }
 
 // Takes the event, sends what it gives, and cancels whom it has named.
@@ -78,7 +65,7 @@ pub(crate) fn step_on<J: Journal>(
     coord: &mut Coord,
     event: NodeEvent,
     journal: &mut J,
-) -> Mem<NodeOut>
+) -> Mem<Seq<Mark>>
     requires language { IsScript coord.old.script.value }
     requires places { AreIndexed coord.old.script.value.lines (length coord.old.script.value.sessions) coord.old.places.items }
     requires sessions { length coord.old.sessions.items ≡ length coord.old.script.value.sessions }
@@ -91,7 +78,7 @@ pub(crate) fn step_on<J: Journal>(
     requires numbers { All (λ sent. sent < 2 ^ 62) coord.old.sent.items }
     requires drawn { coord.old.dtx.next.0 < 2 ^ 62 }
     requires rounds { coord.old.detector.begun < 2 ^ 62 }
-    ensures gone { IfOk result (λ out. HasGone coord.old coord.new event (J.shelf journal.old) (J.shelf journal.new) out) }
+    ensures gone { IfOk result (HasGone coord.old coord.new event (J.shelf journal.old) (J.shelf journal.new)) }
     ensures later { IsLater (J.shelf journal.old) (J.shelf journal.new) }
 {
     let alloc = coord.alloc;
@@ -99,6 +86,6 @@ pub(crate) fn step_on<J: Journal>(
     let clock = clock_after(coord.clock, &event);
     let mut marks = Vec::new(alloc);
     let turned = take_event(alloc, &script, coord, event, journal, &mut marks)?;
-    let out = send_and_cancel(alloc, coord, turned, clock, marks)?;
-    Ok(out)
+    let all = send_and_cancel(alloc, coord, turned, clock, marks)?;
+    Ok(all)
 }

@@ -1,11 +1,11 @@
 -- A segment against its rule, and what a step of it is.
-use Rattle.std.specs.Prelude.{◌≡◌, ◌≤◌, ℕ, Bool, false}
+use Rattle.std.specs.Prelude.{◌≡◌, ◌≤◌, ℕ, Bool, List, false}
 use Rattle.gx_ids.specs.declared.ids.Cid.{Cid}
 use Rattle.gx_ids.specs.declared.ids.Gxid.{Gxid}
 use Rattle.gx_outside.specs.Shelves.{Shelf}
 use Rattle.gx_node.specs.Orders.{Took}
 use Rattle.gx_store.specs.declared.node.NodeEvent.{NodeEvent}
-use Rattle.gx_store.specs.declared.node.NodeOut.{NodeOut}
+use Rattle.gx_store.specs.declared.mark.Mark.{Mark}
 use Rattle.gx_rules.specs.AtSegment.{seg_rule}
 use Rattle.gx_rules.specs.Segments.{Seg}
 use Rattle.gx_slices.specs.Agrees.{IsHeld}
@@ -31,28 +31,24 @@ nobody = record { 0 = 0 }
 abbrev pub no_command : Cid
 no_command = record { 0 = 0 }
 
--- The step is the rule's, for an append that fails or not: the data, the marks, the messages, the clock and what the journal
--- took. The horizon doesn't fall.
-pub record HasStepped (old new : Segment) (s : Seg) (event : NodeEvent) (before after : Shelf) (out : NodeOut) : Type 0 where
+-- The step is the rule's, for an append that fails or not: the data with the clock, the marks, which tell the message, and what
+-- the journal took. The horizon doesn't fall.
+pub record HasStepped (old new : Segment) (s : Seg) (event : NodeEvent) (before after : Shelf) (marks : List Mark) : Type 0 where
   pub fails : Bool
   pub is : IsSegment new (seg_rule old.script.value s event fails).seg
   pub script : new.script ≡ old.script
   pub rises : old.horizon.0 ≤ new.horizon.0
   pub usable : new.spent ≡ false
-  pub marks : out.marks ≡ (seg_rule old.script.value s event fails).marks
-  pub outs : out.outs ≡ (seg_rule old.script.value s event fails).outs
-  pub clock : out.clock ≡ new.clock
+  pub told : marks ≡ (seg_rule old.script.value s event fails).marks
   pub took : Took before after fails (seg_rule old.script.value s event fails).item
 
 -- the same of a segment's parts
-pub record HasGone (was : Before) (event : NodeEvent) (now : Held) (low : Gxid) (last : LastReport) (count time : ℕ) (before after : Shelf) (out : NodeOut) : Type 0 where
+pub record HasGone (was : Before) (event : NodeEvent) (now : Held) (low : Gxid) (last : LastReport) (count time : ℕ) (before after : Shelf) (marks : List Mark) : Type 0 where
   pub fails : Bool
   pub held : IsHeld was.script.tables now (seg_rule was.script was.seg event fails).seg
   pub horizon : low ≡ (seg_rule was.script was.seg event fails).seg.horizon
   pub report : last ≡ report_in (seg_rule was.script was.seg event fails).seg
   pub sent : count ≡ (seg_rule was.script was.seg event fails).seg.sent
   pub clock : time ≡ (seg_rule was.script was.seg event fails).seg.clock
-  pub told : out.clock ≡ time
-  pub marks : out.marks ≡ (seg_rule was.script was.seg event fails).marks
-  pub outs : out.outs ≡ (seg_rule was.script was.seg event fails).outs
+  pub told : marks ≡ (seg_rule was.script was.seg event fails).marks
   pub took : Took before after fails (seg_rule was.script was.seg event fails).item

@@ -9,12 +9,12 @@ ghost use Rattle.gx_segment.specs.Steps.{HasStepped, IsSegment, nobody, no_comma
 use crate::collecting::LastReport;
 use crate::stepping::step_on;
 use gx_dsnap::Snapshot;
-use gx_ids::{Cid, Gxid, Mem, Node, OutOfMemory, Table};
+use gx_ids::{Cid, Gxid, Mem, Node, OutOfMemory, Seq, Table};
 use gx_locks::LockTable;
 use gx_outside::{Gate, Journal};
 use gx_script::Script;
 use gx_slices::{Held, LocalStore};
-use gx_store::{NodeEvent, NodeOut};
+use gx_store::{Mark, NodeEvent};
 use gx_tree::KeyedRow;
 use std::alloc::Global;
 use std::collections::{BTreeMap, BTreeSet};
@@ -64,20 +64,20 @@ impl Segment {
 
     /// Does one event that the rule admits, by the segment's rule: a delivery, or that a slice goes on whose wait is ready. What the
     /// envelope holds is tested here; what doesn't fit changes nothing but the clock. The journal takes the items of PREPARE, COMMIT and COMMIT PREPARED before they are answered.
-    /// Each slice enters the gate first, at this node.
+    /// Each slice enters the gate first, at this node. What it did is told by its marks, the answer that it sends among them.
     pub fn step<J: Journal, G: Gate>(
         &mut self,
         event: NodeEvent,
         journal: &mut J,
         gate: &G,
-    ) -> Mem<NodeOut>
+    ) -> Mem<Seq<Mark>>
         ghost s: { Seg }
         requires is { self.old.spent ≡ false → IsSegment self.old s }
         requires admitted { seg_can self.old.script.value s event ≡ true }
         requires clock { self.old.clock < 2 ^ 62 }
         requires heard { heard_in event < 2 ^ 62 }
         requires numbers { self.old.sent < 2 ^ 62 }
-        ensures stepped { IfOk result (λ out. HasStepped self.old self.new s event (J.shelf journal.old) (J.shelf journal.new) out) }
+        ensures stepped { IfOk result (HasStepped self.old self.new s event (J.shelf journal.old) (J.shelf journal.new)) }
         ensures later { IsLater (J.shelf journal.old) (J.shelf journal.new) }
         ensures spent { OnErr result (self.new.spent ≡ true) }
         ensures again { self.old.spent ≡ true → IsErr result }
@@ -88,7 +88,7 @@ impl Segment {
             return Err(OutOfMemory);
         }
         self.spent = true;
-        let out = step_on(
+        let marks = step_on(
             self.alloc,
             self.node,
             &self.script,
@@ -102,7 +102,7 @@ impl Segment {
             gate,
         )?;
         self.spent = false;
-        Ok(out)
+        Ok(marks)
     }
 
     /// The rows of a table that a reader without a transaction is shown, by their identities.

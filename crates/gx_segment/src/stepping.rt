@@ -11,11 +11,11 @@ ghost use Rattle.gx_segment.specs.Steps.{HasGone};
 use crate::collecting::LastReport;
 use crate::messages::take_event;
 use crate::sending::send;
-use gx_ids::{Gxid, Mem, Node};
+use gx_ids::{Gxid, Mem, Node, Seq};
 use gx_outside::{Gate, Journal};
 use gx_script::Script;
 use gx_slices::Held;
-use gx_store::{NodeEvent, NodeOut};
+use gx_store::{Mark, NodeEvent};
 use std::alloc::Global;
 
 // Takes the event and sends the answer.
@@ -31,7 +31,7 @@ pub(crate) fn step_on<J: Journal, G: Gate>(
     event: NodeEvent,
     journal: &mut J,
     gate: &G,
-) -> Mem<NodeOut>
+) -> Mem<Seq<Mark>>
     ghost was: { Before }
     requires node { node ≡ was.seg.node }
     requires script { script.now ≡ was.script }
@@ -44,15 +44,15 @@ pub(crate) fn step_on<J: Journal, G: Gate>(
     requires numbers { sent.old < 2 ^ 62 }
     requires early { clock.old < 2 ^ 62 }
     requires heard { heard_in event < 2 ^ 62 }
-    ensures gone { IfOk result (λ out. HasGone was event held.new horizon.new report.new sent.new clock.new (J.shelf journal.old) (J.shelf journal.new) out) }
+    ensures gone { IfOk result (HasGone was event held.new horizon.new report.new sent.new clock.new (J.shelf journal.old) (J.shelf journal.new)) }
     ensures later { IsLater (J.shelf journal.old) (J.shelf journal.new) }
 {
     *clock = clock_behind(*clock, heard(&event));
     let done = take_event(
         alloc, node, script, held, horizon, report, event, journal, gate,
     )?;
-    let out = send(alloc, done, sent, *clock)?;
-    Ok(out)
+    let marks = send(done, sent)?;
+    Ok(marks)
 }
 
 // The clock that an event brings.

@@ -12,7 +12,7 @@ use Rattle.gx_node.specs.Orders.{Took}
 use Rattle.gx_script.specs.declared.Script.{Script}
 use Rattle.gx_store.specs.declared.event.Event.{Event}
 use Rattle.gx_store.specs.declared.node.NodeEvent.{NodeEvent}
-use Rattle.gx_store.specs.declared.node.NodeOut.{NodeOut}
+use Rattle.gx_store.specs.declared.run.Step.{Step}
 use Rattle.gx_store.specs.Journals.{is_same_node}
 use Rattle.gx_store.specs.Refusals.{the_coordinator}
 use Rattle.gx_rules.specs.AtCoordinator.{coord_rule}
@@ -27,7 +27,7 @@ use Rattle.gx_world.specs.Links.{IsAddressed}
 use Rattle.gx_world.specs.declared.network.Network.{Network}
 use Rattle.gx_world.specs.Turns.{HasSteppedAt, IsFit, IsNext}
 use Rattle.gx_world.specs.Networks.{HasTurned, IsAt, Stands}
-use Rattle.gx_world.proofs.Turned.{AreKept, IsPushed, addressed, are-kept}
+use Rattle.gx_world.proofs.Turned.{AreKept, IsPushed, addressed, are-kept, made}
 
 -- a place in a list with one changed
 pub get-set : {A : Type 0} (xs : List A) (i k : ℕ) (y x : A) → slice_get (slice_set xs i y) k ≡ Some x → ((k ≡ i) × (x ≡ y)) ⊎ ((k ≡ i → ⊥) × (slice_get xs k ≡ Some x))
@@ -56,8 +56,9 @@ elsewhere-at f i x j differ = ap (λ (b : Bool). if b then x else f j) (apart j 
     apart : (a b : ℕ) → (a ≡ b → ⊥) → eqb a b ≡ false
     apart a b h = grind (arith, nat_tests)
 
-pub stepped-over : {k : ℕ} {xs ys new : List Segment} {s : Seg} {event : NodeEvent} {before after : Shelf} {out : NodeOut} → xs ≡ ys → HasSteppedAt k xs new s event before after out → HasSteppedAt k ys new s event before after out
-stepped-over {k = k} e h = record { was = h.was; there = ap (λ zs. slice_get zs k) (sym e) ∙ h.there; now = h.now; all = h.all ∙ ap (λ zs. slice_set zs k h.now) e; stepped = h.stepped }
+pub stepped-over : {at : Node} {event : Event} {xs ys new : List Segment} {s : Seg} {here : NodeEvent} {before after : Shelf} {step : Step} → xs ≡ ys → HasSteppedAt at event xs new s here before after step → HasSteppedAt at event ys new s here before after step
+stepped-over {at = at} e h =
+    record { was = h.was; there = ap (λ zs. slice_get zs (at.0 - 1)) (sym e) ∙ h.there; now = h.now; all = h.all ∙ ap (λ zs. slice_set zs (at.0 - 1) h.now) e; stepped = h.stepped; is = h.is }
 
 module _ (script : Script) (w : machine.World) (old : Network) (stands : Stands script w old) (at : Node) (some : 1 ≤ at.0) where
   pub seg-usable : (s : Segment) → slice_get old.segments.items (at.0 - 1) ≡ Some s → s.spent ≡ false
@@ -78,7 +79,7 @@ module _ (script : Script) (w : machine.World) (old : Network) (stands : Stands 
       not_zero : (n : Node) → 1 ≤ n.0 → is_same_node n the_coordinator ≡ false
       not_zero n h = grind (arith, nat_tests)
 
-  module _ (event : Event) (here : NodeEvent) (before after : Shelf) (out : NodeOut) (items : List Segment) (next : IsNext script w event at here) (h : HasSteppedAt (at.0 - 1) old.segments.items items (w.segs at.0) here before after out) where
+  module _ (event : Event) (here : NodeEvent) (before after : Shelf) (step : Step) (items : List Segment) (next : IsNext script w event at here) (h : HasSteppedAt at event old.segments.items items (w.segs at.0) here before after step) where
     abbrev turn : Bool → Rattle.gx_rules.specs.Segments.SegTurn
     turn fails = seg_rule script (w.segs at.0) here fails
 
@@ -88,8 +89,8 @@ module _ (script : Script) (w : machine.World) (old : Network) (stands : Stands 
     was_script : h.was.script.value ≡ script
     was_script = (stands.segments (at.0 - 1) h.was h.there).of
 
-    seg_marks : out.marks ≡ (turn h.stepped.fails).marks
-    seg_marks = subst (λ x. out.marks ≡ (seg_rule x (w.segs at.0) here h.stepped.fails).marks) was_script h.stepped.marks
+    seg_marks : step.marks ≡ (turn h.stepped.fails).marks
+    seg_marks = subst (λ x. step.marks ≡ (seg_rule x (w.segs at.0) here h.stepped.fails).marks) was_script h.stepped.told
 
     seg_now : segment.IsSegment h.now (turn h.stepped.fails).seg
     seg_now = subst (λ x. segment.IsSegment h.now (seg_rule x (w.segs at.0) here h.stepped.fails).seg) was_script h.stepped.is
@@ -100,10 +101,12 @@ module _ (script : Script) (w : machine.World) (old : Network) (stands : Stands 
     seg_fit : IsFit script w.steps at (turn h.stepped.fails).marks
     seg_fit = next h.stepped.fails (record { stamp = record { clock = (turn h.stepped.fails).seg.clock; node = at }; event = event; marks = (turn h.stepped.fails).marks }) (ap (λ (b : Bool). (after_turn b).steps) away)
 
-    pub seg-addressed : All (IsAddressed script.segments at) out.marks
-    seg-addressed = subst (All (IsAddressed script.segments at)) (sym seg_marks) (addressed script at _ seg_fit.at)
+    pub seg-addressed : All (IsAddressed script.segments step.stamp.node) step.marks
+    seg-addressed =
+        subst (λ (node : Node). All (IsAddressed script.segments node) step.marks) (sym (ap (λ (s : Step). s.stamp.node) h.is))
+        (subst (All (IsAddressed script.segments at)) (sym seg_marks) (addressed script at _ seg_fit.at))
 
-    pub seg-turned : (new : Network) → IsPushed script old new at event out → new.segments.items ≡ items → new.coord ≡ old.coord → new.script ≡ old.script → new.spent ≡ old.spent → HasTurned script w event at here new before after
+    pub seg-turned : (new : Network) → IsPushed script old new step → new.segments.items ≡ items → new.coord ≡ old.coord → new.script ≡ old.script → new.spent ≡ old.spent → HasTurned script w event at here new before after
     seg-turned new pushed same_segments same_coord same_script same_spent =
         record {
           fails = h.stepped.fails;
@@ -113,7 +116,8 @@ module _ (script : Script) (w : machine.World) (old : Network) (stands : Stands 
         }
       where
         kept : AreKept (noted w at (turn h.stepped.fails).seg.clock event (turn h.stepped.fails).marks) new
-        kept = are-kept script w old new stands at event out _ _ (h.stepped.clock ∙ seg_now.clock) seg_marks seg_fit pushed
+        kept =
+            are-kept script w old new stands at event step _ _ (h.is ∙ ap (λ k. made at event k step.marks) seg_now.clock ∙ ap (made at event (turn h.stepped.fails).seg.clock) seg_marks) seg_fit pushed
 
         next_after : {k : ℕ} → k ≡ at.0 - 1 → k + 1 ≡ at.0
         next_after e = omega (arith, e, some)

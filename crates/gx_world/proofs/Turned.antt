@@ -10,7 +10,6 @@ use Rattle.gx_store.specs.declared.event.Event.{Event}
 use Rattle.gx_store.specs.declared.mark.Mark.{Mark}
 use Rattle.gx_store.specs.declared.mark.Mark.TheVariants as mark
 use Rattle.gx_store.specs.declared.node.NodeEvent.{NodeEvent}
-use Rattle.gx_store.specs.declared.node.NodeOut.{NodeOut}
 use Rattle.gx_store.specs.declared.run.Run.{Run}
 use Rattle.gx_store.specs.declared.run.Step.{Step}
 use Rattle.gx_store.specs.Journals.{is_same_node}
@@ -37,10 +36,13 @@ addressed script node ms h = All-weaker (IsAtNode script node) (IsAddressed scri
     each m e = tt
 
 -- a step was pushed, and its messages were noted
-pub record IsPushed (script : Script) (old new : Network) (node : Node) (event : Event) (out : NodeOut) : Type 0 where
-  pub run : new.run.steps ≡ old.run.steps ++ record { stamp = record { clock = out.clock; node = node }; event = event; marks = out.marks } ∷ []
+pub record IsPushed (script : Script) (old new : Network) (step : Step) : Type 0 where
+  pub run : new.run.steps ≡ old.run.steps ++ step ∷ []
   pub long : IsLong script.segments new.letters
-  pub links : (f t : Node) → link_in new.letters f t ≡ link_in old.letters f t ++ (if is_same_node f node then places_from (length old.run.steps) 0 t out.marks else [])
+  pub links : (f t : Node) → link_in new.letters f t ≡ link_in old.letters f t ++ (if is_same_node f step.stamp.node then places_from (length old.run.steps) 0 t step.marks else [])
+
+abbrev pub made : Node → Event → ℕ → List Mark → Step
+made node event clock marks = record { stamp = record { clock = clock; node = node }; event = event; marks = marks }
 
 -- so the run and the letters are those of the machine
 pub record AreKept (v : machine.World) (new : Network) : Type 0 where
@@ -48,25 +50,18 @@ pub record AreKept (v : machine.World) (new : Network) : Type 0 where
   pub letters : ArePosted new.letters new.run.steps v.sent
   pub placed : ArePlaced new.letters new.run.steps
 
-module _ (script : Script) (w : machine.World) (old new : Network) (stands : Stands script w old) (node : Node) (event : Event) (out : NodeOut) (clock : ℕ) (marks : List Mark) (same_clock : out.clock ≡ clock) (same_marks : out.marks ≡ marks) (fit : IsFit script w.steps node marks) (pushed : IsPushed script old new node event out) where
-  abbrev made : ℕ → List Mark → Step
-  made c ms = record { stamp = record { clock = c; node = node }; event = event; marks = ms }
-
+module _ (script : Script) (w : machine.World) (old new : Network) (stands : Stands script w old) (node : Node) (event : Event) (step : Step) (clock : ℕ) (marks : List Mark) (same : step ≡ made node event clock marks) (fit : IsFit script w.steps node marks) (pushed : IsPushed script old new step) where
   same_steps : old.run.steps ≡ w.steps
   same_steps = ap (λ (r : Run). r.steps) stands.run
 
-  new_steps : new.run.steps ≡ w.steps ++ made clock marks ∷ []
-  new_steps =
-      pushed.run
-      ∙ ap (λ xs. xs ++ made out.clock out.marks ∷ []) same_steps
-      ∙ ap (λ c. w.steps ++ made c out.marks ∷ []) same_clock
-      ∙ ap (λ ms. w.steps ++ made clock ms ∷ []) same_marks
+  new_steps : new.run.steps ≡ w.steps ++ made node event clock marks ∷ []
+  new_steps = pushed.run ∙ ap (λ xs. xs ++ step ∷ []) same_steps ∙ ap (λ s. w.steps ++ s ∷ []) same
 
   new_links : (f t : Node) → link_in new.letters f t ≡ link_in old.letters f t ++ (if is_same_node f node then places_from (length w.steps) 0 t marks else [])
   new_links f t =
       pushed.links f t
-      ∙ ap (λ xs. link_in old.letters f t ++ (if is_same_node f node then places_from (length xs) 0 t out.marks else [])) same_steps
-      ∙ ap (λ ms. link_in old.letters f t ++ (if is_same_node f node then places_from (length w.steps) 0 t ms else [])) same_marks
+      ∙ ap (λ xs. link_in old.letters f t ++ (if is_same_node f step.stamp.node then places_from (length xs) 0 t step.marks else [])) same_steps
+      ∙ ap (λ (s : Step). link_in old.letters f t ++ (if is_same_node f s.stamp.node then places_from (length w.steps) 0 t s.marks else [])) same
 
   were_posted : ArePosted old.letters w.steps w.sent
   were_posted = subst (λ xs. ArePosted old.letters xs w.sent) same_steps stands.letters
@@ -78,15 +73,15 @@ module _ (script : Script) (w : machine.World) (old new : Network) (stands : Sta
   are-kept =
       record {
         run = ap (λ xs. let r : Run = record { steps = xs } in r) new_steps;
-        letters = subst (λ xs. ArePosted new.letters xs (posted node clock marks w.sent)) (sym new_steps) (noted-posted w.steps w.sent (made clock marks) old.letters new.letters were_posted were_placed fit.numbers new_links);
-        placed = subst (ArePlaced new.letters) (sym new_steps) (noted-placed w.steps w.sent (made clock marks) old.letters new.letters were_posted were_placed fit.numbers new_links);
+        letters = subst (λ xs. ArePosted new.letters xs (posted node clock marks w.sent)) (sym new_steps) (noted-posted w.steps w.sent (made node event clock marks) old.letters new.letters were_posted were_placed fit.numbers new_links);
+        placed = subst (ArePlaced new.letters) (sym new_steps) (noted-placed w.steps w.sent (made node event clock marks) old.letters new.letters were_posted were_placed fit.numbers new_links);
       }
 
-module _ (script : Script) (w : machine.World) (old new : Network) (stands : Stands script w old) (event : Event) (here : NodeEvent) (before after : Shelf) (out : NodeOut) where
+module _ (script : Script) (w : machine.World) (old new : Network) (stands : Stands script w old) (event : Event) (here : NodeEvent) (before after : Shelf) (told : List Mark) where
   -- THE COORDINATOR
-  module _ (c : Coord) (next : IsNext script w event the_coordinator here) (h : coord.HasStepped old.coord c w.coord here before after out) where
-    coord_marks : out.marks ≡ (coord_rule script w.coord here h.fails).marks
-    coord_marks = subst (λ x. out.marks ≡ (coord_rule x w.coord here h.fails).marks) stands.coord_script h.marks
+  module _ (c : Coord) (step : Step) (is : step ≡ made the_coordinator event c.clock told) (next : IsNext script w event the_coordinator here) (h : coord.HasStepped old.coord c w.coord here before after told) where
+    coord_marks : told ≡ (coord_rule script w.coord here h.fails).marks
+    coord_marks = subst (λ x. told ≡ (coord_rule x w.coord here h.fails).marks) stands.coord_script h.told
 
     coord_is : coord.IsCoord c (coord_rule script w.coord here h.fails).coord
     coord_is = subst (λ x. coord.IsCoord c (coord_rule x w.coord here h.fails).coord) stands.coord_script h.is
@@ -94,10 +89,12 @@ module _ (script : Script) (w : machine.World) (old new : Network) (stands : Sta
     coord_fit : IsFit script w.steps the_coordinator (coord_rule script w.coord here h.fails).marks
     coord_fit = next h.fails _ refl
 
-    pub coord-addressed : All (IsAddressed script.segments the_coordinator) out.marks
-    coord-addressed = subst (All (IsAddressed script.segments the_coordinator)) (sym coord_marks) (addressed script the_coordinator _ coord_fit.at)
+    pub coord-addressed : All (IsAddressed script.segments step.stamp.node) step.marks
+    coord-addressed =
+        subst (λ (s : Step). All (IsAddressed script.segments s.stamp.node) s.marks) (sym is)
+        (subst (All (IsAddressed script.segments the_coordinator)) (sym coord_marks) (addressed script the_coordinator _ coord_fit.at))
 
-    pub coord-turned : IsPushed script old new the_coordinator event out → new ≡ record old { coord = c; letters = new.letters; run = new.run } → HasTurned script w event the_coordinator here new before after
+    pub coord-turned : IsPushed script old new step → new ≡ record old { coord = c; letters = new.letters; run = new.run } → HasTurned script w event the_coordinator here new before after
     coord-turned pushed others =
         record {
           fails = h.fails;
@@ -119,4 +116,6 @@ module _ (script : Script) (w : machine.World) (old new : Network) (stands : Sta
         }
       where
         kept : AreKept (noted w the_coordinator (coord_rule script w.coord here h.fails).coord.clock event (coord_rule script w.coord here h.fails).marks) new
-        kept = are-kept script w old new stands the_coordinator event out _ _ (h.clock ∙ coord_is.clock) coord_marks coord_fit pushed
+        kept =
+            are-kept script w old new stands the_coordinator event step _ _
+            (is ∙ ap (λ k. made the_coordinator event k told) coord_is.clock ∙ ap (made the_coordinator event (coord_rule script w.coord here h.fails).coord.clock) coord_marks) coord_fit pushed

@@ -19,7 +19,7 @@ use crate::network::Network;
 use gx_ids::{Mem, Node, Seq, Stamp};
 use gx_outside::{Gate, Journal};
 use gx_segment::Segment;
-use gx_store::{Event, Mark, NodeEvent, NodeOut, Step};
+use gx_store::{Event, Mark, NodeEvent, Step};
 
 // The coordinator does an event.
 pub(crate) fn coord_turn<J: Journal>(
@@ -39,8 +39,9 @@ pub(crate) fn coord_turn<J: Journal>(
     ensures script { network.new.script ≡ network.old.script }
     ensures err { OnErr result (network.new.run ≡ network.old.run) }
 {
-    let out = network.coord.step(there, journal)?;
-    push_step(network, Node(0), event, out)
+    let marks = network.coord.step(there, journal)?;
+    let step = step_of(network.coord.clock, Node(0), event, marks);
+    push_step(network, step)
 }
 
 // A segment does an event.
@@ -65,18 +66,19 @@ pub(crate) fn seg_turn<J: Journal, G: Gate>(
     ensures script { network.new.script ≡ network.old.script }
     ensures err { OnErr result (network.new.run ≡ network.old.run) }
 {
-    let out = seg_step(&mut network.segments, at, there, journal, gate)?;
-    push_step(network, at, event, out)
+    let step = seg_step(&mut network.segments, event, at, there, journal, gate)?;
+    push_step(network, step)
 }
 
 // The segment of a number, from 1, does an event.
 fn seg_step<J: Journal, G: Gate>(
     segments: &mut Vec<Segment>,
+    event: Event,
     at: Node,
     there: NodeEvent,
     journal: &mut J,
     gate: &G,
-) -> Mem<NodeOut>
+) -> Mem<Step>
     ghost s: { Seg }
     requires some { 1 ≤ at.0 }
     requires few { at.0 ≤ length segments.old.items }
@@ -85,34 +87,42 @@ fn seg_step<J: Journal, G: Gate>(
     requires room { All (λ segment. (segment.clock < 2 ^ 62) × (segment.sent < 2 ^ 62)) segments.old.items }
     requires admitted { (segment : OneSegment) → slice_get segments.old.items (at.0 - 1) ≡ Some segment → seg_can segment.script.value s there ≡ true }
     requires heard { heard_in there < 2 ^ 62 }
-    ensures stepped { IfOk result (λ out. HasSteppedAt (at.0 - 1) segments.old.items segments.new.items s there (J.shelf journal.old) (J.shelf journal.new) out) }
+    ensures stepped { IfOk result (λ step. HasSteppedAt at event segments.old.items segments.new.items s there (J.shelf journal.old) (J.shelf journal.new) step) }
     ensures later { IsLater (J.shelf journal.old) (J.shelf journal.new) }
 {
-    segments[usize::from(at.0) - 1].step(there, journal, gate)
+    let segment = &mut segments[usize::from(at.0) - 1];
+    let marks = segment.step(there, journal, gate)?;
+    Ok(step_of(segment.clock, at, event, marks))
 }
 
-// What a node has done becomes a step of the run, and where its messages stand is noted.
-fn push_step(network: &mut Network, node: Node, event: Event, out: NodeOut) -> Mem<()>
+// What a node has done.
+fn step_of(clock: u64, node: Node, event: Event, marks: Seq<Mark>) -> Step
+    ensures { result ≡ record { stamp = record { clock = clock; node = node }; event = event; marks = marks } }
+{
+    Step {
+        stamp: Stamp { clock, node },
+        event,
+        marks: fitted(marks),
+    }
+}
+
+// It becomes a step of the run, and where its messages stand is noted.
+fn push_step(network: &mut Network, step: Step) -> Mem<()>
     ghost segments: { ℕ }
     requires long { IsLong segments network.old.letters }
-    requires addressed { All (IsAddressed segments node) out.marks }
-    ensures run { OnOk result (network.new.run.steps ≡ network.old.run.steps ++ record { stamp = record { clock = out.clock; node = node }; event = event; marks = out.marks } ∷ []) }
+    requires addressed { All (IsAddressed segments step.stamp.node) step.marks }
+    ensures run { OnOk result (network.new.run.steps ≡ network.old.run.steps ++ step ∷ []) }
     ensures err { OnErr result (network.new.run ≡ network.old.run) }
     ensures long { OnOk result (IsLong segments network.new.letters) }
     ensures links { OnOk result ((f t : OneNode) → link_in network.new.letters f t ≡ link_in network.old.letters f t
-        ++ (if is_same_node f node then places_from (length network.old.run.steps) 0 t out.marks else [])) }
+        ++ (if is_same_node f step.stamp.node then places_from (length network.old.run.steps) 0 t step.marks else [])) }
     ensures others { network.new ≡ record network.old { letters = network.new.letters; run = network.new.run } }
 {
-    let step = network.run.steps.len();
-    network.letters.note(node, step, out.marks.as_slice())?;
-    network.run.steps.push(Step {
-        stamp: Stamp {
-            clock: out.clock,
-            node,
-        },
-        event,
-        marks: fitted(out.marks),
-    })
+    let place = network.run.steps.len();
+    network
+        .letters
+        .note(step.stamp.node, place, step.marks.as_slice())?;
+    network.run.steps.push(step)
 }
 
 // The marks without spare room, since a run keeps them.

@@ -1,38 +1,39 @@
-use Rattle.std.proofs.Common.{◌≡◌, ◌<◌, ◌+◌, ◌-◌, ◌^◌, All, ◌∙◌, ◌++◌, ◌∷◌, [], ap, drop, length, slice_index, slice_set, subst, sym}
-use Rattle.std.proofs.lemmas.List.{append_assoc}
-use Rattle.gx_msg.specs.declared.message.Message.{Message}
+use Rattle.std.proofs.Common.{◌≡◌, ◌<◌, ◌+◌, ◌^◌, ◌∙◌, ℕ, List, All, ◌∷◌, get_or, length, subst, sym, rules, refl, ap, slice_index, ◌++◌}
+use Rattle.std.proofs.lemmas.List.Elements.{All-tail}
+use Rattle.std.specs.Vec.Iter.{into_iter_items}
 use Rattle.gx_msg.specs.declared.message.Out.{Out}
 use Rattle.gx_rules.specs.Sending.{counted_all, numbered}
-use Rattle.gx_store.specs.declared.mark.Mark.TheVariants as mark
-use Rattle.gx_coord.proofs.Numbering.{counted-step, index-item, numbered-step, room-step, set-length}
+use Rattle.gx_coord.proofs.Numbering.{all-first, counted-next, few-pushed, few-room, numbered-next}
 use Rattle.gx_coord.proofs.sending.number.Goals as goal
+
+pub loop-out-init : goal.loop-out-init
+loop-out-init c =
+    let whole : into_iter_items c.into_iter-out-iterator.result ≡ c.args.outs.items = search rules in
+    let sent = c.args.sent.now.items in
+    (tt, tt, refl, subst (λ (os : List Out). All (λ out. out.node.0 < length sent) os) (sym whole) c.requires.links, c.requires.room, ap (λ os. c.args.marks.now.items ++ numbered (slice_index sent) os) whole, ap (counted_all (slice_index sent)) whole)
+
+pub send_one-requires-clause-inside : goal.send_one-requires-clause-inside
+send_one-requires-clause-inside c = all-first (λ (out : Out). out.node.0 < length c.loop-out.sent.items) c.in-Some.out _ (subst (All (λ (out : Out). out.node.0 < length c.loop-out.sent.items)) c.in-Some.ensures.steps.0 c.loop-out.invariant.3)
+
+pub send_one-requires-clause-room : goal.send_one-requires-clause-room
+send_one-requires-clause-room c =
+    let inside = all-first (λ (out : Out). out.node.0 < length c.loop-out.sent.items) c.in-Some.out _ (subst (All (λ (out : Out). out.node.0 < length c.loop-out.sent.items)) c.in-Some.ensures.steps.0 c.loop-out.invariant.3) in
+    few-room (get_or c.loop-out.sent.items c.in-Some.out.node.0 0) c.loop-out.marks (c.loop-out.invariant.4 c.in-Some.out.node.0 0 inside)
 
 pub loop-out-preserved : goal.loop-out-preserved
 loop-out-preserved c =
-    let sent = c.loop-out.sent.items in
-    let i = c.loop-out.out-index in
-    let outs = c.args.outs.now in
-    let out = c.out-item.result in
-    let k = c.from-node.result in
-    let number = c.count-number.result in
-    let now = c.count-number.ensures.sent in
-    let l = c.loop-out-test.true in
-    let e = c.out-item.is in
-    let at = c.from-node.ensures in
-    let node : out.node.0 < length c.args.sent.now.items = subst (λ (o : Out). o.node.0 < length c.args.sent.now.items) (sym e) (c.requires.links i out l) in
-    let inside : k < length sent = subst (λ n. n < length sent) (sym at) (subst (λ n. out.node.0 < n) (sym c.loop-out.invariant.links) node) in
-    let is : number ≡ slice_index sent k + 1 = c.count-number.ensures.number ∙ ap (λ n. n + 1) (sym (index-item sent k 0 inside)) in
-    let told : number ≡ slice_index sent out.node.0 + 1 = is ∙ ap (λ n. slice_index sent n + 1) at in
-    let rest = numbered (slice_index (slice_set sent k number)) (drop (i + 1) outs) in
-    record {
-      links = ap length now ∙ set-length sent k number ∙ c.loop-out.invariant.links;
-      room = subst (λ ns. All (λ n. n + (length outs - (i + 1)) < 2 ^ 64) ns) (sym now) (room-step sent outs i k number out l e at inside is c.loop-out.invariant.room);
-      marks = ap (λ ns. c.push.new.self.items ++ numbered (slice_index ns) (drop (i + 1) outs)) now
-          ∙ ap (λ xs. xs ++ rest) c.in_ok-push.ensures.items
-          ∙ ap (λ (m : Message). (c.loop-out.marks.items ++ mark.Sent out.node number m ∷ []) ++ rest) c.in_ok-copy.ensures
-          ∙ ap (λ n. (c.loop-out.marks.items ++ mark.Sent out.node n out.message ∷ []) ++ rest) told
-          ∙ append_assoc c.loop-out.marks.items (mark.Sent out.node (slice_index sent out.node.0 + 1) out.message ∷ []) rest
-          ∙ ap (λ ys. c.loop-out.marks.items ++ ys) (sym (numbered-step sent outs i k number out l e at inside is))
-          ∙ c.loop-out.invariant.marks;
-      sent = ap (λ ns. counted_all (slice_index ns) (drop (i + 1) outs)) now ∙ sym (counted-step sent outs i k number out l e at inside is) ∙ c.loop-out.invariant.sent;
-    }
+    let i = c.loop-out.invariant in
+    let first = c.in-Some.ensures.steps.0 in
+    let mark = c.send_one-mark.ensures in
+    let pushed = c.in_ok-push.ensures.items in
+    let before = c.loop-out.marks.items in
+    let out = c.in-Some.out in
+    (
+      tt,
+      tt,
+      mark.links ∙ i.2,
+      subst (λ m. All (λ (o : Out). o.node.0 < m) (into_iter_items c.next.new.self)) (sym mark.links) (All-tail (λ (o : Out). o.node.0 < length c.loop-out.sent.items) out _ (subst (All (λ (o : Out). o.node.0 < length c.loop-out.sent.items)) first i.3)),
+      few-pushed _ before _ _ pushed (mark.few _ i.4),
+      numbered-next _ _ out _ _ before _ _ first mark.sent mark.mark pushed ∙ i.5,
+      counted-next _ _ out _ _ before _ c.send_one-mark.result first mark.sent ∙ i.6,
+    )

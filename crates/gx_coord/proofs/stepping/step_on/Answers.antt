@@ -38,14 +38,12 @@ returns-clause-gone g c =
     let e = c.in_ok-turned.ensures in
     let same = c.deref.ensures ∙ c.in_ok-script.ensures in
     let is =
-    step-is old c.take_event.new.coord c.send_and_cancel.new.coord c.deref.result.now c.args.event fails c.clock_after-clock.result _ _ _ _ _ _ same c.new-marks.ensures.items c.clock_after-clock.ensures e.turn e.outs e.victims c.in_ok-out.ensures.turn in
+    step-is old c.take_event.new.coord c.send_and_cancel.new.coord c.deref.result.now c.args.event fails c.clock_after-clock.result _ _ _ _ _ same c.new-marks.ensures.items c.clock_after-clock.ensures e.turn e.outs e.victims c.in_ok-all.ensures.turn in
     record {
       fails = fails;
       small = c.take_event.ensures.small;
       coord = ap (λ (t : CoordTurn). t.coord) is;
-      stayed = stayed-trans _ _ _ (framed-stayed _ _ e.turn.framed) c.in_ok-out.ensures.stayed;
-      marks = ap (λ (t : CoordTurn). t.marks) is;
-      outs = ap (λ (t : CoordTurn). t.outs) is;
-      clock = c.in_ok-out.ensures.clock;
+      stayed = stayed-trans _ _ _ (framed-stayed _ _ e.turn.framed) c.in_ok-all.ensures.stayed;
+      told = ap (λ (t : CoordTurn). t.marks) is;
       took = took-is old c.deref.result.now c.args.event fails same e.took;
     }

@@ -6,9 +6,9 @@ use Rattle.gx_segment.proofs.stepping.step_on.Goals as goal
 pub returns-clause-gone : goal.returns-clause-gone
 returns-clause-gone g c =
     let is = c.in_ok-done.ensures in
-    let out = c.in_ok-out.ensures in
+    let sent = c.in_ok-marks.ensures in
     let clock = c.args.clock.now in
-    HasGone-made g.was c.args.event c.take_event.new.held c.take_event.new.horizon c.take_event.new.report c.args.sent.now c.send.new.sent clock c.clock_behind.result _ _ c.in_ok-done.done c.in_ok-out.out
+    HasGone-made g.was c.args.event c.take_event.new.held c.take_event.new.horizon c.take_event.new.report c.args.sent.now c.send.new.sent clock c.clock_behind.result _ _ c.in_ok-done.done c.in_ok-marks.marks
     is.done is.report is.took c.requires.1.1.1.1.1.1.1.1.0 c.requires.1.1.1.1.1.1.1.1.1.0
     (c.clock_behind.ensures ∙ ap (λ (n : ℕ). (if nat_lt clock n then n else clock) + 1) c.heard.ensures)
-    out.marks out.outs out.clock out.sent
+    sent.marks sent.sent

@@ -8,6 +8,6 @@ loop-mark-preserved c = (
   λ standing were node g.
       c.in_ok-note_wait.ensures.waits (λ n. waits_from n (standing n) (take c.loop-mark.mark-index c.args.marks.now)) (c.loop-mark.invariant.0 standing were) node g
       ∙ ap (of_gxid g) (sym (waits-next node (standing node) c.args.marks.now c.loop-mark.mark-index c.mark-item.result c.loop-mark-test.true c.mark-item.is)),
-  c.note_wait.ensures.pending ∙ c.loop-mark.invariant.1,
+  λ r. c.in_ok-note_wait.ensures.awaited r ∙ c.loop-mark.invariant.1 r,
   λ index. c.in_ok-note_wait.ensures.due (c.loop-mark.invariant.2 index),
 )
