@@ -14,5 +14,5 @@ pub mod run;
 pub use answer::{Refused, StmtAnswer};
 pub use event::Event;
 pub use mark::Mark;
-pub use node::{NodeEvent, NodeOut};
+pub use node::NodeEvent;
 pub use run::{Run, Step};
