@@ -101,7 +101,9 @@ fn rows_with(
     own: Option<Lxid>,
     cid: Cid,
 ) -> Mem<Vec<KeyedRow>>
-    ensures whole { IfOk result (λ rows. rows.items ≡ flat_map (λ rid. keyed rid (with_value column value.now (image_at (versions_in tables.now.entries table) xids.now snap.now own cid rid))) (rids_under index.now (key_at table value.now))) }
+    ensures whole { IfOk result (λ rows. rows.items
+        ≡ flat_map (λ rid. keyed rid (with_value column value.now (image_at (versions_in tables.now.entries table) xids.now snap.now own cid rid)))
+        (rids_under index.now (key_at table value.now))) }
     ensures rising { IfOk result (λ rows. AreRising rows.items) }
 {
     let rids = index.find(table, value)?;
