@@ -27,8 +27,7 @@ loop-out-preserved c =
     let mark = c.send_one-mark.ensures in
     let pushed = c.in_ok-push.ensures.items in
     let before = c.loop-out.marks.items in
-    let out = c.in-Some.out in
-    (
+    let out = c.in-Some.out in (
       tt,
       tt,
       mark.links ∙ i.2,
