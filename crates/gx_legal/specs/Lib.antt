@@ -9,6 +9,8 @@ pub mod Firsts
 pub mod Moments
 pub mod Snaps
 pub mod Standings
+pub mod Stretches
 pub mod Tables
+pub mod Tallies
 pub mod Verdicts
 pub mod Words

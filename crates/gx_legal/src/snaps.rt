@@ -9,11 +9,10 @@ ghost use Rattle.gx_legal.specs.Snaps.{SeesCommit, SeesCommits, SeesEnded};
 
 use crate::deed::{Act, Deed};
 use crate::moment::Moment;
+use crate::seats::is_ended_at;
 use crate::working::is_by_command;
 use gx_dsnap::Snapshot;
 use gx_ids::{Cid, Gxid, Mem};
-use gx_legal_rows::is_ended;
-use gx_script::Script;
 use gx_store::Mark;
 use std::alloc::Global;
 
@@ -40,18 +39,18 @@ fn sees_commits(marks: &[Mark], snapshot: &Snapshot) -> bool
 }
 
 // Whether it doesn't see the transaction, or this one has ended.
-fn has_ended_if_seen(marks: &[Mark], snapshot: &Snapshot, gxid: Gxid) -> bool
-    ensures { IsTrue result ↔ (sees snapshot.now gxid ≡ true → has_ended marks.now gxid ≡ true) }
+fn has_ended_if_seen(moment: &Moment<'_, '_>, snapshot: &Snapshot, gxid: Gxid) -> bool
+    ensures { IsTrue result ↔ (sees snapshot.now gxid ≡ true → has_ended moment.now.before.now gxid ≡ true) }
 {
-    !snapshot.sees(gxid) || is_ended(marks, gxid)
+    !snapshot.sees(gxid) || is_ended_at(moment, gxid)
 }
 
 // Whether all that it sees have ended. The first that is seen and has not ends the loop, so it takes no longer than there are marks.
-fn sees_ended(marks: &[Mark], snapshot: &Snapshot) -> bool
-    ensures { IsTrue result ↔ SeesEnded marks.now snapshot.now }
+fn sees_ended(moment: &Moment<'_, '_>, snapshot: &Snapshot) -> bool
+    ensures { IsTrue result ↔ SeesEnded moment.now.before.now snapshot.now }
 {
     for number in 1..snapshot.xmax.0 {
-        if !has_ended_if_seen(marks, snapshot, Gxid(number)) {
+        if !has_ended_if_seen(moment, snapshot, Gxid(number)) {
             return false;
         }
     }
@@ -61,18 +60,17 @@ fn sees_ended(marks: &[Mark], snapshot: &Snapshot) -> bool
 /// Whether the command may take this snapshot.
 pub fn is_legal_snap(
     alloc: Global,
-    script: &Script,
-    moment: &Moment<'_>,
+    moment: &Moment<'_, '_>,
     command: (Gxid, Cid),
     snapshot: &Snapshot,
 ) -> Mem<bool>
-    requires { IsScript script.now }
-    ensures { IfOk result (λ is. IsTrue is ↔ LegalSnap script.now (point_of moment.now) command.0 command.1 snapshot.now) }
+    requires { IsScript moment.now.script.now }
+    ensures { IfOk result (λ is. IsTrue is ↔ LegalSnap moment.now.script.now (point_of moment.now) command.0 command.1 snapshot.now) }
 {
     if !sees_commits(moment.before, snapshot) {
         return Ok(false);
     }
-    if !sees_ended(moment.before, snapshot) {
+    if !sees_ended(moment, snapshot) {
         return Ok(false);
     }
     let deed = Deed {
@@ -81,5 +79,5 @@ pub fn is_legal_snap(
         marks: moment.before,
         act: Act::Snap,
     };
-    is_by_command(alloc, script, moment, &deed)
+    is_by_command(alloc, moment, &deed)
 }

@@ -7,9 +7,9 @@ use Rattle.gx_legal.proofs.ends.ends_in.Goals as goal
 pub returns-in-Some : goal.returns-in-Some
 returns-in-Some c =
     let p = point_of c.args.moment.now in
-    line-some c.args.script.now p c.args.session (EndsWith c.args.script.now p c.args.gxid c.args.how c.args.session) c.in-Some.line.now c.ends_with.result c.in-Some.ensures c.ends_with.ensures
+    line-some c.args.moment.now.script.now p c.args.session (EndsWith c.args.moment.now.script.now p c.args.gxid c.args.how c.args.session) c.in-Some.line.now c.ends_with.result c.in-Some.ensures c.ends_with.ensures
 
 pub returns-in-None : goal.returns-in-None
 returns-in-None c =
     let p = point_of c.args.moment.now in
-    (λ t. absurd (false-true t), λ of. absurd (line-none c.args.script.now p c.args.session (EndsWith c.args.script.now p c.args.gxid c.args.how c.args.session) c.in-None.ensures of))
+    (λ t. absurd (false-true t), λ of. absurd (line-none c.args.moment.now.script.now p c.args.session (EndsWith c.args.moment.now.script.now p c.args.gxid c.args.how c.args.session) c.in-None.ensures of))
