@@ -29,11 +29,12 @@ fn is_by_earlier_in_step(
     ensures tally { IfOk result (λ is. is ≡ false → IsTally stretch.now.script.now stretch.now.steps.now (marks_in stretch.now.steps.now ++ stretch.now.marks.now) tally.new) }
 {
     for count in 0..stretch.marks.len() {
+        let mark = &stretch.marks[count];
         let moment = moment_at(stretch, count, &[], tally);
         if is_by_command(alloc, &moment, deed)? {
             return Ok(true);
         }
-        count_mark(stretch.script, tally, &stretch.marks[count])?;
+        count_mark(stretch.script, tally, mark)?;
     }
     let moment = moment_at(stretch, stretch.marks.len(), &[], tally);
     is_by_command(alloc, &moment, deed)

@@ -1,11 +1,13 @@
 // Whether a snapshot may be taken.
 ghost use Rattle.std.specs.Prelude.{◌≡◌, ◌↔◌, IfOk, IsTrue, true};
+ghost use Rattle.std.specs.BTreeSet.{keys};
+ghost use Rattle.std.specs.List.{list_all};
 ghost use Rattle.gx_dsnap.specs.Snapshot.{sees};
 ghost use Rattle.gx_store.specs.Language.{IsScript};
 ghost use Rattle.gx_store.specs.Legal.{LegalSnap};
 ghost use Rattle.gx_store.specs.Marks.{is_ended as has_ended};
 ghost use Rattle.gx_legal.specs.Moments.{point_of};
-ghost use Rattle.gx_legal.specs.Snaps.{SeesCommit, SeesCommits, SeesEnded};
+ghost use Rattle.gx_legal.specs.Snaps.{SeesCommits, SeesEnded};
 
 use crate::deed::{Act, Deed};
 use crate::moment::Moment;
@@ -13,29 +15,21 @@ use crate::seats::is_ended_at;
 use crate::working::is_by_command;
 use gx_dsnap::Snapshot;
 use gx_ids::{Cid, Gxid, Mem};
-use gx_store::Mark;
 use std::alloc::Global;
+use std::collections::BTreeSet;
 
-// Whether the snapshot sees a transaction that the mark commits.
-fn sees_commit(mark: &Mark, snapshot: &Snapshot) -> bool
-    ensures { IsTrue result ↔ SeesCommit mark.now snapshot.now }
+// Whether the snapshot sees all of these.
+fn sees_all(gxids: &BTreeSet<Gxid>, snapshot: &Snapshot) -> bool
+    ensures { result ≡ list_all (sees snapshot.now) (keys gxids.now) }
 {
-    match mark {
-        Mark::Commit { gxid } => snapshot.sees(*gxid),
-        _ => true,
-    }
+    gxids.iter().all(|gxid| snapshot.sees(*gxid))
 }
 
 // Whether it sees all that have committed.
-fn sees_commits(marks: &[Mark], snapshot: &Snapshot) -> bool
-    ensures { IsTrue result ↔ SeesCommits marks.now snapshot.now }
+fn sees_commits(moment: &Moment<'_, '_>, snapshot: &Snapshot) -> bool
+    ensures { IsTrue result ↔ SeesCommits moment.now.before.now snapshot.now }
 {
-    for mark in marks {
-        if !sees_commit(mark, snapshot) {
-            return false;
-        }
-    }
-    true
+    sees_all(&moment.tally.committed, snapshot)
 }
 
 // Whether it doesn't see the transaction, or this one has ended.
@@ -67,7 +61,7 @@ pub fn is_legal_snap(
     requires { IsScript moment.now.script.now }
     ensures { IfOk result (λ is. IsTrue is ↔ LegalSnap moment.now.script.now (point_of moment.now) command.0 command.1 snapshot.now) }
 {
-    if !sees_commits(moment.before, snapshot) {
+    if !sees_commits(moment, snapshot) {
         return Ok(false);
     }
     if !sees_ended(moment, snapshot) {

@@ -25,17 +25,17 @@ is_legal_mark-requires c = subst IsScript (sym c.moment_at-moment.ensures.script
 pub count_mark-requires : goal.count_mark-requires
 count_mark-requires c =
     let s = c.args.stretch.now in
-    can-move s.script.now s.steps.now (marks_in s.steps.now ++ take c.loop-number.number s.marks.now) c.loop-number.tally.now c.loop-number.invariant.told c.moment_at-moment.ensures.room
+    can-move s.script.now s.steps.now (marks_in s.steps.now ++ take c.loop-number.number s.marks.now) c.loop-number.tally c.loop-number.invariant.told c.moment_at-moment.ensures.room
 
 pub loop-number-preserved : goal.loop-number-preserved
 loop-number-preserved c =
     let s = c.args.stretch.now in
     let k = c.loop-number.number in
-    let m = c.index-mark.result in
+    let m = c.index-stretch-number.result in
     let mo = c.moment_at-moment in
-    let at : slice_get s.marks.now k ≡ Some m = slice_get_read s.marks.now (length s.marks.now) k m refl c.loop-number-test.true c.index-mark.is in
+    let at : slice_get s.marks.now k ≡ Some m = slice_get_read s.marks.now (length s.marks.now) k m refl c.loop-number-test.true c.index-stretch-number.is in
     record {
-      legal = marks-next s.script.now s.steps.now s.event s.marks.now k m c.loop-number-test.true c.index-mark.is
+      legal = marks-next s.script.now s.steps.now s.event s.marks.now k m c.loop-number-test.true c.index-stretch-number.is
       (subst (λ (p : Point). LegalMark s.script.now p m) mo.ensures.point (subst (λ (r : Script). LegalMark r (point_of mo.result) m) mo.ensures.script (c.in_ok-is_legal_mark.ensures.0 c.if-not-branch.false))) c.loop-number.invariant.legal;
       told = tally-through s.script.now s.steps.now (marks_in s.steps.now) s.marks.now k m _ _ at c.loop-number.invariant.told c.in_ok-count_mark.ensures;
     }
@@ -44,11 +44,11 @@ pub returns-then-not-branch-clause-are : goal.returns-then-not-branch-clause-are
 returns-then-not-branch-clause-are c =
     let s = c.args.stretch.now in
     let k = c.loop-number.number in
-    let m = c.index-mark.result in
+    let m = c.index-stretch-number.result in
     let mo = c.moment_at-moment in
     (
       λ t. absurd (false-true t),
-      λ all. absurd (marks-stop s.script.now s.steps.now s.event s.marks.now k m c.loop-number-test.true c.index-mark.is
+      λ all. absurd (marks-stop s.script.now s.steps.now s.event s.marks.now k m c.loop-number-test.true c.index-stretch-number.is
           (λ legal. no-longer c.in_ok-is_legal_mark.field-0 c.in_ok-is_legal_mark.ensures c.if-not-branch.true
           (subst (λ (r : Script). LegalMark r (point_of mo.result) m) (sym mo.ensures.script) (subst (λ (p : Point). LegalMark s.script.now p m) (sym mo.ensures.point) legal)))
           c.loop-number.invariant.legal all),
@@ -67,4 +67,4 @@ pub returns-clause-tally : goal.returns-clause-tally
 returns-clause-tally c =
     let s = c.args.stretch.now in
     let past : length s.marks.now ≤ c.loop-number.number = omega (arith, c.loop-number-test.false) in
-    λ t. subst (λ (ms : List Mark). IsTally s.script.now s.steps.now (marks_in s.steps.now ++ ms) c.loop-number.tally.now) (take_all c.loop-number.number s.marks.now past) c.loop-number.invariant.told
+    λ t. subst (λ (ms : List Mark). IsTally s.script.now s.steps.now (marks_in s.steps.now ++ ms) c.loop-number.tally) (take_all c.loop-number.number s.marks.now past) c.loop-number.invariant.told

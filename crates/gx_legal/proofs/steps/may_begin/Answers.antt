@@ -5,7 +5,7 @@ use Rattle.gx_store.specs.Points.{Point, marks_in}
 use Rattle.gx_legal.specs.Tallies.{IsTally}
 use Rattle.gx_legal.proofs.steps.may_begin.Goals as goal
 
-pub moment_at-requires-clause-tally : goal.moment_at-requires-clause-tally
-moment_at-requires-clause-tally c =
+pub moment_at-moment-requires-clause-tally : goal.moment_at-moment-requires-clause-tally
+moment_at-moment-requires-clause-tally c =
     let s = c.args.stretch.now in
     subst (λ (ms : List Mark). IsTally s.script.now s.steps.now ms c.args.tally.now) (sym (append-nil (marks_in s.steps.now))) c.requires

@@ -7,12 +7,13 @@ use Rattle.gx_legal.specs.declared.tally.Seat.{Seat}
 use Rattle.gx_legal.specs.Tallies.{IsSeatStepped}
 use Rattle.gx_legal.proofs.tally.start_line.Goals as goal
 
-pub overflow_add : goal.overflow_add
-overflow_add c =
+pub overflow_add-seat : goal.overflow_add-seat
+overflow_add-seat c =
     let a = c.args in
     let at : slice_get a.seats.now.items a.session.0 ≡ Some c.index-seat.result.now =
     slice_get_read a.seats.now.items (length a.seats.now.items) a.session.0 c.index-seat.result.now refl (omega (arith, c.if-place-len.true, c.len.ensures)) c.index-seat.ensures in
-    (c.requires a.session c.index-seat.result.now at).0
+    let room = (c.requires a.session c.index-seat.result.now at).0 in
+    omega (arith, room)
 
 pub returns-then-place-len : goal.returns-then-place-len
 returns-then-place-len c =
