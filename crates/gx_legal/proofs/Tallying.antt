@@ -191,7 +191,7 @@ module _ (script : Script) where
 
   -- ROOM
   starts-one : (session : SessionId) (e : Event) → starts_by session e ≤ 1
-  starts-one session (event.Start s) = by_test (is_same_session s session) 
+  starts-one session (event.Start s) = by_test (is_same_session s session)
     where
       by_test : (b : Bool) → (if b then 1 else 0) ≤ 1
       by_test true = omega arith

@@ -1,6 +1,7 @@
 pub mod Answers
 pub mod Causes
 pub mod Commands
+pub mod Copies
 pub mod Deeds
 pub mod Done
 pub mod Ends

@@ -76,11 +76,7 @@ fn is_answer(
     requires line { IsStmtOf moment.now.script.now.tables line.now }
     ensures { IfOk result (λ is. IsTrue is ↔ IsAnswer moment.now.script.now (point_of moment.now) session (state_at moment.now.script.now session (point_of moment.now)) line.now answer.now) }
 {
-    let judgement = judge(
-        standing_at(moment, session).block,
-        line,
-        answer,
-    );
+    let judgement = judge(standing_at(moment, session).block, line, answer);
     meets(alloc, moment, session, line, answer, judgement)
 }
 

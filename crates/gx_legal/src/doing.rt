@@ -76,12 +76,7 @@ pub fn is_legal_skip(
     requires { IsScript moment.now.script.now }
     ensures { IfOk result (λ is. IsTrue is ↔ LegalSkip moment.now.script.now (point_of moment.now) command.0 command.1 rid) }
 {
-    is_by_either(alloc,
-        moment,
-        command,
-        Act::Skip(rid),
-        Act::LateSkip,
-    )
+    is_by_either(alloc, moment, command, Act::Skip(rid), Act::LateSkip)
 }
 
 /// Whether an evaluation of the command may fault on this image of the row.
@@ -95,7 +90,8 @@ pub fn is_legal_fault(
     requires { IsScript moment.now.script.now }
     ensures { IfOk result (λ is. IsTrue is ↔ LegalFault moment.now.script.now (point_of moment.now) command.0 command.1 rid image.now) }
 {
-    is_by_either(alloc,
+    is_by_either(
+        alloc,
         moment,
         command,
         Act::Fault { rid, image },

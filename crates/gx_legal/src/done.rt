@@ -57,12 +57,7 @@ fn are_back(moment: &Moment<'_, '_>, command: Command, pieces: &[Piece]) -> bool
 }
 
 // Whether each node to which the command goes has answered that it is done.
-fn is_back(
-    alloc: Global,
-    moment: &Moment<'_, '_>,
-    command: Command,
-    stmt: &Stmt,
-) -> Mem<bool>
+fn is_back(alloc: Global, moment: &Moment<'_, '_>, command: Command, stmt: &Stmt) -> Mem<bool>
     requires script { IsScript moment.now.script.now }
     requires line { IsStmtOf moment.now.script.now.tables stmt.now }
     ensures { IfOk result (λ is. IsTrue is ↔ IsBack moment.now.script.now (point_of moment.now) command.gxid command.cid stmt.now) }

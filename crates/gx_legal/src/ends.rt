@@ -32,13 +32,7 @@ fn may_end(how: End, block: Block, line: &Stmt) -> bool
     }
 }
 
-fn ends_with(
-    moment: &Moment<'_, '_>,
-    gxid: Gxid,
-    how: End,
-    session: SessionId,
-    line: &Stmt,
-) -> bool
+fn ends_with(moment: &Moment<'_, '_>, gxid: Gxid, how: End, session: SessionId, line: &Stmt) -> bool
     ensures { IsTrue result ↔ EndsWith moment.now.script.now (point_of moment.now) gxid how session line.now }
 {
     is_in(moment, session, gxid)

@@ -39,10 +39,7 @@ fn has_started(moment: &Moment<'_, '_>, session: SessionId) -> bool
 }
 
 /// The statement that the session has under way: started, and not answered.
-pub fn line_under_way<'a>(
-    moment: &Moment<'a, '_>,
-    session: SessionId,
-) -> Option<&'a Stmt>
+pub fn line_under_way<'a>(moment: &Moment<'a, '_>, session: SessionId) -> Option<&'a Stmt>
     ensures { (stmt : OneStmt) → (option_copied result ≡ Some stmt) ↔ RunsLine moment.now.script.now (point_of moment.now) session stmt }
 {
     if has_started(moment, session) {

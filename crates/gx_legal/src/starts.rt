@@ -19,12 +19,7 @@ fn is_next(marks: &[Mark], gxid: Gxid) -> bool
     gxid.0 == start_count(marks) as u64 + 1
 }
 
-fn starts_with(
-    moment: &Moment<'_, '_>,
-    gxid: Gxid,
-    session: SessionId,
-    line: &Stmt,
-) -> bool
+fn starts_with(moment: &Moment<'_, '_>, gxid: Gxid, session: SessionId, line: &Stmt) -> bool
     ensures { IsTrue result ↔ StartsWith moment.now.script.now (point_of moment.now) gxid session line.now }
 {
     let standing = standing_at(moment, session);

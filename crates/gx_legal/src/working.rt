@@ -35,11 +35,7 @@ fn is_by_command_of(
 }
 
 /// Whether some session's command under way may do it.
-pub fn is_by_command(
-    alloc: Global,
-    moment: &Moment<'_, '_>,
-    deed: &Deed<'_>,
-) -> Mem<bool>
+pub fn is_by_command(alloc: Global, moment: &Moment<'_, '_>, deed: &Deed<'_>) -> Mem<bool>
     requires { IsScript moment.now.script.now }
     ensures { IfOk result (λ is. IsTrue is ↔ IsByCommand moment.now.script.now (point_of moment.now) (doing_of deed.now)) }
 {

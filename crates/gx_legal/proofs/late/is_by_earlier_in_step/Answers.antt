@@ -1,6 +1,6 @@
-use Rattle.std.proofs.Common.{◌≡◌, ◌↔◌, ◌≤◌, ◌++◌, IsTrue, List, Some, length, slice_get, take, refl, sym, subst, ap, ◌∙◌, arith}
+use Rattle.std.proofs.Common.{◌≡◌, ◌↔◌, ◌≤◌, ◌++◌, IsTrue, List, Some, get_or, length, slice_get, take, refl, sym, subst, ap, ◌∙◌, arith}
 use Rattle.std.proofs.lemmas.List.{append-nil, take_all}
-use Rattle.std.proofs.lemmas.Option.{slice_get_read}
+use Rattle.std.proofs.lemmas.Option.{slice_get-get_or}
 use Rattle.gx_lemmas.proofs.Numbers.{lt-none}
 use Rattle.gx_lemmas.proofs.Tests.{false-true}
 use Rattle.gx_script.specs.declared.Script.{Script}
@@ -39,8 +39,8 @@ loop-count-preserved c =
     let d = doing_of c.args.deed.now in
     let k = c.loop-count.count in
     let mo = c.moment_at-moment in
-    let m = c.index-stretch-count.result in
-    let at : slice_get s.marks.now k ≡ Some m = slice_get_read s.marks.now (length s.marks.now) k m refl c.loop-count-test.true c.index-stretch-count.is in
+    let m = get_or s.marks.now k c.index-stretch-count.result in
+    let at : slice_get s.marks.now k ≡ Some m = slice_get-get_or s.marks.now k c.index-stretch-count.result c.loop-count-test.true in
     record {
       none = in-step-none s.script.now (end_of s) d k c.loop-count.invariant.none (λ by. no-longer c.in_ok-is_by_command.field-0 c.in_ok-is_by_command.ensures c.if-branch.false
           (subst (λ (r : Script). IsByCommand r (point_of mo.result) d) (sym mo.ensures.script) (subst (λ (p : Point). IsByCommand s.script.now p d) (sym mo.ensures.point) by)));
@@ -60,8 +60,8 @@ returns-then-branch-clause-is c =
 pub returns-then-branch-clause-tally : goal.returns-then-branch-clause-tally
 returns-then-branch-clause-tally c = λ e. absurd (false-true (sym e))
 
-pub moment_at-moment-2-requires-clause-tally : goal.moment_at-moment-2-requires-clause-tally
-moment_at-moment-2-requires-clause-tally c =
+pub moment_at-moment-requires-2-clause-tally : goal.moment_at-moment-requires-2-clause-tally
+moment_at-moment-requires-2-clause-tally c =
     let s = c.args.stretch.now in
     let past : length s.marks.now ≤ c.loop-count.count = omega (arith, c.loop-count-test.false) in
     subst (λ (ms : List Mark). IsTally s.script.now s.steps.now (marks_in s.steps.now ++ ms) c.loop-count.tally)

@@ -1,6 +1,6 @@
-use Rattle.std.proofs.Common.{◌≡◌, ◌≤◌, ◌<◌, ◌+◌, ◌++◌, ◌∙◌, List, [], Some, length, slice_get, take, refl, sym, subst, ap, arith}
+use Rattle.std.proofs.Common.{◌≡◌, ◌≤◌, ◌<◌, ◌+◌, ◌++◌, ◌∙◌, List, [], Some, get_or, length, slice_get, take, refl, sym, subst, ap, arith}
 use Rattle.std.proofs.lemmas.List.{length-take-le, take_all}
-use Rattle.std.proofs.lemmas.Option.{slice_get_read}
+use Rattle.std.proofs.lemmas.Option.{slice_get-get_or}
 use Rattle.gx_lemmas.proofs.Tests.{false-true}
 use Rattle.gx_store.specs.declared.mark.Mark.{Mark}
 use Rattle.gx_store.specs.declared.run.Step.{Step}
@@ -20,8 +20,8 @@ invariant_of-stretch c =
     let m = c.args.moment.now in
     let ss = m.steps.now in
     let k = c.loop-number.number in
-    let s = c.index-moment-number.result in
-    let at : slice_get ss k ≡ Some s = slice_get_read ss (length ss) k s refl c.loop-number-test.true c.index-moment-number.is in
+    let s = get_or ss k c.index-moment-number.result in
+    let at : slice_get ss k ≡ Some s = slice_get-get_or ss k c.index-moment-number.result c.loop-number-test.true in
     let begins = c.loop-number.invariant.begins in
     record { begins = begins; among = stretch-among ss k s m.earlier.now m.before.now c.as_slice.result.now c.loop-number.start at m.whole begins c.as_slice.ensures }
 
@@ -39,22 +39,22 @@ overflow_add-start c =
     let m = c.args.moment.now in
     let ss = m.steps.now in
     let k = c.loop-number.number in
-    let s = c.index-moment-number.result in
-    let at : slice_get ss k ≡ Some s = slice_get_read ss (length ss) k s refl c.loop-number-test.true c.index-moment-number.is in
+    let s = get_or ss k c.index-moment-number.result in
+    let at : slice_get ss k ≡ Some s = slice_get-get_or ss k c.index-moment-number.result c.loop-number-test.true in
     let inside : c.loop-number.start + length s.marks ≤ length m.before.now = stretch-inside ss k s m.earlier.now m.before.now s.marks c.loop-number.start at m.whole c.loop-number.invariant.begins refl in
-    omega (arith, inside, c.len.ensures)
+    omega (arith, inside, c.len-start.ensures)
 
 pub loop-number-preserved : goal.loop-number-preserved
 loop-number-preserved c =
     let m = c.args.moment.now in
     let ss = m.steps.now in
     let k = c.loop-number.number in
-    let s = c.index-moment-number.result in
-    let at : slice_get ss k ≡ Some s = slice_get_read ss (length ss) k s refl c.loop-number-test.true c.index-moment-number.is in
+    let s = get_or ss k c.index-moment-number.result in
+    let at : slice_get ss k ≡ Some s = slice_get-get_or ss k c.index-moment-number.result c.loop-number-test.true in
     let d = doing_of c.args.deed.now in
     let P : List Mark → Type 0 = λ ms. IsByEarlierInStep m.script.now (record { steps = take k ss; event = s.event; earlier = ms; later = [] }) d in
     record {
-      begins = ap (λ n. c.loop-number.start + n) c.len.ensures ∙ ap (λ n. n + length s.marks) c.loop-number.invariant.begins ∙ marks-through ss k s at;
+      begins = ap (λ n. c.loop-number.start + n) c.len-start.ensures ∙ ap (λ n. n + length s.marks) c.loop-number.invariant.begins ∙ marks-through ss k s at;
       none = behind-none m.script.now (point_of m) d k s at c.loop-number.invariant.none
           (λ by. no-longer c.in_ok-is_by_earlier_in_step.field-0 c.in_ok-is_by_earlier_in_step.ensures.is c.if-branch.false (subst P (sym c.as_slice.ensures) by));
       told = tally-steps m.script.now s ss k _ _ at
@@ -67,8 +67,8 @@ returns-then-branch-clause-is c =
     let m = c.args.moment.now in
     let ss = m.steps.now in
     let k = c.loop-number.number in
-    let s = c.index-moment-number.result in
-    let at : slice_get ss k ≡ Some s = slice_get_read ss (length ss) k s refl c.loop-number-test.true c.index-moment-number.is in
+    let s = get_or ss k c.index-moment-number.result in
+    let at : slice_get ss k ≡ Some s = slice_get-get_or ss k c.index-moment-number.result c.loop-number-test.true in
     let d = doing_of c.args.deed.now in
     let P : List Mark → Type 0 = λ ms. IsByEarlierInStep m.script.now (record { steps = take k ss; event = s.event; earlier = ms; later = [] }) d in
     (λ t. behind-some m.script.now (point_of m) d k s (split-at ss k s at) (subst P c.as_slice.ensures (c.in_ok-is_by_earlier_in_step.ensures.is.0 c.if-branch.true)), λ by. refl)

@@ -1,6 +1,6 @@
-use Rattle.std.proofs.Common.{◌≡◌, ◌≤◌, ◌++◌, ◌∙◌, List, Some, length, slice_get, take, refl, sym, subst, ap, arith}
-use Rattle.std.proofs.lemmas.List.{append-nil, take_all}
-use Rattle.std.proofs.lemmas.Option.{slice_get_read}
+use Rattle.std.proofs.Common.{◌≡◌, ◌≤◌, ◌+◌, ◌++◌, ◌∙◌, List, Some, drop, get_or, length, slice_get, take, refl, sym, subst, ap, arith}
+use Rattle.std.proofs.lemmas.List.{append-nil, take_all, take_rest}
+use Rattle.std.proofs.lemmas.Option.{get_or_from_slice_get, slice_get-get_or}
 use Rattle.gx_lemmas.proofs.Tests.{false-true}
 use Rattle.gx_script.specs.declared.Script.{Script}
 use Rattle.gx_store.specs.declared.mark.Mark.{Mark}
@@ -31,12 +31,15 @@ pub loop-number-preserved : goal.loop-number-preserved
 loop-number-preserved c =
     let s = c.args.stretch.now in
     let k = c.loop-number.number in
-    let m = c.index-stretch-number.result in
+    let m = get_or s.marks.now k c.index-stretch-number.result in
+    let at : slice_get s.marks.now k ≡ Some m = slice_get-get_or s.marks.now k c.index-stretch-number.result c.loop-number-test.true in
+    let is : m ≡ get_or s.marks.now k m = sym (get_or_from_slice_get s.marks.now k m m at) in
     let mo = c.moment_at-moment in
-    let at : slice_get s.marks.now k ≡ Some m = slice_get_read s.marks.now (length s.marks.now) k m refl c.loop-number-test.true c.index-stretch-number.is in
+    let before : List Mark → Point = λ later. record { steps = s.steps.now; event = s.event; earlier = take k s.marks.now; later = later } in
+    let point : point_of mo.result ≡ before (drop (k + 1) s.marks.now) = mo.ensures.point ∙ ap before (take_rest s.marks.now (k + 1)) in
     record {
-      legal = marks-next s.script.now s.steps.now s.event s.marks.now k m c.loop-number-test.true c.index-stretch-number.is
-      (subst (λ (p : Point). LegalMark s.script.now p m) mo.ensures.point (subst (λ (r : Script). LegalMark r (point_of mo.result) m) mo.ensures.script (c.in_ok-is_legal_mark.ensures.0 c.if-not-branch.false))) c.loop-number.invariant.legal;
+      legal = marks-next s.script.now s.steps.now s.event s.marks.now k m c.loop-number-test.true is
+          (subst (λ (p : Point). LegalMark s.script.now p m) point (subst (λ (r : Script). LegalMark r (point_of mo.result) m) mo.ensures.script (c.in_ok-is_legal_mark.ensures.0 c.if-not-branch.false))) c.loop-number.invariant.legal;
       told = tally-through s.script.now s.steps.now (marks_in s.steps.now) s.marks.now k m _ _ at c.loop-number.invariant.told c.in_ok-count_mark.ensures;
     }
 
@@ -44,13 +47,16 @@ pub returns-then-not-branch-clause-are : goal.returns-then-not-branch-clause-are
 returns-then-not-branch-clause-are c =
     let s = c.args.stretch.now in
     let k = c.loop-number.number in
-    let m = c.index-stretch-number.result in
+    let m = get_or s.marks.now k c.index-stretch-number.result in
+    let at : slice_get s.marks.now k ≡ Some m = slice_get-get_or s.marks.now k c.index-stretch-number.result c.loop-number-test.true in
+    let is : m ≡ get_or s.marks.now k m = sym (get_or_from_slice_get s.marks.now k m m at) in
     let mo = c.moment_at-moment in
-    (
+    let before : List Mark → Point = λ later. record { steps = s.steps.now; event = s.event; earlier = take k s.marks.now; later = later } in
+    let point : point_of mo.result ≡ before (drop (k + 1) s.marks.now) = mo.ensures.point ∙ ap before (take_rest s.marks.now (k + 1)) in (
       λ t. absurd (false-true t),
-      λ all. absurd (marks-stop s.script.now s.steps.now s.event s.marks.now k m c.loop-number-test.true c.index-stretch-number.is
+      λ all. absurd (marks-stop s.script.now s.steps.now s.event s.marks.now k m c.loop-number-test.true is
           (λ legal. no-longer c.in_ok-is_legal_mark.field-0 c.in_ok-is_legal_mark.ensures c.if-not-branch.true
-          (subst (λ (r : Script). LegalMark r (point_of mo.result) m) (sym mo.ensures.script) (subst (λ (p : Point). LegalMark s.script.now p m) (sym mo.ensures.point) legal)))
+          (subst (λ (r : Script). LegalMark r (point_of mo.result) m) (sym mo.ensures.script) (subst (λ (p : Point). LegalMark s.script.now p m) (sym point) legal)))
           c.loop-number.invariant.legal all),
     )
 
