@@ -1,4 +1,4 @@
-use Rattle.std.proofs.Common.{◌≡◌, ◌<◌, ◌+◌, ◌^◌, ◌∙◌, ℕ, List, All, ◌∷◌, get_or, length, subst, sym, rules, refl, ap, slice_index, ◌++◌}
+use Rattle.std.proofs.Common.{◌≡◌, ◌<◌, ◌∙◌, List, All, get_or, length, subst, sym, rules, refl, ap, slice_index, ◌++◌}
 use Rattle.std.proofs.lemmas.List.Elements.{All-tail}
 use Rattle.std.specs.Vec.Iter.{into_iter_items}
 use Rattle.gx_msg.specs.declared.message.Out.{Out}
@@ -27,8 +27,7 @@ loop-out-preserved c =
     let mark = c.send_one-mark.ensures in
     let pushed = c.in_ok-push.ensures.items in
     let before = c.loop-out.marks.items in
-    let out = c.in-Some.out in
-    (
+    let out = c.in-Some.out in (
       tt,
       tt,
       mark.links ∙ i.2,
