@@ -2,7 +2,6 @@
 use Rattle.std.proofs.Common.{Global, ◌≡◌, ◌≤◌, ℕ, ◌+◌, false, List, ◌++◌, length, sym, ap, ◌∙◌, subst}
 use Rattle.std.specs.declared.sync.Arc.{Arc}
 use Rattle.gx_ids.specs.declared.ids.Gxid.{Gxid}
-use Rattle.gx_tree.specs.declared.schema.Schema.{Schema}
 use Rattle.gx_msg.specs.declared.message.Out.{Out}
 use Rattle.gx_outside.specs.Shelves.{Shelf}
 use Rattle.gx_node.specs.Orders.{Took}
