@@ -1,8 +1,6 @@
--- Victims one behind the other: what each makes of the coordinator, and how the numbers of messages grow.
-use Rattle.std.proofs.Common.{◌≡◌, ◌≤◌, ◌<◌, ◌^◌, ◌∙◌, ℕ, zero, suc, ◌+◌, List, [], ◌∷◌, ◌++◌, Bool, true, false, All, None, refl, sym, subst, ap, if◌then◌else◌, arith, drop, eqb, get_or, le_refl, length, slice_index}
-use Rattle.std.proofs.lemmas.Bool.{eqb-true}
+-- Victims one behind the other, and what each makes of the coordinator.
+use Rattle.std.proofs.Common.{◌≡◌, ◌≤◌, ◌<◌, ◌^◌, ◌∙◌, ℕ, zero, suc, ◌+◌, List, [], ◌∷◌, ◌++◌, All, None, refl, sym, subst, ap, arith, drop, get_or, length, slice_index}
 use Rattle.std.proofs.lemmas.List.{append_assoc, length-append}
-use Rattle.std.proofs.Math.Seq.{drop-append_seam}
 use Rattle.std.specs.Global.{Vec}
 use Rattle.gx_ids.specs.declared.ids.Gxid.{Gxid}
 use Rattle.gx_msg.specs.declared.message.Out.{Out}
@@ -10,13 +8,12 @@ use Rattle.gx_script.specs.declared.Script.{Script}
 use Rattle.gx_store.specs.declared.mark.Mark.{Mark}
 use Rattle.gx_rules.specs.AtCoordinator.{and_cancels, and_cancels_all, cancel_turn, cancels}
 use Rattle.gx_rules.specs.Coordinators as rule
-use Rattle.gx_rules.specs.Sending.{counted, counted_all, numbered}
+use Rattle.gx_rules.specs.Sending.{counted_all, numbered}
 use Rattle.gx_coord.specs.Books.{coord_of}
 use Rattle.gx_coord.specs.Sound.{IsSound}
 use Rattle.gx_coord.specs.Steps.{HasStayed}
 use Rattle.gx_coord.specs.Turns.{IsTurn, so_far, untold}
 use Rattle.gx_coord.specs.declared.coord.Coord.{Coord}
-use Rattle.gx_coord.proofs.Numbering.{index-item}
 use Rattle.gx_coord.proofs.Stays.{cancel-sound, sent-sound}
 
 -- what was few before stays few behind more marks

@@ -65,12 +65,7 @@ fn cancel(alloc: Global, coord: &mut Coord, gxid: Gxid, marks: &mut Vec<Mark>) -
 }
 
 // A victim's turn.
-fn turn_of_victim(
-    alloc: Global,
-    coord: &mut Coord,
-    gxid: Gxid,
-    marks: &mut Vec<Mark>,
-) -> Mem<()>
+fn turn_of_victim(alloc: Global, coord: &mut Coord, gxid: Gxid, marks: &mut Vec<Mark>) -> Mem<()>
     requires sound { IsSound coord.old.script.value (coord_of coord.old) }
     requires some { 1 ≤ coord.old.script.value.segments }
     requires links { length coord.old.sent.items ≡ coord.old.script.value.segments + 1 }

@@ -1,5 +1,5 @@
 -- Earlier points of a run, and the commands under way there.
-use Rattle.std.proofs.Common.{◌≡◌, ◌<◌, ◌+◌, ℕ, suc, Bool, true, false, List, [], ◌∷◌, ◌++◌, Some, length, take, drop, slice_get, refl, sym, subst, ap, ◌∙◌, eqb, arith, length-append}
+use Rattle.std.proofs.Common.{◌≡◌, ◌↔◌, ◌<◌, ◌+◌, ℕ, suc, Bool, true, false, IsTrue, List, [], ◌∷◌, ◌++◌, Some, length, take, drop, slice_get, refl, sym, subst, ap, ◌∙◌, eqb, arith, length-append}
 use Rattle.std.proofs.lemmas.Bool.{eqb-true}
 use Rattle.std.proofs.lemmas.List.{take-append-drop}
 use Rattle.std.proofs.Math.Seq.{take-append_seam}
@@ -16,6 +16,7 @@ use Rattle.gx_store.specs.Commands.{IsUnderWay}
 use Rattle.gx_store.specs.Points.{IsBeforeInStep, IsPointOf, Point}
 use Rattle.gx_tree.specs.declared.stmt.Level.{Level}
 use Rattle.gx_tree.specs.declared.stmt.Stmt.{Stmt}
+use Rattle.gx_legal.proofs.Sessions.{no-longer}
 use Rattle.gx_legal.specs.Deeds.{Doing, IsByCommand, IsByEarlierInStep, IsByEarlierStep}
 use Rattle.gx_legal.specs.Moments.{behind, in_step}
 
@@ -41,6 +42,9 @@ by-command-like script p q doing s e m by =
     let d : P q.steps q.event p.earlier = subst (λ ev. P q.steps ev p.earlier) e b in
     (by.0, (by.1.0, by.1.1, subst (λ ms. P q.steps q.event ms) m d, by.1.3))
 
+pub in-step-like : (script : Script) (p q : Point) (doing : Doing) → p.steps ≡ q.steps → p.event ≡ q.event → p.earlier ≡ q.earlier → IsByEarlierInStep script p doing → IsByEarlierInStep script q doing
+in-step-like script p q doing s e m by = (by.0, record { steps = by.1.steps ∙ s; event = by.1.event ∙ e; between = by.1.between; marks = sym m ∙ by.1.marks }, by.2)
+
 module _ (script : Script) (point : Point) (doing : Doing) where
   -- IN THE POINT'S STEP
   pub in-step-none : (count : ℕ) → ((early : Point) → IsBeforeInStep early point → length early.earlier < count → IsByCommand script early doing → ⊥)
@@ -61,6 +65,14 @@ module _ (script : Script) (point : Point) (doing : Doing) where
     where
       inside : (a b d : ℕ) → d ≡ a + b → a < d + 1
       inside a b d e = omega arith
+
+  pub in-step-last : (b : Bool) → ((early : Point) → IsBeforeInStep early point → length early.earlier < length point.earlier → IsByCommand script early doing → ⊥)
+      → IsTrue b ↔ IsByCommand script (in_step point (length point.earlier)) doing → IsTrue b ↔ IsByEarlierInStep script point doing
+  in-step-last b below is = (λ t. in-step-some (length point.earlier) (is.0 t), λ by. by_test b refl by)
+    where
+      by_test : (x : Bool) → b ≡ x → IsByEarlierInStep script point doing → IsTrue b
+      by_test true e by = e
+      by_test false e by = absurd (in-step-none (length point.earlier) below (no-longer b is e) by.0 by.1 (in-step-inside by.0 by.1) by.2)
 
   -- IN EARLIER STEPS
   pub behind-some : (number : ℕ) (step : Step) → point.steps ≡ take number point.steps ++ step ∷ drop (number + 1) point.steps → IsByEarlierInStep script (behind point number step) doing

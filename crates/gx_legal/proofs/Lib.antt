@@ -14,5 +14,7 @@ pub mod Seeing
 pub mod Sendings
 pub mod Sessions
 pub mod Standings
+pub mod Stretching
 pub mod Stepping
+pub mod Tallying
 pub mod UnderWay

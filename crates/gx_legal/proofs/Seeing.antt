@@ -1,43 +1,59 @@
 -- What a snapshot sees of those that marks commit.
-use Rattle.std.proofs.Common.{◌≡◌, ◌↔◌, ◌⊎◌, ◌||◌, Bool, true, false, List, [], ◌∷◌, inl, inr, refl, sym, subst, eqb, IsTrue}
-use Rattle.std.proofs.lemmas.Bool.{eqb-true}
+use Rattle.std.proofs.Common.{◌≡◌, ◌↔◌, ◌⊎◌, ◌||◌, ◌∙◌, ℕ, Bool, true, false, List, [], ◌∷◌, inl, inr, refl, sym, subst, IsTrue, arith}
+use Rattle.std.proofs.lemmas.Bool.{and_from}
+use Rattle.std.proofs.lemmas.Bool.Decides.{nat_tests}
+use Rattle.std.specs.BTreeMap.{is_at}
+use Rattle.std.specs.BTreeSet.{BTreeSet, contains, keys}
+use Rattle.std.specs.List.{list_all, list_any}
+use Rattle.std.specs.Ordering.{is_eq, nat_cmp}
+use Rattle.gx_dsnap.specs.Gxids.{gxid_cmp}
 use Rattle.gx_dsnap.specs.Snapshot.{sees}
 use Rattle.gx_dsnap.specs.declared.snapshot.Snapshot.{Snapshot}
 use Rattle.gx_ids.specs.declared.ids.Cid.{Cid}
 use Rattle.gx_ids.specs.declared.ids.Gxid.{Gxid}
-use Rattle.gx_lemmas.proofs.Numbers.{eqb-self}
-use Rattle.gx_lemmas.proofs.Tests.{false-true, or-cases}
+use Rattle.gx_lemmas.proofs.Tests.{and-first, and-second, false-true, or-cases}
 use Rattle.gx_script.specs.declared.Script.{Script}
 use Rattle.gx_store.specs.declared.mark.Mark.{Mark}
-use Rattle.gx_store.specs.declared.mark.Mark.TheVariants.{Commit}
 use Rattle.gx_store.specs.Legal.{LegalSnap}
-use Rattle.gx_store.specs.Marks.{is_committed, is_same_gxid}
+use Rattle.gx_store.specs.Marks.{is_committed}
 use Rattle.gx_store.specs.Points.{Point, before}
 use Rattle.gx_legal.specs.Deeds.{IsByCommand}
 use Rattle.gx_legal.specs.Snaps.{SeesCommits, SeesEnded}
 use Rattle.gx_legal.specs.declared.deed.Act.TheVariants as act
 
-pub commits-seen : (marks : List Mark) (snapshot : Snapshot) → SeesCommits marks snapshot → (h : Gxid) → is_committed marks h ≡ true → sees snapshot h ≡ true
-commits-seen [] snapshot seen h e = absurd (false-true e)
-commits-seen (Commit g ∷ ms) snapshot seen h e = by_case (or-cases (is_same_gxid g h) (is_committed ms h) e) (commits-seen ms snapshot seen.1 h)
-  where
-    by_case : (is_same_gxid g h ≡ true) ⊎ (is_committed ms h ≡ true) → (is_committed ms h ≡ true → sees snapshot h ≡ true) → sees snapshot h ≡ true
-    by_case (inl same) rest = subst (λ n. sees snapshot (record { 0 = n }) ≡ true) (eqb-true g.0 h.0 same) seen.0
-    by_case (inr among) rest = rest among
-commits-seen (_ ∷ ms) snapshot seen h e = commits-seen ms snapshot seen.1 h e
+module _ (snapshot : Snapshot) where
+  all-seen : (gxids : List Gxid) → list_all (sees snapshot) gxids ≡ true → (h : Gxid) → list_any (is_at (gxid_cmp h)) gxids ≡ true → sees snapshot h ≡ true
+  all-seen [] all h e = absurd (false-true e)
+  all-seen (g ∷ gs) all h e = by_case (or-cases (is_at (gxid_cmp h) g) (list_any (is_at (gxid_cmp h)) gs) e) (all-seen gs (and-second _ _ all) h)
+    where
+      same : is_eq (nat_cmp h.0 g.0) ≡ true → g.0 ≡ h.0
+      same e = grind (arith, nat_tests)
 
-pub seen-commits : (marks : List Mark) (snapshot : Snapshot) → ((h : Gxid) → is_committed marks h ≡ true → sees snapshot h ≡ true) → SeesCommits marks snapshot
-seen-commits [] snapshot f = tt
-seen-commits (Commit g ∷ ms) snapshot f = (f g (here (eqb g.0 g.0) (is_committed ms g) (eqb-self g.0)), seen-commits ms snapshot (λ h e. f h (there (is_same_gxid g h) (is_committed ms h) e)))
-  where
-    here : (a b : Bool) → a ≡ true → (a || b) ≡ true
-    here true b e = refl
-    here false b e = absurd (false-true e)
+      by_case : (is_at (gxid_cmp h) g ≡ true) ⊎ (list_any (is_at (gxid_cmp h)) gs ≡ true) → (list_any (is_at (gxid_cmp h)) gs ≡ true → sees snapshot h ≡ true) → sees snapshot h ≡ true
+      by_case (inl here) rest = subst (λ (n : ℕ). sees snapshot (record { 0 = n }) ≡ true) (same here) (and-first _ _ all)
+      by_case (inr among) rest = rest among
 
-    there : (a b : Bool) → b ≡ true → (a || b) ≡ true
-    there true b e = refl
-    there false b e = e
-seen-commits (_ ∷ ms) snapshot f = (tt, seen-commits ms snapshot f)
+  seen-all : (gxids : List Gxid) → ((h : Gxid) → list_any (is_at (gxid_cmp h)) gxids ≡ true → sees snapshot h ≡ true) → list_all (sees snapshot) gxids ≡ true
+  seen-all [] f = refl
+  seen-all (g ∷ gs) f = and_from _ _ (f g (here (is_at (gxid_cmp g) g) _ (itself g.0))) (seen-all gs (λ h e. f h (there (is_at (gxid_cmp h) g) _ e)))
+    where
+      itself : (n : ℕ) → is_eq (nat_cmp n n) ≡ true
+      itself n = grind (arith, nat_tests)
+
+      here : (a b : Bool) → a ≡ true → (a || b) ≡ true
+      here true b e = refl
+      here false b e = absurd (false-true e)
+
+      there : (a b : Bool) → b ≡ true → (a || b) ≡ true
+      there true b e = refl
+      there false b e = e
+
+  pub commits-seen : (committed : BTreeSet Gxid) (marks : List Mark) (b : Bool) → ((h : Gxid) → contains gxid_cmp committed h ≡ is_committed marks h) → b ≡ list_all (sees snapshot) (keys committed)
+      → IsTrue b ↔ SeesCommits marks snapshot
+  commits-seen committed marks b told e = (
+    λ t h among. all-seen (keys committed) (sym e ∙ t) h (told h ∙ among),
+    λ seen. e ∙ seen-all (keys committed) (λ h among. seen h (sym (told h) ∙ among)),
+  )
 
 module _ (script : Script) (point : Point) (g : Gxid) (c : Cid) (snapshot : Snapshot) where
   pub snap-of : SeesCommits (before point) snapshot → SeesEnded (before point) snapshot → IsByCommand script point (record { marks = before point; g = g; c = c; act = act.Snap })
@@ -49,7 +65,7 @@ module _ (script : Script) (point : Point) (g : Gxid) (c : Cid) (snapshot : Snap
     runs = by.1.2;
     on_rows = by.1.3.0;
     once = by.1.3.1;
-    committed = commits-seen (before point) snapshot commits;
+    committed = commits;
     ended = ended;
   }
 
@@ -65,7 +81,7 @@ module _ (script : Script) (point : Point) (g : Gxid) (c : Cid) (snapshot : Snap
           → IsTrue b ↔ LegalSnap script point g c snapshot
 
   pub snap-sees : (marks : List Mark) → marks ≡ before point → LegalSnap script point g c snapshot → SeesCommits marks snapshot
-  snap-sees marks e snap = subst (λ ms. SeesCommits ms snapshot) (sym e) (seen-commits (before point) snapshot snap.committed)
+  snap-sees marks e snap = subst (λ ms. SeesCommits ms snapshot) (sym e) snap.committed
 
   pub snap-ended : (marks : List Mark) → marks ≡ before point → LegalSnap script point g c snapshot → SeesEnded marks snapshot
   snap-ended marks e snap = subst (λ ms. SeesEnded ms snapshot) (sym e) snap.ended

@@ -6,8 +6,8 @@ use Rattle.gx_ids.specs.declared.ids.SessionId.{SessionId}
 use Rattle.gx_lemmas.proofs.Options.{some-same}
 use Rattle.gx_script.specs.declared.Script.{Script}
 use Rattle.gx_store.specs.Commands.{IsUnderWay, RunsLine, state_at}
-use Rattle.gx_store.specs.Lines.{is_command, level_of}
-use Rattle.gx_store.specs.Points.{Point}
+use Rattle.gx_store.specs.Lines.{is_command, level_of, transaction_of}
+use Rattle.gx_store.specs.Points.{Point, before}
 use Rattle.gx_tree.specs.declared.stmt.Level.{Level}
 use Rattle.gx_tree.specs.declared.stmt.Stmt.{Stmt}
 use Rattle.gx_legal.specs.Commands.{IsCommandOf}
@@ -20,6 +20,12 @@ module _ (script : Script) (point : Point) (session : SessionId) (g : Gxid) (c :
 
   pub found-none : ((stmt : Stmt) → (None ≡ Some stmt) ↔ RunsLine script point session stmt) → IsFound None
   found-none runs stmt level = (λ u. absurd (none ((runs stmt).1 u.runs.line)), λ e. absurd (none e.0))
+    where
+      none : {A : Type 0} {x : A} → None ≡ Some x → ⊥
+      none e = cc
+
+  pub found-unless : (transaction_of (state_at script session point) session (before point) ≡ Some g → ⊥) → IsFound None
+  found-unless other stmt level = (λ u. absurd (other u.runs.transaction), λ e. absurd (none e.0))
     where
       none : {A : Type 0} {x : A} → None ≡ Some x → ⊥
       none e = cc

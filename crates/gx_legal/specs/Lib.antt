@@ -1,6 +1,7 @@
 pub mod Answers
 pub mod Causes
 pub mod Commands
+pub mod Copies
 pub mod Deeds
 pub mod Done
 pub mod Ends
@@ -9,6 +10,8 @@ pub mod Firsts
 pub mod Moments
 pub mod Snaps
 pub mod Standings
+pub mod Stretches
 pub mod Tables
+pub mod Tallies
 pub mod Verdicts
 pub mod Words

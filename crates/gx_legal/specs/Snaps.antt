@@ -1,20 +1,14 @@
 -- What a snapshot sees, by marks.
-use Rattle.std.specs.Prelude.{◌≡◌, ◌≤◌, true, List, [], ◌∷◌}
+use Rattle.std.specs.Prelude.{◌≡◌, ◌≤◌, true, List}
 use Rattle.gx_dsnap.specs.Snapshot.{sees}
 use Rattle.gx_dsnap.specs.declared.snapshot.Snapshot.{Snapshot}
 use Rattle.gx_ids.specs.declared.ids.Gxid.{Gxid}
 use Rattle.gx_store.specs.declared.mark.Mark.{Mark}
-use Rattle.gx_store.specs.declared.mark.Mark.TheVariants.{Commit}
-use Rattle.gx_store.specs.Marks.{is_ended}
-
-abbrev pub SeesCommit : Mark → Snapshot → Type 0
-SeesCommit (Commit g) snapshot = sees snapshot g ≡ true
-SeesCommit _ snapshot = Unit {0}
+use Rattle.gx_store.specs.Marks.{is_committed, is_ended}
 
 -- it sees all that these marks commit
 abbrev pub SeesCommits : List Mark → Snapshot → Type 0
-SeesCommits [] snapshot = Unit {0}
-SeesCommits (m ∷ ms) snapshot = SeesCommit m snapshot × SeesCommits ms snapshot
+SeesCommits marks snapshot = (h : Gxid) → is_committed marks h ≡ true → sees snapshot h ≡ true
 
 -- all that it sees have ended
 abbrev pub SeesEnded : List Mark → Snapshot → Type 0

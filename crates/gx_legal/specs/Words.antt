@@ -1,5 +1,5 @@
 -- What a segment says of a transaction, and whether it was sent and received.
-use Rattle.std.specs.Prelude.{◌≡◌, ℕ, Bool, List, Some, slice_get, take}
+use Rattle.std.specs.Prelude.{◌≡◌, ◌+◌, ℕ, Bool, List, Some, drop, slice_get, take}
 use Rattle.gx_ids.specs.declared.ids.Gxid.{Gxid}
 use Rattle.gx_ids.specs.declared.ids.Node.{Node}
 use Rattle.gx_msg.specs.declared.message.Message.{Message}
@@ -7,6 +7,7 @@ use Rattle.gx_msg.specs.declared.message.Message.TheVariants as message
 use Rattle.gx_msg.specs.declared.reply.Reply.{Reply}
 use Rattle.gx_msg.specs.declared.reply.Reply.TheVariants as reply
 use Rattle.gx_store.specs.declared.event.Event.{Event}
+use Rattle.gx_store.specs.declared.event.Event.TheVariants as event
 use Rattle.gx_store.specs.declared.mark.Mark.{Mark}
 use Rattle.gx_store.specs.declared.mark.Mark.TheVariants.{Sent}
 use Rattle.gx_store.specs.declared.run.Step.{Step}
@@ -51,3 +52,22 @@ HasHeard g said from to point = (told : Message) × Says g said told × HasRecei
 -- in one of these steps
 abbrev pub HasHeardBefore : Gxid → Word → Node → Node → List Step → Type 0
 HasHeardBefore g said from to steps = (k : ℕ) × (step : Step) × (slice_get steps k ≡ Some step) × Delivers g said from to (take k steps) step.event
+
+-- BY ITS SENDING
+-- the step at this place receives the message of this number
+abbrev pub ReceivesAt : Node → Node → ℕ → List Step → ℕ → Type 0
+ReceivesAt from to number steps place = (step : Step) × (slice_get steps place ≡ Some step) × (step.event ≡ event.Receive from to number)
+
+-- the mark sends the word, and one of the later steps receives it
+abbrev pub IsHeardOf : Gxid → Word → Node → Node → List Step → Mark → Type 0
+IsHeardOf g said from to later mark = (number : ℕ) × Sends g said to number mark × ((place : ℕ) × ReceivesAt from to number later place)
+
+abbrev pub IsHeardAt : Gxid → Word → Node → Node → List Step → List Mark → ℕ → Type 0
+IsHeardAt g said from to later marks place = (mark : Mark) × (slice_get marks place ≡ Some mark) × IsHeardOf g said from to later mark
+
+abbrev pub IsHeardFrom : Gxid → Word → Node → Node → List Step → Step → Type 0
+IsHeardFrom g said from to later step = (step.stamp.node ≡ from) × ((place : ℕ) × IsHeardAt g said from to later step.marks place)
+
+-- the step at this place sends it, and one behind that receives it
+abbrev pub IsHeardSince : Gxid → Word → Node → Node → List Step → ℕ → Type 0
+IsHeardSince g said from to steps place = (step : Step) × (slice_get steps place ≡ Some step) × IsHeardFrom g said from to (drop (place + 1) steps) step

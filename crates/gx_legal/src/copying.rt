@@ -1,7 +1,8 @@
 // Copies of marks.
-ghost use Rattle.std.specs.Prelude.{◌≡◌, IfOk, OnOk, ◌++◌};
+ghost use Rattle.std.specs.Prelude.{◌≡◌, IfOk, OnOk, ◌++◌, true};
 ghost use Rattle.gx_store.specs.declared.mark.Mark.TheVariants.{Recheck};
 ghost use Rattle.gx_store.specs.Points.{marks_in};
+ghost use Rattle.gx_legal.specs.Copies.{is_of_claim, is_of_message, is_of_node, is_of_row, is_of_transaction};
 
 use gx_ids::{Duplicate, Mem};
 use gx_store::{Mark, Step, StmtAnswer};
@@ -24,7 +25,19 @@ fn answer_copy(alloc: Global, answer: &StmtAnswer) -> Mem<StmtAnswer>
     }
 }
 
-fn mark_copy(alloc: Global, mark: &Mark) -> Mem<Mark>
+fn recheck_copy(alloc: Global, round: u64, own: &LocalGraph, verdict: &Verdict) -> Mem<Mark>
+    ensures { IfOk result (λ copy. copy ≡ Recheck round own.now verdict.now) }
+{
+    let own = own.copy(alloc)?;
+    Ok(Mark::Recheck {
+        round,
+        own,
+        verdict: verdict.copy(alloc)?,
+    })
+}
+
+fn transaction_copy(alloc: Global, mark: &Mark) -> Mem<Mark>
+    requires { is_of_transaction mark.now ≡ true }
     ensures { IfOk result (λ copy. copy ≡ mark.now) }
 {
     match mark {
@@ -41,6 +54,31 @@ fn mark_copy(alloc: Global, mark: &Mark) -> Mem<Mark>
             cid: *cid,
             snapshot: snapshot.copy(alloc)?,
         }),
+        Mark::Skip { gxid, cid, rid } => Ok(Mark::Skip {
+            gxid: *gxid,
+            cid: *cid,
+            rid: *rid,
+        }),
+        Mark::Commit { gxid } => Ok(Mark::Commit { gxid: *gxid }),
+        Mark::Abort { gxid } => Ok(Mark::Abort { gxid: *gxid }),
+        Mark::Answer {
+            session,
+            number,
+            answer,
+        } => Ok(Mark::Answer {
+            session: *session,
+            number: *number,
+            answer: answer_copy(alloc, answer)?,
+        }),
+        _ => unreachable!(),
+    }
+}
+
+fn row_copy(alloc: Global, mark: &Mark) -> Mem<Mark>
+    requires { is_of_row mark.now ≡ true }
+    ensures { IfOk result (λ copy. copy ≡ mark.now) }
+{
+    match mark {
         Mark::Write {
             gxid,
             cid,
@@ -56,11 +94,6 @@ fn mark_copy(alloc: Global, mark: &Mark) -> Mem<Mark>
             rid: *rid,
             image: image.copy(alloc)?,
         }),
-        Mark::Skip { gxid, cid, rid } => Ok(Mark::Skip {
-            gxid: *gxid,
-            cid: *cid,
-            rid: *rid,
-        }),
         Mark::Fault {
             gxid,
             cid,
@@ -72,63 +105,79 @@ fn mark_copy(alloc: Global, mark: &Mark) -> Mem<Mark>
             rid: *rid,
             image: image.copy(alloc)?,
         }),
-        Mark::Commit { gxid } => Ok(Mark::Commit { gxid: *gxid }),
-        Mark::Abort { gxid } => Ok(Mark::Abort { gxid: *gxid }),
-        Mark::Answer {
-            session,
-            number,
-            answer,
-        } => Ok(Mark::Answer {
-            session: *session,
-            number: *number,
-            answer: answer_copy(alloc, answer)?,
-        }),
+        _ => unreachable!(),
+    }
+}
+
+fn claim_copy(mark: &Mark) -> Mark
+    requires { is_of_claim mark.now ≡ true }
+    ensures { result ≡ mark.now }
+{
+    match mark {
         Mark::Hold {
             node,
             gxid,
             object,
             mode,
-        } => Ok(Mark::Hold {
+        } => Mark::Hold {
             node: *node,
             gxid: *gxid,
             object: *object,
             mode: *mode,
-        }),
+        },
         Mark::Wait {
             node,
             gxid,
             object,
             mode,
-        } => Ok(Mark::Wait {
+        } => Mark::Wait {
             node: *node,
             gxid: *gxid,
             object: *object,
             mode: *mode,
-        }),
+        },
+        _ => unreachable!(),
+    }
+}
+
+fn node_copy(mark: &Mark) -> Mark
+    requires { is_of_node mark.now ≡ true }
+    ensures { result ≡ mark.now }
+{
+    match mark {
         Mark::Release {
             node,
             gxid,
             object,
             mode,
-        } => Ok(Mark::Release {
+        } => Mark::Release {
             node: *node,
             gxid: *gxid,
             object: *object,
             mode: *mode,
-        }),
-        Mark::Prepared { node, gxid } => Ok(Mark::Prepared {
+        },
+        Mark::Prepared { node, gxid } => Mark::Prepared {
             node: *node,
             gxid: *gxid,
-        }),
-        Mark::LocalCommit { node, gxid } => Ok(Mark::LocalCommit {
+        },
+        Mark::LocalCommit { node, gxid } => Mark::LocalCommit {
             node: *node,
             gxid: *gxid,
-        }),
-        Mark::Decided { gxid } => Ok(Mark::Decided { gxid: *gxid }),
-        Mark::JournalFailed { node, gxid } => Ok(Mark::JournalFailed {
+        },
+        Mark::Decided { gxid } => Mark::Decided { gxid: *gxid },
+        Mark::JournalFailed { node, gxid } => Mark::JournalFailed {
             node: *node,
             gxid: *gxid,
-        }),
+        },
+        _ => unreachable!(),
+    }
+}
+
+fn message_copy(alloc: Global, mark: &Mark) -> Mem<Mark>
+    requires { is_of_message mark.now ≡ true }
+    ensures { IfOk result (λ copy. copy ≡ mark.now) }
+{
+    match mark {
         Mark::Sent {
             to,
             number,
@@ -148,18 +197,29 @@ fn mark_copy(alloc: Global, mark: &Mark) -> Mem<Mark>
             own,
             verdict,
         } => recheck_copy(alloc, *round, own, verdict),
+        _ => unreachable!(),
     }
 }
 
-fn recheck_copy(alloc: Global, round: u64, own: &LocalGraph, verdict: &Verdict) -> Mem<Mark>
-    ensures { IfOk result (λ copy. copy ≡ Recheck round own.now verdict.now) }
+fn mark_copy(alloc: Global, mark: &Mark) -> Mem<Mark>
+    ensures { IfOk result (λ copy. copy ≡ mark.now) }
 {
-    let own = own.copy(alloc)?;
-    Ok(Mark::Recheck {
-        round,
-        own,
-        verdict: verdict.copy(alloc)?,
-    })
+    match mark {
+        Mark::Start { .. }
+        | Mark::Snap { .. }
+        | Mark::Skip { .. }
+        | Mark::Commit { .. }
+        | Mark::Abort { .. }
+        | Mark::Answer { .. } => transaction_copy(alloc, mark),
+        Mark::Write { .. } | Mark::Fault { .. } => row_copy(alloc, mark),
+        Mark::Hold { .. } | Mark::Wait { .. } => Ok(claim_copy(mark)),
+        Mark::Release { .. }
+        | Mark::Prepared { .. }
+        | Mark::LocalCommit { .. }
+        | Mark::Decided { .. }
+        | Mark::JournalFailed { .. } => Ok(node_copy(mark)),
+        Mark::Sent { .. } | Mark::Report { .. } | Mark::Recheck { .. } => message_copy(alloc, mark),
+    }
 }
 
 fn push_marks(alloc: Global, all: &mut Vec<Mark>, marks: &[Mark]) -> Mem<()>

@@ -10,23 +10,21 @@ use crate::deed::{Act, Deed};
 use crate::late::is_late;
 use crate::moment::Moment;
 use crate::working::is_by_command;
-use gx_ids::{Cid, Gxid, Mem, Rid};
+use gx_ids::{Cid, Gxid, Mem, Node, Rid, Table};
 use gx_legal_rows::RowAt;
-use gx_script::Script;
 use gx_tree::Row;
 use std::alloc::Global;
 
 // A command under way does so, or one that was late does.
 fn is_by_either(
     alloc: Global,
-    script: &Script,
-    moment: &Moment<'_>,
+    moment: &Moment<'_, '_>,
     command: (Gxid, Cid),
     live: Act<'_>,
     late: Act<'_>,
 ) -> Mem<bool>
-    requires { IsScript script.now }
-    ensures { IfOk result (λ is. IsTrue is ↔ IsByEither script.now (point_of moment.now) command.0 command.1 live.entry late.entry) }
+    requires { IsScript moment.now.script.now }
+    ensures { IfOk result (λ is. IsTrue is ↔ IsByEither moment.now.script.now (point_of moment.now) command.0 command.1 live.entry late.entry) }
 {
     let live = Deed {
         gxid: command.0,
@@ -34,7 +32,7 @@ fn is_by_either(
         marks: moment.before,
         act: live,
     };
-    if is_by_command(alloc, script, moment, &live)? {
+    if is_by_command(alloc, moment, &live)? {
         return Ok(true);
     }
     let late = Deed {
@@ -43,24 +41,24 @@ fn is_by_either(
         marks: moment.before,
         act: late,
     };
-    is_late(alloc, script, moment, &late)
+    is_late(alloc, moment, &late)
 }
 
-/// Whether the command may write this image of the row.
+/// Whether the command may write this image of the row, at its node and in its table.
 pub fn is_legal_write(
     alloc: Global,
-    script: &Script,
-    moment: &Moment<'_>,
+    moment: &Moment<'_, '_>,
     command: (Gxid, Cid),
-    row: RowAt,
+    row: (Node, Table, Rid),
     image: &Option<Row>,
 ) -> Mem<bool>
-    requires { IsScript script.now }
-    ensures { IfOk result (λ is. IsTrue is ↔ LegalWrite script.now (point_of moment.now) command.0 command.1 row.node row.table row.rid image.now) }
+    requires { IsScript moment.now.script.now }
+    ensures { IfOk result (λ is. IsTrue is ↔ LegalWrite moment.now.script.now (point_of moment.now) command.0 command.1 row.0 row.1 row.2 image.now) }
 {
+    let (node, table, rid) = row;
+    let row = RowAt { node, table, rid };
     is_by_either(
         alloc,
-        script,
         moment,
         command,
         Act::Write { row, image },
@@ -71,39 +69,29 @@ pub fn is_legal_write(
 /// Whether the command may leave the row as it is.
 pub fn is_legal_skip(
     alloc: Global,
-    script: &Script,
-    moment: &Moment<'_>,
+    moment: &Moment<'_, '_>,
     command: (Gxid, Cid),
     rid: Rid,
 ) -> Mem<bool>
-    requires { IsScript script.now }
-    ensures { IfOk result (λ is. IsTrue is ↔ LegalSkip script.now (point_of moment.now) command.0 command.1 rid) }
+    requires { IsScript moment.now.script.now }
+    ensures { IfOk result (λ is. IsTrue is ↔ LegalSkip moment.now.script.now (point_of moment.now) command.0 command.1 rid) }
 {
-    is_by_either(
-        alloc,
-        script,
-        moment,
-        command,
-        Act::Skip(rid),
-        Act::LateSkip,
-    )
+    is_by_either(alloc, moment, command, Act::Skip(rid), Act::LateSkip)
 }
 
 /// Whether an evaluation of the command may fault on this image of the row.
 pub fn is_legal_fault(
     alloc: Global,
-    script: &Script,
-    moment: &Moment<'_>,
+    moment: &Moment<'_, '_>,
     command: (Gxid, Cid),
     rid: Rid,
     image: &Option<Row>,
 ) -> Mem<bool>
-    requires { IsScript script.now }
-    ensures { IfOk result (λ is. IsTrue is ↔ LegalFault script.now (point_of moment.now) command.0 command.1 rid image.now) }
+    requires { IsScript moment.now.script.now }
+    ensures { IfOk result (λ is. IsTrue is ↔ LegalFault moment.now.script.now (point_of moment.now) command.0 command.1 rid image.now) }
 {
     is_by_either(
         alloc,
-        script,
         moment,
         command,
         Act::Fault { rid, image },

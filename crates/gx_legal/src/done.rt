@@ -11,29 +11,29 @@ ghost use Rattle.gx_legal.specs.Moments.{point_of};
 ghost use Rattle.gx_legal.specs.Standings.{state_in};
 
 use crate::heard::has_heard;
-use crate::lines::{is_command, level_in, number_in, transaction_in};
+use crate::lines::{is_command, level_in, number_in, transaction_at};
 use crate::moment::Moment;
 use crate::pieces::pieces_of;
-use crate::standing::{Block, standing_of};
+use crate::seats::{is_ended_at, standing_at};
+use crate::standing::Block;
 use crate::word::{Report, Word};
 use gx_ids::{Gxid, Mem, Node, SessionId};
-use gx_legal_rows::{Command, is_committed, is_ended, tells};
+use gx_legal_rows::{Command, is_committed, tells};
 use gx_meaning::Piece;
-use gx_script::Script;
 use gx_store::StmtAnswer;
 use gx_tree::Stmt;
 use std::alloc::Global;
 
-fn is_at_its_end(block: Block, moment: &Moment<'_>, gxid: Gxid) -> bool
+fn is_at_its_end(block: Block, moment: &Moment<'_, '_>, gxid: Gxid) -> bool
     ensures { IsTrue result ↔ IsAtItsEnd (state_in block) (point_of moment.now) gxid }
 {
     match block {
         Block::Outside => is_committed(moment.earlier, gxid),
-        Block::Inside { .. } | Block::Failed => !is_ended(moment.before, gxid),
+        Block::Inside { .. } | Block::Failed => !is_ended_at(moment, gxid),
     }
 }
 
-fn is_returned(moment: &Moment<'_>, command: Command, node: Node) -> bool
+fn is_returned(moment: &Moment<'_, '_>, command: Command, node: Node) -> bool
     ensures { IsTrue result ↔ IsReturned (point_of moment.now) command.gxid command.cid node }
 {
     let report = Report {
@@ -45,7 +45,7 @@ fn is_returned(moment: &Moment<'_>, command: Command, node: Node) -> bool
     has_heard(moment, report)
 }
 
-fn are_back(moment: &Moment<'_>, command: Command, pieces: &[Piece]) -> bool
+fn are_back(moment: &Moment<'_, '_>, command: Command, pieces: &[Piece]) -> bool
     ensures { IsTrue result ↔ AllByRecursion (IsPieceBack (point_of moment.now) command.gxid command.cid) pieces.now }
 {
     for piece in pieces {
@@ -57,34 +57,27 @@ fn are_back(moment: &Moment<'_>, command: Command, pieces: &[Piece]) -> bool
 }
 
 // Whether each node to which the command goes has answered that it is done.
-fn is_back(
-    alloc: Global,
-    script: &Script,
-    moment: &Moment<'_>,
-    command: Command,
-    stmt: &Stmt,
-) -> Mem<bool>
-    requires script { IsScript script.now }
-    requires line { IsStmtOf script.now.tables stmt.now }
-    ensures { IfOk result (λ is. IsTrue is ↔ IsBack script.now (point_of moment.now) command.gxid command.cid stmt.now) }
+fn is_back(alloc: Global, moment: &Moment<'_, '_>, command: Command, stmt: &Stmt) -> Mem<bool>
+    requires script { IsScript moment.now.script.now }
+    requires line { IsStmtOf moment.now.script.now.tables stmt.now }
+    ensures { IfOk result (λ is. IsTrue is ↔ IsBack moment.now.script.now (point_of moment.now) command.gxid command.cid stmt.now) }
 {
-    let pieces = pieces_of(alloc, script, command, stmt)?;
+    let pieces = pieces_of(alloc, moment.script, command, stmt)?;
     Ok(are_back(moment, command, &pieces))
 }
 
 // Whether the transaction's command did what its answer says.
 fn is_done_by(
     alloc: Global,
-    script: &Script,
-    moment: &Moment<'_>,
+    moment: &Moment<'_, '_>,
     block: Block,
     gxid: Gxid,
     line: &Stmt,
     answer: &StmtAnswer,
 ) -> Mem<bool>
-    requires script { IsScript script.now }
-    requires line { IsStmtOf script.now.tables line.now }
-    ensures { IfOk result (λ is. IsTrue is ↔ IsDoneBy script.now (point_of moment.now) (state_in block) gxid line.now answer.now) }
+    requires script { IsScript moment.now.script.now }
+    requires line { IsStmtOf moment.now.script.now.tables line.now }
+    ensures { IfOk result (λ is. IsTrue is ↔ IsDoneBy moment.now.script.now (point_of moment.now) (state_in block) gxid line.now answer.now) }
 {
     if !is_at_its_end(block, moment, gxid) {
         return Ok(false);
@@ -94,31 +87,30 @@ fn is_done_by(
         gxid,
         cid: number_in(block)?,
     };
-    if !tells(alloc, script, moment.before, command, line, answer)? {
+    if !tells(alloc, moment.script, moment.before, command, line, answer)? {
         return Ok(false);
     }
-    is_back(alloc, script, moment, command, line)
+    is_back(alloc, moment, command, line)
 }
 
 /// Whether the session's line is a command, which succeeded with this answer.
 pub fn is_done(
     alloc: Global,
-    script: &Script,
-    moment: &Moment<'_>,
+    moment: &Moment<'_, '_>,
     session: SessionId,
     line: &Stmt,
     answer: &StmtAnswer,
 ) -> Mem<bool>
-    requires script { IsScript script.now }
-    requires line { IsStmtOf script.now.tables line.now }
-    ensures { IfOk result (λ is. IsTrue is ↔ IsDone script.now (point_of moment.now) session (state_at script.now session (point_of moment.now)) line.now answer.now) }
+    requires script { IsScript moment.now.script.now }
+    requires line { IsStmtOf moment.now.script.now.tables line.now }
+    ensures { IfOk result (λ is. IsTrue is ↔ IsDone moment.now.script.now (point_of moment.now) session (state_at moment.now.script.now session (point_of moment.now)) line.now answer.now) }
 {
-    let block = standing_of(script, session, moment.before).block;
+    let block = standing_at(moment, session).block;
     if !is_command(block, line) {
         return Ok(false);
     }
-    let Some(gxid) = transaction_in(script, moment.before, session) else {
+    let Some(gxid) = transaction_at(moment, session) else {
         return Ok(false);
     };
-    is_done_by(alloc, script, moment, block, gxid, line, answer)
+    is_done_by(alloc, moment, block, gxid, line, answer)
 }

@@ -7,13 +7,12 @@ ghost use Rattle.gx_legal.specs.Moments.{point_of};
 ghost use Rattle.gx_legal.specs.Standings.{state_in};
 
 use crate::counts::is_answered;
-use crate::lines::{line_under_way, may_abort, may_commit, transaction_in};
+use crate::lines::{is_in, line_under_way, may_abort, may_commit};
 use crate::moment::Moment;
-use crate::standing::{Block, standing_of};
+use crate::seats::{is_ended_at, standing_at};
+use crate::standing::Block;
 use crate::working::session_at;
 use gx_ids::{Gxid, SessionId};
-use gx_legal_rows::is_ended;
-use gx_script::Script;
 use gx_store::Event;
 use gx_tree::Stmt;
 
@@ -33,37 +32,33 @@ fn may_end(how: End, block: Block, line: &Stmt) -> bool
     }
 }
 
-fn ends_with(
-    script: &Script,
-    moment: &Moment<'_>,
-    gxid: Gxid,
-    how: End,
-    session: SessionId,
-    line: &Stmt,
-) -> bool
-    ensures { IsTrue result ↔ EndsWith script.now (point_of moment.now) gxid how session line.now }
+fn ends_with(moment: &Moment<'_, '_>, gxid: Gxid, how: End, session: SessionId, line: &Stmt) -> bool
+    ensures { IsTrue result ↔ EndsWith moment.now.script.now (point_of moment.now) gxid how session line.now }
 {
-    transaction_in(script, moment.before, session) == Some(gxid)
-        && may_end(how, standing_of(script, session, moment.before).block, line)
+    is_in(moment, session, gxid)
+        && may_end(how, standing_at(moment, session).block, line)
         && is_answered(session, moment.later)
 }
 
-fn ends_in(script: &Script, moment: &Moment<'_>, gxid: Gxid, how: End, session: SessionId) -> bool
-    ensures { IsTrue result ↔ EndsIn script.now (point_of moment.now) gxid how session }
+fn ends_in(moment: &Moment<'_, '_>, gxid: Gxid, how: End, session: SessionId) -> bool
+    ensures { IsTrue result ↔ EndsIn moment.now.script.now (point_of moment.now) gxid how session }
 {
-    match line_under_way(script, moment, session) {
-        Some(line) => ends_with(script, moment, gxid, how, session, line),
+    if !is_in(moment, session, gxid) {
+        return false;
+    }
+    match line_under_way(moment, session) {
+        Some(line) => ends_with(moment, gxid, how, session, line),
         None => false,
     }
 }
 
 // With the line of some session.
-fn ends_by_line(script: &Script, moment: &Moment<'_>, gxid: Gxid, how: End) -> bool
-    requires { IsScript script.now }
-    ensures { IsTrue result ↔ EndsByLine script.now (point_of moment.now) gxid how }
+fn ends_by_line(moment: &Moment<'_, '_>, gxid: Gxid, how: End) -> bool
+    requires { IsScript moment.now.script.now }
+    ensures { IsTrue result ↔ EndsByLine moment.now.script.now (point_of moment.now) gxid how }
 {
-    for place in 0..script.sessions.len() {
-        if ends_in(script, moment, gxid, how, session_at(place)) {
+    for place in 0..moment.script.sessions.len() {
+        if ends_in(moment, gxid, how, session_at(place)) {
             return true;
         }
     }
@@ -71,28 +66,28 @@ fn ends_by_line(script: &Script, moment: &Moment<'_>, gxid: Gxid, how: End) -> b
 }
 
 // With the end of its session.
-fn aborts_at_end(script: &Script, moment: &Moment<'_>, gxid: Gxid) -> bool
-    ensures { IsTrue result ↔ AbortsAtEnd script.now (point_of moment.now) gxid }
+fn aborts_at_end(moment: &Moment<'_, '_>, gxid: Gxid) -> bool
+    ensures { IsTrue result ↔ AbortsAtEnd moment.now.script.now (point_of moment.now) gxid }
 {
     match moment.event {
-        Event::End(session) => transaction_in(script, moment.before, session) == Some(gxid),
+        Event::End(session) => is_in(moment, session, gxid),
         _ => false,
     }
 }
 
 /// Whether the transaction may commit.
-pub fn is_legal_commit(script: &Script, moment: &Moment<'_>, gxid: Gxid) -> bool
-    requires { IsScript script.now }
-    ensures { IsTrue result ↔ LegalCommit script.now (point_of moment.now) gxid }
+pub fn is_legal_commit(moment: &Moment<'_, '_>, gxid: Gxid) -> bool
+    requires { IsScript moment.now.script.now }
+    ensures { IsTrue result ↔ LegalCommit moment.now.script.now (point_of moment.now) gxid }
 {
-    !is_ended(moment.before, gxid) && ends_by_line(script, moment, gxid, End::Commit)
+    !is_ended_at(moment, gxid) && ends_by_line(moment, gxid, End::Commit)
 }
 
 /// Whether the transaction may abort.
-pub fn is_legal_abort(script: &Script, moment: &Moment<'_>, gxid: Gxid) -> bool
-    requires { IsScript script.now }
-    ensures { IsTrue result ↔ LegalAbort script.now (point_of moment.now) gxid }
+pub fn is_legal_abort(moment: &Moment<'_, '_>, gxid: Gxid) -> bool
+    requires { IsScript moment.now.script.now }
+    ensures { IsTrue result ↔ LegalAbort moment.now.script.now (point_of moment.now) gxid }
 {
-    !is_ended(moment.before, gxid)
-        && (ends_by_line(script, moment, gxid, End::Abort) || aborts_at_end(script, moment, gxid))
+    !is_ended_at(moment, gxid)
+        && (ends_by_line(moment, gxid, End::Abort) || aborts_at_end(moment, gxid))
 }

@@ -17,7 +17,7 @@ use std::alloc::Global;
 // The mark at this place, behind these marks, notes such a fault.
 fn is_fault_by(
     alloc: Global,
-    moment: &Moment<'_>,
+    moment: &Moment<'_, '_>,
     place: usize,
     stmt: &Stmt,
     command: Command,
@@ -54,7 +54,7 @@ fn is_fault_by(
 
 fn is_fault_at(
     alloc: Global,
-    moment: &Moment<'_>,
+    moment: &Moment<'_, '_>,
     place: usize,
     stmt: &Stmt,
     command: Command,
@@ -77,7 +77,7 @@ fn is_fault_at(
 /// Whether an evaluation of the command gave this fault before its transaction aborted, and is why it is refused.
 pub fn has_faulted(
     alloc: Global,
-    moment: &Moment<'_>,
+    moment: &Moment<'_, '_>,
     stmt: &Stmt,
     command: Command,
     why: (ArithFault, Cause),

@@ -49,7 +49,7 @@ fn first_in(step: &Step, report: Report) -> Option<usize>
 }
 
 /// The first sending of the word by its node, in a step before the moment's.
-pub fn first_sending(moment: &Moment<'_>, report: Report) -> Option<Sending>
+pub fn first_sending(moment: &Moment<'_, '_>, report: Report) -> Option<Sending>
     ensures { IsFirstSending report.gxid report.word report.from report.to moment.now.steps.now result }
 {
     let mut start = 0;

@@ -43,7 +43,7 @@ fn has_failed(marks: &[Mark], node: Node, gxid: Gxid) -> bool
     is
 }
 
-fn is_told(moment: &Moment<'_>, node: Node, gxid: Gxid) -> bool
+fn is_told(moment: &Moment<'_, '_>, node: Node, gxid: Gxid) -> bool
     ensures { IsTrue result ↔ Receives moment.now.steps.now moment.now.event node the_coordinator (AnswerOf gxid Jfault) }
 {
     let report = Report {
@@ -56,7 +56,7 @@ fn is_told(moment: &Moment<'_>, node: Node, gxid: Gxid) -> bool
 }
 
 /// Whether the coordinator's journal failed in the point's step, or a segment's has failed and the step receives its word.
-pub fn has_journal_failed(moment: &Moment<'_>, gxid: Gxid, node: Node) -> bool
+pub fn has_journal_failed(moment: &Moment<'_, '_>, gxid: Gxid, node: Node) -> bool
     ensures { IsTrue result ↔ HasJournalFailed (point_of moment.now) gxid node }
 {
     if node.0 == 0 {

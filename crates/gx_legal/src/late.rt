@@ -1,101 +1,110 @@
 // Whether a command that was under way earlier in the run did something.
-ghost use Rattle.std.specs.Prelude.{◌≡◌, ◌↔◌, ◌≤◌, IfOk, IsTrue, Some, length, take, slice_get};
+ghost use Rattle.std.specs.Prelude.{◌≡◌, ◌↔◌, ◌++◌, [], IfOk, IsTrue, false};
 ghost use Rattle.gx_store.specs.Language.{IsScript};
 ghost use Rattle.gx_store.specs.Points.{marks_in};
 ghost use Rattle.gx_legal.specs.Deeds.{IsByEarlierInStep, IsByEarlierStep, IsLateDoing, doing_of};
-ghost use Rattle.gx_legal.specs.Moments.{behind, in_step, point_of};
+ghost use Rattle.gx_legal.specs.Moments.{point_of};
+ghost use Rattle.gx_legal.specs.Stretches.{end_of};
+ghost use Rattle.gx_legal.specs.Tallies.{IsTally};
 
 use crate::deed::Deed;
 use crate::moment::Moment;
+use crate::seats::is_aborted_at;
+use crate::stretch::{Stretch, moment_at};
+use crate::tally::{Tally, count_event, count_mark, no_tally};
 use crate::working::is_by_command;
 use gx_ids::Mem;
-use gx_legal_rows::is_aborted;
-use gx_script::Script;
-use gx_store::Step;
 use std::alloc::Global;
 
-// The point behind so many marks of the moment's step.
-fn moment_in_step<'a>(moment: &Moment<'a>, count: usize) -> Moment<'a>
-    requires { count ≤ length moment.now.earlier.now }
-    ensures { point_of result ≡ in_step (point_of moment.now) count }
-{
-    let start = moment.before.len() - moment.earlier.len();
-    Moment {
-        steps: moment.steps,
-        event: moment.event,
-        earlier: &moment.earlier[..count],
-        later: &[],
-        before: &moment.before[..start + count],
-    }
-}
-
-// The point behind the step of a number, before which there are so many marks.
-fn moment_behind<'a>(moment: &Moment<'a>, number: usize, step: &'a Step, start: usize) -> Moment<'a>
-    requires step { slice_get moment.now.steps.now number ≡ Some step.now }
-    requires start { start ≡ length (marks_in (take number moment.now.steps.now)) }
-    ensures { point_of result ≡ behind (point_of moment.now) number step.now }
-{
-    let marks = step.marks.as_slice();
-    let end = start + marks.len();
-    Moment {
-        steps: &moment.steps[..number],
-        event: step.event,
-        earlier: marks,
-        later: &[],
-        before: &moment.before[..end],
-    }
-}
-
-// At the point or at an earlier one of its step.
+// At the end of the stretch or at an earlier point of it.
 fn is_by_earlier_in_step(
     alloc: Global,
-    script: &Script,
-    moment: &Moment<'_>,
+    stretch: &Stretch<'_>,
+    tally: &mut Tally,
     deed: &Deed<'_>,
 ) -> Mem<bool>
-    requires { IsScript script.now }
-    ensures { IfOk result (λ is. IsTrue is ↔ IsByEarlierInStep script.now (point_of moment.now) (doing_of deed.now)) }
+    requires script { IsScript stretch.now.script.now }
+    requires tally { IsTally stretch.now.script.now stretch.now.steps.now (marks_in stretch.now.steps.now) tally.old }
+    ensures is { IfOk result (λ is. IsTrue is ↔ IsByEarlierInStep stretch.now.script.now (end_of stretch.now) (doing_of deed.now)) }
+    ensures tally { IfOk result (λ is. is ≡ false → IsTally stretch.now.script.now stretch.now.steps.now (marks_in stretch.now.steps.now ++ stretch.now.marks.now) tally.new) }
 {
-    for count in 0..moment.earlier.len() + 1 {
-        if is_by_command(alloc, script, &moment_in_step(moment, count), deed)? {
+    for count in 0..stretch.marks.len() {
+        let mark = &stretch.marks[count];
+        let moment = moment_at(stretch, count, &[], tally);
+        if is_by_command(alloc, &moment, deed)? {
             return Ok(true);
         }
+        count_mark(stretch.script, tally, mark)?;
     }
-    Ok(false)
+    let moment = moment_at(stretch, stretch.marks.len(), &[], tally);
+    is_by_command(alloc, &moment, deed)
 }
 
 // At a point of an earlier step.
 fn is_by_earlier_step(
     alloc: Global,
-    script: &Script,
-    moment: &Moment<'_>,
+    moment: &Moment<'_, '_>,
+    tally: &mut Tally,
     deed: &Deed<'_>,
 ) -> Mem<bool>
-    requires { IsScript script.now }
-    ensures { IfOk result (λ is. IsTrue is ↔ IsByEarlierStep script.now (point_of moment.now) (doing_of deed.now)) }
+    requires script { IsScript moment.now.script.now }
+    requires tally { IsTally moment.now.script.now [] [] tally.old }
+    ensures is { IfOk result (λ is. IsTrue is ↔ IsByEarlierStep moment.now.script.now (point_of moment.now) (doing_of deed.now)) }
+    ensures tally { IfOk result (λ is. is ≡ false → IsTally moment.now.script.now moment.now.steps.now (marks_in moment.now.steps.now) tally.new) }
 {
     let mut start = 0;
     for number in 0..moment.steps.len() {
         let step = &moment.steps[number];
-        let behind = moment_behind(moment, number, step, start);
-        if is_by_earlier_in_step(alloc, script, &behind, deed)? {
+        let stretch = Stretch {
+            script: moment.script,
+            steps: &moment.steps[..number],
+            event: step.event,
+            marks: step.marks.as_slice(),
+            all: moment.before,
+            start,
+        };
+        if is_by_earlier_in_step(alloc, &stretch, tally, deed)? {
             return Ok(true);
         }
+        count_event(tally, step.event);
         start += step.marks.len();
     }
     Ok(false)
 }
 
-/// Whether the deed is of a transaction that has aborted, and of a command of it that was under way at the point or at an earlier one.
-pub fn is_late(alloc: Global, script: &Script, moment: &Moment<'_>, deed: &Deed<'_>) -> Mem<bool>
-    requires { IsScript script.now }
-    ensures { IfOk result (λ is. IsTrue is ↔ IsLateDoing script.now (point_of moment.now) (doing_of deed.now)) }
+// In the moment's own step.
+fn is_by_earlier_here(
+    alloc: Global,
+    moment: &Moment<'_, '_>,
+    tally: &mut Tally,
+    deed: &Deed<'_>,
+) -> Mem<bool>
+    requires script { IsScript moment.now.script.now }
+    requires tally { IsTally moment.now.script.now moment.now.steps.now (marks_in moment.now.steps.now) tally.old }
+    ensures { IfOk result (λ is. IsTrue is ↔ IsByEarlierInStep moment.now.script.now (point_of moment.now) (doing_of deed.now)) }
 {
-    if !is_aborted(moment.before, deed.gxid) {
+    let stretch = Stretch {
+        script: moment.script,
+        steps: moment.steps,
+        event: moment.event,
+        marks: moment.earlier,
+        all: moment.before,
+        start: moment.before.len() - moment.earlier.len(),
+    };
+    is_by_earlier_in_step(alloc, &stretch, tally, deed)
+}
+
+/// Whether the deed is of a transaction that has aborted, and of a command of it that was under way at the point or at an earlier one.
+pub fn is_late(alloc: Global, moment: &Moment<'_, '_>, deed: &Deed<'_>) -> Mem<bool>
+    requires { IsScript moment.now.script.now }
+    ensures { IfOk result (λ is. IsTrue is ↔ IsLateDoing moment.now.script.now (point_of moment.now) (doing_of deed.now)) }
+{
+    if !is_aborted_at(moment, deed.gxid) {
         return Ok(false);
     }
-    Ok(
-        is_by_earlier_step(alloc, script, moment, deed)?
-            || is_by_earlier_in_step(alloc, script, moment, deed)?,
-    )
+    let mut tally = no_tally(alloc, moment.script)?;
+    if is_by_earlier_step(alloc, moment, &mut tally, deed)? {
+        return Ok(true);
+    }
+    is_by_earlier_here(alloc, moment, &mut tally, deed)
 }

@@ -1,5 +1,5 @@
-//! Whether the run of a script is a legal history: its definition decided, for any run. It may be slow: nothing is kept from one question
-//! to the next.
+//! Whether the run of a script is a legal history: its definition decided, for any run. What the marks so far come to is kept from one to
+//! the next; other questions may look through all marks.
 #![tactic(auto)]
 
 pub mod acting;
@@ -25,10 +25,13 @@ pub mod noted;
 pub mod overtaken;
 pub mod pieces;
 pub mod refusals;
+pub mod seats;
 pub mod snaps;
 pub mod standing;
 pub mod starts;
 pub mod steps;
+pub mod stretch;
+pub mod tally;
 pub mod verdicts;
 pub mod word;
 pub mod working;

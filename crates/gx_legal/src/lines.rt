@@ -1,8 +1,7 @@
 // The line that a session has under way, and what it may do there.
 ghost use Rattle.std.specs.Prelude.{◌≡◌, ◌↔◌, ◌+◌, ◌<◌, ◌^◌, IfOk, IsTrue, Some};
 ghost use Rattle.std.specs.Option.{option_copied};
-ghost use Rattle.gx_store.specs.declared.event.Event.TheVariants.{End, Start};
-ghost use Rattle.gx_store.specs.Commands.{RunsLine};
+ghost use Rattle.gx_store.specs.Commands.{RunsLine, state_at};
 ghost use Rattle.gx_store.specs.Legal.{draws as may_draw, is_in_block as has_block, may_abort as can_abort, may_commit as can_commit};
 ghost use Rattle.gx_store.specs.Lines.{cid_of, is_command as is_command_in, is_on_rows as concerns_rows, level_of, next_stmt, state_of, transaction_of};
 ghost use Rattle.gx_store.specs.Marks.{answer_count};
@@ -11,73 +10,27 @@ ghost use Rattle.gx_tree.specs.declared.stmt.Stmt.{Stmt as OneStmt};
 ghost use Rattle.gx_legal.specs.Moments.{point_of};
 ghost use Rattle.gx_legal.specs.Standings.{commands_in, state_in};
 
+use crate::counts::is_start_of;
 use crate::moment::Moment;
-use crate::standing::{Block, standing_of, stmt_at};
+use crate::seats::{standing_at, start_count_at};
+use crate::standing::{Block, stmt_at};
 use gx_ids::{Cid, Gxid, Mem, OutOfMemory, SessionId};
-use gx_script::Script;
-use gx_store::{Event, Mark, Step};
 use gx_tree::{Level, Stmt};
 
-/// Whether the event starts a line of the session.
-pub fn is_start_of(event: Event, session: SessionId) -> bool
-    ensures { IsTrue result ↔ (event ≡ Start session) }
-{
-    match event {
-        Event::Start(starter) => starter == session,
-        _ => false,
-    }
-}
-
-/// Whether the event ends the session.
-pub fn is_end_of(event: Event, session: SessionId) -> bool
-    ensures { IsTrue result ↔ (event ≡ End session) }
-{
-    match event {
-        Event::End(ended) => ended == session,
-        _ => false,
-    }
-}
-
-/// How many lines of the session these steps start.
-pub fn start_count_of(session: SessionId, steps: &[Step]) -> usize
-    ensures { result ≡ starts_in session steps.now }
-{
-    let mut count = 0;
-    for step in steps {
-        if is_start_of(step.event, session) {
-            count += 1;
-        }
-    }
-    count
-}
-
-/// How often these steps end the session.
-pub fn end_count_of(session: SessionId, steps: &[Step]) -> usize
-    ensures { result ≡ ends_in session steps.now }
-{
-    let mut count = 0;
-    for step in steps {
-        if is_end_of(step.event, session) {
-            count += 1;
-        }
-    }
-    count
-}
-
 /// The statement of the session's first line that isn't answered.
-pub fn next_line<'a>(script: &'a Script, marks: &[Mark], session: SessionId) -> Option<&'a Stmt>
-    ensures { option_copied result ≡ next_stmt session script.now marks.now }
+pub fn next_line<'a>(moment: &Moment<'a, '_>, session: SessionId) -> Option<&'a Stmt>
+    ensures { option_copied result ≡ next_stmt session moment.now.script.now moment.now.before.now }
 {
-    let answered = standing_of(script, session, marks).answered;
-    stmt_at(script.lines.as_slice(), session, answered + 1)
+    let answered = standing_at(moment, session).answered;
+    stmt_at(moment.script.lines.as_slice(), session, answered + 1)
 }
 
 // Whether the session has started one line more than were answered.
-fn has_started(script: &Script, moment: &Moment<'_>, session: SessionId) -> bool
+fn has_started(moment: &Moment<'_, '_>, session: SessionId) -> bool
     ensures { IsTrue result ↔ (starts_up_to session (point_of moment.now) ≡ answer_count session (before (point_of moment.now)) + 1) }
 {
-    let answered = standing_of(script, session, moment.before).answered;
-    let started = start_count_of(session, moment.steps);
+    let answered = standing_at(moment, session).answered;
+    let started = start_count_at(moment, session);
     if is_start_of(moment.event, session) {
         started == answered
     } else {
@@ -86,15 +39,11 @@ fn has_started(script: &Script, moment: &Moment<'_>, session: SessionId) -> bool
 }
 
 /// The statement that the session has under way: started, and not answered.
-pub fn line_under_way<'a>(
-    script: &'a Script,
-    moment: &Moment<'_>,
-    session: SessionId,
-) -> Option<&'a Stmt>
-    ensures { (stmt : OneStmt) → (option_copied result ≡ Some stmt) ↔ RunsLine script.now (point_of moment.now) session stmt }
+pub fn line_under_way<'a>(moment: &Moment<'a, '_>, session: SessionId) -> Option<&'a Stmt>
+    ensures { (stmt : OneStmt) → (option_copied result ≡ Some stmt) ↔ RunsLine moment.now.script.now (point_of moment.now) session stmt }
 {
-    if has_started(script, moment, session) {
-        next_line(script, moment.before, session)
+    if has_started(moment, session) {
+        next_line(moment, session)
     } else {
         None
     }
@@ -162,15 +111,22 @@ pub fn number_in(block: Block) -> Mem<Cid>
 }
 
 /// The transaction that the session is in.
-pub fn transaction_in(script: &Script, marks: &[Mark], session: SessionId) -> Option<Gxid>
-    ensures { result ≡ transaction_of (state_of script.now session marks.now) session marks.now }
+pub fn transaction_at(moment: &Moment<'_, '_>, session: SessionId) -> Option<Gxid>
+    ensures { result ≡ transaction_of (state_of moment.now.script.now session moment.now.before.now) session moment.now.before.now }
 {
-    let standing = standing_of(script, session, marks);
+    let standing = standing_at(moment, session);
     match standing.block {
         Block::Outside if !standing.begun => None,
         Block::Failed => None,
         _ => standing.started,
     }
+}
+
+/// Whether the session is in this transaction.
+pub fn is_in(moment: &Moment<'_, '_>, session: SessionId, gxid: Gxid) -> bool
+    ensures { IsTrue result ↔ (transaction_of (state_at moment.now.script.now session (point_of moment.now)) session (before (point_of moment.now)) ≡ Some gxid) }
+{
+    transaction_at(moment, session) == Some(gxid)
 }
 
 /// Whether the line draws a transaction there.

@@ -75,7 +75,7 @@ fn has_noted(steps: &[Step], evaluation: Evaluation<'_>, node: Node) -> bool
 }
 
 // The step receives the word of a segment that has noted it.
-fn is_word(moment: &Moment<'_>, evaluation: Evaluation<'_>, reason: Cause) -> bool
+fn is_word(moment: &Moment<'_, '_>, evaluation: Evaluation<'_>, reason: Cause) -> bool
     ensures { IsTrue result ↔ IsWord (point_of moment.now) evaluation.entry.gxid evaluation.entry.cid evaluation.entry.rid evaluation.entry.image.now reason }
 {
     let Event::Receive { from, .. } = moment.event else {
@@ -93,7 +93,7 @@ fn is_word(moment: &Moment<'_>, evaluation: Evaluation<'_>, reason: Cause) -> bo
 /// Whether the fault that is noted at this place is why the command is refused: an INSERT's in the point's own step, another's by the word
 /// of a segment.
 pub fn is_heard(
-    moment: &Moment<'_>,
+    moment: &Moment<'_, '_>,
     place: usize,
     stmt: &Stmt,
     evaluation: Evaluation<'_>,

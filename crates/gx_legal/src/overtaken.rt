@@ -17,7 +17,7 @@ use std::alloc::Global;
 // A row of the table, by the word that the point's step receives, and when the segment first said so.
 fn is_overtaken_there(
     alloc: Global,
-    moment: &Moment<'_>,
+    moment: &Moment<'_, '_>,
     command: Command,
     table: Table,
     cond: &Option<Cond>,
@@ -47,7 +47,7 @@ fn is_overtaken_there(
 /// Whether, at repeatable read, the row's current write is of this transaction, which committed after the command's snapshot.
 pub fn is_overtaken(
     alloc: Global,
-    moment: &Moment<'_>,
+    moment: &Moment<'_, '_>,
     stmt: &Stmt,
     command: Command,
     row: (Rid, Gxid),

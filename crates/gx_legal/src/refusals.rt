@@ -8,16 +8,16 @@ ghost use Rattle.gx_legal.specs.Standings.{state_in};
 
 use crate::faulted::has_faulted;
 use crate::journals::has_journal_failed;
-use crate::lines::{is_command, level_in, number_in, transaction_in};
+use crate::lines::{is_command, level_in, number_in, transaction_at};
 use crate::moment::Moment;
 use crate::named::is_named;
 use crate::overtaken::is_overtaken;
-use crate::standing::{Block, standing_of};
+use crate::seats::standing_at;
+use crate::standing::Block;
 use gx_ids::{Mem, SessionId};
 use gx_legal_rows::{Command, is_aborted};
 use gx_meaning::ArithFault;
 use gx_msg::Cause;
-use gx_script::Script;
 use gx_store::Refused;
 use gx_tree::Stmt;
 use std::alloc::Global;
@@ -43,7 +43,7 @@ fn may_refuse(block: Block, stmt: &Stmt, reason: Refused) -> bool
 
 fn is_cause(
     alloc: Global,
-    moment: &Moment<'_>,
+    moment: &Moment<'_, '_>,
     stmt: &Stmt,
     command: Command,
     reason: Refused,
@@ -81,7 +81,7 @@ fn is_cause(
 // The command's transaction has aborted in the point's step, and for this cause.
 fn is_refused_for(
     alloc: Global,
-    moment: &Moment<'_>,
+    moment: &Moment<'_, '_>,
     stmt: &Stmt,
     command: Command,
     reason: Refused,
@@ -97,19 +97,18 @@ fn is_refused_for(
 /// Whether the session's line, which has a transaction, may be refused so.
 pub fn is_refusal(
     alloc: Global,
-    script: &Script,
-    moment: &Moment<'_>,
+    moment: &Moment<'_, '_>,
     session: SessionId,
     line: &Stmt,
     reason: Refused,
 ) -> Mem<bool>
-    ensures { IfOk result (λ is. IsTrue is ↔ IsRefusal script.now (point_of moment.now) session (state_at script.now session (point_of moment.now)) line.now reason) }
+    ensures { IfOk result (λ is. IsTrue is ↔ IsRefusal moment.now.script.now (point_of moment.now) session (state_at moment.now.script.now session (point_of moment.now)) line.now reason) }
 {
-    let block = standing_of(script, session, moment.before).block;
+    let block = standing_at(moment, session).block;
     if !may_refuse(block, line, reason) {
         return Ok(false);
     }
-    let Some(gxid) = transaction_in(script, moment.before, session) else {
+    let Some(gxid) = transaction_at(moment, session) else {
         return Ok(false);
     };
     let command = Command {

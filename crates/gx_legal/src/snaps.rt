@@ -1,57 +1,50 @@
 // Whether a snapshot may be taken.
 ghost use Rattle.std.specs.Prelude.{◌≡◌, ◌↔◌, IfOk, IsTrue, true};
+ghost use Rattle.std.specs.BTreeSet.{keys};
+ghost use Rattle.std.specs.List.{list_all};
 ghost use Rattle.gx_dsnap.specs.Snapshot.{sees};
 ghost use Rattle.gx_store.specs.Language.{IsScript};
 ghost use Rattle.gx_store.specs.Legal.{LegalSnap};
 ghost use Rattle.gx_store.specs.Marks.{is_ended as has_ended};
 ghost use Rattle.gx_legal.specs.Moments.{point_of};
-ghost use Rattle.gx_legal.specs.Snaps.{SeesCommit, SeesCommits, SeesEnded};
+ghost use Rattle.gx_legal.specs.Snaps.{SeesCommits, SeesEnded};
 
 use crate::deed::{Act, Deed};
 use crate::moment::Moment;
+use crate::seats::is_ended_at;
 use crate::working::is_by_command;
 use gx_dsnap::Snapshot;
 use gx_ids::{Cid, Gxid, Mem};
-use gx_legal_rows::is_ended;
-use gx_script::Script;
-use gx_store::Mark;
 use std::alloc::Global;
+use std::collections::BTreeSet;
 
-// Whether the snapshot sees a transaction that the mark commits.
-fn sees_commit(mark: &Mark, snapshot: &Snapshot) -> bool
-    ensures { IsTrue result ↔ SeesCommit mark.now snapshot.now }
+// Whether the snapshot sees all of these.
+fn sees_all(gxids: &BTreeSet<Gxid>, snapshot: &Snapshot) -> bool
+    ensures { result ≡ list_all (sees snapshot.now) (keys gxids.now) }
 {
-    match mark {
-        Mark::Commit { gxid } => snapshot.sees(*gxid),
-        _ => true,
-    }
+    gxids.iter().all(|gxid| snapshot.sees(*gxid))
 }
 
 // Whether it sees all that have committed.
-fn sees_commits(marks: &[Mark], snapshot: &Snapshot) -> bool
-    ensures { IsTrue result ↔ SeesCommits marks.now snapshot.now }
+fn sees_commits(moment: &Moment<'_, '_>, snapshot: &Snapshot) -> bool
+    ensures { IsTrue result ↔ SeesCommits moment.now.before.now snapshot.now }
 {
-    for mark in marks {
-        if !sees_commit(mark, snapshot) {
-            return false;
-        }
-    }
-    true
+    sees_all(&moment.tally.committed, snapshot)
 }
 
 // Whether it doesn't see the transaction, or this one has ended.
-fn has_ended_if_seen(marks: &[Mark], snapshot: &Snapshot, gxid: Gxid) -> bool
-    ensures { IsTrue result ↔ (sees snapshot.now gxid ≡ true → has_ended marks.now gxid ≡ true) }
+fn has_ended_if_seen(moment: &Moment<'_, '_>, snapshot: &Snapshot, gxid: Gxid) -> bool
+    ensures { IsTrue result ↔ (sees snapshot.now gxid ≡ true → has_ended moment.now.before.now gxid ≡ true) }
 {
-    !snapshot.sees(gxid) || is_ended(marks, gxid)
+    !snapshot.sees(gxid) || is_ended_at(moment, gxid)
 }
 
 // Whether all that it sees have ended. The first that is seen and has not ends the loop, so it takes no longer than there are marks.
-fn sees_ended(marks: &[Mark], snapshot: &Snapshot) -> bool
-    ensures { IsTrue result ↔ SeesEnded marks.now snapshot.now }
+fn sees_ended(moment: &Moment<'_, '_>, snapshot: &Snapshot) -> bool
+    ensures { IsTrue result ↔ SeesEnded moment.now.before.now snapshot.now }
 {
     for number in 1..snapshot.xmax.0 {
-        if !has_ended_if_seen(marks, snapshot, Gxid(number)) {
+        if !has_ended_if_seen(moment, snapshot, Gxid(number)) {
             return false;
         }
     }
@@ -61,18 +54,17 @@ fn sees_ended(marks: &[Mark], snapshot: &Snapshot) -> bool
 /// Whether the command may take this snapshot.
 pub fn is_legal_snap(
     alloc: Global,
-    script: &Script,
-    moment: &Moment<'_>,
+    moment: &Moment<'_, '_>,
     command: (Gxid, Cid),
     snapshot: &Snapshot,
 ) -> Mem<bool>
-    requires { IsScript script.now }
-    ensures { IfOk result (λ is. IsTrue is ↔ LegalSnap script.now (point_of moment.now) command.0 command.1 snapshot.now) }
+    requires { IsScript moment.now.script.now }
+    ensures { IfOk result (λ is. IsTrue is ↔ LegalSnap moment.now.script.now (point_of moment.now) command.0 command.1 snapshot.now) }
 {
-    if !sees_commits(moment.before, snapshot) {
+    if !sees_commits(moment, snapshot) {
         return Ok(false);
     }
-    if !sees_ended(moment.before, snapshot) {
+    if !sees_ended(moment, snapshot) {
         return Ok(false);
     }
     let deed = Deed {
@@ -81,5 +73,5 @@ pub fn is_legal_snap(
         marks: moment.before,
         act: Act::Snap,
     };
-    is_by_command(alloc, script, moment, &deed)
+    is_by_command(alloc, moment, &deed)
 }

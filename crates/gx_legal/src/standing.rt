@@ -1,5 +1,5 @@
 // Where a session stands behind the marks of a run.
-ghost use Rattle.std.specs.Prelude.{◌≡◌, ◌+◌, ◌<◌, ◌≤◌, ◌^◌, ◌∷◌, [], length};
+ghost use Rattle.std.specs.Prelude.{◌≡◌, ◌+◌, ◌<◌, ◌≤◌, ◌^◌, ◌∷◌, [], None, false, length};
 ghost use Rattle.std.specs.Option.{option_copied};
 ghost use Rattle.gx_store.specs.declared.mark.Mark.TheVariants.{Answer, Start};
 ghost use Rattle.gx_store.specs.Lines.{state_after, state_after_line, stmt_of};
@@ -148,7 +148,8 @@ fn answered(
     }
 }
 
-fn moved(script: &Script, standing: Standing, session: SessionId, mark: &Mark) -> Standing
+/// Where the session stands behind one more mark.
+pub fn moved(script: &Script, standing: Standing, session: SessionId, mark: &Mark) -> Standing
     requires commands { commands_in standing.block + 1 < 2 ^ 64 }
     requires answers { standing.answered + 1 < 2 ^ 64 }
     ensures is { IsMoved script.now session standing (mark.now ∷ []) result }
@@ -168,18 +169,25 @@ fn moved(script: &Script, standing: Standing, session: SessionId, mark: &Mark) -
     }
 }
 
+/// Where a session stands before all marks.
+pub fn no_standing() -> Standing
+    ensures { result ≡ record { block = Block.Outside; begun = false; started = None; answered = 0 } }
+{
+    Standing {
+        block: Block::Outside,
+        begun: false,
+        started: None,
+        answered: 0,
+    }
+}
+
 /// Where the session stands behind these marks.
 pub fn standing_of(script: &Script, session: SessionId, marks: &[Mark]) -> Standing
     ensures is { IsStanding script.now session marks.now result }
     ensures answers { result.answered ≤ length marks.now }
     ensures commands { commands_in result.block ≤ length marks.now }
 {
-    let mut standing = Standing {
-        block: Block::Outside,
-        begun: false,
-        started: None,
-        answered: 0,
-    };
+    let mut standing = no_standing();
     for mark in marks {
         standing = moved(script, standing, session, mark);
     }

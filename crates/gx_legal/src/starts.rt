@@ -5,12 +5,11 @@ ghost use Rattle.gx_store.specs.Marks.{start_count as count_of};
 ghost use Rattle.gx_legal.specs.Commands.{StartsWith};
 ghost use Rattle.gx_legal.specs.Moments.{point_of};
 
-use crate::counts::start_count;
-use crate::lines::{draws, is_start_of, line_under_way};
+use crate::counts::{is_start_of, start_count};
+use crate::lines::{draws, line_under_way};
 use crate::moment::Moment;
-use crate::standing::standing_of;
+use crate::seats::standing_at;
 use gx_ids::{Gxid, SessionId};
-use gx_script::Script;
 use gx_store::Mark;
 use gx_tree::Stmt;
 
@@ -20,16 +19,10 @@ fn is_next(marks: &[Mark], gxid: Gxid) -> bool
     gxid.0 == start_count(marks) as u64 + 1
 }
 
-fn starts_with(
-    script: &Script,
-    moment: &Moment<'_>,
-    gxid: Gxid,
-    session: SessionId,
-    line: &Stmt,
-) -> bool
-    ensures { IsTrue result ↔ StartsWith script.now (point_of moment.now) gxid session line.now }
+fn starts_with(moment: &Moment<'_, '_>, gxid: Gxid, session: SessionId, line: &Stmt) -> bool
+    ensures { IsTrue result ↔ StartsWith moment.now.script.now (point_of moment.now) gxid session line.now }
 {
-    let standing = standing_of(script, session, moment.before);
+    let standing = standing_at(moment, session);
     is_next(moment.before, gxid)
         && is_start_of(moment.event, session)
         && draws(standing.block, line)
@@ -37,11 +30,11 @@ fn starts_with(
 }
 
 /// Whether the session may start this transaction.
-pub fn is_legal_start(script: &Script, moment: &Moment<'_>, gxid: Gxid, session: SessionId) -> bool
-    ensures { IsTrue result ↔ LegalStart script.now (point_of moment.now) gxid session }
+pub fn is_legal_start(moment: &Moment<'_, '_>, gxid: Gxid, session: SessionId) -> bool
+    ensures { IsTrue result ↔ LegalStart moment.now.script.now (point_of moment.now) gxid session }
 {
-    match line_under_way(script, moment, session) {
-        Some(line) => starts_with(script, moment, gxid, session, line),
+    match line_under_way(moment, session) {
+        Some(line) => starts_with(moment, gxid, session, line),
         None => false,
     }
 }

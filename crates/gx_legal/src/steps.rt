@@ -1,11 +1,12 @@
 // Whether the steps of a run are legal, one behind the other.
-ghost use Rattle.std.specs.Prelude.{◌≡◌, ◌↔◌, ◌≤◌, ◌+◌, ◌++◌, ◌∷◌, [], IfOk, IsTrue, Some, drop, length, slice_get, take};
-ghost use Rattle.gx_store.specs.declared.mark.Mark.{Mark as OneMark};
+ghost use Rattle.std.specs.Prelude.{◌≡◌, ◌↔◌, ◌++◌, [], IfOk, IsTrue};
 ghost use Rattle.gx_store.specs.Language.{IsScript};
-ghost use Rattle.gx_store.specs.Legal.{AreLegalMarks, AreLegalSteps, IsLegalStep, LegalMark};
+ghost use Rattle.gx_store.specs.Legal.{AreLegalMarks, AreLegalSteps, LegalMark};
 ghost use Rattle.gx_store.specs.Points.{marks_in};
 ghost use Rattle.gx_store.specs.Runs.{IsLegalHistory};
 ghost use Rattle.gx_legal.specs.Moments.{point_of};
+ghost use Rattle.gx_legal.specs.Stretches.{MayBegin, MayFollow};
+ghost use Rattle.gx_legal.specs.Tallies.{IsTally};
 
 use crate::answers::is_legal_answer;
 use crate::copying::all_marks;
@@ -15,25 +16,26 @@ use crate::events::{is_drawn, is_legal_event};
 use crate::moment::Moment;
 use crate::snaps::is_legal_snap;
 use crate::starts::is_legal_start;
+use crate::stretch::{Stretch, moment_at};
+use crate::tally::{Tally, count_event, count_mark, no_tally};
 use crate::verdicts::is_legal_verdict;
 use gx_ids::Mem;
-use gx_legal_rows::RowAt;
 use gx_script::Script;
 use gx_store::{Mark, Run, Step};
 use std::alloc::Global;
 
 /// Whether the mark may stand at this point.
-pub fn is_legal_mark(alloc: Global, script: &Script, moment: &Moment<'_>, mark: &Mark) -> Mem<bool>
-    requires { IsScript script.now }
-    ensures { IfOk result (λ is. IsTrue is ↔ LegalMark script.now (point_of moment.now) mark.now) }
+pub fn is_legal_mark(alloc: Global, moment: &Moment<'_, '_>, mark: &Mark) -> Mem<bool>
+    requires { IsScript moment.now.script.now }
+    ensures { IfOk result (λ is. IsTrue is ↔ LegalMark moment.now.script.now (point_of moment.now) mark.now) }
 {
     match mark {
-        Mark::Start { gxid, session } => Ok(is_legal_start(script, moment, *gxid, *session)),
+        Mark::Start { gxid, session } => Ok(is_legal_start(moment, *gxid, *session)),
         Mark::Snap {
             gxid,
             cid,
             snapshot,
-        } => is_legal_snap(alloc, script, moment, (*gxid, *cid), snapshot),
+        } => is_legal_snap(alloc, moment, (*gxid, *cid), snapshot),
         Mark::Write {
             gxid,
             cid,
@@ -41,109 +43,62 @@ pub fn is_legal_mark(alloc: Global, script: &Script, moment: &Moment<'_>, mark: 
             table,
             rid,
             image,
-        } => is_legal_write(
-            alloc,
-            script,
-            moment,
-            (*gxid, *cid),
-            RowAt {
-                node: *node,
-                table: *table,
-                rid: *rid,
-            },
-            image,
-        ),
-        Mark::Skip { gxid, cid, rid } => is_legal_skip(alloc, script, moment, (*gxid, *cid), *rid),
+        } => is_legal_write(alloc, moment, (*gxid, *cid), (*node, *table, *rid), image),
+        Mark::Skip { gxid, cid, rid } => is_legal_skip(alloc, moment, (*gxid, *cid), *rid),
         Mark::Fault {
             gxid,
             cid,
             rid,
             image,
-        } => is_legal_fault(alloc, script, moment, (*gxid, *cid), *rid, image),
-        Mark::Commit { gxid } => Ok(is_legal_commit(script, moment, *gxid)),
-        Mark::Abort { gxid } => Ok(is_legal_abort(script, moment, *gxid)),
+        } => is_legal_fault(alloc, moment, (*gxid, *cid), *rid, image),
+        Mark::Commit { gxid } => Ok(is_legal_commit(moment, *gxid)),
+        Mark::Abort { gxid } => Ok(is_legal_abort(moment, *gxid)),
         Mark::Answer {
             session,
             number,
             answer,
-        } => is_legal_answer(alloc, script, moment, (*session, *number), answer),
-        Mark::Recheck {
-            round,
-            own: _,
-            verdict,
-        } => Ok(is_legal_verdict(moment, *round, verdict)),
+        } => is_legal_answer(alloc, moment, (*session, *number), answer),
+        Mark::Recheck { round, verdict, .. } => Ok(is_legal_verdict(moment, *round, verdict)),
         _ => Ok(true),
     }
 }
 
-// The point of a step before its mark of a number, where `all` are the marks up to the step's end and beyond.
-fn moment_before<'a>(
-    steps: &'a [Step],
-    step: &'a Step,
-    all: &'a [Mark],
-    start: usize,
-    number: usize,
-) -> Moment<'a>
-    requires start { start ≡ length (marks_in steps.now) }
-    requires all { take (start + length step.now.marks) all.now ≡ marks_in steps.now ++ step.now.marks }
-    requires number { number + 1 ≤ length step.now.marks }
-    ensures { point_of result ≡ record { steps = steps.now; event = step.now.event; earlier = take number step.now.marks; later = drop (number + 1) step.now.marks } }
+fn are_legal_marks(alloc: Global, stretch: &Stretch<'_>, tally: &mut Tally) -> Mem<bool>
+    requires script { IsScript stretch.now.script.now }
+    requires tally { IsTally stretch.now.script.now stretch.now.steps.now (marks_in stretch.now.steps.now) tally.old }
+    ensures are { IfOk result (λ are. IsTrue are ↔ AreLegalMarks stretch.now.script.now stretch.now.steps.now stretch.now.event [] stretch.now.marks.now []) }
+    ensures tally { IfOk result (λ are. IsTrue are → IsTally stretch.now.script.now stretch.now.steps.now (marks_in stretch.now.steps.now ++ stretch.now.marks.now) tally.new) }
 {
-    let marks = step.marks.as_slice();
-    Moment {
-        steps,
-        event: step.event,
-        earlier: &marks[..number],
-        later: &marks[number + 1..],
-        before: &all[..start + number],
-    }
-}
-
-fn are_legal_marks(
-    alloc: Global,
-    script: &Script,
-    steps: &[Step],
-    step: &Step,
-    all: &[Mark],
-    start: usize,
-) -> Mem<bool>
-    requires script { IsScript script.now }
-    requires start { start ≡ length (marks_in steps.now) }
-    requires all { take (start + length step.now.marks) all.now ≡ marks_in steps.now ++ step.now.marks }
-    ensures { IfOk result (λ are. IsTrue are ↔ AreLegalMarks script.now steps.now step.now.event [] step.now.marks []) }
-{
-    let marks = step.marks.as_slice();
-    for number in 0..marks.len() {
-        let moment = moment_before(steps, step, all, start, number);
-        if !is_legal_mark(alloc, script, &moment, &marks[number])? {
+    for number in 0..stretch.marks.len() {
+        let mark = &stretch.marks[number];
+        let moment = moment_at(stretch, number, &stretch.marks[number + 1..], tally);
+        if !is_legal_mark(alloc, &moment, mark)? {
             return Ok(false);
         }
+        count_mark(stretch.script, tally, mark)?;
     }
     Ok(true)
 }
 
-fn is_legal_step(
-    alloc: Global,
-    script: &Script,
-    steps: &[Step],
-    step: &Step,
-    all: &[Mark],
-    start: usize,
-) -> Mem<bool>
-    requires script { IsScript script.now }
-    requires start { start ≡ length (marks_in steps.now) }
-    requires all { take (start + length step.now.marks) all.now ≡ marks_in steps.now ++ step.now.marks }
-    ensures { IfOk result (λ is. IsTrue is ↔ IsLegalStep script.now steps.now step.now) }
+// Whether the step may begin so.
+fn may_begin(stretch: &Stretch<'_>, tally: &Tally) -> bool
+    requires { IsTally stretch.now.script.now stretch.now.steps.now (marks_in stretch.now.steps.now) tally.now }
+    ensures { IsTrue result ↔ MayBegin stretch.now.script.now stretch.now.steps.now stretch.now.event stretch.now.marks.now }
 {
-    let before = &all[..start];
-    let marks = step.marks.as_slice();
-    if !is_legal_event(script, steps, before, step.event) {
+    let moment = moment_at(stretch, 0, &[], tally);
+    is_legal_event(&moment) && is_drawn(&moment, stretch.marks)
+}
+
+fn may_follow(alloc: Global, stretch: &Stretch<'_>, tally: &mut Tally) -> Mem<bool>
+    requires script { IsScript stretch.now.script.now }
+    requires tally { IsTally stretch.now.script.now stretch.now.steps.now (marks_in stretch.now.steps.now) tally.old }
+    ensures is { IfOk result (λ is. IsTrue is ↔ MayFollow stretch.now.script.now stretch.now.steps.now stretch.now.event stretch.now.marks.now) }
+    ensures tally { IfOk result (λ is. IsTrue is → IsTally stretch.now.script.now stretch.now.steps.now (marks_in stretch.now.steps.now ++ stretch.now.marks.now) tally.new) }
+{
+    if !may_begin(stretch, tally) {
         return Ok(false);
     }
-    if !is_drawn(script, steps, before, step.event, marks) {
-        return Ok(false);
-    }
-    are_legal_marks(alloc, script, steps, step, all, start)
+    are_legal_marks(alloc, stretch, tally)
 }
 
 fn are_legal_steps(alloc: Global, script: &Script, steps: &[Step], all: &[Mark]) -> Mem<bool>
@@ -151,12 +106,22 @@ fn are_legal_steps(alloc: Global, script: &Script, steps: &[Step], all: &[Mark])
     requires all { all.now ≡ marks_in steps.now }
     ensures { IfOk result (λ are. IsTrue are ↔ AreLegalSteps script.now [] steps.now) }
 {
+    let mut tally = no_tally(alloc, script)?;
     let mut start = 0;
     for number in 0..steps.len() {
         let step = &steps[number];
-        if !is_legal_step(alloc, script, &steps[..number], step, all, start)? {
+        let stretch = Stretch {
+            script,
+            steps: &steps[..number],
+            event: step.event,
+            marks: step.marks.as_slice(),
+            all,
+            start,
+        };
+        if !may_follow(alloc, &stretch, &mut tally)? {
             return Ok(false);
         }
+        count_event(&mut tally, step.event);
         start += step.marks.len();
     }
     Ok(true)

@@ -48,7 +48,7 @@ fn has_refusal(marks: &[Mark], session: SessionId, round: u64) -> bool
     false
 }
 
-fn is_cancelled(moment: &Moment<'_>, round: u64, gxid: Gxid) -> bool
+fn is_cancelled(moment: &Moment<'_, '_>, round: u64, gxid: Gxid) -> bool
     ensures { IsTrue result ↔ IsCancelled (point_of moment.now) round gxid }
 {
     match session_of(moment.before, gxid) {
@@ -58,7 +58,7 @@ fn is_cancelled(moment: &Moment<'_>, round: u64, gxid: Gxid) -> bool
     }
 }
 
-fn each_is_cancelled(moment: &Moment<'_>, round: u64, victims: &[Gxid]) -> bool
+fn each_is_cancelled(moment: &Moment<'_, '_>, round: u64, victims: &[Gxid]) -> bool
     ensures { IsTrue result ↔ AllByRecursion (IsCancelled (point_of moment.now) round) victims.now }
 {
     for victim in victims {
@@ -69,7 +69,7 @@ fn each_is_cancelled(moment: &Moment<'_>, round: u64, victims: &[Gxid]) -> bool
     true
 }
 
-fn are_cancelled(moment: &Moment<'_>, round: u64, victims: &[Gxid]) -> bool
+fn are_cancelled(moment: &Moment<'_, '_>, round: u64, victims: &[Gxid]) -> bool
     ensures { IsTrue result ↔ All (IsCancelled (point_of moment.now) round) victims.now }
 {
     let are = each_is_cancelled(moment, round, victims);
@@ -77,7 +77,7 @@ fn are_cancelled(moment: &Moment<'_>, round: u64, victims: &[Gxid]) -> bool
 }
 
 /// Whether the round may end so.
-pub fn is_legal_verdict(moment: &Moment<'_>, round: u64, verdict: &Verdict) -> bool
+pub fn is_legal_verdict(moment: &Moment<'_, '_>, round: u64, verdict: &Verdict) -> bool
     ensures { IsTrue result ↔ LegalVerdict (point_of moment.now) round verdict.now }
 {
     match verdict {

@@ -9,7 +9,6 @@ use crate::commands::{command_under_way, level_at};
 use crate::deed::Deed;
 use crate::moment::Moment;
 use gx_ids::{Mem, SessionId};
-use gx_script::Script;
 use std::alloc::Global;
 
 /// The session at this place.
@@ -22,32 +21,26 @@ pub fn session_at(place: usize) -> SessionId
 
 fn is_by_command_of(
     alloc: Global,
-    script: &Script,
-    moment: &Moment<'_>,
+    moment: &Moment<'_, '_>,
     deed: &Deed<'_>,
     session: SessionId,
 ) -> Mem<bool>
-    requires { IsScript script.now }
-    ensures { IfOk result (λ is. IsTrue is ↔ IsByCommandOf script.now (point_of moment.now) (doing_of deed.now) session) }
+    requires { IsScript moment.now.script.now }
+    ensures { IfOk result (λ is. IsTrue is ↔ IsByCommandOf moment.now.script.now (point_of moment.now) (doing_of deed.now) session) }
 {
-    match command_under_way(script, moment, session, deed.gxid, deed.cid) {
-        Some(stmt) => may(alloc, script, deed, stmt, level_at(script, moment, session)),
+    match command_under_way(moment, session, deed.gxid, deed.cid) {
+        Some(stmt) => may(alloc, moment.script, deed, stmt, level_at(moment, session)),
         None => Ok(false),
     }
 }
 
 /// Whether some session's command under way may do it.
-pub fn is_by_command(
-    alloc: Global,
-    script: &Script,
-    moment: &Moment<'_>,
-    deed: &Deed<'_>,
-) -> Mem<bool>
-    requires { IsScript script.now }
-    ensures { IfOk result (λ is. IsTrue is ↔ IsByCommand script.now (point_of moment.now) (doing_of deed.now)) }
+pub fn is_by_command(alloc: Global, moment: &Moment<'_, '_>, deed: &Deed<'_>) -> Mem<bool>
+    requires { IsScript moment.now.script.now }
+    ensures { IfOk result (λ is. IsTrue is ↔ IsByCommand moment.now.script.now (point_of moment.now) (doing_of deed.now)) }
 {
-    for place in 0..script.sessions.len() {
-        if is_by_command_of(alloc, script, moment, deed, session_at(place))? {
+    for place in 0..moment.script.sessions.len() {
+        if is_by_command_of(alloc, moment, deed, session_at(place))? {
             return Ok(true);
         }
     }

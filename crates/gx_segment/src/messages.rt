@@ -1,5 +1,5 @@
 // What comes to a segment, message by message.
-ghost use Rattle.std.specs.Prelude.{◌≡◌, true, IfOk, OnOk};
+ghost use Rattle.std.specs.Prelude.{◌≡◌, true, [], None, IfOk, OnOk};
 ghost use Rattle.gx_outside.specs.Shelves.{IsLater};
 ghost use Rattle.gx_node.specs.Orders.{Took};
 ghost use Rattle.gx_rules.specs.AtSegment.{on_event, on_message};
@@ -14,14 +14,16 @@ use crate::done::{Done, nothing};
 use crate::executing::exec;
 use crate::ordering::take;
 use crate::starting::resume;
+use gx_dsnap::Snapshot;
 use gx_dtx::order::Order;
-use gx_ids::{Gxid, Mem, Node, Seq};
+use gx_ids::{Cid, Gxid, Mem, Node, Seq};
 use gx_msg::Message;
 use gx_node::Suspended;
 use gx_outside::{Gate, Journal};
 use gx_script::Script;
 use gx_slices::Held;
 use gx_store::NodeEvent;
+use gx_tree::{Level, Slice};
 use std::alloc::Global;
 
 // Takes an event. Deliveries come to a segment, and slices that have waited go on.
@@ -67,6 +69,27 @@ pub(crate) fn take_event<J: Journal, G: Gate>(
     }
 }
 
+// A command of which nothing was done yet.
+fn just_come(
+    alloc: Global,
+    cid: Cid,
+    level: Level,
+    snapshot: Option<Snapshot>,
+    slice: Slice,
+) -> Suspended
+    ensures { result ≡ record { cid = cid; level = level; snapshot = snapshot; slice = slice; count = 0; row = None; rows = [] } }
+{
+    Suspended {
+        cid,
+        level,
+        snapshot,
+        slice,
+        count: 0,
+        row: None,
+        rows: Seq::new(alloc),
+    }
+}
+
 fn take_message<J: Journal, G: Gate>(
     alloc: Global,
     node: Node,
@@ -98,15 +121,7 @@ fn take_message<J: Journal, G: Gate>(
             horizon: low,
             slice,
         } => {
-            let command = Suspended {
-                cid,
-                level,
-                snapshot,
-                slice,
-                count: 0,
-                row: None,
-                rows: Seq::new(alloc),
-            };
+            let command = just_come(alloc, cid, level, snapshot, slice);
             exec(alloc, node, script, held, horizon, gxid, command, low, gate)
         }
         Message::Prepare(gxid) => {

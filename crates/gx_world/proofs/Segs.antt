@@ -11,6 +11,7 @@ use Rattle.gx_outside.specs.Shelves.{Shelf}
 use Rattle.gx_node.specs.Orders.{Took}
 use Rattle.gx_script.specs.declared.Script.{Script}
 use Rattle.gx_store.specs.declared.event.Event.{Event}
+use Rattle.gx_store.specs.declared.mark.Mark.{Mark}
 use Rattle.gx_store.specs.declared.node.NodeEvent.{NodeEvent}
 use Rattle.gx_store.specs.declared.run.Step.{Step}
 use Rattle.gx_store.specs.Journals.{is_same_node}
@@ -59,6 +60,20 @@ elsewhere-at f i x j differ = ap (λ (b : Bool). if b then x else f j) (apart j 
 pub stepped-over : {at : Node} {event : Event} {xs ys new : List Segment} {s : Seg} {here : NodeEvent} {before after : Shelf} {step : Step} → xs ≡ ys → HasSteppedAt at event xs new s here before after step → HasSteppedAt at event ys new s here before after step
 stepped-over {at = at} e h =
     record { was = h.was; there = ap (λ zs. slice_get zs (at.0 - 1)) (sym e) ∙ h.there; now = h.now; all = h.all ∙ ap (λ zs. slice_set zs (at.0 - 1) h.now) e; stepped = h.stepped; is = h.is }
+
+-- the step of a segment that has done an event
+pub stepped-at : {was now : Segment} {s : Seg} {here : NodeEvent} {before after : Shelf} {marks : List Mark} {at : Node} {event : Event} {step : Step} (old new : List Segment)
+    → slice_get old (at.0 - 1) ≡ Some was → new ≡ slice_set old (at.0 - 1) now → step ≡ made at event now.clock marks → segment.HasStepped was now s here before after marks → HasSteppedAt at event old new s here before after step
+stepped-at {was = was} {now = now} {s = s} {here = here} {before = before} {after = after} {at = at} {event = event} old new there all is h =
+    let same = ap (λ (x : Step). x.marks) is in
+    record {
+      was = was;
+      there = there;
+      now = now;
+      all = all;
+      stepped = subst (λ (ms : List Mark). segment.HasStepped was now s here before after ms) (sym same) h;
+      is = is ∙ ap (made at event now.clock) (sym same);
+    }
 
 module _ (script : Script) (w : machine.World) (old : Network) (stands : Stands script w old) (at : Node) (some : 1 ≤ at.0) where
   pub seg-usable : (s : Segment) → slice_get old.segments.items (at.0 - 1) ≡ Some s → s.spent ≡ false

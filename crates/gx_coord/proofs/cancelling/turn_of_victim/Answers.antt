@@ -1,7 +1,5 @@
-use Rattle.std.proofs.Common.{◌<◌, ◌+◌, ◌^◌, ◌∙◌, ℕ, List, All, ap, length, slice_index, subst, sym, ◌++◌}
+use Rattle.std.proofs.Common.{◌<◌, ◌+◌, ◌^◌, ◌∙◌, ℕ, All, ap, length, subst, sym}
 use Rattle.std.specs.Global.{Vec}
-use Rattle.gx_msg.specs.declared.message.Out.{Out}
-use Rattle.gx_rules.specs.Sending.{counted_all, numbered}
 use Rattle.gx_coord.specs.Books.{coord_of}
 use Rattle.gx_coord.proofs.Cancelled.{few-behind, victim-stayed, victim-turn}
 use Rattle.gx_coord.proofs.Gone.{links-cancelled}

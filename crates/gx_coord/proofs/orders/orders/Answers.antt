@@ -1,5 +1,4 @@
-use Rattle.std.proofs.Common.{◌≡◌, ◌∙◌, ◌++◌, ◌∷◌, [], ap, sym, rules}
-use Rattle.std.proofs.lemmas.List.{append_assoc}
+use Rattle.std.proofs.Common.{◌≡◌, ◌∙◌, ◌++◌, ap, rules}
 use Rattle.std.specs.Vec.Iter.{into_iter_items}
 use Rattle.gx_rules.specs.AtCoordinator.{orders_of}
 use Rattle.gx_coord.proofs.orders.orders.Goals as goal

@@ -7,6 +7,6 @@ use Rattle.gx_legal.proofs.done.is_done_by.Goals as goal
 pub returns : goal.returns
 returns c =
     let m = c.args.moment.now in
-    if_ok c.is_back.result (λ b h. done-by c.args.script.now (point_of m) c.args.line.now c.args.answer.now
+    if_ok c.is_back.result (λ b h. done-by c.args.moment.now.script.now (point_of m) c.args.line.now c.args.answer.now
     (state_in c.args.block) m.before.now m.whole c.args.gxid _ _ b c.level_in.ensures c.in_ok-number_in.ensures
     (c.is_at_its_end.ensures.0 c.if-not-is_at_its_end.false) (c.in_ok-tells.ensures.0 c.if-not-branch.false) h) c.is_back.ensures

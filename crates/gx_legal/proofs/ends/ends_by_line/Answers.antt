@@ -8,12 +8,12 @@ use Rattle.gx_legal.proofs.ends.ends_by_line.Goals as goal
 
 pub loop-place-preserved : goal.loop-place-preserved
 loop-place-preserved c =
-    let P : SessionId → Type 0 = EndsIn c.args.script.now (point_of c.args.moment.now) c.args.gxid c.args.how in
+    let P : SessionId → Type 0 = EndsIn c.args.moment.now.script.now (point_of c.args.moment.now) c.args.gxid c.args.how in
     none-up-to P c.loop-place.place c.loop-place.invariant (λ by. no-longer c.ends_in.result c.ends_in.ensures c.if-ends_in.false (subst P (sym c.session_at.ensures) by))
 
 pub returns : goal.returns
 returns c =
-    let s = c.args.script.now in (
+    let s = c.args.moment.now.script.now in (
       λ t. absurd (false-true t),
       λ by. absurd (c.loop-place.invariant by.0
           (let inside : by.0.0 < length s.sessions = session-inside s.tables _ by.0 _ s.lines by.1.0 c.requires.lines by.1.1.line in omega arith) by.1),

@@ -5,4 +5,4 @@ use Rattle.gx_legal.specs.Moments.{point_of}
 use Rattle.gx_legal.proofs.ends.ends_by_line.Given as goal
 
 abbrev pub invariant-loop-place : goal.invariant-loop-place
-invariant-loop-place l = (session : SessionId) → session.0 < l.place → EndsIn l.script (point_of l.moment) l.gxid l.how session → ⊥
+invariant-loop-place l = (session : SessionId) → session.0 < l.place → EndsIn l.moment.script.now (point_of l.moment) l.gxid l.how session → ⊥

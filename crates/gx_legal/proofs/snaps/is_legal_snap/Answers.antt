@@ -10,7 +10,7 @@ returns-then-not-sees_commits c =
     let m = c.args.moment.now in (
       λ t. absurd (false-true t),
       λ snap. absurd (no-longer c.sees_commits.result c.sees_commits.ensures c.if-not-sees_commits.true
-          (snap-sees c.args.script.now (point_of m) c.args.command.0 c.args.command.1 c.args.snapshot.now m.before.now m.whole snap)),
+          (snap-sees c.args.moment.now.script.now (point_of m) c.args.command.0 c.args.command.1 c.args.snapshot.now m.before.now m.whole snap)),
     )
 
 pub returns-then-not-sees_ended : goal.returns-then-not-sees_ended
@@ -18,11 +18,11 @@ returns-then-not-sees_ended c =
     let m = c.args.moment.now in (
       λ t. absurd (false-true t),
       λ snap. absurd (no-longer c.sees_ended.result c.sees_ended.ensures c.if-not-sees_ended.true
-          (snap-ended c.args.script.now (point_of m) c.args.command.0 c.args.command.1 c.args.snapshot.now m.before.now m.whole snap)),
+          (snap-ended c.args.moment.now.script.now (point_of m) c.args.command.0 c.args.command.1 c.args.snapshot.now m.before.now m.whole snap)),
     )
 
 pub returns : goal.returns
 returns c =
     let m = c.args.moment.now in
-    if_ok c.is_by_command.result (λ b h. snap-is c.args.script.now (point_of m) c.args.command.0 c.args.command.1 c.args.snapshot.now m.before.now b m.whole
+    if_ok c.is_by_command.result (λ b h. snap-is c.args.moment.now.script.now (point_of m) c.args.command.0 c.args.command.1 c.args.snapshot.now m.before.now b m.whole
     (c.sees_commits.ensures.0 c.if-not-sees_commits.false) (c.sees_ended.ensures.0 c.if-not-sees_ended.false) h) c.is_by_command.ensures

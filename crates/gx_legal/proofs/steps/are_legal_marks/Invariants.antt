@@ -1,7 +1,13 @@
-use Rattle.std.proofs.Common.{◌↔◌, [], drop, take}
+use Rattle.std.proofs.Common.{◌↔◌, ◌++◌, [], drop, take}
 use Rattle.gx_store.specs.Legal.{AreLegalMarks}
+use Rattle.gx_store.specs.Points.{marks_in}
+use Rattle.gx_legal.specs.Tallies.{IsTally}
 use Rattle.gx_legal.proofs.steps.are_legal_marks.Given as goal
 
 abbrev pub invariant-loop-number : goal.invariant-loop-number
 invariant-loop-number l =
-    AreLegalMarks l.script l.steps l.step.event (take l.number l.step.marks) (drop l.number l.step.marks) [] ↔ AreLegalMarks l.script l.steps l.step.event [] l.step.marks []
+    let s = l.stretch in
+    record {
+      legal : AreLegalMarks s.script.now s.steps.now s.event (take l.number s.marks.now) (drop l.number s.marks.now) [] ↔ AreLegalMarks s.script.now s.steps.now s.event [] s.marks.now [];
+      told : IsTally s.script.now s.steps.now (marks_in s.steps.now ++ take l.number s.marks.now) l.tally;
+    }

@@ -1,48 +1,70 @@
-use Rattle.std.proofs.Common.{◌≡◌, ◌≤◌, ◌+◌, ◌∙◌, Some, [], length, slice_get, refl, sym, ap, arith}
-use Rattle.std.proofs.lemmas.List.{append-nil}
+use Rattle.std.proofs.Common.{◌≡◌, ◌≤◌, ◌+◌, ◌++◌, ◌∙◌, List, [], Some, length, slice_get, take, refl, sym, subst, ap, arith}
+use Rattle.std.proofs.lemmas.List.{append-nil, length-take-le}
 use Rattle.std.proofs.lemmas.Option.{slice_get_read}
 use Rattle.gx_lemmas.proofs.Tests.{false-true}
+use Rattle.gx_store.specs.declared.mark.Mark.{Mark}
 use Rattle.gx_store.specs.Points.{marks_in}
 use Rattle.gx_legal.proofs.Legality.{steps-end, steps-next, steps-stop}
-use Rattle.gx_legal.proofs.Places.{marks-through, step-inside, step-whole}
+use Rattle.gx_legal.proofs.Places.{marks-through}
 use Rattle.gx_legal.proofs.Sessions.{no-longer}
+use Rattle.gx_legal.proofs.Stretching.{follow-is, stretch-among, stretch-inside}
+use Rattle.gx_legal.proofs.Tallying.{can-step, tally-steps}
+use Rattle.gx_legal.specs.Tallies.{IsTally}
 use Rattle.gx_legal.proofs.steps.are_legal_steps.Goals as goal
 
-pub is_legal_step-requires-clause-all : goal.is_legal_step-requires-clause-all
-is_legal_step-requires-clause-all c =
+pub invariant_of-stretch : goal.invariant_of-stretch
+invariant_of-stretch c =
     let ss = c.args.steps.now in
+    let k = c.loop-number.number in
     let s = c.index-steps-number.result in
-    let at : slice_get ss c.loop-number.number ≡ Some s = slice_get_read ss (length ss) c.loop-number.number s refl c.loop-number-test.true c.index-steps-number.is in
-    step-whole ss c.loop-number.number s [] c.args.all.now (c.loop-number.start + length s.marks) at (c.requires.all
-    ∙ sym (append-nil (marks_in ss))) (ap (λ n. n + length s.marks) c.loop-number.invariant.start)
+    let at : slice_get ss k ≡ Some s = slice_get_read ss (length ss) k s refl c.loop-number-test.true c.index-steps-number.is in
+    let whole = c.requires.all ∙ sym (append-nil (marks_in ss)) in
+    let begins = c.loop-number.invariant.begins in
+    record { begins = begins; among = stretch-among ss k s [] c.args.all.now c.as_slice.result.now c.loop-number.start at whole begins c.as_slice.ensures }
+
+pub count_event-requires : goal.count_event-requires
+count_event-requires c =
+    let ss = c.args.steps.now in
+    let k = c.loop-number.number in
+    let inside : k ≤ length ss = omega (arith, c.loop-number-test.true) in
+    let short : length (take k ss) ≡ k = length-take-le k ss inside in
+    can-step c.args.script.now (take k ss) _ _ (c.in_ok-may_follow.ensures.tally c.if-not-branch.false) (omega (arith, short, c.loop-number-test.true))
 
 pub overflow_add-start : goal.overflow_add-start
 overflow_add-start c =
     let ss = c.args.steps.now in
+    let k = c.loop-number.number in
     let s = c.index-steps-number.result in
-    let at : slice_get ss c.loop-number.number ≡ Some s = slice_get_read ss (length ss) c.loop-number.number s refl c.loop-number-test.true c.index-steps-number.is in
-    let inside : c.loop-number.start + length s.marks ≤ length c.args.all.now =
-    step-inside ss c.loop-number.number s [] c.args.all.now (c.loop-number.start + length s.marks) at (c.requires.all
-    ∙ sym (append-nil (marks_in ss))) (ap (λ n. n + length s.marks) c.loop-number.invariant.start) in
+    let at : slice_get ss k ≡ Some s = slice_get_read ss (length ss) k s refl c.loop-number-test.true c.index-steps-number.is in
+    let whole = c.requires.all ∙ sym (append-nil (marks_in ss)) in
+    let inside : c.loop-number.start + length s.marks ≤ length c.args.all.now = stretch-inside ss k s [] c.args.all.now s.marks c.loop-number.start at whole c.loop-number.invariant.begins refl in
     omega (arith, inside, c.len.ensures)
 
 pub loop-number-preserved : goal.loop-number-preserved
 loop-number-preserved c =
     let ss = c.args.steps.now in
-    let s = c.index-steps-number.result in
     let k = c.loop-number.number in
+    let s = c.index-steps-number.result in
     let at : slice_get ss k ≡ Some s = slice_get_read ss (length ss) k s refl c.loop-number-test.true c.index-steps-number.is in
+    let follow = follow-is c.args.script.now (take k ss) s c.as_slice.result.now c.as_slice.ensures in
     record {
-      start = ap (λ n. c.loop-number.start + n) c.len.ensures ∙ ap (λ n. n + length s.marks) c.loop-number.invariant.start ∙ marks-through ss k s at;
-      legal = steps-next c.args.script.now ss k s c.loop-number-test.true c.index-steps-number.is (c.in_ok-is_legal_step.ensures.0 c.if-not-branch.false) c.loop-number.invariant.legal;
+      begins = ap (λ n. c.loop-number.start + n) c.len.ensures ∙ ap (λ n. n + length s.marks) c.loop-number.invariant.begins ∙ marks-through ss k s at;
+      legal = steps-next c.args.script.now ss k s c.loop-number-test.true c.index-steps-number.is (follow.0 (c.in_ok-may_follow.ensures.is.0 c.if-not-branch.false)) c.loop-number.invariant.legal;
+      told = tally-steps c.args.script.now s ss k _ _ at
+          (subst (λ (ms : List Mark). IsTally c.args.script.now (take k ss) (marks_in (take k ss) ++ ms) c.may_follow.new.tally) c.as_slice.ensures (c.in_ok-may_follow.ensures.tally c.if-not-branch.false))
+          c.count_event.ensures;
     }
 
 pub returns-then-not-branch : goal.returns-then-not-branch
-returns-then-not-branch c = (
-  λ t. absurd (false-true t),
-  λ all. absurd (steps-stop c.args.script.now c.args.steps.now c.loop-number.number c.index-steps-number.result c.loop-number-test.true c.index-steps-number.is
-      (no-longer c.in_ok-is_legal_step.field-0 c.in_ok-is_legal_step.ensures c.if-not-branch.true) c.loop-number.invariant.legal all),
-)
+returns-then-not-branch c =
+    let ss = c.args.steps.now in
+    let k = c.loop-number.number in
+    let s = c.index-steps-number.result in
+    let follow = follow-is c.args.script.now (take k ss) s c.as_slice.result.now c.as_slice.ensures in (
+      λ t. absurd (false-true t),
+      λ all. absurd (steps-stop c.args.script.now ss k s c.loop-number-test.true c.index-steps-number.is
+          (λ legal. no-longer c.in_ok-may_follow.field-0 c.in_ok-may_follow.ensures.is c.if-not-branch.true (follow.1 legal)) c.loop-number.invariant.legal all),
+    )
 
 pub returns : goal.returns
 returns c =

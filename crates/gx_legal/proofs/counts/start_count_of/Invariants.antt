@@ -1,6 +1,6 @@
 use Rattle.std.proofs.Common.{◌≡◌, ◌+◌, ◌≤◌, drop}
 use Rattle.gx_store.specs.Points.{starts_in}
-use Rattle.gx_legal.proofs.lines.start_count_of.Given as goal
+use Rattle.gx_legal.proofs.counts.start_count_of.Given as goal
 
 abbrev pub invariant-loop-step : goal.invariant-loop-step
 invariant-loop-step l = record {

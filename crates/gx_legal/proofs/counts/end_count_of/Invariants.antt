@@ -1,6 +1,6 @@
 use Rattle.std.proofs.Common.{◌≡◌, ◌+◌, ◌≤◌, drop}
 use Rattle.gx_store.specs.Points.{ends_in}
-use Rattle.gx_legal.proofs.lines.end_count_of.Given as goal
+use Rattle.gx_legal.proofs.counts.end_count_of.Given as goal
 
 abbrev pub invariant-loop-step : goal.invariant-loop-step
 invariant-loop-step l = record {
