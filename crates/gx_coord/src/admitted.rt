@@ -72,7 +72,9 @@ fn can_resend(alloc: Global, coord: &Coord, node: Node, gxid: Gxid) -> Mem<bool>
     ensures { IfOk result (λ can. can ≡ is_some (turns.awaited (coord_of coord.now) gxid node)) }
 {
     let message = awaited(alloc, coord, gxid, node)?;
-    Ok(message.is_some())
+    let can = message.is_some();
+    drop(message);
+    Ok(can)
 }
 
 // Whether the event may happen.

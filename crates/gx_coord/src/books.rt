@@ -13,7 +13,7 @@ pub(crate) fn set_work(coord: &mut Coord, gxid: Gxid, work: Work) -> Mem<()>
     ensures framed { OnOk result (IsFramed coord.old coord.new) }
     ensures coord { OnOk result (coord_of coord.new ≡ with_work (coord_of coord.old) gxid (work_of coord.old.script.value.lines work)) }
 {
-    coord.works.insert(gxid, work)?;
+    drop(coord.works.insert(gxid, work)?);
     Ok(())
 }
 
@@ -21,7 +21,7 @@ pub(crate) fn forget_work(coord: &mut Coord, gxid: Gxid)
     ensures framed { IsFramed coord.old coord.new }
     ensures coord { coord_of coord.new ≡ with_work (coord_of coord.old) gxid no_work }
 {
-    coord.works.remove(&gxid);
+    drop(coord.works.remove(&gxid));
 }
 
 // The session of this number; where the script has none, one that has done nothing.

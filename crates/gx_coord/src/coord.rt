@@ -96,6 +96,7 @@ impl Coord {
         ensures untouched { self.old.spent ≡ true → (J.shelf journal.new).items ≡ (J.shelf journal.old).items }
     {
         if self.spent {
+            drop(event);
             return Err(OutOfMemory);
         }
         match step_on(self, event, journal) {

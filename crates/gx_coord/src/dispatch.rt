@@ -71,6 +71,28 @@ fn set_command(alloc: Global, coord: &mut Coord, gxid: Gxid, command: Command) -
     set_work(coord, gxid, work)
 }
 
+// A command is under way from now on; its orders are what goes out.
+fn begin_command(alloc: Global, coord: &mut Coord, gxid: Gxid, command: Command) -> Mem<Seq<Out>>
+    ensures framed { OnOk result (IsFramed coord.old coord.new) }
+    ensures coord { OnOk result (coord_of coord.new ≡ with_work (coord_of coord.old) gxid
+        (record ((coord_of coord.old).works gxid.0) { last = command.cid.0; command = Some (command_of coord.old.script.value.lines command) })) }
+    ensures outs { IfOk result (λ outs. outs ≡ command.orders) }
+{
+    match command.orders.copy(alloc) {
+        Ok(outs) => match set_command(alloc, coord, gxid, command) {
+            Ok(()) => Ok(outs),
+            Err(fault) => {
+                drop(outs);
+                Err(fault)
+            }
+        },
+        Err(fault) => {
+            drop(command);
+            Err(fault)
+        }
+    }
+}
+
 // Its pieces go out. The horizon is that of a moment at which the snapshot lives.
 fn send(
     alloc: Global,
@@ -96,9 +118,8 @@ fn send(
         horizon: coord.dtx.horizon(),
     };
     let awaited = nodes(alloc, pieces.as_slice())?;
-    let orders = orders(alloc, &of, pieces)?;
-    let outs = orders.copy(alloc)?;
     enlist_all(&mut coord.dtx, gxid, awaited.as_slice())?;
+    let orders = orders(alloc, &of, pieces)?;
     let command = Command {
         line: place,
         cid,
@@ -107,8 +128,7 @@ fn send(
         count: 0,
         parts: Seq::new(alloc),
     };
-    set_command(alloc, coord, gxid, command)?;
-    Ok(outs)
+    begin_command(alloc, coord, gxid, command)
 }
 
 // A constant faults before anything is sent.

@@ -73,8 +73,8 @@ fn tell_commit(
 {
     let id = owner(coord, gxid);
     let session = find_session(coord, id);
-    let answer = told_at_commit(alloc, script, coord, gxid, session.state.pending)?;
     marks.push(Mark::Commit { gxid })?;
+    let answer = told_at_commit(alloc, script, coord, gxid, session.state.pending)?;
     push_answer(marks, id, session.lines, answer)?;
     close(coord, gxid, id, after_done(session.state));
     Ok(())
@@ -189,8 +189,13 @@ pub(crate) fn follow(
     ensures outs { IfOk result (λ outs. outs ≡ (follow_turn (coord_of coord.old) gxid (called coord.old out) out.outcome).outs) }
 {
     let DtxOut { outs, outcome } = out;
-    come_to(alloc, script, coord, gxid, outcome, marks)?;
-    Ok(outs)
+    match come_to(alloc, script, coord, gxid, outcome, marks) {
+        Ok(()) => Ok(outs),
+        Err(fault) => {
+            drop(outs);
+            Err(fault)
+        }
+    }
 }
 
 // A transaction commits where its writers are.

@@ -30,8 +30,7 @@ use std::alloc::Global;
 pub(crate) fn one_out(alloc: Global, node: Node, message: Message) -> Mem<Seq<Out>>
     ensures { IfOk result (λ outs. outs ≡ record { node = node; message = message } ∷ []) }
 {
-    let mut outs = Vec::with_capacity(alloc, 1)?;
-    outs.push(Out { node, message })?;
+    let outs = vec![in alloc; Out { node, message }]?;
     Ok(Seq::from_vec(outs))
 }
 
@@ -39,9 +38,13 @@ pub(crate) fn one_out(alloc: Global, node: Node, message: Message) -> Mem<Seq<Ou
 pub(crate) fn resend(alloc: Global, coord: &Coord, node: Node, gxid: Gxid) -> Mem<Seq<Out>>
     ensures { IfOk result (λ outs. outs ≡ (turns.resends (coord_of coord.now) node (turns.awaited (coord_of coord.now) gxid node)).outs) }
 {
-    match awaited(alloc, coord, gxid, node)? {
+    let message = awaited(alloc, coord, gxid, node)?;
+    match message {
         Some(message) => one_out(alloc, node, message),
-        None => Ok(Seq::new(alloc)),
+        None => {
+            drop(message);
+            Ok(Seq::new(alloc))
+        }
     }
 }
 
@@ -101,28 +104,30 @@ pub(crate) fn take_event<J: Journal>(
             take_message(alloc, script, coord, from, message, journal, marks)
         }
         NodeEvent::Start(id) => {
+            drop(event);
             let outs = start(alloc, script, coord, id, marks)?;
             Ok(plain(alloc, outs))
         }
         NodeEvent::End(id) => {
+            drop(event);
             let outs = end(alloc, coord, id, marks)?;
             Ok(plain(alloc, outs))
         }
-        NodeEvent::Resend(node, of) => match of {
-            Some(gxid) => {
-                let outs = resend(alloc, coord, node, gxid)?;
-                Ok(plain(alloc, outs))
-            }
-            None => {
-                let outs = collect_again(alloc, coord, node)?;
-                Ok(plain(alloc, outs))
-            }
-        },
+        NodeEvent::Resend(node, of) => {
+            drop(event);
+            let outs = match of {
+                Some(gxid) => resend(alloc, coord, node, gxid)?,
+                None => collect_again(alloc, coord, node)?,
+            };
+            Ok(plain(alloc, outs))
+        }
         NodeEvent::Resume(gxid) => {
+            drop(event);
             let outs = resume(alloc, script, coord, gxid, marks)?;
             Ok(plain(alloc, outs))
         }
         NodeEvent::Round => {
+            drop(event);
             let outs = begin_round(script, coord)?;
             Ok(plain(alloc, outs))
         }

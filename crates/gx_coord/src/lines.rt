@@ -87,9 +87,9 @@ pub(crate) fn abort(coord: &mut Coord, gxid: Gxid, marks: &mut Vec<Mark>) -> Mem
     ensures turn { OnOk result (IsTurn coord.old coord.new marks.old.items marks.new.items (tells_abort (coord_of coord.old) gxid (on_abort coord.old.dtx gxid))) }
     ensures outs { IfOk result (λ outs. outs ≡ (on_abort coord.old.dtx gxid).out.outs) }
 {
+    marks.push(Mark::Abort { gxid })?;
     let out = coord.dtx.abort(gxid)?;
     forget_work(coord, gxid);
-    marks.push(Mark::Abort { gxid })?;
     Ok(out.outs)
 }
 

@@ -66,6 +66,7 @@ fn take_done(
         note_done(alloc, coord, gxid, node, done, part)?;
         go_on(alloc, script, coord, gxid, marks)
     } else {
+        drop(part);
         Ok(Seq::new(alloc))
     }
 }
@@ -146,6 +147,7 @@ fn take_reply<J: Journal>(
             Ok(plain(alloc, outs))
         }
         Reply::Failed { cid, cause } => {
+            drop(reply);
             let outs = take_failure(alloc, coord, gxid, node, cid, cause, marks)?;
             Ok(plain(alloc, outs))
         }
@@ -167,7 +169,10 @@ fn news_of(message: Message) -> News
     match message {
         Message::Answer(gxid, reply) => News::Answer(gxid, reply),
         Message::Graph(round, graph) => News::Graph(round, graph),
-        _ => News::Other,
+        other => {
+            drop(other);
+            News::Other
+        }
     }
 }
 
@@ -214,11 +219,15 @@ pub(crate) fn take_message<J: Journal>(
     ensures victims { IfOk result (λ turned. turned.victims ≡ rounds.victims_on_message (coord_of coord.old) from message) }
     ensures small { IsSmallMessage message }
 {
-    match news_of(message) {
+    let news = news_of(message);
+    match news {
         News::Answer(gxid, reply) => {
             take_reply(alloc, script, coord, gxid, from, reply, journal, marks)
         }
         News::Graph(round, graph) => take_graph(alloc, coord, from, round, graph, marks),
-        News::Other => Ok(plain(alloc, Seq::new(alloc))),
+        News::Other => {
+            drop(news);
+            Ok(plain(alloc, Seq::new(alloc)))
+        }
     }
 }

@@ -157,6 +157,11 @@ pub(crate) fn refuse(
     ensures outs { IfOk result (λ outs. outs ≡ (on_abort coord.old.dtx gxid).out.outs) }
 {
     let out = coord.dtx.abort(gxid)?;
-    refuse_line(coord, gxid, reason, marks)?;
-    Ok(out.outs)
+    match refuse_line(coord, gxid, reason, marks) {
+        Ok(()) => Ok(out.outs),
+        Err(fault) => {
+            drop(out);
+            Err(fault)
+        }
+    }
 }

@@ -15,9 +15,10 @@ use crate::coord::Coord;
 use crate::event::take_event;
 use crate::sending::{clock_after, number};
 use crate::statuses::Turned;
-use gx_ids::{Mem, Seq};
+use gx_ids::{Mem, OutOfMemory, Seq};
 use gx_msg::Out;
 use gx_outside::Journal;
+use gx_script::Script;
 use gx_store::{Mark, NodeEvent};
 use std::alloc::Global;
 use std::sync::Arc;
@@ -81,11 +82,42 @@ pub(crate) fn step_on<J: Journal>(
     ensures gone { IfOk result (HasGone coord.old coord.new event (J.shelf journal.old) (J.shelf journal.new)) }
     ensures later { IsLater (J.shelf journal.old) (J.shelf journal.new) }
 {
+    match Arc::try_clone(&coord.script) {
+        Ok(script) => step_by(&script, coord, event, journal),
+        Err(_) => {
+            drop(event);
+            Err(OutOfMemory)
+        }
+    }
+}
+
+// The same, with the coordinator's script beside it.
+fn step_by<J: Journal>(
+    script: &Script,
+    coord: &mut Coord,
+    event: NodeEvent,
+    journal: &mut J,
+) -> Mem<Seq<Mark>>
+    requires same { coord.old.script.value ≡ script.now }
+    requires language { IsScript coord.old.script.value }
+    requires places { AreIndexed coord.old.script.value.lines (length coord.old.script.value.sessions) coord.old.places.items }
+    requires sessions { length coord.old.sessions.items ≡ length coord.old.script.value.sessions }
+    requires links { length coord.old.sent.items ≡ coord.old.script.value.segments + 1 }
+    requires segments { coord.old.detector.segments ≡ coord.old.script.value.segments }
+    requires sound { IsSound coord.old.script.value (coord_of coord.old) }
+    requires admitted { coord_can coord.old.script.value (coord_of coord.old) event ≡ true }
+    requires clock { coord.old.clock < 2 ^ 62 }
+    requires heard { heard_in event < 2 ^ 62 }
+    requires numbers { All (λ sent. sent < 2 ^ 62) coord.old.sent.items }
+    requires drawn { coord.old.dtx.next.0 < 2 ^ 62 }
+    requires rounds { coord.old.detector.begun < 2 ^ 62 }
+    ensures gone { IfOk result (HasGone coord.old coord.new event (J.shelf journal.old) (J.shelf journal.new)) }
+    ensures later { IsLater (J.shelf journal.old) (J.shelf journal.new) }
+{
     let alloc = coord.alloc;
-    let script = Arc::try_clone(&coord.script)?;
     let clock = clock_after(coord.clock, &event);
     let mut marks = Vec::new(alloc);
-    let turned = take_event(alloc, &script, coord, event, journal, &mut marks)?;
+    let turned = take_event(alloc, script, coord, event, journal, &mut marks)?;
     let all = send_and_cancel(alloc, coord, turned, clock, marks)?;
     Ok(all)
 }

@@ -7,14 +7,14 @@ use Rattle.gx_coord.proofs.Cancelled.{stayed-trans}
 use Rattle.gx_coord.proofs.Gone.{links-sent}
 use Rattle.gx_coord.proofs.Stepped.{framed-stayed, step-is, took-is, turned-sound}
 use Rattle.gx_coord.proofs.Turned.{script-same}
-use Rattle.gx_coord.proofs.stepping.step_on.Goals as goal
+use Rattle.gx_coord.proofs.stepping.step_by.Goals as goal
 
 pub send_and_cancel-requires-clause-some : goal.send_and_cancel-requires-clause-some
 send_and_cancel-requires-clause-some g c = subst (λ (s : Script). 1 ≤ s.segments) (sym (script-same _ _ c.in_ok-turned.ensures.turn.framed)) c.requires.language.some_segments
 
 pub send_and_cancel-requires-clause-sound : goal.send_and_cancel-requires-clause-sound
 send_and_cancel-requires-clause-sound g c =
-    turned-sound c.args.coord.now c.take_event.new.coord c.deref.result.now c.args.event c.in_ok-turned.turned.fails _ _ (c.deref.ensures ∙ c.in_ok-script.ensures) c.in_ok-turned.ensures.turn c.requires.language.some_segments c.requires.sound c.take_event.ensures.small c.requires.admitted
+    turned-sound c.args.coord.now c.take_event.new.coord c.args.script.now c.args.event c.in_ok-turned.turned.fails _ _ (sym c.requires.same) c.in_ok-turned.ensures.turn c.requires.language.some_segments c.requires.sound c.take_event.ensures.small c.requires.admitted
 
 pub send_and_cancel-requires-clause-sent : goal.send_and_cancel-requires-clause-sent
 send_and_cancel-requires-clause-sent g c =
@@ -28,7 +28,7 @@ pub send_and_cancel-requires-clause-links : goal.send_and_cancel-requires-clause
 send_and_cancel-requires-clause-links g c =
     let old = c.args.coord.now in
     let turn = c.in_ok-turned.ensures.turn in
-    links-sent c.deref.result.now old.script.value (coord_of old) c.args.event c.in_ok-turned.turned.fails _ _ (c.deref.ensures ∙ c.in_ok-script.ensures) c.requires.sound c.requires.language.some_segments c.in_ok-turned.ensures.outs
+    links-sent c.args.script.now old.script.value (coord_of old) c.args.event c.in_ok-turned.turned.fails _ _ (sym c.requires.same) c.requires.sound c.requires.language.some_segments c.in_ok-turned.ensures.outs
     (ap (λ v. length v.items) turn.framed.sent ∙ c.requires.links)
 
 pub returns-clause-gone : goal.returns-clause-gone
@@ -36,14 +36,14 @@ returns-clause-gone g c =
     let old = c.args.coord.now in
     let fails = c.in_ok-turned.turned.fails in
     let e = c.in_ok-turned.ensures in
-    let same = c.deref.ensures ∙ c.in_ok-script.ensures in
+    let same = sym c.requires.same in
     let is =
-    step-is old c.take_event.new.coord c.send_and_cancel.new.coord c.deref.result.now c.args.event fails c.clock_after-clock.result _ _ _ _ _ same c.new-marks.ensures.items c.clock_after-clock.ensures e.turn e.outs e.victims c.in_ok-all.ensures.turn in
+    step-is old c.take_event.new.coord c.send_and_cancel.new.coord c.args.script.now c.args.event fails c.clock_after-clock.result _ _ _ _ _ same c.new-marks.ensures.items c.clock_after-clock.ensures e.turn e.outs e.victims c.in_ok-all.ensures.turn in
     record {
       fails = fails;
       small = c.take_event.ensures.small;
       coord = ap (λ (t : CoordTurn). t.coord) is;
       stayed = stayed-trans _ _ _ (framed-stayed _ _ e.turn.framed) c.in_ok-all.ensures.stayed;
       told = ap (λ (t : CoordTurn). t.marks) is;
-      took = took-is old c.deref.result.now c.args.event fails same e.took;
+      took = took-is old c.args.script.now c.args.event fails same e.took;
     }
