@@ -4,10 +4,8 @@ use Rattle.std.proofs.lemmas.Bool.{eqb-true}
 use Rattle.gx_ids.specs.declared.ids.Gxid.{Gxid}
 use Rattle.gx_ids.specs.declared.ids.Node.{Node}
 use Rattle.gx_lemmas.proofs.Numbers.{eqb-turned, le-apart, none-plus}
-use Rattle.gx_store.specs.declared.event.Event.{Event}
 use Rattle.gx_store.specs.declared.mark.Mark.TheVariants.{Sent}
 use Rattle.gx_store.specs.declared.run.Step.{Step}
-use Rattle.gx_store.specs.Messages.{IsSending, IsSent, Receives}
 use Rattle.gx_store.specs.Points.{Point}
 use Rattle.gx_legal.specs.Words.{Delivers, HasHeard, HasHeardBefore, IsHeardSince}
 use Rattle.gx_legal.specs.declared.word.Word.{Word}

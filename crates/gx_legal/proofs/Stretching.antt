@@ -1,12 +1,12 @@
 -- A step in its place among all marks of a run.
-use Rattle.std.proofs.Common.{◌≡◌, ◌↔◌, ◌≤◌, ◌<◌, ◌+◌, ◌-◌, ◌++◌, ◌∙◌, ℕ, List, [], Some, length, take, slice_get, refl, sym, subst, ap, arith, length-append}
-use Rattle.std.proofs.lemmas.List.{append-nil, take_all}
+use Rattle.std.proofs.Common.{◌≡◌, ◌↔◌, ◌≤◌, ◌+◌, ◌-◌, ◌++◌, ◌∙◌, ℕ, List, Some, length, take, slice_get, sym, subst, ap, arith, length-append}
+use Rattle.std.proofs.lemmas.List.{take_all}
 use Rattle.gx_script.specs.declared.Script.{Script}
 use Rattle.gx_store.specs.declared.mark.Mark.{Mark}
 use Rattle.gx_store.specs.declared.run.Step.{Step}
 use Rattle.gx_store.specs.Legal.{IsLegalStep}
 use Rattle.gx_store.specs.Points.{marks_in}
-use Rattle.gx_legal.proofs.Places.{length-taken, part-whole, step-inside, step-whole}
+use Rattle.gx_legal.proofs.Places.{part-whole, step-inside, step-whole}
 use Rattle.gx_legal.specs.Stretches.{MayFollow}
 
 module _ (steps : List Step) (k : ℕ) (step : Step) (earlier all marks : List Mark) (start : ℕ) (at : slice_get steps k ≡ Some step) (whole : all ≡ marks_in steps ++ earlier)

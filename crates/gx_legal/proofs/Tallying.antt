@@ -1,5 +1,5 @@
 -- A tally behind one more mark, and behind one more step.
-use Rattle.std.proofs.Common.{◌≡◌, ◌≢◌, ◌∙◌, ◌⊎◌, ◌≤◌, ◌<◌, ◌+◌, ◌^◌, ◌++◌, ◌||◌, if◌then◌else◌, ℕ, zero, suc, eqb, Bool, true, false, List, [], ◌∷◌, Option, Some, None}
+use Rattle.std.proofs.Common.{◌≡◌, ◌≢◌, ◌∙◌, ◌⊎◌, ◌≤◌, ◌<◌, ◌+◌, ◌^◌, ◌++◌, ◌||◌, if◌then◌else◌, ℕ, zero, suc, eqb, Bool, true, false, List, [], ◌∷◌, Some, None}
 use Rattle.std.proofs.Common.{inl, inr, length, take, get_or, slice_get, slice_set, refl, sym, subst, ap, arith, append_assoc}
 use Rattle.std.specs.BTreeSet.{contains}
 use Rattle.gx_dsnap.specs.Gxids.{gxid_cmp}
@@ -9,7 +9,6 @@ use Rattle.gx_lemmas.proofs.Numbers.{eqb-of, eqb-self}
 use Rattle.gx_lemmas.proofs.Options.{some-same}
 use Rattle.gx_lemmas.proofs.Tests.{true-false}
 use Rattle.std.proofs.lemmas.Bool.{eqb-true}
-use Rattle.std.proofs.lemmas.List.{append-nil}
 use Rattle.std.proofs.lemmas.Option.{get_or_from_slice_get, slice_get_read}
 use Rattle.gx_script.specs.declared.Script.{Script}
 use Rattle.gx_store.specs.declared.event.Event.{Event}
@@ -29,8 +28,8 @@ use Rattle.gx_legal.specs.declared.standing.Block.TheVariants as block
 use Rattle.gx_legal.specs.declared.standing.Standing.{Standing}
 use Rattle.gx_legal.specs.declared.tally.Seat.{Seat}
 use Rattle.gx_legal.specs.declared.tally.Tally.{Tally}
-use Rattle.gx_legal.specs.Standings.{HasRoom, IsMoved, IsStanding, state_in}
-use Rattle.gx_legal.specs.Tallies.{AreMoved, AreSeats, AreStepped, CanMove, CanStep, IsCounted, IsSeat, IsSeatMoved, IsSeatStepped, IsStepped, IsTally, IsUnmoved, mover}
+use Rattle.gx_legal.specs.Standings.{IsMoved, state_in}
+use Rattle.gx_legal.specs.Tallies.{AreSeats, CanMove, CanStep, IsCounted, IsSeat, IsSeatMoved, IsSeatStepped, IsStepped, IsTally, IsUnmoved, mover}
 
 -- SEATS
 get-push : {A : Type 0} (xs : List A) (y : A) (i : ℕ) (x : A) → slice_get (xs ++ y ∷ []) i ≡ Some x → (slice_get xs i ≡ Some x) ⊎ (x ≡ y)

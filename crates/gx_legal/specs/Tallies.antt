@@ -1,5 +1,5 @@
 -- What the steps and marks of a run so far come to.
-use Rattle.std.specs.Prelude.{◌≡◌, ◌≢◌, ◌||◌, ℕ, ◌+◌, ◌<◌, ◌≤◌, ◌^◌, List, [], ◌∷◌, length, slice_get, Some, None}
+use Rattle.std.specs.Prelude.{◌≡◌, ◌≢◌, ◌||◌, ◌+◌, ◌<◌, ◌≤◌, ◌^◌, List, [], ◌∷◌, length, slice_get, Some, None}
 use Rattle.std.specs.declared.option.Option.{Option}
 use Rattle.std.specs.BTreeSet.{contains}
 use Rattle.gx_dsnap.specs.Gxids.{gxid_cmp}

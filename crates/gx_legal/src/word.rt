@@ -77,11 +77,12 @@ fn is_sent_in(step: &Step, report: Report, number: u64) -> bool
     step.stamp.node == report.from && is_sent_among(step.marks.as_slice(), report, number)
 }
 
+// The last step that sends it is the likeliest to be asked for.
 fn is_sent(steps: &[Step], report: Report, number: u64) -> bool
     ensures { IsTrue result ↔ ((place : ℕ) × SendsInStep report.gxid report.word report.from report.to number steps.now place) }
 {
-    for step in steps {
-        if is_sent_in(step, report, number) {
+    for place in (0..steps.len()).rev() {
+        if is_sent_in(&steps[place], report, number) {
             return true;
         }
     }

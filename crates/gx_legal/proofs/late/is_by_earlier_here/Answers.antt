@@ -4,8 +4,7 @@ use Rattle.gx_legal.proofs.Earlier.{in-step-like}
 use Rattle.gx_legal.proofs.Oks.{if_ok}
 use Rattle.gx_legal.proofs.Stretching.{own-among, own-begins}
 use Rattle.gx_legal.specs.Deeds.{doing_of}
-use Rattle.gx_legal.specs.Moments.{in_step, point_of}
-use Rattle.gx_legal.specs.Stretches.{end_of}
+use Rattle.gx_legal.specs.Moments.{point_of}
 use Rattle.gx_legal.proofs.late.is_by_earlier_here.Goals as goal
 
 pub invariant_of-stretch : goal.invariant_of-stretch

@@ -1,7 +1,7 @@
-use Rattle.std.proofs.Common.{◌≡◌, ◌∙◌, List, ap, sym, subst}
+use Rattle.std.proofs.Common.{List, sym, subst}
 use Rattle.std.proofs.lemmas.List.{append-nil}
 use Rattle.gx_store.specs.declared.mark.Mark.{Mark}
-use Rattle.gx_store.specs.Points.{Point, marks_in}
+use Rattle.gx_store.specs.Points.{marks_in}
 use Rattle.gx_legal.specs.Tallies.{IsTally}
 use Rattle.gx_legal.proofs.steps.may_begin.Goals as goal
 

@@ -1,5 +1,5 @@
 use Rattle.std.proofs.Common.{sym, ◌∙◌}
-use Rattle.gx_legal.proofs.Tallying.{none-moved, seat-stays, unmoved}
+use Rattle.gx_legal.proofs.Tallying.{unmoved}
 use Rattle.gx_legal.proofs.tally.move_seats.Goals as goal
 
 pub move_seat-requires-clause-others : goal.move_seat-requires-clause-others
