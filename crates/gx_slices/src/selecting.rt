@@ -4,12 +4,13 @@ ghost use Rattle.gx_rules.specs.Segments.{Seg};
 ghost use Rattle.gx_rules.specs.Slices.{cause_of, reads};
 ghost use Rattle.gx_tree.specs.declared.slice.Slice.TheVariants as slice;
 ghost use Rattle.gx_slices.specs.Agrees.{IsHeld};
+ghost use Rattle.gx_slices.specs.Apart.{IsBack, answered};
 ghost use Rattle.gx_slices.specs.Picked.{AreTypedOn, IsFaulted, IsSelected};
 ghost use Rattle.gx_slices.specs.Ran.{HasRun, MayRun};
 
 use crate::answering::{has_written, keep_answer};
 use crate::entries::take_entry;
-use crate::held::Held;
+use crate::held::{Entry, Held};
 use crate::picking::{Picked, pick};
 use crate::running::Ran;
 use gx_dsnap::Snapshot;
@@ -35,10 +36,12 @@ pub(crate) fn select(
     requires may { MayRun tables.now s gxid cid snapshot.now (slice.Select query) }
     ensures { IfOk result (λ ran. HasRun tables.now held.new gxid ran (reads s gxid cid query snapshot.now)) }
 {
-    match snapshot {
-        Some(snapshot) => select_by(alloc, tables, held, gxid, cid, snapshot, query),
+    let ran = match snapshot {
+        Some(snapshot) => select_by(alloc, tables, held, gxid, cid, snapshot, &query),
         None => unreachable!(),
-    }
+    };
+    drop(query);
+    ran
 }
 
 // The same by its snapshot.
@@ -49,21 +52,45 @@ fn select_by(
     gxid: Gxid,
     cid: Cid,
     snapshot: &Snapshot,
-    query: Query,
+    query: &Query,
 ) -> Mem<Ran>
     ghost s: { Seg }
     requires held { IsHeld tables.now held.old s }
-    requires may { MayRun tables.now s gxid cid (Some snapshot.now) (slice.Select query) }
-    ensures { IfOk result (λ ran. HasRun tables.now held.new gxid ran (reads s gxid cid query (Some snapshot.now))) }
+    requires may { MayRun tables.now s gxid cid (Some snapshot.now) (slice.Select query.now) }
+    ensures { IfOk result (λ ran. HasRun tables.now held.new gxid ran (reads s gxid cid query.now (Some snapshot.now))) }
 {
     let rows = held
         .store
         .shown_rows_for(query.table, &query.cond, snapshot, Some(gxid), cid)?;
     let entry = take_entry(alloc, &mut held.entries, gxid);
     let wrote = has_written(entry.local.phase);
-    let ran = selection(alloc, gxid, cid, wrote, &query, rows)?;
-    keep_answer(alloc, held, gxid, cid, entry, &ran.reply)?;
-    Ok(ran)
+    match selection(alloc, gxid, cid, wrote, query, rows) {
+        Ok(ran) => keep_ran(alloc, held, gxid, cid, entry, ran),
+        Err(error) => {
+            drop(entry);
+            Err(error)
+        }
+    }
+}
+
+// Puts back the entry with the answer, and hands on what has run.
+fn keep_ran(
+    alloc: Global,
+    held: &mut Held,
+    gxid: Gxid,
+    cid: Cid,
+    entry: Entry,
+    ran: Ran,
+) -> Mem<Ran>
+    ensures { IfOk result (λ kept. (kept ≡ ran) × IsBack held.old held.new gxid cid (answered entry cid ran.reply)) }
+{
+    match keep_answer(alloc, held, gxid, cid, entry, &ran.reply) {
+        Ok(()) => Ok(ran),
+        Err(error) => {
+            drop(ran);
+            Err(error)
+        }
+    }
 }
 
 // What the query comes to on the rows that are shown.
