@@ -41,12 +41,12 @@ returns-in-Ok g c =
     let turn = reads g.s c.args.gxid c.args.cid query (Some c.args.snapshot.now) in
     IfOk-weaker c.keep_ran.result _ _
     (λ (kept : Ran) told.
-      subst (λ (ran : Ran). HasRun c.args.tables.now c.keep_ran.new.held c.args.gxid ran turn) (sym told.0)
-      (HasRun-selects c.args.tables.now c.keep_ran.new.held c.args.gxid c.args.cid g.s query all (first_fault query.cond all) c.in-Ok.ran
-      (IsHeld-answered c.args.tables.now held mid mid c.keep_ran.new.held g.s g.s c.args.gxid c.args.cid entry is may.new apart took.others refl is.typed c.in-Ok.ran.reply may.free (no-wait c.args.tables.now held g.s c.args.gxid is may.free) told.1)
-      (chosen.marks ∙ ap (select_marks c.args.gxid c.args.cid) enough.faults)
-      (chosen.reply
-      ∙ ap (select_reply c.args.cid c.has_written-wrote.result query rows) enough.faults
-      ∙ select_reply-enough all rows c.args.cid c.has_written-wrote.result query (first_fault query.cond all) enough
-      ∙ ap (λ (b : Bool). select_reply c.args.cid b query all (first_fault query.cond all)) wrote)))
+    subst (λ (ran : Ran). HasRun c.args.tables.now c.keep_ran.new.held c.args.gxid ran turn) (sym told.0)
+    (HasRun-selects c.args.tables.now c.keep_ran.new.held c.args.gxid c.args.cid g.s query all (first_fault query.cond all) c.in-Ok.ran
+    (IsHeld-answered c.args.tables.now held mid mid c.keep_ran.new.held g.s g.s c.args.gxid c.args.cid entry is may.new apart took.others refl is.typed c.in-Ok.ran.reply may.free (no-wait c.args.tables.now held g.s c.args.gxid is may.free) told.1)
+    (chosen.marks ∙ ap (select_marks c.args.gxid c.args.cid) enough.faults)
+    (chosen.reply
+    ∙ ap (select_reply c.args.cid c.has_written-wrote.result query rows) enough.faults
+    ∙ select_reply-enough all rows c.args.cid c.has_written-wrote.result query (first_fault query.cond all) enough
+    ∙ ap (λ (b : Bool). select_reply c.args.cid b query all (first_fault query.cond all)) wrote)))
     c.keep_ran.ensures
