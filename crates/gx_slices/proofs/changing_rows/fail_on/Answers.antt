@@ -1,4 +1,4 @@
-use Rattle.std.proofs.Common.{◌∙◌, List, ap}
+use Rattle.std.proofs.Common.{◌∙◌}
 use Rattle.gx_slices.specs.Changing.{change_in}
 use Rattle.gx_slices.proofs.Ending.{IsAnswered-marked, IsTaken-marked, answers-faulted}
 use Rattle.gx_slices.proofs.Progressing.{HasProgressed-if}
