@@ -272,9 +272,17 @@ fn close(
     ensures { IfOk result (λ progress. HasProgressed ending.stage.found.tables held.new change.writer.gxid progress ending.turn) }
 {
     match end {
-        RowsEnd::Done(count) => finish(alloc, held, &change, entry, count, marks),
+        RowsEnd::Done(count) => {
+            let progress = finish(alloc, held, &change, entry, count, marks);
+            drop(change);
+            progress
+        }
         RowsEnd::Waiting(row, rows, count) => stop(held, change, entry, row, rows, count, marks),
-        RowsEnd::Failing(cause) => give_up(alloc, held, &change, entry, cause, marks),
+        RowsEnd::Failing(cause) => {
+            let progress = give_up(alloc, held, &change, entry, cause, marks);
+            drop(change);
+            progress
+        }
     }
 }
 
