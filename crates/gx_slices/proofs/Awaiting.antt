@@ -1,5 +1,5 @@
 -- Whom a command awaits at a row, and who has overtaken it, as the rule has it.
-use Rattle.std.proofs.Common.{◌≡◌, ◌≤◌, ◌<◌, ℕ, Bool, true, false, cond, if◌then◌else◌, eqb, ltb, not, ◌&&◌, ◌||◌, List, [], ◌∷◌, Option, Some, None, refl, sym, ap, ◌∙◌, subst, arith}
+use Rattle.std.proofs.Common.{◌≡◌, ◌<◌, Bool, true, false, cond, if◌then◌else◌, ltb, not, ◌&&◌, ◌||◌, List, [], ◌∷◌, Option, Some, None, refl, sym, ap, ◌∙◌, subst, arith}
 use Rattle.std.proofs.lemmas.Bool.Decides.{nat_tests}
 use Rattle.std.specs.List.{AllByRecursion, list_any}
 use Rattle.std.specs.Option.{option_or}
@@ -21,7 +21,7 @@ use Rattle.gx_rules.specs.Shown.{counts, current_of, is_current}
 use Rattle.gx_rules.specs.Slices.{Moved, own_lock}
 use Rattle.gx_slices.specs.Agrees.{AreWriters, has_version}
 use Rattle.gx_slices.specs.Apart.{IsStored}
-use Rattle.gx_slices.specs.Changing.{awaited_in, counted_in, overtaker_in}
+use Rattle.gx_slices.specs.Changing.{awaited_in, overtaker_in}
 use Rattle.gx_slices.specs.Store.{Store, passes, status_of}
 use Rattle.gx_slices.specs.Waiting.{is_open}
 use Rattle.gx_slices.proofs.Counting.{all_there}

@@ -1,14 +1,12 @@
 -- How a command that changes rows leaves what is held.
-use Rattle.std.proofs.Common.{◌≡◌, ◌≢◌, ◌<◌, ◌+◌, ◌^◌, ℕ, Bool, true, false, if◌then◌else◌, ◌||◌, List, [], ◌∷◌, length, Option, Some, None, suc, refl, sym, ap, ◌∙◌, subst, arith}
-use Rattle.std.specs.List.{list_any}
+use Rattle.std.proofs.Common.{◌≡◌, ◌<◌, ◌+◌, ◌^◌, ℕ, Bool, if◌then◌else◌, List, [], ◌∷◌, length, Some, None, suc, refl, sym, ap, ◌∙◌, subst, arith}
 use Rattle.std.specs.Global.{Vec}
-use Rattle.std.specs.Prelude.{is_some, nat_lt}
+use Rattle.std.specs.Prelude.{nat_lt}
 use Rattle.gx_ids.specs.declared.ids.Cid.{Cid}
 use Rattle.gx_ids.specs.declared.ids.Gxid.{Gxid}
 use Rattle.gx_ids.specs.declared.rid.Rid.{Rid}
 use Rattle.gx_tree.specs.declared.row.KeyedRow.{KeyedRow}
 use Rattle.gx_meaning.specs.declared.fault.ArithFault.{ArithFault}
-use Rattle.gx_locks.specs.Claims.{is_of}
 use Rattle.gx_msg.specs.declared.reply.Cause.{Cause}
 use Rattle.gx_msg.specs.declared.reply.Reply.{Reply}
 use Rattle.gx_msg.specs.declared.reply.Reply.TheVariants.{Done, Failed}
@@ -17,13 +15,12 @@ use Rattle.gx_node.specs.Phases.{local_of, phase_of, suspended_of}
 use Rattle.gx_node.specs.declared.local.Suspended as code
 use Rattle.gx_store.specs.declared.mark.Mark.{Mark}
 use Rattle.gx_rules.specs.Changes as rule
-use Rattle.gx_rules.specs.Fits.{reads_nothing}
 use Rattle.gx_rules.specs.Segments as segments
 use Rattle.gx_rules.specs.Segments.{Local, Seg, SegTurn, Suspended, with_local}
 use Rattle.gx_rules.specs.Slices.{Moved, answers, cause_of, fails_on, has_written, starts_from}
 use Rattle.gx_slices.specs.Agrees.{IsHeld}
 use Rattle.gx_slices.specs.Apart.{IsBack, answered}
-use Rattle.gx_slices.specs.Changing.{HasGone, IsAnswered, IsAt, IsFree, IsTaken, MayChange, Stage, change_in, slice_in}
+use Rattle.gx_slices.specs.Changing.{HasGone, IsAnswered, IsAt, IsFree, IsTaken, MayChange, Stage, change_in}
 use Rattle.gx_slices.specs.Picked.{select_marks}
 use Rattle.gx_slices.specs.Ran.{HasProgressed}
 use Rattle.gx_slices.specs.Suspensions.{suspended}
@@ -32,7 +29,6 @@ use Rattle.gx_slices.specs.declared.change.Change.{Change}
 use Rattle.gx_slices.specs.declared.changing_rows.RowsEnd.TheVariants as rows_end
 use Rattle.gx_slices.specs.declared.held.Entry.{Entry}
 use Rattle.gx_slices.specs.declared.held.Held.{Held}
-use Rattle.gx_slices.specs.declared.progress.Progress.{Progress}
 use Rattle.gx_slices.proofs.Closing.{IsHeld-answered, IsHeld-back}
 use Rattle.gx_slices.proofs.Gxids.{itself}
 

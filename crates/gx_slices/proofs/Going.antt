@@ -1,5 +1,5 @@
 -- A command goes through its rows.
-use Rattle.std.proofs.Common.{◌≡◌, ◌≤◌, ◌<◌, ◌+◌, ◌-◌, ◌^◌, ℕ, zero, suc, false, true, List, [], ◌∷◌, ◌++◌, length, take, drop, get_or, slice_get, length-drop, refl, sym, ap, ◌∙◌, subst, arith}
+use Rattle.std.proofs.Common.{◌≡◌, ◌≤◌, ◌<◌, ◌+◌, ◌-◌, ◌^◌, ℕ, zero, suc, false, true, List, [], ◌∷◌, ◌++◌, length, take, drop, get_or, length-drop, refl, sym, ap, ◌∙◌, subst, arith}
 use Rattle.std.proofs.lemmas.List.{drop_all, get_or_default}
 use Rattle.std.proofs.lemmas.List.Sums.{fold-append}
 use Rattle.std.proofs.lemmas.Option.{unwrap_or-slice_get}
@@ -14,7 +14,7 @@ use Rattle.gx_rules.specs.Changes as rule
 use Rattle.gx_rules.specs.Changes.RowEnd.{Failing, Skipped, Waiting, Written}
 use Rattle.gx_rules.specs.Segments.{SegTurn}
 use Rattle.gx_rules.specs.Slices.{Moved}
-use Rattle.gx_slices.specs.Changing.{Came, HasGone, IsAt, IsFree, Stage, end_of, ended_at, ends_as, is_done_at, moved_by, rid_at, waits_then, written_at}
+use Rattle.gx_slices.specs.Changing.{Came, HasGone, IsAt, IsFree, Stage, end_of, ended_at, is_done_at, moved_by, rid_at, waits_then, written_at}
 use Rattle.gx_slices.specs.declared.changing_row.RowEnd.{RowEnd}
 use Rattle.gx_slices.specs.declared.changing_row.RowEnd.TheVariants as end
 use Rattle.gx_slices.specs.declared.changing_rows.RowsEnd.{RowsEnd}

@@ -9,8 +9,8 @@ use Rattle.gx_rows.specs.Rows.{is_unaborted, last_passing}
 use Rattle.gx_store.specs.Marks.{is_same_rid}
 use Rattle.gx_rules.specs.Segments as rule
 use Rattle.gx_rules.specs.Segments.{Seg, Version, local_of}
-use Rattle.gx_rules.specs.Shown.{current_of, is_current}
-use Rattle.gx_slices.specs.Agrees.{has_version, is_of_row, write_of}
+use Rattle.gx_rules.specs.Shown.{current_of}
+use Rattle.gx_slices.specs.Agrees.{is_of_row, write_of}
 use Rattle.gx_slices.specs.Apart.{IsStored}
 use Rattle.gx_slices.specs.Store.{Store, Write, newest_of, passes, status_of}
 use Rattle.gx_slices.proofs.Counting.{all_there}

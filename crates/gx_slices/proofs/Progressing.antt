@@ -1,5 +1,5 @@
 -- A slice in the rule's words, and how far it has come.
-use Rattle.std.proofs.Common.{◌≡◌, length, Bool, true, false, ◌||◌, List, [], ◌∷◌, ◌++◌, append-nil, Option, Some, None, refl, sym, ap, ◌∙◌, subst}
+use Rattle.std.proofs.Common.{◌≡◌, length, true, false, ◌||◌, List, ◌∷◌, ◌++◌, append-nil, Option, Some, None, refl, sym, ap, ◌∙◌, subst}
 use Rattle.std.specs.Prelude.{◌≤◌, IfOk, Result, is_some, nat_lt}
 use Rattle.gx_ids.specs.declared.memory.OutOfMemory.{OutOfMemory}
 use Rattle.gx_ids.specs.declared.ids.Cid.{Cid}

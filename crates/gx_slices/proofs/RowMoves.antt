@@ -1,5 +1,5 @@
 -- The locks with which a command stops at a row, and those with which it leaves one: who holds itself, and who waits.
-use Rattle.std.proofs.Common.{◌≡◌, ◌≢◌, Bool, true, false, if◌then◌else◌, not, ◌||◌, List, [], ◌∷◌, ◌++◌, refl, sym, ap, ◌∙◌}
+use Rattle.std.proofs.Common.{◌≡◌, ◌≢◌, Bool, true, false, if◌then◌else◌, not, ◌||◌, List, [], ◌∷◌, ◌++◌, refl, ap, ◌∙◌}
 use Rattle.std.proofs.lemmas.List.Folds.{list_any-append}
 use Rattle.std.specs.List.{list_any}
 use Rattle.gx_ids.specs.declared.ids.Gxid.{Gxid}
@@ -14,7 +14,7 @@ use Rattle.gx_rules.specs.Locks.{with_wait, without_hold}
 use Rattle.gx_rules.specs.Segments.{Seg}
 use Rattle.gx_slices.specs.Agrees.{AreWriters}
 use Rattle.gx_slices.specs.Owning.{AreOwn}
-use Rattle.gx_slices.specs.Stopping.{has_row, holds_row, left_locks, row_locks, stop_locks}
+use Rattle.gx_slices.specs.Stopping.{holds_row, left_locks, stop_locks}
 use Rattle.gx_slices.proofs.Gxids.{itself}
 use Rattle.gx_slices.proofs.OwnMoves.{AreWriters-held, AreWriters-waits, AreWriters-without}
 use Rattle.gx_slices.proofs.Owning.{AreOwn-filter, AreOwn-held}

@@ -1,31 +1,28 @@
 -- What comes of a row, in what is held.
-use Rattle.std.proofs.Common.{◌≡◌, ◌≢◌, ◌≤◌, ℕ, Bool, true, false, if◌then◌else◌, eqb, ltb, not, ◌&&◌, List, [], ◌∷◌, ◌++◌, Option, Some, None, slice_get, append-nil, refl, sym, ap, ◌∙◌, subst, arith}
+use Rattle.std.proofs.Common.{◌≡◌, ◌≢◌, ◌≤◌, Bool, true, false, if◌then◌else◌, ltb, List, [], ◌∷◌, ◌++◌, Option, Some, None, slice_get, append-nil, refl, sym, ap, ◌∙◌, subst, arith}
 use Rattle.std.proofs.lemmas.Bool.Decides.{nat_tests}
 use Rattle.std.proofs.lemmas.List.Elements.{recursion_from_All}
 use Rattle.std.specs.List.{AllByRecursion, list_any}
 use Rattle.std.specs.Option.{ForSome}
-use Rattle.std.specs.Prelude.{All, IsTrue, find, option_map, unwrap_or}
+use Rattle.std.specs.Prelude.{IsTrue, find, option_map, unwrap_or}
 use Rattle.gx_ids.specs.declared.ids.Cid.{Cid}
 use Rattle.gx_ids.specs.declared.ids.Gxid.{Gxid}
 use Rattle.gx_ids.specs.declared.ids.Node.{Node}
 use Rattle.gx_ids.specs.declared.ids.Table.{Table}
 use Rattle.gx_ids.specs.declared.rid.Rid.{Rid}
-use Rattle.gx_tree.specs.declared.schema.Schema.{Schema}
 use Rattle.gx_tree.specs.declared.stmt.Level.TheVariants.{RepeatableRead}
 use Rattle.gx_tree.specs.declared.value.Value.{Value}
 use Rattle.gx_dsnap.specs.declared.snapshot.Snapshot.{Snapshot}
-use Rattle.gx_waits.specs.declared.claim.Claim.{Claim}
 use Rattle.gx_locks.specs.Claims.{is_of}
 use Rattle.gx_locks.specs.Locks.{Locks, is_free, wait_of}
 use Rattle.gx_rows.specs.Xids.{kept}
 use Rattle.gx_meaning.specs.declared.fault.ArithFault.{ArithFault}
-use Rattle.gx_msg.specs.declared.reply.Cause.{Cause}
 use Rattle.gx_msg.specs.declared.reply.Cause.TheVariants.{Serialization}
 use Rattle.gx_store.specs.declared.mark.Mark.{Mark}
 use Rattle.gx_store.specs.declared.mark.Mark.TheVariants as mark
 use Rattle.gx_rules.specs.Changes as rule
 use Rattle.gx_rules.specs.Changes.RowEnd.{Failing, Skipped, Waiting, Written}
-use Rattle.gx_rules.specs.Segments.{Seg, Version}
+use Rattle.gx_rules.specs.Segments.{Version}
 use Rattle.gx_rules.specs.Shown.{counts, current_of, is_current}
 use Rattle.gx_rules.specs.Slices.{Moved, cause_of, noted, own_lock, writes_row}
 use Rattle.gx_slices.specs.Agrees.{AreWriters, is_right_image, is_right_version, write_of}
@@ -34,7 +31,7 @@ use Rattle.gx_slices.specs.Changing.{Came, IsAt, IsFree, IsRightImage, Stage, aw
 use Rattle.gx_slices.specs.Inserts.{IsPut}
 use Rattle.gx_slices.specs.Owning.{AreOwn}
 use Rattle.gx_slices.specs.Stopping.{left_locks, left_marks, locks_after, marks_after, stop_locks, stop_marks}
-use Rattle.gx_slices.specs.Store.{Write, newest_of}
+use Rattle.gx_slices.specs.Store.{newest_of}
 use Rattle.gx_slices.specs.declared.changing_row.RowEnd.{RowEnd}
 use Rattle.gx_slices.specs.declared.changing_row.RowEnd.TheVariants as end
 use Rattle.gx_slices.specs.declared.held.Entry.{Entry}

@@ -1,12 +1,12 @@
 -- A command that stops at a row, and one that leaves a row that is done, in the rule's words.
-use Rattle.std.proofs.Common.{◌≡◌, Bool, true, false, if◌then◌else◌, ◌||◌, List, [], ◌∷◌, ◌++◌, append-nil, append_assoc, refl, sym, ap, ◌∙◌}
+use Rattle.std.proofs.Common.{◌≡◌, Bool, true, false, if◌then◌else◌, ◌||◌, List, [], ◌∷◌, ◌++◌, append-nil, append_assoc, refl, sym, ap}
 use Rattle.gx_ids.specs.declared.ids.Gxid.{Gxid}
 use Rattle.gx_ids.specs.declared.rid.Rid.{Rid}
 use Rattle.gx_waits.specs.declared.claim.Claim.{Claim}
 use Rattle.gx_locks.specs.Locks.{Locks, is_free}
 use Rattle.gx_node.specs.Locking.{asked_locks, asked_mark}
 use Rattle.gx_store.specs.declared.mark.Mark.{Mark}
-use Rattle.gx_rules.specs.Changes.{RowTurn, end_lock, ended, gives_back_if_held, tuple_lock, waits, waits_at}
+use Rattle.gx_rules.specs.Changes.{end_lock, ended, gives_back_if_held, tuple_lock, waits, waits_at}
 use Rattle.gx_rules.specs.Changes.RowEnd.{Waiting}
 use Rattle.gx_rules.specs.Locks.{hold_mark, release_mark, wait_mark, with_wait, without_hold}
 use Rattle.gx_rules.specs.Slices.{Moved, gives_back, takes_lock}

@@ -272,9 +272,17 @@ fn close(
     ensures { IfOk result (λ progress. HasProgressed ending.stage.found.tables held.new change.writer.gxid progress ending.turn) }
 {
     match end {
-        RowsEnd::Done(count) => finish(alloc, held, &change, entry, count, marks),
+        RowsEnd::Done(count) => {
+            let progress = finish(alloc, held, &change, entry, count, marks);
+            drop(change);
+            progress
+        }
         RowsEnd::Waiting(row, rows, count) => stop(held, change, entry, row, rows, count, marks),
-        RowsEnd::Failing(cause) => give_up(alloc, held, &change, entry, cause, marks),
+        RowsEnd::Failing(cause) => {
+            let progress = give_up(alloc, held, &change, entry, cause, marks);
+            drop(change);
+            progress
+        }
     }
 }
 
@@ -298,8 +306,15 @@ fn go_from(
     requires turn { ending.turn ≡ rule.goes_through change.writer.gxid (change_in change) rids.now ending.stage.moved count }
     ensures { IfOk result (λ progress. HasProgressed ending.stage.found.tables held.new change.writer.gxid progress ending.turn) }
 {
-    let end = go_through(alloc, &change, held, &mut entry, rids, count, &mut marks)?;
-    close(alloc, held, change, entry, end, marks)
+    match go_through(alloc, &change, held, &mut entry, rids, count, &mut marks) {
+        Ok(end) => close(alloc, held, change, entry, end, marks),
+        Err(error) => {
+            drop(change);
+            drop(entry);
+            drop(marks);
+            Err(error)
+        }
+    }
 }
 
 fn rids_of(alloc: Global, rows: &[KeyedRow]) -> Mem<Vec<Rid>>
@@ -328,10 +343,18 @@ fn change_kept(
         (rule.unless_fault stage.found.start change.writer.gxid (change_in change) (rule.shown_to stage.found.start change.writer.gxid (change_in change)) None)) }
 {
     let selected = kept.as_slice();
-    let rids = rids_of(alloc, selected)?;
-    let list = rids.as_slice();
-    let marks = Vec::new(alloc);
-    go_from(alloc, held, change, entry, list, 0, marks)
+    match rids_of(alloc, selected) {
+        Ok(rids) => {
+            let list = rids.as_slice();
+            let marks = Vec::new(alloc);
+            go_from(alloc, held, change, entry, list, 0, marks)
+        }
+        Err(error) => {
+            drop(change);
+            drop(entry);
+            Err(error)
+        }
+    }
 }
 
 // It fails on a row on which its condition faults.
@@ -353,9 +376,19 @@ fn fail_on(
         (slices.fails_on stage.found.start change.writer.gxid change.writer.cid (row, fault))) }
 {
     let Writer { gxid, cid, .. } = change.writer;
-    let ran = faulted(alloc, gxid, cid, row, fault)?;
-    let Ran { marks, reply } = ran;
-    answer(alloc, held, &change, entry, reply, marks.into_vec())
+    match faulted(alloc, gxid, cid, row, fault) {
+        Ok(ran) => {
+            let Ran { marks, reply } = ran;
+            let progress = answer(alloc, held, &change, entry, reply, marks.into_vec());
+            drop(change);
+            progress
+        }
+        Err(error) => {
+            drop(change);
+            drop(entry);
+            Err(error)
+        }
+    }
 }
 
 // By what its condition says of all rows that are shown.

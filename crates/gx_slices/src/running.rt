@@ -230,7 +230,10 @@ fn change_in_slice(
     ensures change { option_map change_in result ≡ change_of cid level snapshot slice }
     ensures writer { ForSome result (λ change. (change.writer.node ≡ node) × (change.writer.gxid ≡ gxid)) }
 {
-    let snapshot = snapshot?;
+    let Some(snapshot) = snapshot else {
+        drop(slice);
+        return None;
+    };
     match slice {
         Slice::Update(table, assigns, cond) => Some(Change {
             writer: writer_of(node, gxid, cid, table),
@@ -246,7 +249,11 @@ fn change_in_slice(
             set: None,
             cond,
         }),
-        _ => None,
+        other => {
+            drop(snapshot);
+            drop(other);
+            None
+        }
     }
 }
 

@@ -20,8 +20,8 @@ pub(crate) fn put_suspended(
 {
     let cid = waiting.cid;
     entry.local.last = cid.0;
-    entry.local.answer = None;
-    entry.local.suspended = Some(waiting);
+    drop(entry.local.answer.take());
+    drop(entry.local.suspended.replace(waiting));
     put_entry(&mut held.entries, gxid, entry)?;
     set_holder(&mut held.holders, gxid, cid.0 > 0)
 }
@@ -41,6 +41,11 @@ pub fn wake(alloc: Global, held: &mut Held, gxid: Gxid) -> Mem<Option<Suspended>
 {
     let mut entry = take_entry(alloc, &mut held.entries, gxid);
     let waiting = entry.local.suspended.take();
-    put_entry(&mut held.entries, gxid, entry)?;
-    Ok(waiting)
+    match put_entry(&mut held.entries, gxid, entry) {
+        Ok(()) => Ok(waiting),
+        Err(error) => {
+            drop(waiting);
+            Err(error)
+        }
+    }
 }

@@ -1,4 +1,4 @@
-use Rattle.std.proofs.Common.{◌∙◌, List, Option, Result, Ok, subst, sym}
+use Rattle.std.proofs.Common.{◌∙◌, List, Option, Result, subst, sym}
 use Rattle.gx_tree.specs.declared.value.Value.{Value}
 use Rattle.gx_meaning.specs.declared.fault.ArithFault.{ArithFault}
 use Rattle.gx_rules.specs.Changes as rule

@@ -1,4 +1,4 @@
-use Rattle.std.proofs.Common.{◌≡◌, IfOk, None, Option, subst, sym}
+use Rattle.std.proofs.Common.{IfOk, None, Option, subst, sym}
 use Rattle.std.proofs.lemmas.Result.{IfOk-weaker}
 use Rattle.gx_rules.specs.Changes.{at_current}
 use Rattle.gx_rules.specs.Segments.{Version}

@@ -8,5 +8,5 @@ close-requires g c =
     let k = c.args.change in
     let now = c.go_through.new in (
       c.requires.0,
-      (c.requires.1.0, subst (λ (t : SegTurn). HasGone g.ending.stage (change_in k) k.writer.gxid now.held now.entry now.marks.items t c.in_ok-end.end) (sym c.requires.1.1.1.1.1) c.in_ok-end.ensures),
+      (c.requires.1.0, subst (λ (t : SegTurn). HasGone g.ending.stage (change_in k) k.writer.gxid now.held now.entry now.marks.items t c.in-Ok.end) (sym c.requires.1.1.1.1.1) c.in-Ok.ensures),
     )

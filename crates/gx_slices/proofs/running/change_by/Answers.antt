@@ -1,4 +1,4 @@
-use Rattle.std.proofs.Common.{◌∙◌, Option, Some, ap, subst, sym}
+use Rattle.std.proofs.Common.{◌∙◌, Option, ap, sym}
 use Rattle.gx_dsnap.specs.declared.snapshot.Snapshot.{Snapshot}
 use Rattle.gx_rules.specs.Changes.{change_of, changes_rows}
 use Rattle.gx_slices.specs.Changing.{slice_in}

@@ -1,8 +1,7 @@
-use Rattle.std.proofs.Common.{◌∙◌, Option, Some, None, ap, sym}
+use Rattle.std.proofs.Common.{◌∙◌, ap, sym}
 use Rattle.std.specs.Prelude.{option_map}
 use Rattle.gx_node.specs.Phases.{suspended_of}
 use Rattle.gx_slices.specs.Changing.{change_in}
-use Rattle.gx_slices.specs.declared.change.Change.{Change}
 use Rattle.gx_slices.proofs.Progressing.{HasProgressed-made, HasProgressed-stays, MayChange-made, free-made, open-made}
 use Rattle.gx_slices.proofs.running.go_on_at_row.Goals as goal
 

@@ -1,9 +1,6 @@
-use Rattle.std.proofs.Common.{subst}
 use Rattle.gx_tree.specs.declared.slice.Slice.TheVariants as slice
-use Rattle.gx_rules.specs.Segments.{SegTurn}
 use Rattle.gx_rules.specs.Slices.{inserted, inserts}
 use Rattle.std.specs.Prelude.{length}
-use Rattle.gx_slices.specs.Ran.{HasProgressed}
 use Rattle.gx_slices.proofs.Progressing.{HasProgressed-ran, HasProgressed-same, IsHeld-tables, MayRun-tables, adds-some}
 use Rattle.gx_slices.proofs.running.run_insert.Goals as goal
 
