@@ -116,6 +116,11 @@ order_at d = maybe_at (is_word word.Order) (behind_at (is_word word.Order) (behi
 abbrev pub limit_at : List Token → Reading (Option Size)
 limit_at = maybe_at (is_word word.Limit) (behind_at (is_word word.Limit) (one_at size_of))
 
+abbrev pub clauses_at : Limits → List Token → Reading (Option Syn × (Option (List (List ℕ)) × (Option (List KeySyn) × Option Size)))
+clauses_at d = both_at (where_at d) (both_at (group_at d) (both_at (order_at d) limit_at))
+
+abbrev pub source_at : Limits → List Token → Reading (List ℕ × (Option Syn × (Option (List (List ℕ)) × (Option (List KeySyn) × Option Size))))
+source_at d = both_at (behind_at (is_word word.From) (name_at d)) (clauses_at d)
+
 abbrev pub select_at : Limits → List Token → Reading SelectSyn
-select_at d = made_at to_select (both_at (behind_at (is_word word.Select) (items_at d)) (both_at (behind_at (is_word word.From) (name_at d))
-    (both_at (where_at d) (both_at (group_at d) (both_at (order_at d) limit_at)))))
+select_at d = made_at to_select (both_at (behind_at (is_word word.Select) (items_at d)) (source_at d))

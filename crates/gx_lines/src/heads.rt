@@ -1,5 +1,5 @@
 // Reads heads and lines.
-ghost use Rattle.std.specs.Prelude.{◌≡◌, List};
+ghost use Rattle.std.specs.Prelude.{◌≡◌, List, Ok};
 ghost use Rattle.gx_grammar.specs.Code.{Gives};
 ghost use Rattle.gx_grammar.specs.Rules.{starts};
 ghost use Rattle.gx_grammar.specs.Tokens.{enclosed_at, listed_at};
@@ -115,16 +115,16 @@ fn link<'a>(
 }
 
 /// The semicolon that may end a line.
-fn end<'a>(tokens: &'a [Token]) -> Reading<'a, Option<()>>
-    ensures { Gives (λ r. (r.0, r.1.now)) result (of.end_at tokens.now) }
+fn end<'a>(tokens: &'a [Token]) -> (Option<()>, &'a [Token])
+    ensures { of.end_at tokens.now ≡ Ok (result.0, result.1.now) }
 {
     match tokens.split_first() {
-        None => Ok((None, tokens)),
+        None => (None, tokens),
         Some((token, rest)) => {
             if is_sign(Symbol::Semicolon, token) {
-                Ok((Some(()), rest))
+                (Some(()), rest)
             } else {
-                Ok((None, tokens))
+                (None, tokens)
             }
         }
     }
@@ -137,7 +137,7 @@ pub fn session<'a>(alloc: Global, limits: Limits, tokens: &'a [Token]) -> Readin
     let (name, rest) = read_one(alloc, limits, tokens)?;
     let rest = read_sign(Symbol::Colon, rest)?;
     let (stmt, rest) = stmt(alloc, limits, rest)?;
-    let (_end, rest) = end(rest)?;
+    let (_end, rest) = end(rest);
     Ok((LineSyn::Session(name, stmt), rest))
 }
 

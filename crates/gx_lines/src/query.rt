@@ -3,7 +3,7 @@ ghost use Rattle.std.specs.Prelude.{◌≡◌};
 ghost use Rattle.gx_lex.specs.declared.symbol.Symbol.TheVariants as sign;
 ghost use Rattle.gx_grammar.specs.Code.{Gives};
 ghost use Rattle.gx_grammar.specs.Tokens.{enclosed_at, listed_at};
-ghost use Rattle.gx_grammar.specs.Rules.{starts, made_at, maybe_at, one_at};
+ghost use Rattle.gx_grammar.specs.Rules.{starts, both_at, made_at, maybe_at, one_at};
 ghost use Rattle.gx_lines.specs.Classes.{direction_of};
 ghost use Rattle.gx_lines.specs.declared.syn.ItemSyn.TheVariants as item_syn;
 ghost use Rattle.gx_lines.specs.Queries as of;
@@ -236,27 +236,91 @@ fn limit_part<'a>(alloc: Global, limits: Limits, tokens: &'a [Token]) -> Reading
     }
 }
 
+type Ordered = (Option<Seq<KeySyn>>, Option<Size>);
+
+fn ordered<'a>(alloc: Global, limits: Limits, tokens: &'a [Token]) -> Reading<'a, Ordered>
+    ensures { Gives (λ r. (r.0, r.1.now)) result (both_at (of.order_at limits) of.limit_at tokens.now) }
+{
+    let (order, rest) = order_part(alloc, limits, tokens)?;
+    match limit_part(alloc, limits, rest) {
+        Ok((limit, rest)) => Ok(((order, limit), rest)),
+        Err(error) => {
+            drop(order);
+            Err(error)
+        }
+    }
+}
+
+type Grouped = (Option<Seq<Txt>>, Ordered);
+
+fn grouped<'a>(alloc: Global, limits: Limits, tokens: &'a [Token]) -> Reading<'a, Grouped>
+    ensures { Gives (λ r. (r.0, r.1.now)) result (both_at (of.group_at limits) (both_at (of.order_at limits) of.limit_at) tokens.now) }
+{
+    let (group, rest) = group_part(alloc, limits, tokens)?;
+    match ordered(alloc, limits, rest) {
+        Ok((order, rest)) => Ok(((group, order), rest)),
+        Err(error) => {
+            drop(group);
+            Err(error)
+        }
+    }
+}
+
+type Clauses = (Option<Syn>, Grouped);
+
+fn clauses<'a>(alloc: Global, limits: Limits, tokens: &'a [Token]) -> Reading<'a, Clauses>
+    ensures { Gives (λ r. (r.0, r.1.now)) result (of.clauses_at limits tokens.now) }
+{
+    let (cond, rest) = where_part(alloc, limits, tokens)?;
+    match grouped(alloc, limits, rest) {
+        Ok((group, rest)) => Ok(((cond, group), rest)),
+        Err(error) => {
+            drop(cond);
+            Err(error)
+        }
+    }
+}
+
+/// The table and the clauses behind it.
+fn source<'a>(alloc: Global, limits: Limits, tokens: &'a [Token]) -> Reading<'a, (Txt, Clauses)>
+    ensures { Gives (λ r. (r.0, r.1.now)) result (of.source_at limits tokens.now) }
+{
+    let rest = read_word(Word::From, tokens)?;
+    let (table, rest) = read_one(alloc, limits, rest)?;
+    match clauses(alloc, limits, rest) {
+        Ok((clauses, rest)) => Ok(((table, clauses), rest)),
+        Err(error) => {
+            drop(table);
+            Err(error)
+        }
+    }
+}
+
+fn select_of(items: ItemsSyn, source: (Txt, Clauses)) -> SelectSyn
+    ensures { result ≡ of.to_select (items, source) }
+{
+    let (table, (cond, (group, (order, limit)))) = source;
+    SelectSyn {
+        items,
+        table,
+        cond,
+        group,
+        order,
+        limit,
+    }
+}
+
 /// Reads the SELECT that stands first, and hands back the tokens behind it.
 pub fn select<'a>(alloc: Global, limits: Limits, tokens: &'a [Token]) -> Reading<'a, SelectSyn>
     ensures { Gives (λ r. (r.0, r.1.now)) result (of.select_at limits tokens.now) }
 {
     let rest = read_word(Word::Select, tokens)?;
     let (items, rest) = items(alloc, limits, rest)?;
-    let rest = read_word(Word::From, rest)?;
-    let (table, rest) = read_one(alloc, limits, rest)?;
-    let (cond, rest) = where_part(alloc, limits, rest)?;
-    let (group, rest) = group_part(alloc, limits, rest)?;
-    let (order, rest) = order_part(alloc, limits, rest)?;
-    let (limit, rest) = limit_part(alloc, limits, rest)?;
-    Ok((
-        SelectSyn {
-            items,
-            table,
-            cond,
-            group,
-            order,
-            limit,
-        },
-        rest,
-    ))
+    match source(alloc, limits, rest) {
+        Ok((source, rest)) => Ok((select_of(items, source), rest)),
+        Err(error) => {
+            drop(items);
+            Err(error)
+        }
+    }
 }
