@@ -4,7 +4,7 @@ ghost use Rattle.gx_outside.specs.Shelves.{HasKept};
 ghost use Rattle.gx_node.specs.Changes.{Does, commits_now, finishes_now, promises, unless_prepared, unless_waiting};
 ghost use Rattle.gx_node.specs.Changes as change;
 ghost use Rattle.gx_node.specs.Orders.{Took};
-ghost use Rattle.gx_node.specs.Phases.{local_of, phase_of};
+ghost use Rattle.gx_node.specs.Phases.{local_of, phase_of, reply_of};
 
 use crate::appending::append;
 use crate::local::{Local, Phase, Taken, Vote};
@@ -52,6 +52,21 @@ fn refuse(node: Node, gxid: Gxid, local: &mut Local) -> Taken
     }
 }
 
+// The journal has taken it.
+fn agree(local: &mut Local, phase: Phase, vote: Vote, mark: Mark) -> Taken
+    ensures local { local.new ≡ record local.old { phase = phase; vote = Some vote } }
+    ensures taken { result ≡ record { mark = Some mark; reply = Some (reply_of vote); fails = false; ends = false } }
+{
+    local.phase = phase;
+    local.vote = Some(vote);
+    Taken {
+        mark: Some(mark),
+        reply: Some(vote.reply()),
+        fails: false,
+        ends: false,
+    }
+}
+
 fn promise<J: Journal>(
     alloc: Global,
     node: Node,
@@ -64,18 +79,11 @@ fn promise<J: Journal>(
     ensures took { IfOk result (λ taken. Took (J.shelf journal.old) (J.shelf journal.new) taken.fails (promises node gxid kept taken.fails (local_of local.old)).item) }
     ensures err { OnErr result ((local.new ≡ local.old) × HasKept (J.shelf journal.old) (J.shelf journal.new)) }
 {
-    let item = JournalItem::Prepare(gxid, kept);
-    if append(alloc, &item, journal)? {
+    if append(alloc, JournalItem::Prepare(gxid, kept), journal)? {
         return Ok(refuse(node, gxid, local));
     }
-    local.phase = Phase::Prepared;
-    local.vote = Some(Vote::Prepared);
-    Ok(Taken {
-        mark: Some(Mark::Prepared { node, gxid }),
-        reply: Some(Reply::Prepared),
-        fails: false,
-        ends: false,
-    })
+    let mark = Mark::Prepared { node, gxid };
+    Ok(agree(local, Phase::Prepared, Vote::Prepared, mark))
 }
 
 // PREPARE is answered once, and then always with what was answered then.
@@ -94,13 +102,20 @@ pub(crate) fn take_prepare<J: Journal>(
     ensures err { OnErr result ((local.new ≡ local.old) × HasKept (J.shelf journal.old) (J.shelf journal.new)) }
 {
     if local.is_waiting() {
+        drop(kept);
         return Ok(nothing());
     }
     match (local.phase, local.vote) {
         (Phase::Reading, None) => promise(alloc, node, gxid, local, kept, journal),
         (Phase::Writing, None) => promise(alloc, node, gxid, local, kept, journal),
-        (Phase::Aborted, _) => Ok(nothing()),
-        _ => Ok(tell_vote(local)),
+        (Phase::Aborted, _) => {
+            drop(kept);
+            Ok(nothing())
+        }
+        _ => {
+            drop(kept);
+            Ok(tell_vote(local))
+        }
     }
 }
 
@@ -116,18 +131,11 @@ fn commit<J: Journal>(
     ensures took { IfOk result (λ taken. Took (J.shelf journal.old) (J.shelf journal.new) taken.fails (commits_now node gxid kept taken.fails (local_of local.old)).item) }
     ensures err { OnErr result ((local.new ≡ local.old) × HasKept (J.shelf journal.old) (J.shelf journal.new)) }
 {
-    let item = JournalItem::Commit(gxid, kept);
-    if append(alloc, &item, journal)? {
+    if append(alloc, JournalItem::Commit(gxid, kept), journal)? {
         return Ok(refuse(node, gxid, local));
     }
-    local.phase = Phase::Committed;
-    local.vote = Some(Vote::Committed);
-    Ok(Taken {
-        mark: Some(Mark::LocalCommit { node, gxid }),
-        reply: Some(Reply::Committed),
-        fails: false,
-        ends: false,
-    })
+    let mark = Mark::LocalCommit { node, gxid };
+    Ok(agree(local, Phase::Committed, Vote::Committed, mark))
 }
 
 // COMMIT is for who was never prepared here.
@@ -157,16 +165,24 @@ pub(crate) fn take_commit<J: Journal>(
     ensures err { OnErr result ((local.new ≡ local.old) × HasKept (J.shelf journal.old) (J.shelf journal.new)) }
 {
     if local.is_waiting() {
+        drop(kept);
         return Ok(nothing());
     }
     match (local.phase, local.vote) {
         (Phase::Reading, None) => commit(alloc, node, gxid, local, kept, journal),
         (Phase::Writing, None) => commit(alloc, node, gxid, local, kept, journal),
-        (Phase::Reading, Some(_)) => Ok(tell_vote(local)),
-        (Phase::Writing, Some(_)) => Ok(tell_vote(local)),
-        (Phase::Committed, _) => Ok(tell_commit(local)),
-        (Phase::Forgotten(_), _) => Ok(tell_commit(local)),
-        _ => Ok(nothing()),
+        (Phase::Reading, Some(_)) | (Phase::Writing, Some(_)) => {
+            drop(kept);
+            Ok(tell_vote(local))
+        }
+        (Phase::Committed, _) | (Phase::Forgotten(_), _) => {
+            drop(kept);
+            Ok(tell_commit(local))
+        }
+        _ => {
+            drop(kept);
+            Ok(nothing())
+        }
     }
 }
 
@@ -182,7 +198,7 @@ fn finish<J: Journal>(
     ensures took { IfOk result (λ taken. Took (J.shelf journal.old) (J.shelf journal.new) taken.fails (finishes_now node gxid taken.fails (local_of local.old)).item) }
     ensures err { OnErr result ((local.new ≡ local.old) × HasKept (J.shelf journal.old) (J.shelf journal.new)) }
 {
-    if append(alloc, &JournalItem::Finish(gxid), journal)? {
+    if append(alloc, JournalItem::Finish(gxid), journal)? {
         return Ok(Taken {
             mark: Some(Mark::JournalFailed { node, gxid }),
             reply: Some(Reply::Again),
