@@ -26,18 +26,23 @@ fn order(alloc: Global, of: &Ordering, piece: Piece) -> Mem<Out>
     ensures { IfOk result (λ out. out ≡ order_of of.now.gxid of.now.cid of.now.level of.now.snapshot of.now.horizon piece) }
 {
     let Piece { node, slice } = piece;
-    let snapshot = of.snapshot.copy(alloc)?;
-    Ok(Out {
-        node,
-        message: Message::Exec {
-            gxid: of.gxid,
-            cid: of.cid,
-            level: of.level,
-            snapshot,
-            horizon: of.horizon,
-            slice,
-        },
-    })
+    match of.snapshot.copy(alloc) {
+        Ok(snapshot) => Ok(Out {
+            node,
+            message: Message::Exec {
+                gxid: of.gxid,
+                cid: of.cid,
+                level: of.level,
+                snapshot,
+                horizon: of.horizon,
+                slice,
+            },
+        }),
+        Err(fault) => {
+            drop(slice);
+            Err(fault)
+        }
+    }
 }
 
 // The EXECs of the pieces, in their order.
