@@ -41,21 +41,3 @@ pub unmet-there : (here : Bool) (old : Option Expected) (e : Expected) (told : R
 unmet-there true old e told found unmet = found refl ∙ sym (ap (unless_met true told) (found refl) ∙ ap (λ b. cond b None (Some e)) unmet)
 unmet-there false None e told found unmet = refl
 unmet-there false (Some x) e told found unmet = refl
-
--- AN ORDER
-pub about-order : (told : Message) (h g : Gxid) → gxid_of told ≡ Some h → is_about g told ≡ is_same_gxid h g
-about-order (message.Exec k c level snapshot horizon slice) h g e = let same : k ≡ h = cc in ap (λ x. is_same_gxid x g) same
-about-order (message.Prepare k) h g e = let same : k ≡ h = cc in ap (λ x. is_same_gxid x g) same
-about-order (message.Commit k) h g e = let same : k ≡ h = cc in ap (λ x. is_same_gxid x g) same
-about-order (message.CommitPrepared k) h g e = let same : k ≡ h = cc in ap (λ x. is_same_gxid x g) same
-about-order (message.Abort k) h g e = let same : k ≡ h = cc in ap (λ x. is_same_gxid x g) same
-about-order (message.Forget k) h g e = let same : k ≡ h = cc in ap (λ x. is_same_gxid x g) same
-about-order (message.Collect round) h g e = absurd (cc)
-about-order (message.Answer k reply) h g e = absurd (cc)
-about-order (message.Graph round graph) h g e = absurd (cc)
-
--- what is expected once an order was noted
-pub order-noted : (to s : Node) (h g : Gxid) (told : Message) (old new : Option Expected) (e : Expected) → gxid_of told ≡ Some h → e ≡ expected_of told → new ≡ cond (is_at (request_cmp (record { segment = to; gxid = h })) (record { segment = s; gxid = g })) (Some e) old → new ≡ cond (is_same_node to s && is_about g told) (Some (expected_of told)) old
-order-noted to s h g told old new e about asks is =
-    is ∙ ap (λ b. cond b (Some e) old) (is_same_request to s h g ∙ ap (λ b. is_same_node to s && b) (sym (about-order told h g about)))
-    ∙ ap (λ x. cond (is_same_node to s && is_about g told) (Some x) old) asks

@@ -62,18 +62,6 @@ module _ (ls : List Line) (l : Line) (session : SessionId) (places : List ℕ) (
       there place line o (inl h) = absurd (other (ap (λ (k : Line). k.session.0) h.1 ∙ o))
       there place line o (inr e) = was.all place line e o
 
--- SESSIONS
-fresh-empty : (session : SessionId) → IsFresh [] session new_standing
-fresh-empty session = record { places = record { lines_at = λ index place e. absurd (cc); all = λ place line e o. absurd (cc) }; count = refl; starts = refl; answers = refl }
-
-pub fresh-none : (n : ℕ) → AreFresh [] n (replicate n new_standing)
-fresh-none n = record { whole = length-replicate n new_standing; each = λ session standing e. subst (IsFresh [] session) (copied n session.0 standing e) (fresh-empty session) }
-  where
-    copied : (n k : ℕ) (standing : Standing) → slice_get (replicate n new_standing) k ≡ Some standing → new_standing ≡ standing
-    copied zero k standing e = absurd (cc)
-    copied (suc n) zero standing e = same_Some new_standing standing e
-    copied (suc n) (suc k) standing e = copied n k standing e
-
 plus-zero : (n : ℕ) → n + 0 ≡ n
 plus-zero n = omega arith
 

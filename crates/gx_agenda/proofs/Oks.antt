@@ -7,10 +7,6 @@ pub on_ok : {A E : Type 0} (r : Result A E) (P Q : Type 0) → OnOk r P → (P �
 on_ok (Ok a) P Q h f = f h
 on_ok (Err e) P Q h f = tt
 
-pub on_ok-both : {A E : Type 0} (r : Result A E) (P Q R : Type 0) → OnOk r P → OnOk r Q → (P → Q → R) → OnOk r R
-on_ok-both (Ok a) P Q R h k f = f h k
-on_ok-both (Err e) P Q R h k f = tt
-
 pub on_ok-three : {A E : Type 0} (r : Result A E) (P Q R S : Type 0) → OnOk r P → OnOk r Q → OnOk r R → (P → Q → R → S) → OnOk r S
 on_ok-three (Ok a) P Q R S h k l f = f h k l
 on_ok-three (Err e) P Q R S h k l f = tt

@@ -20,14 +20,6 @@ module _ {K X : Type 0} (at : K → Bool) (d h d1 h1 : K → Option X) where
   pub taken-out : ((k : K) → d1 k ≡ cond (at k) None (d k)) → ((k : K) → h1 k ≡ cond (at k) None (h k)) → (k : K) → option_or (d1 k) (h1 k) ≡ cond (at k) None (option_or (d k) (h k))
   taken-out e f k = or-none (at k) (d k) (h k) (d1 k) (h1 k) (e k) (f k)
 
-  -- it is put into the first
-  pub put-first : (x : X) → ((k : K) → d1 k ≡ cond (at k) (Some x) (d k)) → ((k : K) → h1 k ≡ cond (at k) None (h k)) → (k : K) → option_or (d1 k) (h1 k) ≡ cond (at k) (Some x) (option_or (d k) (h k))
-  put-first x e f k = or-first x (at k) (d k) (h k) (d1 k) (h1 k) (e k) (f k)
-
-  -- it is put into the second
-  pub put-second : (x : X) → ((k : K) → d1 k ≡ cond (at k) None (d k)) → ((k : K) → h1 k ≡ cond (at k) (Some x) (h k)) → (k : K) → option_or (d1 k) (h1 k) ≡ cond (at k) (Some x) (option_or (d k) (h k))
-  put-second x e f k = or-second x (at k) (d k) (h k) (d1 k) (h1 k) (e k) (f k)
-
 -- where nothing is found, nothing is in the first
 pub none-first : {X : Type 0} (d h : Option X) → option_or d h ≡ None → d ≡ None
 none-first None h e = refl

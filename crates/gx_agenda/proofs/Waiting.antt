@@ -64,14 +64,6 @@ set-here q f x d set = set q ∙ ap (λ b. cond b x (d q)) (tied-itself q)
 pub set-there : {X : Type 0} (q : Request) (f : Request → X) (x : X) (d : Request → X) → ((r : Request) → f r ≡ cond (is_at (request_cmp q) r) x (d r)) → (r : Request) → is_at (request_cmp q) r ≡ false → f r ≡ d r
 set-there q f x d set r e = set r ∙ ap (λ b. cond b x (d r)) e
 
--- what is there already is put there
-pub put-again : {X : Type 0} (q : Request) (f g : Request → Option X) (x : X) → f q ≡ Some x → ((r : Request) → g r ≡ cond (is_at (request_cmp q) r) (Some x) (f r)) → (r : Request) → g r ≡ f r
-put-again {X} q f g x is set r = by (is_at (request_cmp q) r) refl
-  where
-    by : (b : Bool) → is_at (request_cmp q) r ≡ b → g r ≡ f r
-    by true e = set r ∙ ap (λ b. cond b (Some x) (f r)) e ∙ sym is ∙ ap f (tied q r e)
-    by false e = set-there q g (Some x) f set r e
-
 -- nothing is awaited, so nothing is due
 pub none-due : (q : Request) (d h : Request → Option Expected) (waits : List Claim) → option_or (d q) (h q) ≡ None → (r : Request) → d r ≡ cond (is_at (request_cmp q) r) (due_of (option_or (d q) (h q)) waits) (d r)
 none-due q d h waits none r = by (is_at (request_cmp q) r) refl

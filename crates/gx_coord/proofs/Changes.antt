@@ -73,12 +73,6 @@ session-set (x ∷ xs) (suc k) s (suc j) b e l = session-set xs k s j b (same j 
 pub session_at-set : (sessions : List Session) (k : ℕ) (s : Session) → k < length sessions → session_at (slice_set sessions k s) ≡ with_at (session_at sessions) k (session_of s)
 session_at-set sessions k s l = fun_ext (λ j. session-set sessions k s j (eqb j k) refl l)
 
--- a session that waits is one of the script's
-pub busy-inside : (sessions : List Session) (k : ℕ) → (IsIdle (session_at sessions k).state → ⊥) → k < length sessions
-busy-inside [] k b = absurd (b refl)
-busy-inside (x ∷ xs) zero b = omega arith
-busy-inside (x ∷ xs) (suc k) b = omega (arith, busy-inside xs k b)
-
 -- WHAT IS WRITTEN THROUGH A BORROW
 pub found-at : (lines : List Line) (m : BTreeMap Gxid Work) (g : Gxid) (w : Work) → Some w ≡ get_by (gxid_cmp g) m → found lines m.entries g.0 ≡ work_of lines w
 found-at lines m g w e = ap (work_in lines) (sym e)

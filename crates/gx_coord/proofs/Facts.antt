@@ -115,11 +115,6 @@ module _ {script : Script} (c : Coord) (kept : Kept script c) (g : ℕ) where
   closing (outcome.Refused i) b m e = m.0
   closing outcome.Ended b m e = absurd (cc)
 
-  pub status-busy : (i : Node) (r : Reply) (fails : Bool) → answers_line (on_reply c.table (gx g) i r fails).out.outcome ≡ true → IsBusy c g
-  status-busy i r fails e idle =
-      let t = reply-turns c.table g i r fails kept.whole in
-      closing-busy _ _ ((kept.tied g).closing (closing (on_reply c.table (gx g) i r fails).out.outcome (stage t.now) t.how e)).1 idle
-
 -- writers that rise and are participants
 all-has : (ws all : List Node) → ((j : Node) → has j ws ≡ true → has j all ≡ true) → All (λ w. IsTrue (has w all)) ws
 all-has [] all f = All-nil (λ w. IsTrue (has w all))

@@ -45,12 +45,6 @@ active-same d = ap (λ (f : Phase → Bool). map (λ (e : Gxid × Txn). e.0) (fi
 pub graph-quiet : (c : rule.Coord) (from : Node) (round : ℕ) (graph : LocalGraph) → ((on_graph c from round graph).outs ≡ []) × ((on_graph c from round graph).item ≡ None)
 graph-quiet c from round graph = graph-ways (λ turn. (turn.outs ≡ []) × (turn.item ≡ None)) c from round graph (refl, refl) (λ r. (refl, refl)) (λ r a. (refl, refl))
 
--- CALLS ON THE DETECTOR
-pub begun-is : (k : Coord) (d : Rounds) (script : Script) → d ≡ started k.detector → k.detector.segments ≡ script.segments → coord_of (record k { detector = d }) ≡ (begins_round script (coord_of k)).coord
-begun-is k d script e s =
-    ap (λ (x : Rounds). coord_of (record k { detector = x })) e
-    ∙ ap (λ n. record (coord_of k) { rounds = k.detector.begun + 1; reports = Some (replicate n None) }) s
-
 heard-is : (d : Rounds) (round : ℕ) (graph : LocalGraph) → (round == d.begun) ≡ true → awaited.heard d round graph ≡ record d { reports = option_map (λ rs. own.noted rs graph) d.reports }
 heard-is d round graph e = ap (λ b. if b then record d { reports = option_map (λ rs. own.noted rs graph) d.reports } else d) e
 
@@ -66,13 +60,6 @@ pub verdict-is : (k : Coord) (graph : LocalGraph) (active : List Gxid) → graph
 verdict-is k graph active e h =
     ap (λ g. verdict_of (awaited.gathered k.detector g) active) e
     ∙ ap (λ gs. verdict_of (awaited.gathered k.detector (graph_at k.locks)) gs) h
-
--- WHO SENDS A GRAPH
-pub segment-is : (script : Script) (segments : ℕ) (i : Node) → is_segment script i ≡ true → segments ≡ script.segments → IsSegment segments i
-segment-is script segments i e s = let a = bounds i.0 script.segments segments e s in record { from_one = a.0; within = a.1 }
-  where
-    bounds : (a n m : ℕ) → (nat_le 1 a && nat_le a n) ≡ true → m ≡ n → (1 ≤ a) × (a ≤ m)
-    bounds a n m e s = grind (arith, nat_tests)
 
 pub report-segment : (c : rule.Coord) (from : Node) (round : ℕ) (graph : LocalGraph) (segments : ℕ) → is_report c from round graph ≡ true → IsSegment segments from → IsSegment segments graph.node
 report-segment c from round graph segments e h =

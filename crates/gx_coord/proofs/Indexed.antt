@@ -30,11 +30,6 @@ take-whole [] (suc i) l = refl
 take-whole (x ∷ xs) zero l = absurd (omega arith)
 take-whole (x ∷ xs) (suc i) l = ap (λ ys. x ∷ ys) (take-whole xs i (omega arith))
 
-pub get-item : {X : Type 0} (xs : List X) (i : ℕ) (d : X) → i < length xs → d ≡ get_or xs i d → slice_get xs i ≡ Some d
-get-item [] i d l e = absurd (omega arith)
-get-item (x ∷ xs) zero d l e = ap Some (sym e)
-get-item (x ∷ xs) (suc i) d l e = get-item xs i d (omega arith) e
-
 get_or-found : {X : Type 0} (xs : List X) (i : ℕ) (x d : X) → slice_get xs i ≡ Some x → get_or xs i d ≡ x
 get_or-found [] i x d e = absurd (cc)
 get_or-found (y ∷ ys) zero x d e = some_same e

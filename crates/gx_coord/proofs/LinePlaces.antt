@@ -110,33 +110,6 @@ module _ (session : ℕ) where
   abbrev HasPlace : List Line → ℕ → ℕ → ℕ → Line → Type 0
   HasPlace ls o c q l = (i : ℕ) × (slice_get (places_from session o ls) i ≡ Some (o + q)) × (l.number ≡ c + i + 1)
 
-  -- each line of the session stands at one of them
-  pub has_place : (before ls : List Line) (o q : ℕ) (l : Line) → AreLinesNumbered before ls → slice_get ls q ≡ Some l → l.session.0 ≡ session → HasPlace ls o (lines_in session before) q l
-  has_place before [] o q l numbered e of = absurd (cc)
-  has_place before (x ∷ ls) o zero l numbered e of =
-      let same : x ≡ l = cc in
-      let its : x.session.0 ≡ session = ap (λ (k : Line). k.session.0) same ∙ of in
-      let is : (x.session.0 == session) ≡ true = ap (λ n. n == session) its ∙ eqb-self session in (
-        0,
-        ap (λ (b : Bool). slice_get (cond b (o ∷ places_from session (o + 1) ls) (places_from session (o + 1) ls)) 0) is ∙ ap Some (omega arith),
-        ap (λ (k : Line). k.number) (sym same) ∙ numbered_at session before x numbered.0 its ∙ omega arith,
-      )
-  has_place before (x ∷ ls) o (suc q) l numbered e of = first (x.session.0 == session) refl (has_place (before ++ x ∷ []) ls (o + 1) q l numbered.1 e of)
-    where
-      first : (b : Bool) → (x.session.0 == session) ≡ b → HasPlace ls (o + 1) (lines_in session (before ++ x ∷ [])) q l
-          → (i : ℕ) × (slice_get (cond b (o ∷ places_from session (o + 1) ls) (places_from session (o + 1) ls)) i ≡ Some (o + suc q)) × (l.number ≡ lines_in session before + i + 1)
-      first true same more = (suc more.0, more.1 ∙ ap Some (omega arith), omega (arith, more.2, push_same session before x same))
-      first false other more = (more.0, more.1 ∙ ap Some (omega arith), omega (arith, more.2, push_other session before x other))
-
-  -- they are as many as the session's lines
-  pub length-places : (o : ℕ) (ls : List Line) → length (places_from session o ls) ≡ line_count (session_at session) ls
-  length-places o [] = refl
-  length-places o (l ∷ ls) = first (l.session.0 == session) (length-places (o + 1) ls)
-    where
-      first : (b : Bool) → length (places_from session (o + 1) ls) ≡ line_count (session_at session) ls → length (cond b (o ∷ places_from session (o + 1) ls) (places_from session (o + 1) ls)) ≡ cond b (line_count (session_at session) ls + 1) (line_count (session_at session) ls)
-      first true e = omega (arith, e)
-      first false e = e
-
   -- and past them there is none
   pub none_past : (before ls : List Line) (o i : ℕ) → AreLinesNumbered before ls → length (places_from session o ls) ≤ i → stmt_of (session_at session) (lines_in session before + i + 1) ls ≡ None
   none_past before [] o i numbered past = refl
@@ -188,11 +161,6 @@ line_at session ls i p numbered e =
       number = found.2.number ∙ from_zero i;
       stmt = subst (λ n. stmt_of (session_at session) n ls ≡ Some found.2.line.stmt) (from_zero i) found.2.stmt;
     }
-
-pub place_of_line : (session : ℕ) (ls : List Line) (p : ℕ) (l : Line) → AreLinesNumbered [] ls → slice_get ls p ≡ Some l → l.session.0 ≡ session → (i : ℕ) × (slice_get (places_from session 0 ls) i ≡ Some p) × (l.number ≡ i + 1)
-place_of_line session ls p l numbered e of =
-    let found = has_place session [] ls 0 p l numbered e of in
-    (found.0, found.1 ∙ ap Some (omega arith), found.2 ∙ from_zero found.0)
 
 pub none_behind : (session : ℕ) (ls : List Line) (i : ℕ) → AreLinesNumbered [] ls → length (places_from session 0 ls) ≤ i → stmt_of (session_at session) (i + 1) ls ≡ None
 none_behind session ls i numbered past = subst (λ n. stmt_of (session_at session) n ls ≡ None) (from_zero i) (none_past session [] ls 0 i numbered past)

@@ -36,22 +36,6 @@ index-set (x ∷ xs) (suc k) n (suc j) b e l = index-set xs k n j b (same j k �
 pub slice_index-set : (xs : List ℕ) (k n : ℕ) → k < length xs → slice_index (slice_set xs k n) ≡ with_at (slice_index xs) k n
 slice_index-set xs k n l = fun_ext (λ j. index-set xs k n j (eqb j k) refl l)
 
-pub set-length : (xs : List ℕ) (k n : ℕ) → length (slice_set xs k n) ≡ length xs
-set-length [] k n = refl
-set-length (x ∷ xs) zero n = refl
-set-length (x ∷ xs) (suc k) n = ap suc (set-length xs k n)
-
-set-item : (xs : List ℕ) (k n j d : ℕ) → j < length (slice_set xs k n) → (get_or (slice_set xs k n) j d ≡ n) ⊎ ((j < length xs) × (get_or (slice_set xs k n) j d ≡ get_or xs j d))
-set-item [] k n j d l = absurd (omega (arith, l))
-set-item (x ∷ xs) zero n zero d l = inl refl
-set-item (x ∷ xs) zero n (suc j) d l = inr (l, refl)
-set-item (x ∷ xs) (suc k) n zero d l = inr (omega arith, refl)
-set-item (x ∷ xs) (suc k) n (suc j) d l = deeper (set-item xs k n j d (omega (arith, l)))
-  where
-    deeper : (get_or (slice_set xs k n) j d ≡ n) ⊎ ((j < length xs) × (get_or (slice_set xs k n) j d ≡ get_or xs j d)) → (get_or (slice_set xs k n) j d ≡ n) ⊎ ((suc j < suc (length xs)) × (get_or (slice_set xs k n) j d ≡ get_or xs j d))
-    deeper (inl e) = inl e
-    deeper (inr e) = inr (omega (arith, e.0), e.1)
-
 pub index-item : (xs : List ℕ) (k d : ℕ) → k < length xs → slice_index xs k ≡ get_or xs k d
 index-item [] k d l = absurd (omega (arith, l))
 index-item (x ∷ xs) zero d l = refl
@@ -67,19 +51,6 @@ module _ (sent : List ℕ) (k number : ℕ) (out : Out) (at : k ≡ out.node.0) 
 
   pub counted-is : slice_index (slice_set sent k number) ≡ counted (slice_index sent) out
   counted-is = slice_index-set sent k number inside ∙ ap (λ n. with_at (slice_index sent) k n) next-number ∙ ap (λ j. with_at (slice_index sent) j (slice_index sent j + 1)) at
-
-  pub few-counted : (most : ℕ) → All (λ n. n < most) sent → All (λ n. n < most + 1) (slice_set sent k number)
-  few-counted most h j d b = by (set-item sent k number j d b)
-    where
-      next : (n m most : ℕ) → m ≡ n + 1 → n < most → m < most + 1
-      next n m most e l = omega (arith, e, l)
-
-      still : (n most : ℕ) → n < most → n < most + 1
-      still n most l = omega (arith, l)
-
-      by : (get_or (slice_set sent k number) j d ≡ number) ⊎ ((j < length sent) × (get_or (slice_set sent k number) j d ≡ get_or sent j d)) → get_or (slice_set sent k number) j d < most + 1
-      by (inl q) = subst (λ n. n < most + 1) (sym q) (next (get_or sent k 0) number most is (h k 0 inside))
-      by (inr q) = subst (λ n. n < most + 1) (sym q.1) (still (get_or sent j d) most (h j d q.0))
 
 -- the first of those that are left is sent
 module _ (old new : ℕ → ℕ) (out : Out) (left rest : List Out) (before after : List Mark) (m : Mark) (first : left ≡ out ∷ rest) (counts : new ≡ counted old out) where

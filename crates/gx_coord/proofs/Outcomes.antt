@@ -10,23 +10,6 @@ use Rattle.gx_rules.specs.AtCoordinator.{command_answer, follows}
 use Rattle.gx_rules.specs.Coordinators.{Command, Coord}
 use Rattle.gx_coord.specs.Turns.{told_by}
 
-pub told_by-answer : (k : Command) (line : Stmt) → told_by line k.count k.parts ≡ command_answer k line
-told_by-answer k (stmt.Select query) = refl
-told_by-answer k (stmt.Insert table tuples) = refl
-told_by-answer k (stmt.Update table assigns cond) = refl
-told_by-answer k (stmt.Delete table cond) = refl
-told_by-answer k (stmt.Begin level) = refl
-told_by-answer k stmt.Commit = refl
-told_by-answer k stmt.Rollback = refl
-told_by-answer k (stmt.Lock table mode) = refl
-
-pub follows-outs : (c : Coord) (g : Gxid) (turn : Turn) (o : Outcome) → (follows c g turn o).outs ≡ turn.out.outs
-follows-outs c g turn outcome.Pending = refl
-follows-outs c g turn outcome.Decided = refl
-follows-outs c g turn outcome.Committed = refl
-follows-outs c g turn (outcome.Refused i) = refl
-follows-outs c g turn outcome.Ended = refl
-
 -- the table before a call and what it sends play no part in what it has come to
 pub follows-from : (c : Coord) (g : Gxid) (turn : Turn) (o : Outcome) → follows (record c { table = turn.table }) g turn o ≡ follows c g turn o
 follows-from c g turn outcome.Pending = refl

@@ -47,10 +47,6 @@ at-place P [] p l a e = absurd (cc)
 at-place P (x ∷ xs) zero l a e = subst P (some-same x l e) a.0
 at-place P (x ∷ xs) (suc p) l a e = at-place P xs p l a.1 e
 
--- its session is one of the script's
-pub next-session : (script : Script) → IsScript script → (s n p : ℕ) → IsLineOf s script.lines n p → s < length script.sessions
-next-session script language s n p h = subst (λ k. k < length script.sessions) h.of (at-place (IsLine script.tables (length script.sessions)) script.lines p h.line (recursion_from_All (IsLine script.tables (length script.sessions)) script.lines language.lines) h.there).0
-
 pub line-number : (ls xs : List Line) (s n p : ℕ) (l : Line) → xs ≡ ls → IsLineOf s ls n p → l ≡ get_or xs p l → l.number ≡ n + 1
 line-number ls xs s n p l q h e = ap (λ (x : Line). x.number) (e ∙ ap (λ ys. get_or ys p l) q ∙ read ls p l h.line h.there) ∙ h.number
   where

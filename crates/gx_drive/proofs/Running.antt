@@ -109,18 +109,5 @@ module _ (script : Script) (steps : List Step) (some : 1 ≤ script.segments) (i
 
 -- BY SEGMENT
 module _ (script : Script) (steps : List Step) where
-  pub none-below-one : AreNoGraphsBefore script steps 1
-  none-below-one segment there below = absurd (omega (arith, there.0, below))
-
-  pub none-below-next : (k : ℕ) → is_graph_awaited steps (record { 0 = k }) ≡ false → AreNoGraphsBefore script steps k → AreNoGraphsBefore script steps (k + 1)
-  none-below-next k none before segment there below = by (last segment.0 k below)
-    where
-      last : (n m : ℕ) → n < m + 1 → (n < m) ⊎ (n ≡ m)
-      last n m h = grind (arith, nat_tests)
-
-      by : (segment.0 < k) ⊎ (segment.0 ≡ k) → is_graph_awaited steps segment ≡ false
-      by (inl h) = before segment there h
-      by (inr e) = subst (λ (n : ℕ). is_graph_awaited steps (record { 0 = n }) ≡ false) (sym e) none
-
   pub none-at-all : (k : ℕ) → script.segments + 1 ≤ k → AreNoGraphsBefore script steps k → (segment : Node) → IsSegment script segment → is_graph_awaited steps segment ≡ false
   none-at-all k past before segment there = before segment there (omega (arith, past, there.1))

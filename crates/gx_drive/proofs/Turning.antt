@@ -53,9 +53,6 @@ module _ (script : Script) (some : 1 ≤ script.segments) (old new : List Step) 
   pub stepped-reached : IsReached script new
   stepped-reached = subst (IsReached script) (sym h.by_rule) (event-reached script old is event h.fails)
 
-  pub stepped-next : IsNextStep event old new
-  stepped-next = record { step = h.step; is = h.is; of = h.of }
-
   pub stepped-held : AreHeld old before → AreHeld new after
   stepped-held held node a there =
       let was = there-too before after node.0 a (sym h.count) there in
@@ -90,12 +87,3 @@ module _ (script : Script) (some : 1 ≤ script.segments) (old new : List Step) 
       by true true same fails bound = one _ b.faults mid.0.faults a.faults _ (few node b mid.0 was mid.1) ((h.journals node mid.0 a mid.1 now).caused same fails) bound
       by true false same fails bound = none _ b.faults mid.0.faults a.faults _ (few node b mid.0 was mid.1) (later.each node.0 mid.0 a mid.1 now) bound
       by false y same fails bound = none _ b.faults mid.0.faults a.faults _ (few node b mid.0 was mid.1) (later.each node.0 mid.0 a mid.1 now) bound
-
--- a turn in which nothing was done
-pub still-few : (steps : List Step) (before after : List Shelf) → AreLater before after → (start : List Shelf) → AreFailuresFew steps start before → AreFailuresFew steps start after
-still-few steps before after later start few node b a was now =
-    let mid = there-too before after node.0 a (sym later.count) now in
-    below (few node b mid.0 was mid.1) (later.each node.0 mid.0 a mid.1 now)
-  where
-    below : {x y z : ℕ} → x ≤ y → y ≤ z → x ≤ z
-    below h k = omega (arith, h, k)

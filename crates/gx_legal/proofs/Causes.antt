@@ -67,18 +67,6 @@ module _ (g : Gxid) (from to : Node) (steps : List Step) (event : Event) (b : Bo
       of : Delivers g (word.Failed c why) from to steps event → Receives steps event from to (message.Answer g (reply.Failed c why))
       of (told, (answer, e, i), r) = subst (λ (t : Message). Receives steps event from to t) (e ∙ ap (λ a. message.Answer g a) i) r
 
--- JOURNALS
-pub journal-here : (point : Point) (g : Gxid) (n : ℕ) (b : Bool) → n ≡ 0 → IsTrue b ↔ Contains point.earlier (JournalFailed (record { 0 = n }) g)
-    → IsTrue b ↔ HasJournalFailed point g (record { 0 = n })
-journal-here point g zero b e h = h
-journal-here point g (suc n) b e h = absurd (omega (arith, e))
-
-pub journal-there : (point : Point) (g : Gxid) (n : ℕ) (b : Bool) → (n ≡ 0 → ⊥)
-    → IsTrue b ↔ (Receives point.steps point.event (record { 0 = n }) the_coordinator (message.Answer g reply.Jfault) × Contains (before point) (JournalFailed (record { 0 = n }) g))
-    → IsTrue b ↔ HasJournalFailed point g (record { 0 = n })
-journal-there point g zero b e h = absurd (e refl)
-journal-there point g (suc n) b e h = h
-
 -- A SEGMENT'S WORD
 both-true : (x y : Bool) → x ≡ true → y ≡ true → (x && y) ≡ true
 both-true true true e f = refl
@@ -89,31 +77,3 @@ pub sender-same : (a b x y : Node) (m n : ℕ) → event.Receive a b m ≡ event
 sender-same a b x y m n e = cc
 
 module _ (point : Point) (g : Gxid) (c : Cid) (rid : Rid) (image : Option (List Value)) (reason : Cause) where
-  pub word-is : (from to : Node) (number : ℕ) (told noted : Bool) → point.event ≡ event.Receive from to number
-      → IsTrue told ↔ Delivers g (word.Failed c reason) from the_coordinator point.steps point.event
-      → IsTrue noted ↔ ((place : ℕ) × NotesInStep g c rid image from point.steps place) → IsTrue (told && noted) ↔ IsWord point g c rid image reason
-  word-is from to number told noted e h n = (there, back)
-    where
-      r : IsTrue told ↔ Receives point.steps point.event from the_coordinator (message.Answer g (reply.Failed c reason))
-      r = failed-told g from the_coordinator point.steps point.event told c reason h
-
-      there : IsTrue (told && noted) → IsWord point g c rid image reason
-      there t = let s = n.0 (and-second told noted t) in record {
-        segment = from;
-        said = r.0 (and-first told noted t);
-        place = s.0;
-        step = s.1.0;
-        at = s.1.1;
-        node = s.1.2.0;
-        noted = stands-contains _ _ s.1.2.1.0 (s.1.2.1.1.1 ∙ ap Some s.1.2.1.1.2);
-      }
-
-      back : IsWord point g c rid image reason → IsTrue (told && noted)
-      back w =
-          let f : w.segment ≡ from = sender-same w.segment the_coordinator from to w.said.number number (sym w.said.is ∙ e) in
-          let s = contains-stands _ _ w.noted in
-          both-true told noted (r.1 (subst (λ (x : Node). Receives point.steps point.event x the_coordinator (message.Answer g (reply.Failed c reason))) f w.said))
-          (n.1 (w.place, (w.step, w.at, (w.node ∙ f, (s.0, (Fault g c rid image, s.1, refl))))))
-
-  pub word-none : ((from to : Node) (number : ℕ) → point.event ≡ event.Receive from to number → ⊥) → IsWord point g c rid image reason → ⊥
-  word-none none w = none w.segment the_coordinator w.said.number w.said.is

@@ -45,9 +45,3 @@ module _ (point : Point) (round : ℕ) (g : Gxid) (marks : List Mark) (same : ma
       back is = let s : session ≡ is.session = some-same session is.session (sym here ∙ is.of) in
           both aborted refused (a ∙ is.aborted) (h.1 (among-refusal session round is.number point.later
           (subst (λ (x : SessionId). Contains point.later (Answer x is.number (Refused (Victim round)))) (sym s) is.refused)))
-
-  pub cancelled-none : session_of marks g ≡ None → IsCancelled point round g → ⊥
-  cancelled-none of is = none (sym (subst (λ ms. session_of ms g ≡ None) same of) ∙ is.of)
-    where
-      none : None ≡ Some is.session → ⊥
-      none e = cc

@@ -6,6 +6,3 @@ use Rattle.std.proofs.Math.Seq.{take-append-add, take-append_seam}
 pub take-part : {A : Type 0} (xs ys zs : List A) (n m k : ℕ) → n ≡ length ys → take (n + m) xs ≡ ys ++ zs → k ≤ m → take (n + k) xs ≡ ys ++ take k zs
 take-part xs ys zs n m k is e inside =
     sym (take-take (n + k) (n + m) xs (omega (arith, inside))) ∙ ap (take (n + k)) e ∙ ap (λ i. take (i + k) (ys ++ zs)) is ∙ take-append-add ys zs k
-
-pub take-first : {A : Type 0} (xs ys zs : List A) (n m : ℕ) → n ≡ length ys → take (n + m) xs ≡ ys ++ zs → take n xs ≡ ys
-take-first xs ys zs n m is e = sym (take-take n (n + m) xs (omega arith)) ∙ ap (take n) e ∙ ap (λ i. take i (ys ++ zs)) is ∙ take-append_seam ys zs

@@ -123,11 +123,6 @@ module _ (script : Script) where
       }
   unmoved _ session e other standing ne = absurd (cc)
 
-  pub none-moved : (mark : Mark) → mover mark ≡ None → (session : SessionId) (standing : Standing) → IsMoved script session standing (mark ∷ []) standing
-  none-moved (Start g s) e session standing = absurd (cc)
-  none-moved (Answer s number reply) e session standing = absurd (cc)
-  none-moved _ e session standing = record { state = refl; begun = refl; started = refl; answered = omega arith }
-
   module _ (mark : Mark) where
     pub seat-stays : (session : SessionId) (seat : Seat) → IsMoved script session seat.standing (mark ∷ []) seat.standing → IsSeatMoved script session mark seat seat
     seat-stays session seat is = record { moved = is; room = record { commands = omega arith; answers = omega arith }; started = refl; ended = refl }

@@ -102,14 +102,3 @@ module _ (g : Gxid) (rid : Rid) (locks : Locks) where
   taken-end writer e =
       let is = awaited-holds locks.holds g writer e in
       ap not (any-row (meets (end_lock g writer)) (meets-some g writer is.other locks.holds is.held_by))
-
-  pub waits-row : has_row g rid locks ≡ true → (row_locks g rid locks).waits ≡ locks.waits
-  waits-row has = either (holds_row g rid locks) (is_free locks.holds (tuple_lock g rid)) has
-    where
-      either : (h f : Bool) → (h || f) ≡ true → (some-row h f).waits ≡ locks.waits
-      either true f e = refl
-      either false true e = refl
-      either false false e = absurd (cc)
-
-  pub free-row : list_any (is_of g) locks.waits ≡ false → has_row g rid locks ≡ true → list_any (is_of g) (row_locks g rid locks).waits ≡ false
-  free-row free has = ap (list_any (is_of g)) (waits-row has) ∙ free

@@ -180,20 +180,6 @@ module _ (stage : Stage) (g : Gxid) (held : Held) (entry : Entry) (marks : List 
               either true p f = ap by_counts p
               either false p f = absurd (cc)
 
-  -- a writer that is known stands no lower than the horizon
-  pub kept-high : (h : Gxid) → ForSome (kept held.store.horizon h) (λ w. held.store.horizon.0 ≤ w.0)
-  kept-high h = either (ltb h.0 held.store.horizon.0) refl
-    where
-      high : ltb h.0 held.store.horizon.0 ≡ false → held.store.horizon.0 ≤ h.0
-      high e = grind (arith, nat_tests)
-
-      same : (a b : Gxid) → Some a ≡ Some b → a ≡ b
-      same a b f = cc
-
-      either : (b : Bool) → ltb h.0 held.store.horizon.0 ≡ b → ForSome (if b then None else Some h) (λ w. held.store.horizon.0 ≤ w.0)
-      either true e = λ w f. absurd (cc)
-      either false e = λ w f. subst (λ (x : Gxid). held.store.horizon.0 ≤ x.0) (same h w f) (high e)
-
   module _ (free : IsFree stage g) where
     pub waits-at : list_any (is_of g) held.locks.waits ≡ false
     waits-at = ap (λ (l : Locks). list_any (is_of g) l.waits) at.apart.locks ∙ free

@@ -435,7 +435,7 @@ fn pick_shown(alloc: Global, held: &Held, change: &Change) -> Mem<Picked>
     Ok(picked)
 }
 
-// The condition is tested on every row that is shown, before any is changed.
+// The condition is tested on each row that is looked at, before any is changed.
 pub(crate) fn change_rows(alloc: Global, held: &mut Held, change: Change) -> Mem<Progress>
     ghost found: { Found }
     requires was { held.old ≡ found.was }

@@ -164,7 +164,7 @@ impl LocalStore {
         rows_in(self.alloc, &self.tables, &self.xids, table, snap, own, cid)
     }
 
-    /// These rows without some on which a condition is false.
+    /// The rows that a reader is shown, less some on which the condition, where it has a meaning on them, is false without a fault.
     pub fn shown_rows_for(
         &self,
         table: Table,

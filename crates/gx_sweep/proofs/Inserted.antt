@@ -27,9 +27,6 @@ rising_nothing rids none = subst (IsStrictlySortedBy rid_cmp) (sym none) rises
 itself : (r : Rid) → is_eq (rid_cmp r r) ≡ true
 itself r = grind (arith, nat_tests)
 
-either_left : (b : Bool) → (true || b) ≡ true
-either_left b = refl
-
 either_right : (a b : Bool) → b ≡ true → (a || b) ≡ true
 either_right true b e = refl
 either_right false b e = e

@@ -1,4 +1,4 @@
-//! Where the rows of a table with a key stand, and which versions of a row nobody can see any more.
+//! An index: which rows were put under a value of their table's distribution column.
 #![tactic(auto)]
 
 pub mod index;

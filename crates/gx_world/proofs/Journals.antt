@@ -53,13 +53,6 @@ module _ {A : Type 0} (f : A → Shelf) (js : List A) (script : Script) (w : mac
   moved-first same inside h =
       moved-at 0 same inside (subst (λ n. HasTurned script w event n here new (f (get_or js 0 d)) (f now)) (sym (at-zero at same)) h)
 
--- A JOURNAL'S COUNT DOESN'T FALL
-pub later-same : (shelves : List Shelf) → AreLater shelves shelves
-later-same shelves = record { count = refl; each = λ k b a was now. same b a (some-same a b (sym now ∙ was)) }
-  where
-    same : (b a : Shelf) → a ≡ b → IsLater b a
-    same b a e = subst (λ (x : Shelf). b.faults ≤ x.faults) (sym e) (omega arith)
-
 later-set : (shelves : List Shelf) (k : ℕ) (was now : Shelf) → slice_get shelves k ≡ Some was → IsLater was now → AreLater shelves (slice_set shelves k now)
 later-set shelves k was now there h = record { count = length-set shelves k now; each = λ i b a old new. by_place i b a old (get-set shelves k i now a new) }
   where

@@ -57,10 +57,6 @@ elsewhere-at f i x j differ = ap (λ (b : Bool). if b then x else f j) (apart j 
     apart : (a b : ℕ) → (a ≡ b → ⊥) → eqb a b ≡ false
     apart a b h = grind (arith, nat_tests)
 
-pub stepped-over : {at : Node} {event : Event} {xs ys new : List Segment} {s : Seg} {here : NodeEvent} {before after : Shelf} {step : Step} → xs ≡ ys → HasSteppedAt at event xs new s here before after step → HasSteppedAt at event ys new s here before after step
-stepped-over {at = at} e h =
-    record { was = h.was; there = ap (λ zs. slice_get zs (at.0 - 1)) (sym e) ∙ h.there; now = h.now; all = h.all ∙ ap (λ zs. slice_set zs (at.0 - 1) h.now) e; stepped = h.stepped; is = h.is }
-
 -- the step of a segment that has done an event
 pub stepped-at : {was now : Segment} {s : Seg} {here : NodeEvent} {before after : Shelf} {marks : List Mark} {at : Node} {event : Event} {step : Step} (old new : List Segment)
     → slice_get old (at.0 - 1) ≡ Some was → new ≡ slice_set old (at.0 - 1) now → step ≡ made at event now.clock marks → segment.HasStepped was now s here before after marks → HasSteppedAt at event old new s here before after step
