@@ -90,6 +90,16 @@ module _ (index : KeyIndex) (table : Table) (column : ℕ) (value : Value) (q : 
   abbrev IsThere : Option (List Value) → Type 0
   IsThere image = IfSome (value_in image (Some column)) (λ key. has_under index (key_at table key) q ≡ true)
 
+  has_another : (image : Option (List Value)) → IsThere image → has_under index (key_at table value) q ≡ false → with_value column value image ≡ None
+  has_another None there missing = refl
+  has_another (Some row) there missing = either (has_value column value row) refl
+    where
+      either : (b : Bool) → has_value column value row ≡ b → cond (has_value column value row) (Some row) None ≡ None
+      either false is = ap (λ (b : Bool). cond b (Some row) None) is
+      either true is =
+          let under : has_under index (key_at table value) q ≡ true = subst (λ (o : Option Value). IfSome o (λ key. has_under index (key_at table key) q ≡ true)) (found value (slice_get row column) is) there in
+          absurd (differ (sym under ∙ missing))
+
   left_out : (vs : List Version) (x : Xids) (snap : Snapshot) (own : Option Lxid) (cid : Cid) → AllByRecursion (λ v. IsThere v.image) vs → has_under index (key_at table value) q ≡ false → with_value column value (option_and_then (λ v. v.image) (shown_of vs x snap own cid)) ≡ None
   left_out vs x snap own cid all missing =
       has_another (option_and_then (λ v. v.image) (shown_of vs x snap own cid)) (image_is IsThere tt (shown_of vs x snap own cid) (last_is IsThere (λ v. counts v x snap own cid) vs all)) missing
