@@ -43,6 +43,21 @@ use Rattle.gx_law_runs.proofs.Finishing.{whole}
 use Rattle.gx_world.specs.Worlds.{WorldState}
 use Rattle.gx.specs.Top.{AreDriven, IsRunOf}
 
+pub run-of : (script : Script) (seed : Option ℕ) (run : Run) → IsScript script → AreInsertsWhole script.tables script.lines → IsReached script run.steps → AreDriven seed script run.steps → IsRunOf script seed run
+run-of script seed run language inserts is driven =
+    record {
+      legal = by-events script run.steps is (λ ss. IsLegalHistory script (record { steps = ss }))
+          (legal script language.some_segments language.numbers (keyed script inserts) (snapshots-one script language.some_segments) (filled script inserts) (world-cancels script language.some_segments (world-rounds script language.some_segments)));
+      ordered = by-events script run.steps is (AreOrdered script []) (λ es. (world_well script language.some_segments es).steps);
+      system = by-events script run.steps is (λ ss. IsSystemRun script (record { steps = ss })) (world_follows script language.some_segments);
+      protocol = by-events script run.steps is (DoStepsFollow script []) (world-follows script language.some_segments);
+      tells = by-events script run.steps is (DoStepsTell []) (λ es. (world-holds script language.some_segments es).tells);
+      locks = by-events script run.steps is (AreLocksLegal script) (locks-legal script language.some_segments language.numbers);
+      blocked = by-events script run.steps is (λ ss. DoStayBlocked (marks_in ss)) (run-stays-blocked script language.some_segments);
+      rounds = by-events script run.steps is (AreRoundsLegal script) (world-legal script language.some_segments (world-rounds script language.some_segments));
+      driven = driven;
+    }
+
 -- so is the run of a world that has the script
 pub run-in : (script : Script) (seed : Option ℕ) (world : WorldState) (run : Run) → world.script ≡ script → run ≡ world.run → IsScript script → AreInsertsWhole script.tables script.lines → IsReached world.script world.run.steps → AreDriven seed script world.run.steps → IsRunOf script seed run
 run-in script seed world run of is language inserts reached driven =

@@ -41,3 +41,5 @@ pub unmet-there : (here : Bool) (old : Option Expected) (e : Expected) (told : R
 unmet-there true old e told found unmet = found refl ∙ sym (ap (unless_met true told) (found refl) ∙ ap (λ b. cond b None (Some e)) unmet)
 unmet-there false None e told found unmet = refl
 unmet-there false (Some x) e told found unmet = refl
+
+-- AN ORDER

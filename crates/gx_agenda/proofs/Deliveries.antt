@@ -37,6 +37,12 @@ any_split : {X : Type 0} (p r : X → Bool) → (xs : List X) → list_any p xs 
 any_split p r [] = refl
 any_split p r (x ∷ xs) = ap (λ b. p x || b) (any_split p r xs) ∙ either_bit (p x) (r x) (list_any (λ y. p y && not (r y)) xs) (list_any (λ y. p y && r y) xs)
 
+times_by : (lost repeated loses any : Bool) → lost ≡ loses → any ≡ (lost || repeated) → times_of lost repeated ≡ times_of loses any
+times_by true repeated true any e f = refl
+times_by false repeated false any e f = ap (λ b. times_of false b) (sym f)
+times_by true repeated false any e f = absurd (cc)
+times_by false repeated true any e f = absurd (cc)
+
 -- what the script says of a message
 pub deliveries_by_link : (script : Script) (from to : Node) (number : ℕ) → IsLink script from to → times_of (list_any (is_loss_of (link_of from to) number) script.faults) (list_any (is_repeat_of (link_of from to) number) script.faults) ≡ deliveries script from to number
 deliveries_by_link script from to number link =

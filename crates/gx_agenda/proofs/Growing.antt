@@ -62,6 +62,7 @@ module _ (ls : List Line) (l : Line) (session : SessionId) (places : List ℕ) (
       there place line o (inl h) = absurd (other (ap (λ (k : Line). k.session.0) h.1 ∙ o))
       there place line o (inr e) = was.all place line e o
 
+-- SESSIONS
 plus-zero : (n : ℕ) → n + 0 ≡ n
 plus-zero n = omega arith
 

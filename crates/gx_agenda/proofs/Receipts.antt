@@ -12,6 +12,20 @@ use Rattle.gx_store.specs.Schedule.{is_receipt_of, received_count}
 use Rattle.gx_agenda.specs.Links.{link_of}
 use Rattle.gx_agenda.proofs.Deliveries.{AreEnds, link_ends}
 
+length_one : {X : Type 0} (p : X → Bool) (x : X) (b : Bool) → length (cond b (x ∷ []) []) ≡ cond b 1 0
+length_one p x true = refl
+length_one p x false = refl
+
+pub count_push : {X : Type 0} (p : X → Bool) (xs : List X) (x : X) → length (filter p (xs ++ x ∷ [])) ≡ length (filter p xs) + cond (p x) 1 0
+count_push p xs x = ap length (filter-append p xs (x ∷ [])) ∙ length-append (filter p xs) (filter p (x ∷ [])) ∙ ap (λ n. length (filter p xs) + n) (length_one p x (p x))
+
+pub received_push : (from to : Node) (n : ℕ) (steps : List Step) (step : Step) → received_count from to n (steps ++ step ∷ []) ≡ received_count from to n steps + cond (is_receipt_of from to n step.event) 1 0
+received_push from to n steps step = count_push (λ (s : Step). is_receipt_of from to n s.event) steps step
+
+pub received_same : (from to : Node) (n : ℕ) (steps : List Step) (step : Step) → is_receipt_of from to n step.event ≡ false → received_count from to n (steps ++ step ∷ []) ≡ received_count from to n steps
+received_same from to n steps step not =
+    received_push from to n steps step ∙ ap (λ b. received_count from to n steps + cond b 1 0) not ∙ (grind arith)
+
 ends_differ : (f t from to n m : ℕ) → AreEnds f t → AreEnds from to → cond (eqb f 0) (2 * t) (2 * f + 1) ≢ cond (eqb from 0) (2 * to) (2 * from + 1) → (eqb from f && (eqb to t && eqb m n)) ≡ false
 ends_differ f t from to n m a b apart = grind (arith, nat_tests)
 

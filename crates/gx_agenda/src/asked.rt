@@ -171,7 +171,7 @@ impl Asked {
         Ok(())
     }
 
-    // The answer of a request.
+    // What is awaited of a request, if anything.
     fn awaited(&self, request: &Request) -> Option<Expected>
         ensures { result ≡ awaited_at self.now request.now }
     {
@@ -205,7 +205,7 @@ impl Asked {
         }
     }
 
-    // The waits of a request have changed.
+    // What is awaited of a request goes where its waits, which have changed, say.
     pub(crate) fn settle(&mut self, request: Request) -> Mem<()>
         ensures awaited { OnOk result ((r : OneRequest) → awaited_at self.new r ≡ awaited_at self.old r) }
         ensures waiting { self.new.waiting ≡ self.old.waiting }

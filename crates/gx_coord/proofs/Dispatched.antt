@@ -198,6 +198,25 @@ sent-sound w k lines nodes (Some t) h p n a l f =
     none n m e = subst (λ x. x ≤ 2 ^ 64 * m) (sym e) (omega arith)
 
 module _ (c : Coord) (g : ℕ) where
+  out-sound : (r : Reading) → Reads c g r → (cid : Cid) (line : Stmt) (pieces : List Piece) → cid.0 ≤ (c.sessions (c.works g).session.0).lines → (c.works g).waiting ≡ None → AreSound (goes_out (gx g) cid line pieces r).coord
+  out-sound r reads cid line pieces l f =
+      let nodes : List Node = nodes_in pieces in
+      let k : Command = record { stmt = line; cid = cid; orders = (goes_out (gx g) cid line pieces r).outs; awaited = nodes; count = 0; parts = [] } in
+      let w : Work = record (r.coord.works g) { last = cid.0; command = Some k } in
+      sound-after r.coord (goes_out (gx g) cid line pieces r).coord g reads.sound
+      (record {
+        finds = λ j q. others-found nodes r.coord.table g j q;
+        works = λ j q. with_at-other r.coord.works g w j q;
+        lines = λ j. le_refl _;
+        here = subst (λ (v : Work). IsSoundWork v (r.coord.sessions v.session.0).lines (find_txn (enlisted_all r.coord.table (gx g) nodes) (gx g))) (sym (with_at-same r.coord.works g w))
+            (subst (λ t. IsSoundWork w (r.coord.sessions (r.coord.works g).session.0).lines t) (sym (all-found nodes r.coord.table g))
+            (sent-sound (r.coord.works g) k _ nodes (find_txn r.coord.table (gx g)) (reads.sound g) refl refl refl (subst (λ n. cid.0 ≤ n) (sym (ap (λ (x : Session). x.lines) (reads.sessions _ ∙ ap (λ (i : SessionId). c.sessions i.0) reads.home))) l) (reads.waiting ∙ f)));
+      })
+
+  gone-sound : (r : Reading) → Reads c g r → (cid : Cid) (line : Stmt) (plan : Result (List Piece) ArithFault) → cid.0 ≤ (c.sessions (c.works g).session.0).lines → (c.works g).waiting ≡ None → AreSound (goes (gx g) cid line r plan).coord
+  gone-sound r reads cid line (Ok pieces) l f = out-sound r reads cid line pieces l f
+  gone-sound r reads cid line (Err x) l f = refused-sound r.coord reads.whole reads.sound g (abort_found (gx g) (find_txn r.coord.table (gx g))) (r.marks ++ fault_mark (gx g) cid line) (refusal_of x)
+
   locked-sound : IsWhole c.table → AreSound c → (script : Script) (line : Stmt) → (c.works g).last + 1 ≤ (c.sessions (c.works g).session.0).lines → (c.works g).waiting ≡ None → AreSound (goes_on_locked script c (gx g) line).coord
   locked-sound whole e script line l f =
       gone-sound _ (read-for c whole e g (next_cid (c.works g)) line) (next_cid (c.works g)) line (plan_of script.segments (dist_of script.tables (table_of line)) (gx g) (next_cid (c.works g)) line) l f

@@ -45,6 +45,7 @@ active-same d = ap (λ (f : Phase → Bool). map (λ (e : Gxid × Txn). e.0) (fi
 pub graph-quiet : (c : rule.Coord) (from : Node) (round : ℕ) (graph : LocalGraph) → ((on_graph c from round graph).outs ≡ []) × ((on_graph c from round graph).item ≡ None)
 graph-quiet c from round graph = graph-ways (λ turn. (turn.outs ≡ []) × (turn.item ≡ None)) c from round graph (refl, refl) (λ r. (refl, refl)) (λ r a. (refl, refl))
 
+-- CALLS ON THE DETECTOR
 heard-is : (d : Rounds) (round : ℕ) (graph : LocalGraph) → (round == d.begun) ≡ true → awaited.heard d round graph ≡ record d { reports = option_map (λ rs. own.noted rs graph) d.reports }
 heard-is d round graph e = ap (λ b. if b then record d { reports = option_map (λ rs. own.noted rs graph) d.reports } else d) e
 
@@ -61,6 +62,7 @@ verdict-is k graph active e h =
     ap (λ g. verdict_of (awaited.gathered k.detector g) active) e
     ∙ ap (λ gs. verdict_of (awaited.gathered k.detector (graph_at k.locks)) gs) h
 
+-- WHO SENDS A GRAPH
 pub report-segment : (c : rule.Coord) (from : Node) (round : ℕ) (graph : LocalGraph) (segments : ℕ) → is_report c from round graph ≡ true → IsSegment segments from → IsSegment segments graph.node
 report-segment c from round graph segments e h =
     subst (λ n. IsSegment segments (record { 0 = n })) (sym (eqb-true graph.node.0 from.0 (and_parts (graph.node.0 == from.0) ((round == c.rounds) && awaits_graph c from) e).0)) h

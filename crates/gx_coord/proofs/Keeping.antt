@@ -75,6 +75,18 @@ moves-live a b outcome.Ended e l = absurd (differ (sym e.1 ∙ l))
     differ : Absent ≡ Live → ⊥
     differ z = cc
 
+active-still : (g : Gxid) (i : Node) (r : Reply) (b : Bool) (t : Txn) (p : Phase) → t.phase ≡ p → stage_in p ≡ Live → left_of (reply_found g i r b (Some t)).step (Some t) ≡ Some t
+active-still g i r b t Active e l = ap (λ q. left_of (if is_awaited_in q i r then takes g t.participants i b q r else stays).step (Some t)) e
+active-still g i r b t (Preparing x y) e l = absurd (cc)
+active-still g i r b t (CommittingOne x) e l = absurd (cc)
+active-still g i r b t (CommittingTwo x) e l = absurd (cc)
+active-still g i r b t (Ended x) e l = absurd (cc)
+active-still g i r b t (Aborting x) e l = absurd (cc)
+
+found-still : (g : Gxid) (i : Node) (r : Reply) (b : Bool) (t : Option Txn) → stage t ≡ Live → left_of (reply_found g i r b t).step t ≡ t
+found-still g i r b None l = refl
+found-still g i r b (Some t) l = active-still g i r b t t.phase refl l
+
 pub reply-still : (d : Table) (g : ℕ) (i : Node) (r : Reply) (b : Bool) → IsWhole d → IsStill (find_txn d (gx g)) (left_of (reply_found (gx g) i r b (find_txn d (gx g))).step (find_txn d (gx g)))
 reply-still d g i r b w l =
     let t = reply-turns d g i r b w in

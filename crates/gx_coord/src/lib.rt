@@ -1,4 +1,7 @@
 //! The coordinator: what a session or a link brings changes it by its rule.
+//!
+//! A large value that nobody takes is dropped by `drop`, also where memory has run out: what is dropped in place is taken apart in
+//! the proof of the function, field by field.
 #![tactic(auto)]
 
 mod admitted;

@@ -106,6 +106,13 @@ module _ (script : Script) (steps : List Step) where
       by [] all is = absurd (cc)
       by (x ∷ xs) all is = let same : x ≡ e = cc in subst (IsDue script steps) same all.0
 
+  rounds-due : AreDue (rounds script steps)
+  rounds-due = by (script.detector && (not (is_round_running steps) && is_any_wait script (marks_in steps)))
+    where
+      by : (b : Bool) → AreDue (if b then Round ∷ [] else [])
+      by true = (tt, tt)
+      by false = tt
+
   all-due : AreDue (enabled script steps)
   all-due =
       all-append (IsDue script steps) (from ++ at ++ here ++ again ++ starts script steps ++ ends script steps) (rounds script steps)

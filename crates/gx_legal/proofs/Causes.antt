@@ -67,6 +67,7 @@ module _ (g : Gxid) (from to : Node) (steps : List Step) (event : Event) (b : Bo
       of : Delivers g (word.Failed c why) from to steps event → Receives steps event from to (message.Answer g (reply.Failed c why))
       of (told, (answer, e, i), r) = subst (λ (t : Message). Receives steps event from to t) (e ∙ ap (λ a. message.Answer g a) i) r
 
+-- JOURNALS
 -- A SEGMENT'S WORD
 both-true : (x y : Bool) → x ≡ true → y ≡ true → (x && y) ≡ true
 both-true true true e f = refl

@@ -41,6 +41,14 @@ own-marks [] s step at = absurd (cc)
 own-marks (t ∷ ts) zero step at = append-nil t.marks ∙ ap (λ (x : Step). x.marks) (some-same t step at)
 own-marks (t ∷ ts) (suc s) step at = own-marks ts s step at
 
+marks-up-to : (steps : List Step) (s m start : ℕ) (step : Step) (earlier all : List Mark) → slice_get steps s ≡ Some step → m ≤ length step.marks → all ≡ marks_in steps ++ earlier
+    → start ≡ length (marks_in (take s steps))
+    → take (start + m) all ≡ marks_before steps s m
+marks-up-to steps s m start step earlier all at inside whole is =
+    take-part all (marks_in (take s steps)) step.marks start (length step.marks) m is
+    (step-whole steps s step earlier all (start + length step.marks) at whole (ap (λ k. k + length step.marks) is)) inside
+    ∙ ap (λ l. marks_in (take s steps) ++ take m l) (sym (own-marks steps s step at))
+
 -- THE FIRST SENDING
 module _ (g : Gxid) (c : Cid) (why : Cause) (from to : Node) (steps : List Step) where
   abbrev told : Message

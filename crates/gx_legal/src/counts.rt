@@ -88,7 +88,7 @@ pub fn is_start_of(event: Event, session: SessionId) -> bool
 }
 
 /// Whether the event ends the session.
-pub fn is_end_of(event: Event, session: SessionId) -> bool
+fn is_end_of(event: Event, session: SessionId) -> bool
     ensures { IsTrue result ↔ (event ≡ End session) }
 {
     match event {

@@ -66,7 +66,7 @@ fn is_heard_from(step: &Step, report: Report, later: &[Step]) -> bool
     step.stamp.node == report.from && is_heard_among(step.marks.as_slice(), report, later)
 }
 
-// In an earlier step. The last sending of a word is the likeliest, and its receipt is soon behind it.
+// In an earlier step, from the last on: most words are asked for soon after they are sent.
 fn has_heard_before(steps: &[Step], report: Report) -> bool
     ensures { IsTrue result ↔ HasHeardBefore report.gxid report.word report.from report.to steps.now }
 {

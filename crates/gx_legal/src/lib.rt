@@ -1,5 +1,5 @@
-//! Whether the run of a script is a legal history: its definition decided, for any run. What the marks so far come to is kept from one to
-//! the next; other questions may look through all marks.
+//! Whether the run of a script is a legal history: its definition decided, for any run. A tally is carried from mark to mark; the rest is
+//! looked up in the run.
 #![tactic(auto)]
 
 pub mod acting;

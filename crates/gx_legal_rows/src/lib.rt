@@ -31,7 +31,7 @@ pub use command::{Command, RowAt};
 pub use faults::is_fault_of;
 pub use images::is_same_image;
 pub use late::is_late_write_of;
-pub use marks::{has_own_snapshot, is_aborted, is_committed, is_ended};
+pub use marks::{has_own_snapshot, is_aborted, is_committed};
 pub use overtaken::is_overtaken_row;
 pub use skips::is_skip_of;
 pub use told::tells;

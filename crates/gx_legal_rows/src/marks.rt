@@ -1,7 +1,7 @@
-// What is looked up in a list of marks, from the last to the first where it is mostly among the last.
+// What is looked up in marks, mostly from the last on.
 ghost use Rattle.std.specs.Prelude.{◌≡◌, ◌∷◌, []};
 ghost use Rattle.gx_store.specs.Commands.{has_own_snapshot as is_served};
-ghost use Rattle.gx_store.specs.Marks.{has_snapshot as is_read_by, is_aborted as has_aborted, is_committed as has_committed, is_ended as has_ended, is_processed as was_processed};
+ghost use Rattle.gx_store.specs.Marks.{has_snapshot as is_read_by, is_aborted as has_aborted, is_committed as has_committed, is_processed as was_processed};
 ghost use Rattle.gx_store.specs.Marks.{is_snapped as was_snapped, is_written as was_written, node_of as home_of, write_count as count_of};
 
 use crate::command::Command;
@@ -51,13 +51,6 @@ fn is_abort(mark: &Mark, gxid: Gxid) -> bool
         Mark::Abort { gxid: aborted } => *aborted == gxid,
         _ => false,
     }
-}
-
-/// Whether the transaction has committed or aborted.
-pub fn is_ended(marks: &[Mark], gxid: Gxid) -> bool
-    ensures { result ≡ has_ended marks.now gxid }
-{
-    is_committed(marks, gxid) || is_aborted(marks, gxid)
 }
 
 /// Whether the command has its snapshot.

@@ -33,7 +33,7 @@ pub(crate) fn before(marks: &[Mark], place: usize) -> &[Mark]
 }
 
 /// Whether a reader whose point has the marks `before` is shown the writes of a command.
-pub(crate) fn is_shown(before: &[Mark], reader: Option<(Gxid, Cid)>, gxid: Gxid, cid: Cid) -> bool
+fn is_shown(before: &[Mark], reader: Option<(Gxid, Cid)>, gxid: Gxid, cid: Cid) -> bool
     ensures { result ≡ is_shown_to reader before.now gxid cid }
 {
     match reader {

@@ -85,6 +85,10 @@ fits-keeps : (s : Seg) (turn : SegTurn) (b : Bool) → Keeps s (report_in s) tur
 fits-keeps s turn true k = k
 fits-keeps s turn false k = itself s
 
+below-keeps : (s : Seg) (turn : SegTurn) (b : Bool) → Keeps s (report_in s) turn.seg → Keeps s (report_in s) (if b then stays s else turn).seg
+below-keeps s turn true k = itself s
+below-keeps s turn false k = k
+
 order-keeps : (o : Order) (s : Seg) (g : Gxid) (fails : Bool) → Keeps s (report_in s) (unless_below s g (turn_of o s g fails (local_of s g))).seg
 order-keeps o s g fails =
     let makes = turn-makes o s g fails in

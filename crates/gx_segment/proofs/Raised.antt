@@ -54,6 +54,11 @@ module _ (tables : List Schema) (s : Seg) (h : Gxid) (was : AreWaits tables s) (
 
 -- who has written and is below it has ended
 module _ (s : Seg) (h : Gxid) (was : AreWriters s) (came : (g : Gxid) → has_version s g ≡ true → nat_lt 0 (local_of s g).last ≡ true) (nobody : each_below h.0 (λ n. not (holds_locks (s.locals n))) ≡ true) where
+  has-ended : (last ended : Bool) → last ≡ true → not (last && not ended) ≡ true → ended ≡ true
+  has-ended true true e f = refl
+  has-ended true false e f = absurd (cc)
+  has-ended false ended e f = absurd (cc)
+
   under : (g : Gxid) → g.0 < h.0 → has_version s g ≡ true → has_ended (local_of s g).phase ≡ true
   under g low wrote =
       has-ended (nat_lt 0 (local_of s g).last) (has_ended (local_of s g).phase) (came g wrote) (each_below-one h.0 g.0 (λ n. not (holds_locks (s.locals n))) low nobody)

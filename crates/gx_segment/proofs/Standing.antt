@@ -103,6 +103,11 @@ at-row-stands : (m : Moved) (g : Gxid) (k : Option Change) (rid : Rid) (w : Susp
 at-row-stands m g None rid w = refl
 at-row-stands m g (Some k) rid w = through-stands m.seg g k (rid ∷ w.rows) m w.count refl
 
+-- SLICES
+selects-stand : (s : Seg) (g : Gxid) (c : Cid) (query : Query) (rows : List KeyedRow) (fault : Option (KeyedRow × ArithFault)) → Stands s (selects s g c query rows fault).seg
+selects-stand s g c query rows None = refl
+selects-stand s g c query rows (Some fault) = refl
+
 slice-stands : (s : Seg) (g : Gxid) (c : Cid) (level : Level) (snapshot : Option Snapshot) (sl : Slice) → Stands s (runs_slice s g c level snapshot sl).seg
 slice-stands s g c level None (slice.Select query) = refl
 slice-stands s g c level (Some snapshot) (slice.Select query) =

@@ -191,6 +191,10 @@ module _ (tables : List (Table × List (Rid × List Version))) (x : Xids) (sound
   last_passing_has P p [] all x found = absurd (cc)
   last_passing_has P p (y ∷ ys) all x found = has_once P x y (last_passing p ys) (p y) all.0 (last_passing_has P p ys all.1 x) (sym (last_passing-cons p y ys) ∙ found)
 
+  map_same : {X Y : Type 0} (f g : X → Y) (o : Option X) → ((x : X) → o ≡ Some x → f x ≡ g x) → option_map f o ≡ option_map g o
+  map_same f g None same = refl
+  map_same f g (Some x) same = ap Some (same x refl)
+
   map_twice : {X Y Z : Type 0} (f : X → Y) (g : Y → Z) (o : Option X) → option_map (λ x. g (f x)) o ≡ option_map g (option_map f o)
   map_twice f g None = refl
   map_twice f g (Some x) = refl

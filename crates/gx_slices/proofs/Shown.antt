@@ -81,6 +81,12 @@ module _ (gxids : List Gxid) (table : Table) (q : Rid) where
   listed_once e es true = ap (λ (d : Bool). d || list_any (λ p. is_same_rid p q) (rids_of es table)) (sym (same_order q e.0))
   listed_once e es false = refl
 
+  missing_once : (vs : List Version) (es : List (Rid × List Version)) (b c : Bool) → list_any (λ v. eqb v.table.0 table.0) vs ≡ c → AllByRecursion (IsFiled gxids table) (unwrap_or (cond b (Some vs) (lookup (is_at (rid_cmp q)) es)) []) → ((c && b) || list_any (λ p. is_same_rid p q) (rids_of es table)) ≡ false → (AllByRecursion (IsFiled gxids table) (versions_of es q) → list_any (λ p. is_same_rid p q) (rids_of es table) ≡ false → versions_of es q ≡ []) → unwrap_or (cond b (Some vs) (lookup (is_at (rid_cmp q)) es)) [] ≡ []
+  missing_once vs es true true tests filed missing more = absurd (cc)
+  missing_once vs es true false tests filed missing more = empty vs tests filed
+  missing_once vs es false true tests filed missing more = more filed missing
+  missing_once vs es false false tests filed missing more = more filed missing
+
   -- a row that isn't among the rids of the table has no version
   pub versions_of-missing : (es : List (Rid × List Version)) → AllByRecursion (IsFiled gxids table) (versions_of es q) → list_any (λ p. is_same_rid p q) (rids_of es table) ≡ false → versions_of es q ≡ []
   versions_of-missing [] filed missing = refl

@@ -1,5 +1,8 @@
 //! What a segment holds of rows, transactions and locks: who wrote what, what became of them here, what it shows to a reader, and what
 //! a command does there.
+//!
+//! A large value that nobody takes is dropped by `drop`, also where memory has run out: what is dropped in place is taken apart in
+//! the proof of the function, field by field.
 #![tactic(auto)]
 
 mod answering;

@@ -32,6 +32,10 @@ use Rattle.gx_world.proofs.Alike.{AreAlike, does-alike, does-steps, replayed-ali
 use Rattle.gx_world.proofs.Events.{admitted-here, few-here, happens-here, heard-within, next-here, taken}
 use Rattle.gx_world.proofs.Room.{below, few-rounds, network-room}
 
+-- where the machine stands is told by the network's own run
+own-run : (script : Script) (steps : List Step) (new : Network) → script ≡ new.script.value → steps ≡ new.run.steps → Stands script (world_behind script steps) new → Stands new.script.value (world_behind new.script.value new.run.steps) new
+own-run script steps new of same s = subst (λ x. Stands x (world_behind x new.run.steps) new) of (subst (λ ss. Stands script (world_behind script ss) new) same s)
+
 of-events : (script : Script) (events : List (Event × Bool)) (new : Network) → Stands script (world_of script events) new → Stands new.script.value (world_behind new.script.value new.run.steps) new
 of-events script events new s =
     own-run script (world_of script events).steps new (sym s.of) (ap (λ (r : Run). r.steps) (sym s.run))

@@ -95,7 +95,7 @@ fn seg_step<J: Journal, G: Gate>(
     Ok(step_of(segment.clock, at, event, marks))
 }
 
-// What a node has done.
+// The step of a node's event.
 fn step_of(clock: u64, node: Node, event: Event, marks: Seq<Mark>) -> Step
     ensures { result ≡ record { stamp = record { clock = clock; node = node }; event = event; marks = marks } }
 {
@@ -106,7 +106,7 @@ fn step_of(clock: u64, node: Node, event: Event, marks: Seq<Mark>) -> Step
     }
 }
 
-// It becomes a step of the run, and where its messages stand is noted.
+// The step goes to the run's end, and where its messages stand is noted.
 fn push_step(network: &mut Network, step: Step) -> Mem<()>
     ghost segments: { ℕ }
     requires long { IsLong segments network.old.letters }
