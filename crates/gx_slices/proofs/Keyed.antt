@@ -1,5 +1,5 @@
 -- Rows that are found by a value of their distribution column.
-use Rattle.std.proofs.Common.{◌≡◌, ◌≢◌, inl, inr, ⊎_elim, ℕ, List, [], ◌∷◌, Bool, true, false, cond, ◌||◌, Option, Some, None, slice_get, refl, sym, ap, ◌∙◌, subst}
+use Rattle.std.proofs.Common.{◌≡◌, ◌≢◌, ◌++◌, inl, inr, ⊎_elim, ℕ, List, [], ◌∷◌, Bool, true, false, cond, ◌||◌, Option, Some, None, slice_get, refl, sym, ap, ◌∙◌, subst}
 use Rattle.std.specs.Prelude.{option_and_then, IfSome, Result, Ok, Err, OnOk, OnErr}
 use Rattle.std.specs.List.{AllByRecursion, flat_map, list_any}
 use Rattle.std.specs.BTreeMap.{is_at}
@@ -96,10 +96,12 @@ module _ (dists : List Dist) (index : KeyIndex) (tables : List (Table × List (R
           let missing : has_under index (key_at table value) q ≡ false = any_same (is_at (rid_cmp q)) (λ p. is_same_rid p q) (λ p. same_order q p) (rids_under index (key_at table value)) ∙ is in
           left_out index table column value q c law (image q) _ (image_there q) missing (row ∙ ap (λ (b : Bool). cond b (image q) None) is)
 
--- a table without versions shows none
-pub keyed-none : (rids : List Rid) → flat_map (λ rid. keyed rid None) rids ≡ []
-keyed-none [] = refl
-keyed-none (r ∷ rs) = keyed-none rs
+-- a table without versions shows no row
+pub keyed-none : (versions : List (Rid × List Version)) (x : Xids) (snap : Snapshot) (own : Option Lxid) (cid : Cid) → versions ≡ [] → (rids : List Rid) → flat_map (λ rid. keyed rid (image_at versions x snap own cid rid)) rids ≡ []
+keyed-none versions x snap own cid none [] = refl
+keyed-none versions x snap own cid none (r ∷ rs) =
+    ap (λ (vs : List (Rid × List Version)). keyed r (image_at vs x snap own cid r) ++ flat_map (λ rid. keyed rid (image_at versions x snap own cid rid)) rs) none
+    ∙ keyed-none versions x snap own cid none rs
 
 -- WHAT A CONDITION IS SHOWN
 module _ (dists : List Dist) (index : KeyIndex) (tables : List (Table × List (Rid × List Version))) (x : Xids) (is : IsKeyed dists index tables x) (table : Table) (snap : Snapshot) (own : Option Lxid) (cid : Cid) (condition : Option Cond) (rows : List KeyedRow) where
