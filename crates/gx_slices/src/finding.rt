@@ -44,13 +44,13 @@ fn rows_under_key(
     }
 }
 
-fn key_column(dists: &[Dist], table: Table) -> Option<u8>
+// The column by which a table is distributed, if it is by one.
+pub(crate) fn key_column(dists: &[Dist], table: Table) -> Option<u8>
     ensures { result ≡ key_column (slice_get dists.now table.0) }
 {
     match dists.get(table.0 as usize) {
         Some(Dist::By(column)) => Some(*column),
-        Some(Dist::Randomly) => None,
-        None => None,
+        _ => None,
     }
 }
 
@@ -65,7 +65,7 @@ fn wanted(column: u8, cond: &Option<Cond>) -> Option<&Value>
 }
 
 // The rows that are shown without some on which the condition is false, rising, where the table is distributed by this column.
-fn rows_by(
+fn rows_by_column(
     alloc: Global,
     index: &KeyIndex,
     tables: &BTreeMap<Table, Versions>,
@@ -90,7 +90,7 @@ fn rows_by(
 }
 
 // The same, however the table is distributed.
-pub(crate) fn rows_for(
+pub(crate) fn rows_to_test(
     alloc: Global,
     dists: &[Dist],
     index: &KeyIndex,
@@ -109,7 +109,7 @@ pub(crate) fn rows_for(
     ensures images { IfOk result (λ rows. (rid : Rid) → IsShownFor cond.now (image_at (versions_in tables.now.entries table) xids.now snap.now own cid rid) (row_at rows.items rid)) }
 {
     match key_column(dists, table) {
-        Some(column) => rows_by(
+        Some(column) => rows_by_column(
             alloc, index, tables, xids, table, column, cond, snap, own, cid,
         ),
         None => rows_in(alloc, tables, xids, table, snap, own, cid),

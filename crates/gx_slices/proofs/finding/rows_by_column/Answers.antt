@@ -1,6 +1,6 @@
 use Rattle.std.proofs.lemmas.Result.{IfOk-weaker}
 use Rattle.gx_slices.proofs.Keyed.{shown_all, shown_with}
-use Rattle.gx_slices.proofs.finding.rows_by.Goals as goal
+use Rattle.gx_slices.proofs.finding.rows_by_column.Goals as goal
 
 pub returns-in-Some-clause-images : goal.returns-in-Some-clause-images
 returns-in-Some-clause-images g c =
