@@ -62,11 +62,11 @@ module _ (index : KeyIndex) (table : Table) (column : ℕ) (value : Value) (q : 
   abbrev IsThere : Option (List Value) → Type 0
   IsThere image = IfSome (value_in image (Some column)) (λ key. has_under index (key_at table key) q ≡ true)
 
-  -- they have another value
+  -- such a row has another value
   lacks : (row : List Value) → IsThere (Some row) → has_under index (key_at table value) q ≡ false → slice_get row column ≢ Some value
   lacks row there missing same = differ (sym (subst (λ (o : Option Value). IfSome o (λ key. has_under index (key_at table key) q ≡ true)) same there) ∙ missing)
 
-  -- so the condition that wants this one leaves them out
+  -- so the condition that wants this one is false on it
   left_out : (c : Option Cond) → IsWanted c column value → (image row : Option (List Value)) → IsThere image → has_under index (key_at table value) q ≡ false → row ≡ None → IsShownFor c image row
   left_out None law image row there missing e = absurd law
   left_out (Some c) law None row there missing e = inl e
@@ -90,6 +90,7 @@ module _ (dists : List Dist) (index : KeyIndex) (tables : List (Table × List (R
     where
       row : row_at (flat_map (λ rid. keyed rid (image rid)) (rids_under index (key_at table value))) q ≡ cond (list_any (λ p. is_same_rid p q) (rids_under index (key_at table value))) (image q) None
       row = row_at-keyed image (rids_under index (key_at table value)) q
+
       either : (b : Bool) → list_any (λ p. is_same_rid p q) (rids_under index (key_at table value)) ≡ b → IsShownFor c (image q) (row_at (flat_map (λ rid. keyed rid (image rid)) (rids_under index (key_at table value))) q)
       either true is = inl (row ∙ ap (λ (b : Bool). cond b (image q) None) is)
       either false is =

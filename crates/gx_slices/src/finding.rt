@@ -1,5 +1,5 @@
 // The rows of a table on which a condition is tested. Where its leftmost conjunct wants a value of the distribution column, the index has
-// those with that value.
+// all those with that value.
 ghost use Rattle.std.specs.Prelude.{◌≡◌, List, Some, IfOk, IfSome, slice_get};
 ghost use Rattle.gx_ids.specs.declared.rid.Rid.{Rid};
 ghost use Rattle.std.specs.List.{flat_map};
@@ -21,7 +21,7 @@ use gx_tree::{Cond, Dist, KeyedRow, Value};
 use std::alloc::Global;
 use std::collections::BTreeMap;
 
-// The rows that stand under this value of the distribution column, rising; a row may have stood there before.
+// Of the rows that the index has under this value those that are shown, rising; some may have another value by now.
 fn rows_under_key(
     alloc: Global,
     index: &KeyIndex,

@@ -81,12 +81,7 @@ pub(crate) fn rows_of(
 }
 
 // Adds a row, if there is one.
-fn push_keyed(
-    alloc: Global,
-    rows: &mut Vec<KeyedRow>,
-    rid: Rid,
-    row: Option<&Row>,
-) -> Mem<()>
+fn push_keyed(alloc: Global, rows: &mut Vec<KeyedRow>, rid: Rid, row: Option<&Row>) -> Mem<()>
     ensures { OnOk result (rows.new.items ≡ rows.old.items ++ keyed rid (option_copied row.entry)) }
 {
     if let Some(row) = row {
