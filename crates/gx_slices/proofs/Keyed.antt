@@ -1,12 +1,9 @@
 -- Rows that are found by a value of their distribution column.
-use Rattle.std.proofs.Common.{◌≡◌, ◌≢◌, inl, inr, ⊎_elim, ℕ, List, [], ◌∷◌, Bool, true, false, cond, ◌||◌, Option, Some, None, slice_get, refl, sym, ap, ◌∙◌, subst}
+use Rattle.std.proofs.Common.{◌≡◌, ◌≢◌, ◌++◌, inl, inr, ⊎_elim, ℕ, List, [], ◌∷◌, Bool, true, false, cond, ◌||◌, Option, Some, None, slice_get, refl, sym, ap, ◌∙◌, subst}
 use Rattle.std.specs.Prelude.{option_and_then, IfSome, Result, Ok, Err, OnOk, OnErr}
 use Rattle.std.specs.List.{AllByRecursion, flat_map, list_any}
 use Rattle.std.specs.BTreeMap.{is_at}
 use Rattle.std.specs.Option.{option_or}
-use Rattle.std.specs.Ordering.{is_eq}
-use Rattle.std.specs.declared.cmp.Ordering.{Ordering}
-use Rattle.std.specs.declared.cmp.Ordering.TheVariants.{Less, Equal, Greater}
 use Rattle.gx_ids.specs.declared.ids.Cid.{Cid}
 use Rattle.gx_ids.specs.declared.ids.Gxid.{Gxid}
 use Rattle.gx_ids.specs.declared.ids.Lxid.{Lxid}
@@ -28,42 +25,14 @@ use Rattle.gx_store.specs.Rows.{row_at}
 use Rattle.gx_sweep.specs.Index.{has_under, key_at, rids_under}
 use Rattle.gx_sweep.specs.declared.index.KeyIndex.{KeyIndex}
 use Rattle.gx_sweep.specs.declared.table_key.TableKey.{TableKey}
-use Rattle.gx_sweep.proofs.Places.{same_value, value_itself}
 use Rattle.gx_slices.specs.Filed.{IsWritten, filed, image_at, keyed, rows_at, versions_in}
-use Rattle.gx_slices.specs.Keyed.{IsIndexed, IsKeyed, IsShownFor, IsUnder, IsWanted, has_value, is_value, key_column, key_in, value_in, with_value}
+use Rattle.gx_slices.specs.Keyed.{IsIndexed, IsKeyed, IsShownFor, IsUnder, IsWanted, key_column, key_in, value_in}
 use Rattle.gx_slices.specs.Store.{kept_at}
 use Rattle.gx_slices.proofs.KeptVersions.{kept_at-filed, kept_at-filed_row, kept_at-filed_table}
 use Rattle.gx_slices.proofs.Lists.{all_map, last_passing-cons}
 use Rattle.gx_slices.proofs.Lxids.{AllByRecursion-push}
 use Rattle.gx_slices.proofs.Shown.{row_at-keyed, row_at-rows_at, same_order}
 use Rattle.gx_slices.proofs.Writes.{rid_cases, table_cases}
-
--- A VALUE IN A COLUMN
-equal_from : (o : Ordering) → is_eq o ≡ true → o ≡ Equal
-equal_from Less e = absurd (cc)
-equal_from Equal e = refl
-equal_from Greater e = absurd (cc)
-
-found : (value : Value) (o : Option Value) → is_value value o ≡ true → o ≡ Some value
-found value None e = absurd (cc)
-found value (Some v) e = ap Some (same_value v value (equal_from _ e))
-
-differ : true ≡ false → ⊥
-differ e = cc
-
-lacks : (value : Value) (o : Option Value) → is_value value o ≡ false → o ≢ Some value
-lacks value o e same = differ (sym (ap (is_value value) same ∙ ap is_eq (value_itself value)) ∙ e)
-
--- THE ROWS OF A CONDITION
--- those with the value that the condition wants are enough
-pub shown_by : (c : Option Cond) (column : ℕ) (value : Value) → IsWanted c column value → (image row : Option (List Value)) → row ≡ with_value column value image → IsShownFor c image row
-shown_by None column value law image row e = absurd law
-shown_by (Some c) column value law None row e = inl e
-shown_by (Some c) column value law (Some r) row e = either (has_value column value r) refl
-  where
-    either : (b : Bool) → has_value column value r ≡ b → IsShownFor (Some c) (Some r) row
-    either true is = inl (e ∙ ap (λ (b : Bool). cond b (Some r) None) is)
-    either false is = inr (e ∙ ap (λ (b : Bool). cond b (Some r) None) is, λ typed. law r typed (lacks value (slice_get r column) is))
 
 -- THE LAST VERSION OF SOME
 module _ (P : Option (List Value) → Type 0) (p : Version → Bool) (v : Version) where
@@ -86,50 +55,63 @@ any_same : (f g : Rid → Bool) → ((r : Rid) → f r ≡ g r) → (rs : List R
 any_same f g same [] = refl
 any_same f g same (r ∷ rs) = ap (λ (b : Bool). b || list_any f rs) (same r) ∙ ap (λ (b : Bool). g r || b) (any_same f g same rs)
 
+differ : true ≡ false → ⊥
+differ e = cc
+
 module _ (index : KeyIndex) (table : Table) (column : ℕ) (value : Value) (q : Rid) where
   abbrev IsThere : Option (List Value) → Type 0
   IsThere image = IfSome (value_in image (Some column)) (λ key. has_under index (key_at table key) q ≡ true)
 
-  has_another : (image : Option (List Value)) → IsThere image → has_under index (key_at table value) q ≡ false → with_value column value image ≡ None
-  has_another None there missing = refl
-  has_another (Some row) there missing = either (has_value column value row) refl
-    where
-      either : (b : Bool) → has_value column value row ≡ b → cond (has_value column value row) (Some row) None ≡ None
-      either false is = ap (λ (b : Bool). cond b (Some row) None) is
-      either true is =
-          let under : has_under index (key_at table value) q ≡ true = subst (λ (o : Option Value). IfSome o (λ key. has_under index (key_at table key) q ≡ true)) (found value (slice_get row column) is) there in
-          absurd (differ (sym under ∙ missing))
+  -- such a row has another value
+  lacks : (row : List Value) → IsThere (Some row) → has_under index (key_at table value) q ≡ false → slice_get row column ≢ Some value
+  lacks row there missing same = differ (sym (subst (λ (o : Option Value). IfSome o (λ key. has_under index (key_at table key) q ≡ true)) same there) ∙ missing)
 
-  left_out : (vs : List Version) (x : Xids) (snap : Snapshot) (own : Option Lxid) (cid : Cid) → AllByRecursion (λ v. IsThere v.image) vs → has_under index (key_at table value) q ≡ false → with_value column value (option_and_then (λ v. v.image) (shown_of vs x snap own cid)) ≡ None
-  left_out vs x snap own cid all missing =
-      has_another (option_and_then (λ v. v.image) (shown_of vs x snap own cid)) (image_is IsThere tt (shown_of vs x snap own cid) (last_is IsThere (λ v. counts v x snap own cid) vs all)) missing
+  -- so the condition that wants this one is false on it
+  left_out : (c : Option Cond) → IsWanted c column value → (image row : Option (List Value)) → IsThere image → has_under index (key_at table value) q ≡ false → row ≡ None → IsShownFor c image row
+  left_out None law image row there missing e = absurd law
+  left_out (Some c) law None row there missing e = inl e
+  left_out (Some c) law (Some r) row there missing e = inr (e, λ typed. law r typed (lacks r there missing))
 
 module _ (dists : List Dist) (index : KeyIndex) (tables : List (Table × List (Rid × List Version))) (x : Xids) (is : IsKeyed dists index tables x) (table : Table) (column : ℕ) (key : key_column (slice_get dists table.0) ≡ Some column) (value : Value) (snap : Snapshot) (own : Option Lxid) (cid : Cid) where
-  abbrev with_key : Rid → Option (List Value)
-  with_key rid = with_value column value (image_at (versions_in tables table) x snap own cid rid)
+  abbrev image : Rid → Option (List Value)
+  image rid = image_at (versions_in tables table) x snap own cid rid
 
-  all_there : (q : Rid) → AllByRecursion (λ v. IsThere index table column value q v.image) (kept_at tables table q)
-  all_there q = subst (λ (k : Option ℕ). AllByRecursion (λ v. IfSome (value_in v.image k) (λ key. has_under index (key_at table key) q ≡ true)) (kept_at tables table q)) key (is.indexed table q)
+  versions_there : (q : Rid) → AllByRecursion (λ v. IsThere index table column value q v.image) (kept_at tables table q)
+  versions_there q = subst (λ (k : Option ℕ). AllByRecursion (λ v. IfSome (value_in v.image k) (λ key. has_under index (key_at table key) q ≡ true)) (kept_at tables table q)) key (is.indexed table q)
 
-  -- at each rid stands its row, if that has the key
-  pub row_at-with_key : (q : Rid) → row_at (flat_map (λ rid. keyed rid (with_key rid)) (rids_under index (key_at table value))) q ≡ with_key q
-  row_at-with_key q = row_at-keyed with_key (rids_under index (key_at table value)) q ∙ either (list_any (λ p. is_same_rid p q) (rids_under index (key_at table value))) refl
+  image_there : (q : Rid) → IsThere index table column value q (image q)
+  image_there q =
+      image_is (IsThere index table column value q) tt (shown_of (kept_at tables table q) x snap own cid)
+      (last_is (IsThere index table column value q) (λ v. counts v x snap own cid) (kept_at tables table q) (versions_there q))
+
+  -- those under the value that the condition wants are enough
+  pub shown_under : (c : Option Cond) → IsWanted c column value → (q : Rid) → IsShownFor c (image q) (row_at (flat_map (λ rid. keyed rid (image rid)) (rids_under index (key_at table value))) q)
+  shown_under c law q = either (list_any (λ p. is_same_rid p q) (rids_under index (key_at table value))) refl
     where
-      either : (b : Bool) → list_any (λ p. is_same_rid p q) (rids_under index (key_at table value)) ≡ b → cond b (with_key q) None ≡ with_key q
-      either true there = refl
-      either false missing =
-          let none : has_under index (key_at table value) q ≡ false = any_same (is_at (rid_cmp q)) (λ p. is_same_rid p q) (λ p. same_order q p) (rids_under index (key_at table value)) ∙ missing in
-          sym (left_out index table column value q (kept_at tables table q) x snap own cid (all_there q) none)
+      row : row_at (flat_map (λ rid. keyed rid (image rid)) (rids_under index (key_at table value))) q ≡ cond (list_any (λ p. is_same_rid p q) (rids_under index (key_at table value))) (image q) None
+      row = row_at-keyed image (rids_under index (key_at table value)) q
+
+      either : (b : Bool) → list_any (λ p. is_same_rid p q) (rids_under index (key_at table value)) ≡ b → IsShownFor c (image q) (row_at (flat_map (λ rid. keyed rid (image rid)) (rids_under index (key_at table value))) q)
+      either true is = inl (row ∙ ap (λ (b : Bool). cond b (image q) None) is)
+      either false is =
+          let missing : has_under index (key_at table value) q ≡ false = any_same (is_at (rid_cmp q)) (λ p. is_same_rid p q) (λ p. same_order q p) (rids_under index (key_at table value)) ∙ is in
+          left_out index table column value q c law (image q) _ (image_there q) missing (row ∙ ap (λ (b : Bool). cond b (image q) None) is)
+
+-- a table without versions shows no row
+pub keyed-none : (versions : List (Rid × List Version)) (x : Xids) (snap : Snapshot) (own : Option Lxid) (cid : Cid) → versions ≡ [] → (rids : List Rid) → flat_map (λ rid. keyed rid (image_at versions x snap own cid rid)) rids ≡ []
+keyed-none versions x snap own cid none [] = refl
+keyed-none versions x snap own cid none (r ∷ rs) =
+    ap (λ (vs : List (Rid × List Version)). keyed r (image_at vs x snap own cid r) ++ flat_map (λ rid. keyed rid (image_at versions x snap own cid rid)) rs) none
+    ∙ keyed-none versions x snap own cid none rs
 
 -- WHAT A CONDITION IS SHOWN
 module _ (dists : List Dist) (index : KeyIndex) (tables : List (Table × List (Rid × List Version))) (x : Xids) (is : IsKeyed dists index tables x) (table : Table) (snap : Snapshot) (own : Option Lxid) (cid : Cid) (condition : Option Cond) (rows : List KeyedRow) where
   pub shown_all : rows ≡ rows_at (versions_in tables table) x table snap own cid → (rid : Rid) → IsShownFor condition (image_at (versions_in tables table) x snap own cid rid) (row_at rows rid)
   shown_all whole rid = inl (ap (λ (items : List KeyedRow). row_at items rid) whole ∙ row_at-rows_at (versions_in tables table) x table snap own cid rid (is.sound.filed table rid))
 
-  pub shown_with : (column : ℕ) (key : key_column (slice_get dists table.0) ≡ Some column) (value : Value) → IsWanted condition column value → rows ≡ flat_map (λ rid. keyed rid (with_value column value (image_at (versions_in tables table) x snap own cid rid))) (rids_under index (key_at table value)) → (rid : Rid) → IsShownFor condition (image_at (versions_in tables table) x snap own cid rid) (row_at rows rid)
+  pub shown_with : (column : ℕ) (key : key_column (slice_get dists table.0) ≡ Some column) (value : Value) → IsWanted condition column value → rows ≡ flat_map (λ rid. keyed rid (image_at (versions_in tables table) x snap own cid rid)) (rids_under index (key_at table value)) → (rid : Rid) → IsShownFor condition (image_at (versions_in tables table) x snap own cid rid) (row_at rows rid)
   shown_with column key value law whole rid =
-      shown_by condition column value law (image_at (versions_in tables table) x snap own cid rid) (row_at rows rid)
-      (ap (λ (items : List KeyedRow). row_at items rid) whole ∙ row_at-with_key dists index tables x is table column key value snap own cid rid)
+      subst (λ (items : List KeyedRow). IsShownFor condition (image_at (versions_in tables table) x snap own cid rid) (row_at items rid)) (sym whole) (shown_under dists index tables x is table column key value snap own cid condition law rid)
 
 -- A WRITE
 module _ (dists : List Dist) (index index' : KeyIndex) (kept : (at : TableKey) (q : Rid) → has_under index at q ≡ true → has_under index' at q ≡ true) where

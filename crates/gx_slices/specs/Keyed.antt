@@ -1,11 +1,9 @@
--- Which rows a store finds by a value of their table's distribution column, and the rows that have a value in a column.
-use Rattle.std.specs.Prelude.{◌≡◌, ◌≢◌, ◌⊎◌, ℕ, Bool, true, false, if◌then◌else◌, List, slice_get, None, Some, IfSome, Ok}
+-- Which rows a store finds by a value of their table's distribution column.
+use Rattle.std.specs.Prelude.{◌≡◌, ◌≢◌, ◌⊎◌, ℕ, true, false, List, slice_get, None, Some, IfSome, Ok}
 use Rattle.std.specs.declared.option.Option.{Option}
 use Rattle.std.specs.List.{AllByRecursion}
-use Rattle.std.specs.Ordering.{is_eq}
 use Rattle.gx_ids.specs.declared.ids.Table.{Table}
 use Rattle.gx_ids.specs.declared.rid.Rid.{Rid}
-use Rattle.gx_tree.specs.Value.{value_order}
 use Rattle.gx_tree.specs.declared.cond.Cond.{Cond}
 use Rattle.gx_tree.specs.declared.schema.Dist.{Dist}
 use Rattle.gx_tree.specs.declared.schema.Dist.TheVariants.{By, Randomly}
@@ -18,19 +16,6 @@ use Rattle.gx_sweep.specs.Index.{has_under, key_at}
 use Rattle.gx_sweep.specs.declared.index.KeyIndex.{KeyIndex}
 use Rattle.gx_slices.specs.Filed.{IsSound}
 use Rattle.gx_slices.specs.Store.{kept_at}
-
--- A ROW'S VALUE IN A COLUMN
-abbrev pub is_value : Value → Option Value → Bool
-is_value value None = false
-is_value value (Some found) = is_eq (value_order found value)
-
-abbrev pub has_value : ℕ → Value → List Value → Bool
-has_value column value row = is_value value (slice_get row column)
-
--- the row, if it is there and has the value
-abbrev pub with_value : ℕ → Value → Option (List Value) → Option (List Value)
-with_value column value None = None
-with_value column value (Some row) = if has_value column value row then Some row else None
 
 -- THE ROWS OF A CONDITION
 -- on a row with another value in this column the condition is false without a fault

@@ -1,5 +1,5 @@
 // The rows of a table on which a condition is tested. Where its leftmost conjunct wants a value of the distribution column, the index has
-// those with that value.
+// all those with that value.
 ghost use Rattle.std.specs.Prelude.{◌≡◌, List, Some, IfOk, IfSome, slice_get};
 ghost use Rattle.gx_ids.specs.declared.rid.Rid.{Rid};
 ghost use Rattle.std.specs.List.{flat_map};
@@ -9,117 +9,48 @@ ghost use Rattle.gx_slices.specs.Filed.{image_at, keyed, versions_in};
 ghost use Rattle.gx_store.specs.Rows.{row_at};
 ghost use Rattle.gx_sweep.specs.Index.{key_at, rids_under};
 ghost use Rattle.gx_tree.specs.declared.schema.Dist.{Dist};
-ghost use Rattle.gx_slices.specs.Keyed.{IsKeyed, IsShownFor, IsWanted, has_value, key_column, with_value};
+ghost use Rattle.gx_slices.specs.Keyed.{IsKeyed, IsShownFor, IsWanted, key_column};
 
-use crate::reading::{push_keyed, row_shown, rows_in};
+use crate::reading::{rows_in, rows_of};
 use gx_dsnap::Snapshot;
 use gx_ids::{Cid, Lxid, Mem, Rid, Table};
 use gx_plan::wanted_key;
 use gx_rows::{Versions, XidMap};
 use gx_sweep::KeyIndex;
-use gx_tree::{Cond, Dist, KeyedRow, Row, Value};
+use gx_tree::{Cond, Dist, KeyedRow, Value};
 use std::alloc::Global;
-use std::cmp::Ordering;
 use std::collections::BTreeMap;
 
-fn has_value(row: &Row, column: u8, value: &Value) -> bool
-    ensures { result ≡ has_value column value.now row.now }
-{
-    match row.as_slice().get(column as usize) {
-        Some(found) => found.cmp(value) == Ordering::Equal,
-        None => false,
-    }
-}
-
-// The row, if it is there and has the value.
-fn with_value<'a>(row: Option<&'a Row>, column: u8, value: &Value) -> Option<&'a Row>
-    ensures { option_copied result ≡ with_value column value.now (option_copied row.entry) }
-{
-    match row {
-        Some(row) => {
-            if has_value(row, column, value) {
-                Some(row)
-            } else {
-                None
-            }
-        }
-        None => None,
-    }
-}
-
-// The row that a rid of a table shows, none where it is gone or unknown.
-fn row_in<'a>(
-    tables: &'a BTreeMap<Table, Versions>,
-    xids: &XidMap,
-    table: Table,
-    rid: Rid,
-    snap: &Snapshot,
-    own: Option<Lxid>,
-    cid: Cid,
-) -> Option<&'a Row>
-    ensures { option_copied result ≡ image_at (versions_in tables.now.entries table) xids.now snap.now own cid rid }
-{
-    match tables.get(&table) {
-        Some(versions) => row_shown(versions, xids, rid, snap, own, cid),
-        None => None,
-    }
-}
-
-// Of these rows those that are shown and have the value.
-fn rows_among(
-    alloc: Global,
-    tables: &BTreeMap<Table, Versions>,
-    xids: &XidMap,
-    rids: &[Rid],
-    table: Table,
-    column: u8,
-    value: &Value,
-    snap: &Snapshot,
-    own: Option<Lxid>,
-    cid: Cid,
-) -> Mem<Vec<KeyedRow>>
-    ensures { IfOk result (λ rows. rows.items ≡ flat_map (λ rid. keyed rid (with_value column value.now (image_at (versions_in tables.now.entries table) xids.now snap.now own cid rid))) rids.now) }
-{
-    let mut rows = Vec::new(alloc);
-    for rid in rids {
-        let row = row_in(tables, xids, table, *rid, snap, own, cid);
-        push_keyed(alloc, &mut rows, *rid, with_value(row, column, value))?;
-    }
-    Ok(rows)
-}
-
-// The rows that are shown and have this value of the distribution column, rising.
-fn rows_with(
+// Of the rows that the index has under this value those that are shown, rising; some may have another value by now.
+fn rows_under_key(
     alloc: Global,
     index: &KeyIndex,
     tables: &BTreeMap<Table, Versions>,
     xids: &XidMap,
     table: Table,
-    column: u8,
     value: &Value,
     snap: &Snapshot,
     own: Option<Lxid>,
     cid: Cid,
 ) -> Mem<Vec<KeyedRow>>
     ensures whole { IfOk result (λ rows. rows.items
-        ≡ flat_map (λ rid. keyed rid (with_value column value.now (image_at (versions_in tables.now.entries table) xids.now snap.now own cid rid)))
-        (rids_under index.now (key_at table value.now))) }
+        ≡ flat_map (λ rid. keyed rid (image_at (versions_in tables.now.entries table) xids.now snap.now own cid rid)) (rids_under index.now (key_at table value.now))) }
     ensures rising { IfOk result (λ rows. AreRising rows.items) }
 {
     let rids = index.find(table, value)?;
-    let list = rids.as_slice();
-    rows_among(
-        alloc, tables, xids, list, table, column, value, snap, own, cid,
-    )
+    match tables.get(&table) {
+        Some(versions) => rows_of(alloc, versions, xids, rids.as_slice(), snap, own, cid),
+        None => Ok(Vec::new(alloc)),
+    }
 }
 
-fn key_column(dists: &[Dist], table: Table) -> Option<u8>
+// The column by which a table is distributed, if it is by one.
+pub(crate) fn key_column(dists: &[Dist], table: Table) -> Option<u8>
     ensures { result ≡ key_column (slice_get dists.now table.0) }
 {
     match dists.get(table.0 as usize) {
         Some(Dist::By(column)) => Some(*column),
-        Some(Dist::Randomly) => None,
-        None => None,
+        _ => None,
     }
 }
 
@@ -134,7 +65,7 @@ fn wanted(column: u8, cond: &Option<Cond>) -> Option<&Value>
 }
 
 // The rows that are shown without some on which the condition is false, rising, where the table is distributed by this column.
-fn rows_by(
+fn rows_by_column(
     alloc: Global,
     index: &KeyIndex,
     tables: &BTreeMap<Table, Versions>,
@@ -153,15 +84,13 @@ fn rows_by(
     ensures images { IfOk result (λ rows. (rid : Rid) → IsShownFor cond.now (image_at (versions_in tables.now.entries table) xids.now snap.now own cid rid) (row_at rows.items rid)) }
 {
     match wanted(column, cond) {
-        Some(value) => rows_with(
-            alloc, index, tables, xids, table, column, value, snap, own, cid,
-        ),
+        Some(value) => rows_under_key(alloc, index, tables, xids, table, value, snap, own, cid),
         None => rows_in(alloc, tables, xids, table, snap, own, cid),
     }
 }
 
 // The same, however the table is distributed.
-pub(crate) fn rows_for(
+pub(crate) fn rows_to_test(
     alloc: Global,
     dists: &[Dist],
     index: &KeyIndex,
@@ -180,7 +109,7 @@ pub(crate) fn rows_for(
     ensures images { IfOk result (λ rows. (rid : Rid) → IsShownFor cond.now (image_at (versions_in tables.now.entries table) xids.now snap.now own cid rid) (row_at rows.items rid)) }
 {
     match key_column(dists, table) {
-        Some(column) => rows_by(
+        Some(column) => rows_by_column(
             alloc, index, tables, xids, table, column, cond, snap, own, cid,
         ),
         None => rows_in(alloc, tables, xids, table, snap, own, cid),

@@ -60,7 +60,8 @@ fn rows_shown(
     rows_of(alloc, versions, xids, rids.as_slice(), snap, own, cid)
 }
 
-fn rows_of(
+// The rows that these rids show, in their order.
+pub(crate) fn rows_of(
     alloc: Global,
     versions: &Versions,
     xids: &XidMap,
@@ -80,12 +81,7 @@ fn rows_of(
 }
 
 // Adds a row, if there is one.
-pub(crate) fn push_keyed(
-    alloc: Global,
-    rows: &mut Vec<KeyedRow>,
-    rid: Rid,
-    row: Option<&Row>,
-) -> Mem<()>
+fn push_keyed(alloc: Global, rows: &mut Vec<KeyedRow>, rid: Rid, row: Option<&Row>) -> Mem<()>
     ensures { OnOk result (rows.new.items ≡ rows.old.items ++ keyed rid (option_copied row.entry)) }
 {
     if let Some(row) = row {
@@ -96,7 +92,7 @@ pub(crate) fn push_keyed(
 }
 
 // The row that a rid shows, none where it is gone or unknown.
-pub(crate) fn row_shown<'a>(
+fn row_shown<'a>(
     versions: &'a Versions,
     xids: &XidMap,
     rid: Rid,

@@ -9,7 +9,7 @@ ghost use Rattle.gx_slices.specs.Keyed.{IsShownFor};
 ghost use Rattle.gx_slices.specs.Store.{empty, writes_of, status_of, shown_row, shown_row_from, newest_of, current_of, greater};
 
 use crate::current::Current;
-use crate::finding::rows_for;
+use crate::finding::rows_to_test;
 use crate::reading::{current_in, current_row_in, own_lxid, rows_in};
 use crate::writing::{set_status_in, status_in, write_keyed};
 use gx_dsnap::Snapshot;
@@ -178,7 +178,7 @@ impl LocalStore {
         ensures images { IfOk result (λ rows. (rid : Rid) → IsShownFor cond.now (shown_row_from self.now snap.now own cid table rid) (row_at rows.items rid)) }
     {
         let own = own_lxid(&self.xids, own);
-        rows_for(
+        rows_to_test(
             self.alloc,
             self.dists.as_slice(),
             &self.index,

@@ -6,8 +6,9 @@ ghost use Rattle.gx_rows.specs.Xids.{lxid_of, status_of};
 ghost use Rattle.gx_sweep.specs.Index.{has_under};
 ghost use Rattle.gx_sweep.specs.declared.table_key.TableKey.{TableKey};
 ghost use Rattle.gx_slices.specs.Filed.{IsWritten, filed, with_status_at, with_writer};
-ghost use Rattle.gx_slices.specs.Keyed.{IsUnder, key_in};
+ghost use Rattle.gx_slices.specs.Keyed.{IsUnder, value_in};
 
+use crate::finding::key_column;
 use gx_ids::{Cid, Gxid, Lxid, Mem, Rid, Table};
 use gx_rows::{LocalStatus, Versions, XidMap};
 use gx_sweep::KeyIndex;
@@ -16,11 +17,11 @@ use std::alloc::Global;
 use std::collections::BTreeMap;
 
 // The value of the distribution column in an image.
-fn key_in<'a>(dist: Option<&Dist>, image: &'a Option<Row>) -> Option<&'a Value>
-    ensures { option_copied result ≡ key_in (option_copied dist.entry) image.now }
+fn key_in(column: Option<u8>, image: &Option<Row>) -> Option<&Value>
+    ensures { option_copied result ≡ value_in image.now column }
 {
-    match (dist, image) {
-        (Some(Dist::By(column)), Some(row)) => row.as_slice().get(*column as usize),
+    match (column, image) {
+        (Some(column), Some(row)) => row.as_slice().get(column as usize),
         _ => None,
     }
 }
@@ -36,7 +37,7 @@ fn index_row(
     ensures under { OnOk result (IsUnder index.new (slice_get dists.now table.0) table rid image.now) }
     ensures kept { (at : TableKey) (q : Rid) → has_under index.old at q ≡ true → has_under index.new at q ≡ true }
 {
-    match key_in(dists.get(table.0 as usize), image) {
+    match key_in(key_column(dists, table), image) {
         Some(key) => index.add(table, key, rid),
         None => Ok(()),
     }

@@ -16,7 +16,7 @@ returns-clause-images c =
     let tables = c.self.inside.tables.entries in
     let x = c.self.inside.xids in
     IfOk-weaker
-    c.rows_for.result
+    c.rows_to_test.result
     _
     _
     (λ rows at rid.
@@ -27,4 +27,4 @@ returns-clause-images c =
     (subst (λ (s : Store). ForSome c.args.own (λ g. s.horizon.0 ≤ g.0)) (sym c.self.view_is) c.requires.alive)
     ∙ ap (λ (s : Store). shown_row_from s c.args.snap.now c.args.own c.args.cid c.args.table rid) c.self.view_is)
     (at rid))
-    c.rows_for.ensures.images
+    c.rows_to_test.ensures.images
