@@ -67,14 +67,6 @@ module _ (g : Gxid) (from to : Node) (steps : List Step) (event : Event) (b : Bo
       of : Delivers g (word.Failed c why) from to steps event → Receives steps event from to (message.Answer g (reply.Failed c why))
       of (told, (answer, e, i), r) = subst (λ (t : Message). Receives steps event from to t) (e ∙ ap (λ a. message.Answer g a) i) r
 
--- JOURNALS
 -- A SEGMENT'S WORD
-both-true : (x y : Bool) → x ≡ true → y ≡ true → (x && y) ≡ true
-both-true true true e f = refl
-both-true false y e f = absurd (false-true e)
-both-true true false e f = absurd (false-true f)
-
 pub sender-same : (a b x y : Node) (m n : ℕ) → event.Receive a b m ≡ event.Receive x y n → a ≡ x
 sender-same a b x y m n e = cc
-
-module _ (point : Point) (g : Gxid) (c : Cid) (rid : Rid) (image : Option (List Value)) (reason : Cause) where
