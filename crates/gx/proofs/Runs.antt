@@ -14,19 +14,19 @@ use Rattle.gx_store.specs.Runs.{IsLegalHistory}
 use Rattle.gx_rules.specs.System.{IsSystemRun}
 use Rattle.gx_law_order.proofs.Follows.{world_follows}
 use Rattle.gx_law_order.proofs.Ordered.{world_well}
-use Rattle.gx_law_commit.specs.Told.{DoStepsTell}
-use Rattle.gx_law_commit.proofs.Always.{world-holds}
-use Rattle.gx_law_commit.proofs.Whole.{world-follows}
+use Rattle.gx_law_order.specs.Told.{DoStepsTell}
+use Rattle.gx_law_order.proofs.Always.{world-holds}
+use Rattle.gx_law_order.proofs.Whole.{world-follows}
 use Rattle.gx_store.specs.Whole.{AreInsertsWhole}
 use Rattle.gx_law_answers.proofs.Join.{legal}
 use Rattle.gx_store.specs.Points.{marks_in}
-use Rattle.gx_law_rounds.specs.Blocked.{DoStayBlocked}
-use Rattle.gx_law_rounds.proofs.Lawful.{run-stays-blocked}
+use Rattle.gx_law_locks.specs.Blocked.{DoStayBlocked}
+use Rattle.gx_law_locks.proofs.Lawful.{run-stays-blocked}
 use Rattle.gx_law_writes.specs.Legal.{AreLocksLegal}
 use Rattle.gx_law_writes.proofs.LegalLocks.{locks-legal}
-use Rattle.gx_law_rounds.proofs.Whole.{world-rounds}
-use Rattle.gx_law_rounds.specs.Legal.{AreRoundsLegal}
-use Rattle.gx_law_rounds.proofs.EachVictim.{world-cancels, world-legal}
+use Rattle.gx_law_locks.proofs.Whole.{world-rounds}
+use Rattle.gx_law_locks.specs.Legal.{AreRoundsLegal}
+use Rattle.gx_law_locks.proofs.EachVictim.{world-cancels, world-legal}
 use Rattle.gx_law_answers.proofs.Snaps.{snapshots-one}
 use Rattle.gx_law_answers.proofs.Whole.{filled, keyed}
 use Rattle.gx_law_runs.specs.Reached.{IsReached}

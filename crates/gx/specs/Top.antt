@@ -26,12 +26,12 @@ use Rattle.gx_store.specs.Runs.{IsLegalHistory}
 use Rattle.gx_store.specs.View.{AreFinalFrom}
 use Rattle.gx_store.specs.Whole.{AreInsertsWhole}
 use Rattle.gx_rules.specs.System.{IsSystemRun}
-use Rattle.gx_law_rounds.specs.Blocked.{DoStayBlocked}
+use Rattle.gx_law_locks.specs.Blocked.{DoStayBlocked}
 use Rattle.gx_law_writes.specs.Legal.{AreLocksLegal}
 use Rattle.gx_law_runs.specs.Endings.{IsFinished}
-use Rattle.gx_law_rounds.specs.Legal.{AreRoundsLegal}
+use Rattle.gx_law_locks.specs.Legal.{AreRoundsLegal}
 use Rattle.gx_law_scripts.specs.Tuples.{HaveTuplesTo}
-use Rattle.gx_law_commit.specs.Told.{DoStepsTell}
+use Rattle.gx_law_order.specs.Told.{DoStepsTell}
 use Rattle.gx_drive.specs.Ends.{IsEnd}
 use Rattle.gx_drive.specs.Ordered.{AreFailuresFew, AreFirst, AreHeld}
 use Rattle.gx_drive.specs.Seeded.{AreDrawn}

@@ -22,8 +22,8 @@ use Rattle.gx_store.specs.Schedule.{asked, asked_by, asked_from, at_segment, fir
 use Rattle.gx_rules.specs.AtCoordinator.{awaited}
 use Rattle.gx_rules.specs.Machine.{world_of}
 use Rattle.gx_law_order.proofs.Ordered.{world_well}
-use Rattle.gx_law_schedules.proofs.Awaited.{world-asks}
-use Rattle.gx_law_schedules.proofs.Enabled.{unknown-none}
+use Rattle.gx_law_runs.proofs.Awaited.{world-asks}
+use Rattle.gx_law_runs.proofs.Enabled.{unknown-none}
 use Rattle.gx_law_runs.specs.Reached.{IsReached}
 use Rattle.gx_law_runs.proofs.Reaching.{by-events}
 use Rattle.gx_agenda.specs.Awaited.{AreResendable, IsResendable}

@@ -8,8 +8,8 @@ use Rattle.gx_store.specs.declared.run.Step.{Step}
 use Rattle.gx_store.specs.Points.{marks_in}
 use Rattle.gx_store.specs.Schedule.{first_of, is_any_wait, is_round_running, is_to_end, rounds}
 use Rattle.gx_rules.specs.Machine.{world_of}
-use Rattle.gx_law_sessions.proofs.World.{sessions-stand}
-use Rattle.gx_law_schedules.proofs.Sessions.{end-alike}
+use Rattle.gx_law_order.proofs.Legality.{sessions-stand}
+use Rattle.gx_law_runs.proofs.Sessions.{end-alike}
 use Rattle.gx_law_runs.specs.Reached.{IsReached}
 use Rattle.gx_law_runs.specs.Replays.{is_admitted}
 use Rattle.gx_law_runs.proofs.Reaching.{by-events}

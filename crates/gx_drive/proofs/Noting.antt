@@ -14,9 +14,9 @@ use Rattle.gx_store.specs.Marks.{answer_count}
 use Rattle.gx_store.specs.Points.{marks_in, starts_in}
 use Rattle.gx_store.specs.Schedule.{sent_message}
 use Rattle.gx_rules.specs.Machine.{can_here, delivered, found}
-use Rattle.gx_law_schedules.specs.Links.{message_of}
-use Rattle.gx_law_schedules.proofs.Links.{sent_message-kept}
-use Rattle.gx_law_schedules.proofs.World.{world-letters}
+use Rattle.gx_law_runs.specs.Links.{message_of}
+use Rattle.gx_law_runs.proofs.Links.{sent_message-kept}
+use Rattle.gx_law_runs.proofs.World.{world-letters}
 use Rattle.gx_law_runs.specs.Reached.{IsReached}
 use Rattle.gx_law_runs.specs.Replays.{is_admitted, letters_after, world_behind}
 use Rattle.gx_law_runs.proofs.Reaching.{by-events, replayed}

@@ -21,8 +21,8 @@ use Rattle.gx_rules.specs.Sending.{counted, numbered}
 use Rattle.gx_law_order.proofs.AtSegments.{PlainAt, seg_stays}
 use Rattle.gx_law_order.proofs.Lists.{Each, each_append, each_weaker}
 use Rattle.gx_store.specs.Language.{AreLinesNumbered}
-use Rattle.gx_law_commit.specs.Standings.{at, gx}
-use Rattle.gx_law_commit.proofs.Whole.{world-both}
+use Rattle.gx_law_order.specs.Standings.{at, gx}
+use Rattle.gx_law_order.proofs.Whole.{world-both}
 use Rattle.gx_law_writes.proofs.Told.{each-get}
 use Rattle.gx_law_answers.specs.Earned.{AreAnswersEarned, Events, IsReplyEarned}
 use Rattle.gx_law_answers.proofs.Running.{Doings, IsLate}

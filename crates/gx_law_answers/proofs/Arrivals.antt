@@ -28,7 +28,7 @@ use Rattle.gx_rules.specs.Segments.{Seg, SegTurn, after_marks, local_of}
 use Rattle.gx_rules.specs.Running.{runs_slice, slice_lock, suspended_slice}
 use Rattle.gx_law_order.proofs.Lists.{Each}
 use Rattle.gx_law_order.proofs.Ordered.{world_well}
-use Rattle.gx_law_sessions.proofs.World.{after-last}
+use Rattle.gx_law_order.proofs.Legality.{after-last}
 use Rattle.gx_law_reads.proofs.Waiting.{new-to-run}
 use Rattle.gx_law_writes.proofs.Changes.{new-turns-true}
 use Rattle.gx_law_writes.proofs.Next.{new-next}

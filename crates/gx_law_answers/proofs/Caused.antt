@@ -42,8 +42,8 @@ use Rattle.gx_rules.specs.AtCoordinator.{reason_of}
 use Rattle.gx_rules.specs.Machine.{world_of}
 use Rattle.gx_rules.specs.Segments.{local_of}
 use Rattle.gx_rules.specs.Slices.{cause_of}
-use Rattle.gx_law_sessions.specs.Finish.{point_at}
-use Rattle.gx_law_commit.proofs.Commits.{take-kept}
+use Rattle.gx_law_order.specs.Finish.{point_at}
+use Rattle.gx_law_order.proofs.Commits.{take-kept}
 use Rattle.gx_law_writes.proofs.Next.{below-next, next_command, waits-next}
 use Rattle.gx_law_writes.proofs.Pieces.{IsSliceOf}
 use Rattle.gx_law_writes.proofs.Told.{sending-told}

@@ -21,12 +21,12 @@ use Rattle.gx_store.specs.Points.{ends_in, marks_in, starts_in, starts_by}
 use Rattle.gx_rules.specs.Coordinators.{Work, session_of, work_of}
 use Rattle.gx_rules.specs.Machine.{World}
 use Rattle.gx_law_order.proofs.Lists.{Each}
-use Rattle.gx_law_sessions.specs.Scanned.{began_from, command_at, stmt_of_command}
-use Rattle.gx_law_sessions.specs.Finish.{point_at}
-use Rattle.gx_law_sessions.specs.Orders.{level_by, level_of_began}
+use Rattle.gx_law_order.specs.Scanned.{began_from, command_at, stmt_of_command}
+use Rattle.gx_law_order.specs.Finish.{point_at}
+use Rattle.gx_law_order.specs.Orders.{level_by, level_of_began}
 use Rattle.gx_store.specs.Language.{AreLinesNumbered}
-use Rattle.gx_law_sessions.specs.Standing.{AreSessions, IsFirst, IsLineOf, IsStanding, Owns, Roots, Stands, is_alone, is_busy, state_in}
-use Rattle.gx_law_sessions.proofs.Said.{CalmFor, Said, said-calm}
+use Rattle.gx_law_order.specs.Standing.{AreSessions, IsFirst, IsLineOf, IsStanding, Owns, Roots, Stands, is_alone, is_busy, state_in}
+use Rattle.gx_law_order.proofs.Said.{CalmFor, Said, said-calm}
 use Rattle.gx_store.specs.declared.event.Event.{Event}
 
 -- what the marks before the step tell of a command that runs
@@ -94,12 +94,12 @@ module _ (script : Script) (numbered : AreLinesNumbered [] script.lines) (k : Se
   no-commit block.Outside commands busy e = cc
   no-commit block.Failed commands busy e = cc
 
-  commit-busy : (b : Block) → Rattle.gx_law_sessions.specs.Standing.is_sound b pending.Commit ≡ true → is_busy b pending.Commit ≡ true
+  commit-busy : (b : Block) → Rattle.gx_law_order.specs.Standing.is_sound b pending.Commit ≡ true → is_busy b pending.Commit ≡ true
   commit-busy (block.Open l) e = refl
   commit-busy block.Outside e = cc
   commit-busy block.Failed e = cc
 
-  command-busy : (b : Block) → Rattle.gx_law_sessions.specs.Standing.is_sound b pending.Command ≡ true → is_busy b pending.Command ≡ true
+  command-busy : (b : Block) → Rattle.gx_law_order.specs.Standing.is_sound b pending.Command ≡ true → is_busy b pending.Command ≡ true
   command-busy (block.Open l) e = refl
   command-busy block.Outside e = refl
   command-busy block.Failed e = cc

@@ -34,10 +34,10 @@ use Rattle.gx_store.specs.Writes.{dist_of}
 use Rattle.gx_rules.specs.AtCoordinator.{nodes_in, with_done}
 use Rattle.gx_rules.specs.Coordinators.{Command}
 use Rattle.gx_rules.specs.Machine.{world_of}
-use Rattle.gx_law_sessions.specs.Finish.{point_at}
-use Rattle.gx_law_sessions.specs.Gathering.{AreAll, AreApart, IsGathered, Taken, nodes_taken, total}
+use Rattle.gx_law_order.specs.Finish.{point_at}
+use Rattle.gx_law_order.specs.Gathering.{AreAll, AreApart, IsGathered, Taken, nodes_taken, total}
 use Rattle.gx_store.specs.Language.{AreLinesNumbered}
-use Rattle.gx_law_commit.proofs.Nodes.{has-without}
+use Rattle.gx_law_order.proofs.Nodes.{has-without}
 use Rattle.gx_law_writes.proofs.Counts.{all-there}
 use Rattle.gx_law_writes.proofs.Alive.{own-more, read-served}
 use Rattle.gx_law_writes.proofs.Plans.{insert-slice, rows-are}

@@ -38,14 +38,14 @@ use Rattle.gx_rules.specs.Machine.{World, after, at_node, can, does, happens, ne
 use Rattle.gx_store.specs.Journals.{is_same_node}
 use Rattle.gx_store.specs.declared.node.NodeEvent.{NodeEvent}
 use Rattle.gx_law_order.proofs.Lists.{Each, get_last}
-use Rattle.gx_law_sessions.specs.Orders.{IsOrder}
+use Rattle.gx_law_order.specs.Orders.{IsOrder}
 use Rattle.gx_store.specs.Language.{AreLinesNumbered}
-use Rattle.gx_law_sessions.proofs.Outs.{order-more}
-use Rattle.gx_law_commit.proofs.Whole.{world-both}
-use Rattle.gx_law_holds.specs.Late.{AreReleasesLate}
-use Rattle.gx_law_holds.proofs.Lasting.{late-behind, still-held}
-use Rattle.gx_law_holds.proofs.Orders.{ended-less}
-use Rattle.gx_law_holds.proofs.World.{world-locked}
+use Rattle.gx_law_order.proofs.Outs.{order-more}
+use Rattle.gx_law_order.proofs.Whole.{world-both}
+use Rattle.gx_law_locks.specs.Late.{AreReleasesLate}
+use Rattle.gx_law_locks.proofs.Lasting.{late-behind, still-held}
+use Rattle.gx_law_locks.proofs.Orders.{ended-less}
+use Rattle.gx_law_locks.proofs.HoldsInRuns.{world-locked}
 use Rattle.gx_law_reads.specs.Sights.{DoViewsStay}
 use Rattle.gx_law_reads.proofs.Staying.{views-stay}
 use Rattle.gx_law_writes.specs.Homes.{IsPlacedMark}

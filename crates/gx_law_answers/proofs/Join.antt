@@ -20,12 +20,12 @@ use Rattle.gx_rules.specs.Machine.{run_of, world_of}
 use Rattle.gx_rules.specs.System.{IsSystemRun}
 use Rattle.gx_law_order.proofs.Lists.{Each}
 use Rattle.gx_law_order.proofs.Machines.{system-led}
-use Rattle.gx_law_sessions.specs.Finish.{AreCommandsTold, IsRestShown, point_at}
-use Rattle.gx_law_sessions.specs.Gathering.{IsGathered}
+use Rattle.gx_law_order.specs.Finish.{AreCommandsTold, IsRestShown, point_at}
+use Rattle.gx_law_order.specs.Gathering.{IsGathered}
 use Rattle.gx_store.specs.Language.{AreLinesNumbered}
-use Rattle.gx_law_sessions.proofs.Said.{CalmFor}
-use Rattle.gx_law_sessions.proofs.Remaining.{all-legal}
-use Rattle.gx_law_sessions.proofs.World.{sessions-stand}
+use Rattle.gx_law_order.proofs.Said.{CalmFor}
+use Rattle.gx_law_order.proofs.Remaining.{all-legal}
+use Rattle.gx_law_order.proofs.Legality.{sessions-stand}
 use Rattle.gx_law_answers.specs.Cancelled.{AreVictimsCancelled}
 use Rattle.gx_law_answers.specs.Earned.{Events}
 use Rattle.gx_law_answers.specs.Keyed.{AreInsertsFilled, AreRowsKeyed}

@@ -33,8 +33,8 @@ use Rattle.gx_law_order.proofs.Lists.{Each, each_append, each_weaker}
 use Rattle.gx_law_order.proofs.Ordered.{rule-at, world_well}
 use Rattle.gx_law_order.proofs.Waiting.{freed}
 use Rattle.gx_law_order.proofs.More.{marks-last}
-use Rattle.gx_law_sessions.specs.Orders.{IsOrder}
-use Rattle.gx_law_sessions.proofs.Outs.{order-more}
+use Rattle.gx_law_order.specs.Orders.{IsOrder}
+use Rattle.gx_law_order.proofs.Outs.{order-more}
 use Rattle.gx_law_writes.proofs.Frames.{IsWork}
 use Rattle.gx_law_writes.proofs.Legal.{sent-no-write}
 use Rattle.gx_law_writes.proofs.Turns.{NoRow, NoWrite}

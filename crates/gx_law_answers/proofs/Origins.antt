@@ -53,17 +53,17 @@ use Rattle.gx_law_order.proofs.Changing.{change-parts}
 use Rattle.gx_law_order.proofs.Ordered.{world_well}
 use Rattle.gx_law_order.proofs.Waiting.{freed}
 use Rattle.gx_law_order.proofs.More.{marks-last}
-use Rattle.gx_law_sessions.specs.Orders.{IsOrder, IsReadBy, IsServed}
+use Rattle.gx_law_order.specs.Orders.{IsOrder, IsReadBy, IsServed}
 use Rattle.gx_store.specs.Language.{AreLinesNumbered}
-use Rattle.gx_law_sessions.proofs.Outs.{order-more}
-use Rattle.gx_law_commit.specs.Pairs.{IsVote}
-use Rattle.gx_law_commit.specs.Standings.{at, gx}
+use Rattle.gx_law_order.proofs.Outs.{order-more}
+use Rattle.gx_law_order.specs.Pairs.{IsVote}
+use Rattle.gx_law_order.specs.Standings.{at, gx}
 use Rattle.gx_law_order.proofs.Journals.{world-hold}
-use Rattle.gx_law_holds.specs.Late.{AreReleasesLate}
-use Rattle.gx_law_holds.proofs.Lasting.{granted-held}
-use Rattle.gx_law_holds.proofs.Marks.{quiet-late}
-use Rattle.gx_law_holds.proofs.Orders.{order-still}
-use Rattle.gx_law_holds.proofs.World.{numbered-quiet}
+use Rattle.gx_law_locks.specs.Late.{AreReleasesLate}
+use Rattle.gx_law_locks.proofs.Lasting.{granted-held}
+use Rattle.gx_law_locks.proofs.Marks.{quiet-late}
+use Rattle.gx_law_locks.proofs.Orders.{order-still}
+use Rattle.gx_law_locks.proofs.HoldsInRuns.{numbered-quiet}
 use Rattle.gx_law_writes.specs.Homes.{IsPlacedMark}
 use Rattle.gx_law_writes.proofs.Legal.{sent-no-write}
 use Rattle.gx_law_writes.proofs.Moves.{own-rows}

@@ -20,7 +20,7 @@ use Rattle.gx_store.specs.declared.mark.Mark.{Mark}
 use Rattle.gx_store.specs.Points.{marks_in}
 use Rattle.gx_rules.specs.AtCoordinator.{nodes_in}
 use Rattle.gx_rules.specs.Machine.{world_of}
-use Rattle.gx_law_sessions.specs.Gathering.{Taken, nodes_taken}
+use Rattle.gx_law_order.specs.Gathering.{Taken, nodes_taken}
 use Rattle.gx_store.specs.Language.{AreLinesNumbered}
 use Rattle.gx_law_answers.specs.Earned.{Events, IsEarned}
 use Rattle.gx_law_answers.proofs.Commands.{IsOf}

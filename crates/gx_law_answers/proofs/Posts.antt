@@ -12,13 +12,13 @@ use Rattle.gx_rules.specs.Machine.{Letter, World, found, world_of}
 use Rattle.gx_law_order.proofs.Letters.{IsFound, IsLetter, found_is}
 use Rattle.gx_law_order.proofs.Lists.{Each}
 use Rattle.gx_law_order.proofs.Waiting.{HasCome, each-among}
-use Rattle.gx_law_sessions.specs.Alive.{AreAlive, HasRun, HaveRun, IsAlive}
-use Rattle.gx_law_sessions.proofs.Outs.{MessageIs}
-use Rattle.gx_law_sessions.proofs.World as histories
-use Rattle.gx_law_sessions.proofs.World.{orders-alive, orders-ran}
-use Rattle.gx_law_commit.proofs.Whole.{world-both}
-use Rattle.gx_law_holds.specs.Orders.{IsLockedOrder}
-use Rattle.gx_law_holds.proofs.Orders.{LetterLocked, world-orders}
+use Rattle.gx_law_order.specs.Alive.{AreAlive, HasRun, HaveRun, IsAlive}
+use Rattle.gx_law_order.proofs.Outs.{MessageIs}
+use Rattle.gx_law_order.proofs.Legality as histories
+use Rattle.gx_law_order.proofs.Legality.{orders-alive, orders-ran}
+use Rattle.gx_law_order.proofs.Whole.{world-both}
+use Rattle.gx_law_locks.specs.Orders.{IsLockedOrder}
+use Rattle.gx_law_locks.proofs.Orders.{LetterLocked, world-orders}
 use Rattle.gx_law_reads.specs.Sights.{AreShownViews, IsShownView}
 use Rattle.gx_law_reads.proofs.Seeing.{world-views}
 use Rattle.gx_law_answers.specs.Earned.{Events}

@@ -32,7 +32,7 @@ use Rattle.gx_rules.specs.Running.{runs_slice}
 use Rattle.gx_law_order.proofs.Ordered.{world_well}
 use Rattle.gx_law_order.proofs.Suspended.{IsWantedAt}
 use Rattle.gx_law_order.proofs.Waiting.{GoesOn, GoesOnAtRow, GoesOnSo, RunsNow, goes-on-is, going-on, going-ways}
-use Rattle.gx_law_sessions.proofs.World.{after-last}
+use Rattle.gx_law_order.proofs.Legality.{after-last}
 use Rattle.gx_law_reads.proofs.Waiting.{waits-to-run}
 use Rattle.gx_law_writes.proofs.Changes.{later-turns-true}
 use Rattle.gx_law_writes.proofs.Next.{next_command, waits-next}

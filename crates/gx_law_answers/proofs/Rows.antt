@@ -38,7 +38,7 @@ use Rattle.gx_store.specs.View.{image, is_shown_to}
 use Rattle.gx_store.specs.Writes.{dist_of}
 use Rattle.gx_law_order.proofs.Lists.{Each}
 use Rattle.gx_rules.proofs.ShownRows.{rows-same}
-use Rattle.gx_law_sessions.specs.Gathering.{AreAll, Taken, nodes_taken}
+use Rattle.gx_law_order.specs.Gathering.{AreAll, Taken, nodes_taken}
 use Rattle.gx_law_writes.specs.Homes.{IsPlacedMark}
 use Rattle.gx_law_answers.specs.Keyed.{AreRowsKeyed}
 use Rattle.gx_law_writes.specs.Parts.{IsPartOf, is_home}

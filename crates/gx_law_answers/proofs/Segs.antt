@@ -36,13 +36,13 @@ use Rattle.gx_rules.specs.Shown.{shown}
 use Rattle.gx_rules.specs.Slices.{adds, first_fault, selects}
 use Rattle.gx_law_order.proofs.AtSegments.{PlainAt, seg_stays}
 use Rattle.gx_law_order.proofs.Lists.{Each}
-use Rattle.gx_law_sessions.specs.Scanned.{stmt_of_command}
-use Rattle.gx_law_sessions.specs.Alive.{HasAnswered, IsHeard, IsUnderWayBehind, WasUnderWay}
-use Rattle.gx_law_sessions.specs.Finish.{AreSegmentsLegal}
+use Rattle.gx_law_order.specs.Scanned.{stmt_of_command}
+use Rattle.gx_law_order.specs.Alive.{HasAnswered, IsHeard, IsUnderWayBehind, WasUnderWay}
+use Rattle.gx_law_order.specs.Finish.{AreSegmentsLegal}
 use Rattle.gx_store.specs.Language.{AreLinesNumbered}
-use Rattle.gx_law_sessions.specs.Rest.{EachMark, Rest, UnlessStart, is_going_out, unless}
-use Rattle.gx_law_sessions.proofs.Given.{marks-append, sent-rest}
-use Rattle.gx_law_commit.proofs.Whole.{world-both}
+use Rattle.gx_law_order.specs.Rest.{EachMark, Rest, UnlessStart, is_going_out, unless}
+use Rattle.gx_law_order.proofs.Given.{marks-append, sent-rest}
+use Rattle.gx_law_order.proofs.Whole.{world-both}
 use Rattle.gx_law_writes.specs.Changes.{FaultLegal}
 use Rattle.gx_law_writes.specs.Writes.{AreWritesLegal, WriteLegal}
 use Rattle.gx_law_writes.proofs.Rows.{inserted-no-fault}

@@ -57,13 +57,13 @@ use Rattle.gx_law_order.proofs.Ordered.{seg_marks}
 use Rattle.gx_law_order.proofs.Sent.{at}
 use Rattle.gx_law_order.proofs.More.{marks-last}
 use Rattle.gx_law_order.proofs.World.{Knows, moves_knows}
-use Rattle.gx_law_sessions.specs.Scanned.{began_from}
-use Rattle.gx_law_sessions.specs.Orders.{level_by}
-use Rattle.gx_law_sessions.specs.Standing.{HasSnapshot, IsStanding, Owns, Roots, Stands}
-use Rattle.gx_law_sessions.proofs.Ends.{began-kept}
-use Rattle.gx_law_sessions.proofs.Stepping.{Holds}
-use Rattle.gx_law_sessions.proofs.Waiting.{Began, going-began}
-use Rattle.gx_law_sessions.proofs.World.{moves-holds}
+use Rattle.gx_law_order.specs.Scanned.{began_from}
+use Rattle.gx_law_order.specs.Orders.{level_by}
+use Rattle.gx_law_order.specs.Standing.{HasSnapshot, IsStanding, Owns, Roots, Stands}
+use Rattle.gx_law_order.proofs.Others.{began-kept}
+use Rattle.gx_law_order.proofs.Stepping.{Holds}
+use Rattle.gx_law_order.proofs.WaitingLines.{Began, going-began}
+use Rattle.gx_law_order.proofs.Legality.{moves-holds}
 use Rattle.gx_law_answers.specs.Earned.{Events}
 use Rattle.gx_rules.specs.Locks.{has_there, release_mark, release_marks, with_hold}
 use Rattle.gx_waits.specs.declared.claim.Claim.{Claim}

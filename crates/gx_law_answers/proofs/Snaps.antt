@@ -21,12 +21,12 @@ use Rattle.gx_store.specs.Marks.{has_snapshot, is_same_gxid, is_snapped}
 use Rattle.gx_store.specs.Points.{marks_in}
 use Rattle.gx_rules.specs.Machine.{world_of}
 use Rattle.gx_law_order.proofs.More.{marks-last}
-use Rattle.gx_law_sessions.specs.Scanned.{began_from}
-use Rattle.gx_law_sessions.specs.Rest.{EachMark}
-use Rattle.gx_law_sessions.proofs.Given.{Given}
-use Rattle.gx_law_sessions.proofs.Steps.{AreGiven}
-use Rattle.gx_law_sessions.proofs.World as histories
-use Rattle.gx_law_sessions.specs.Orders.{level_of_began}
+use Rattle.gx_law_order.specs.Scanned.{began_from}
+use Rattle.gx_law_order.specs.Rest.{EachMark}
+use Rattle.gx_law_order.proofs.Given.{Given}
+use Rattle.gx_law_order.proofs.LegalSteps.{AreGiven}
+use Rattle.gx_law_order.proofs.Legality as histories
+use Rattle.gx_law_order.specs.Orders.{level_of_began}
 use Rattle.gx_law_answers.specs.Earned.{Events}
 use Rattle.gx_law_answers.specs.Once.{AreSnapshotsOne, IsOneSnapshot}
 use Rattle.gx_law_answers.proofs.Single.{are-readers}

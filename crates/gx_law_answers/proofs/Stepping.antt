@@ -14,7 +14,7 @@ use Rattle.gx_rules.specs.Machine.{World, coord_did, new_world, seg_can, world_o
 use Rattle.gx_law_order.proofs.Induction.{IsThere, happens-ways}
 use Rattle.gx_law_order.proofs.Ordered.{world_well}
 use Rattle.gx_law_order.proofs.Sent.{at}
-use Rattle.gx_law_sessions.proofs.World.{after-last}
+use Rattle.gx_law_order.proofs.Legality.{after-last}
 use Rattle.gx_law_answers.specs.Earned.{Events}
 use Rattle.gx_law_answers.proofs.Arrivals.{message-does, received-late}
 use Rattle.gx_law_answers.proofs.Resumptions.{resumed-late, resumption-does}

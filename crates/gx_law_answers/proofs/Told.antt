@@ -42,14 +42,14 @@ use Rattle.gx_rules.specs.AtCoordinator.{nodes_in}
 use Rattle.gx_rules.specs.Machine.{world_of}
 use Rattle.gx_meaning.specs.Merged.{merged_answer}
 use Rattle.gx_law_order.proofs.Lists.{Each}
-use Rattle.gx_law_sessions.specs.Scanned.{began_from}
-use Rattle.gx_law_sessions.specs.Finish.{point_at}
-use Rattle.gx_law_sessions.specs.Gathering.{AreAll, AreApart, IsGathered, Taken, nodes_taken, parts_taken}
-use Rattle.gx_law_sessions.specs.Orders.{level_of_began}
+use Rattle.gx_law_order.specs.Scanned.{began_from}
+use Rattle.gx_law_order.specs.Finish.{point_at}
+use Rattle.gx_law_order.specs.Gathering.{AreAll, AreApart, IsGathered, Taken, nodes_taken, parts_taken}
+use Rattle.gx_law_order.specs.Orders.{level_of_began}
 use Rattle.gx_store.specs.Language.{AreLinesNumbered}
-use Rattle.gx_law_sessions.proofs.Said.{CalmFor}
-use Rattle.gx_law_commit.proofs.Commits.{take-kept}
-use Rattle.gx_law_holds.proofs.Marks.{Quiet, quiet-holds}
+use Rattle.gx_law_order.proofs.Said.{CalmFor}
+use Rattle.gx_law_order.proofs.Commits.{take-kept}
+use Rattle.gx_law_locks.proofs.Marks.{Quiet, quiet-holds}
 use Rattle.gx_law_writes.proofs.Turns.{NoWrite}
 use Rattle.gx_law_writes.proofs.World as writes
 use Rattle.gx_law_answers.specs.Earned.{Events, IsEarned}

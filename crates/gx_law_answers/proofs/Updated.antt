@@ -34,10 +34,10 @@ use Rattle.gx_store.specs.Writes.{dist_of}
 use Rattle.gx_rules.specs.AtCoordinator.{nodes_in, table_of}
 use Rattle.gx_rules.specs.Machine.{world_of}
 use Rattle.gx_law_order.proofs.Lists.{Each}
-use Rattle.gx_law_sessions.specs.Gathering.{AreAll, AreApart, Taken, nodes_taken, total}
-use Rattle.gx_law_sessions.specs.Orders.{level_of_began}
-use Rattle.gx_law_sessions.specs.Scanned.{began_from}
-use Rattle.gx_law_commit.proofs.Commits.{take-kept}
+use Rattle.gx_law_order.specs.Gathering.{AreAll, AreApart, Taken, nodes_taken, total}
+use Rattle.gx_law_order.specs.Orders.{level_of_began}
+use Rattle.gx_law_order.specs.Scanned.{began_from}
+use Rattle.gx_law_order.proofs.Commits.{take-kept}
 use Rattle.gx_law_writes.specs.Says.{IsPartDone, count_at}
 use Rattle.gx_law_writes.proofs.Views.{view-is}
 use Rattle.gx_law_writes.specs.Homes.{IsPlacedMark}
@@ -149,8 +149,8 @@ module _ (script : Script) (some : 1 ≤ script.segments) (numbered : AreLinesNu
         cids : (a b : Gxid) (x y : Cid) → is_command_of a x b y ≡ true → y ≡ x
         cids a b x y e = grind (arith, nat_tests)
 
-        of : Rattle.gx_law_sessions.specs.Scanned.stmt_of_command script ms g c ≡ Some o.order.line
-        of = ap (λ b. Rattle.gx_law_sessions.specs.Scanned.stmt_of_command script ms b c) (sym (gxids g h c d e)) ∙ ap (Rattle.gx_law_sessions.specs.Scanned.stmt_of_command script ms h) (sym (cids g h c d e)) ∙ o.order.of
+        of : Rattle.gx_law_order.specs.Scanned.stmt_of_command script ms g c ≡ Some o.order.line
+        of = ap (λ b. Rattle.gx_law_order.specs.Scanned.stmt_of_command script ms b c) (sym (gxids g h c d e)) ∙ ap (Rattle.gx_law_order.specs.Scanned.stmt_of_command script ms h) (sym (cids g h c d e)) ∙ o.order.of
 
         line-is : o.order.line ≡ line
         line-is = some-same o.order.line line (sym of ∙ is.of)

@@ -16,7 +16,7 @@ use Rattle.gx_store.specs.Marks.{is_same_session}
 use Rattle.gx_store.specs.Writes.{dist_of}
 use Rattle.gx_law_answers.specs.Keyed.{AreInsertsFilled, AreInsertsKeyed, AreRowsKeyed}
 use Rattle.gx_store.specs.Whole.{AreInsertsWhole, HaveKeys, IsWholeStmt}
-use Rattle.gx_law_sessions.specs.Scanned.{began_from, closes_block, command_at, command_from, nth_command}
+use Rattle.gx_law_order.specs.Scanned.{began_from, closes_block, command_at, command_from, nth_command}
 
 module _ (script : Script) (all : AreInsertsWhole script.tables script.lines) where
   abbrev Is : Option Stmt → Type 0

@@ -30,7 +30,7 @@ use Rattle.gx_rules.specs.Locks.{hold_mark}
 use Rattle.gx_rules.specs.Running.{goes_on, is_granted, runs_slice, slice_lock}
 use Rattle.gx_locks.specs.Locks.{Locks, is_free, wait_of}
 use Rattle.gx_waits.specs.declared.claim.Claim.{Claim}
-use Rattle.gx_law_sessions.specs.Orders.{IsOrder}
+use Rattle.gx_law_order.specs.Orders.{IsOrder}
 use Rattle.gx_law_answers.specs.Truth.{IsTruth}
 
 -- events, each with whether an append to a journal fails in it

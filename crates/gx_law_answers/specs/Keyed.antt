@@ -9,7 +9,7 @@ use Rattle.gx_meaning.specs.Constants.{HasKey}
 use Rattle.gx_script.specs.declared.Script.{Script}
 use Rattle.gx_store.specs.declared.mark.Mark.{Mark}
 use Rattle.gx_store.specs.Writes.{dist_of}
-use Rattle.gx_law_sessions.specs.Scanned.{stmt_of_command}
+use Rattle.gx_law_order.specs.Scanned.{stmt_of_command}
 use Rattle.gx_law_writes.specs.Homes.{KeepsItsKey}
 
 -- each tuple of an INSERT that is a transaction's command

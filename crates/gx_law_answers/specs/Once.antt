@@ -8,8 +8,8 @@ use Rattle.gx_store.specs.declared.event.Event.{Event}
 use Rattle.gx_store.specs.declared.mark.Mark.{Mark}
 use Rattle.gx_store.specs.Commands.{IsSnapshotAt}
 use Rattle.gx_store.specs.Points.{marks_in}
-use Rattle.gx_law_sessions.specs.Scanned.{began_from}
-use Rattle.gx_law_sessions.specs.Orders.{level_of_began}
+use Rattle.gx_law_order.specs.Scanned.{began_from}
+use Rattle.gx_law_order.specs.Orders.{level_of_began}
 use Rattle.gx_rules.specs.Machine.{world_of}
 
 -- one snapshot serves a command: its own, or that of its transaction

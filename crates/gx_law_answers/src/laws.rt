@@ -3,7 +3,7 @@ ghost use Rattle.std.specs.Prelude.{◌≡◌, ◌≤◌, Bool, List, []};
 ghost use Rattle.gx_law_answers.specs.Earned.{AreAnswersEarned};
 ghost use Rattle.gx_store.specs.Whole.{AreInsertsWhole};
 ghost use Rattle.gx_meaning.specs.Answer.{ArePartsOf, answer_of};
-ghost use Rattle.gx_law_sessions.specs.Finish.{AreSegmentsLegal};
+ghost use Rattle.gx_law_order.specs.Finish.{AreSegmentsLegal};
 ghost use Rattle.gx_store.specs.Language.{AreLinesNumbered};
 ghost use Rattle.gx_rules.specs.Machine.{run_of, world_of};
 ghost use Rattle.gx_meaning.specs.Merged.{merged_answer};

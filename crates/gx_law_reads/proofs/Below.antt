@@ -30,12 +30,12 @@ use Rattle.gx_law_order.proofs.Stages.{gx}
 use Rattle.gx_law_order.proofs.Statuses.{Stage, is_running, stage, stage_in}
 use Rattle.gx_law_order.proofs.Statuses.Stage.{Live as Running}
 use Rattle.gx_law_order.proofs.World.{Knows}
-use Rattle.gx_law_commit.specs.Said.{IsCommand, Said, SaidIn, gxid_in, is_answer}
-use Rattle.gx_law_commit.specs.Standings.{Known, known_at, standing, standing_in, waits_in}
-use Rattle.gx_law_commit.specs.Standings.Standing.{Live}
-use Rattle.gx_law_commit.proofs.Everywhere.{Holds, parts_in}
-use Rattle.gx_law_commit.proofs.Waiting.{IsAwaited, awaited}
-use Rattle.gx_law_commit.proofs.Ways.{CommandOf}
+use Rattle.gx_law_order.specs.Said.{IsCommand, Said, SaidIn, gxid_in, is_answer}
+use Rattle.gx_law_order.specs.Standings.{Known, known_at, standing, standing_in, waits_in}
+use Rattle.gx_law_order.specs.Standings.Standing.{Live}
+use Rattle.gx_law_order.proofs.Everywhere.{Holds, parts_in}
+use Rattle.gx_law_order.proofs.WaitingParts.{IsAwaited, awaited}
+use Rattle.gx_law_order.proofs.Ways.{CommandOf}
 use Rattle.gx_law_reads.specs.Horizons.{IsLowIn, IsNewOrWaits, IsNobodyDropped, IsSeenBelow, IsWaitingAs}
 use Rattle.gx_law_reads.proofs.Held.{Held}
 use Rattle.gx_law_reads.proofs.Reading.{FineIn}

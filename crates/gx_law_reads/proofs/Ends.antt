@@ -50,17 +50,17 @@ use Rattle.gx_law_order.proofs.Statuses.{is_running}
 use Rattle.gx_law_order.proofs.Waiting.{each-among}
 use Rattle.gx_law_order.proofs.More.{marks-last}
 use Rattle.gx_law_order.proofs.World.{Knows}
-use Rattle.gx_law_commit.specs.Pairs.{bit}
-use Rattle.gx_law_commit.specs.Said.{Said, SaidIn, gxid_in, is_answer}
-use Rattle.gx_law_commit.specs.Standings.{Known, at, known_at}
-use Rattle.gx_law_commit.proofs.Counts.{NoEnd, NoPart, NoSent, local-append, no-aborted, no-committed, no-local, no-writer, sent-no-end, sent-no-part, writer-append}
-use Rattle.gx_law_commit.proofs.Everywhere.{Holds, IsResumed, does-it, fol-no-sent, parts_in, posted-each, resumed-does, told-answer}
-use Rattle.gx_law_commit.proofs.Handled.{Does, Follows, IsExecOf}
-use Rattle.gx_law_commit.proofs.Waiting.{awaited}
-use Rattle.gx_law_commit.proofs.Ways.{Fol, Led, fol-no-part}
+use Rattle.gx_law_order.specs.Pairs.{bit}
+use Rattle.gx_law_order.specs.Said.{Said, SaidIn, gxid_in, is_answer}
+use Rattle.gx_law_order.specs.Standings.{Known, at, known_at}
+use Rattle.gx_law_order.proofs.Counts.{NoEnd, NoPart, NoSent, local-append, no-aborted, no-committed, no-local, no-writer, sent-no-end, sent-no-part, writer-append}
+use Rattle.gx_law_order.proofs.Everywhere.{Holds, IsResumed, does-it, fol-no-sent, parts_in, posted-each, resumed-does, told-answer}
+use Rattle.gx_law_order.proofs.Handled.{Does, Follows, IsExecOf}
+use Rattle.gx_law_order.proofs.WaitingParts.{awaited}
+use Rattle.gx_law_order.proofs.Ways.{Fol, Led, fol-no-part}
 use Rattle.gx_law_reads.proofs.Low.{IsAnswer, Lows, coord-low, heard-low, new-lows, victim-low}
-use Rattle.gx_law_commit.proofs.Always.{HeardAt, IsGiven, SaidTo, by-heard, each-zip}
-use Rattle.gx_law_commit.proofs.Steps.{cancel-leads, event-leads, given-is, moves-keep, world-keeps}
+use Rattle.gx_law_order.proofs.Always.{HeardAt, IsGiven, SaidTo, by-heard, each-zip}
+use Rattle.gx_law_order.proofs.Steps.{cancel-leads, event-leads, given-is, moves-keep, world-keeps}
 use Rattle.gx_law_reads.proofs.Taken.{LiveMessage, Passes, cancel-pass, event-pass}
 
 -- who has committed has its writes committed at each segment, and who was aborted nowhere

@@ -46,20 +46,20 @@ use Rattle.gx_law_order.proofs.Statuses.{is_running, runs-stage, stage, stage_in
 use Rattle.gx_law_order.proofs.Statuses.Stage.{Live as Running}
 use Rattle.gx_law_order.proofs.Waiting.{GoesOn, goes-on-is, going-on}
 use Rattle.gx_law_order.proofs.World.{Knows}
-use Rattle.gx_law_commit.specs.Said.{Said, SaidIn, gxid_in, is_answer, segment_of}
-use Rattle.gx_law_commit.specs.Standings.{at, known_at, standing, standing_in}
-use Rattle.gx_law_commit.specs.Standings.Standing.{Unborn, Over, Live}
-use Rattle.gx_law_commit.proofs.Counts.{NoSent}
-use Rattle.gx_law_commit.proofs.Everywhere.{Holds, does-it, fol-no-sent, follows-no-sent, parts_in, posted-each, resumed-does, told-answer}
-use Rattle.gx_law_commit.proofs.Leaving.{request-leaves, resumed-leaves}
+use Rattle.gx_law_order.specs.Said.{Said, SaidIn, gxid_in, is_answer, segment_of}
+use Rattle.gx_law_order.specs.Standings.{at, known_at, standing, standing_in}
+use Rattle.gx_law_order.specs.Standings.Standing.{Unborn, Over, Live}
+use Rattle.gx_law_order.proofs.Counts.{NoSent}
+use Rattle.gx_law_order.proofs.Everywhere.{Holds, does-it, fol-no-sent, follows-no-sent, parts_in, posted-each, resumed-does, told-answer}
+use Rattle.gx_law_order.proofs.Leaving.{request-leaves, resumed-leaves}
 use Rattle.gx_law_reads.specs.Horizons.{AreHorizonsLow, AreLowIn, IsLowIn}
 use Rattle.gx_law_reads.proofs.Heights.{horizon-bounds}
 use Rattle.gx_law_reads.proofs.Held.{Latest}
 use Rattle.gx_law_reads.proofs.Going.{event-went}
 use Rattle.gx_law_reads.proofs.Reading.{CountedIn, FineIn, OutFine, Stood, low-then}
-use Rattle.gx_law_commit.proofs.Always.{HeardAt, IsGiven, SaidTo, by-heard, each-zip}
-use Rattle.gx_law_commit.proofs.Steps.{cancel-leads, event-leads, given-is, world-keeps}
-use Rattle.gx_law_commit.proofs.Ways.{Led}
+use Rattle.gx_law_order.proofs.Always.{HeardAt, IsGiven, SaidTo, by-heard, each-zip}
+use Rattle.gx_law_order.proofs.Steps.{cancel-leads, event-leads, given-is, world-keeps}
+use Rattle.gx_law_order.proofs.Ways.{Led}
 use Rattle.gx_law_reads.proofs.Turns.{WentBy, cancel-went}
 
 abbrev pub LetterLow : Table → (ℕ → Work) → Letter → Type 0

@@ -39,9 +39,9 @@ use Rattle.gx_law_order.proofs.Lists.{each_weaker}
 use Rattle.gx_law_order.proofs.Past.{aborted-append, committed-append, seen-now}
 use Rattle.gx_law_order.proofs.SegItems.{writes_at}
 use Rattle.gx_law_order.proofs.World.{Knows, world_knows}
-use Rattle.gx_law_commit.specs.Standings.{at}
-use Rattle.gx_law_commit.proofs.Always.{world-holds}
-use Rattle.gx_law_commit.proofs.Everywhere.{Holds}
+use Rattle.gx_law_order.specs.Standings.{at}
+use Rattle.gx_law_order.proofs.Always.{world-holds}
+use Rattle.gx_law_order.proofs.Everywhere.{Holds}
 use Rattle.gx_rules.specs.Last.{last_image, row_of}
 use Rattle.gx_rules.proofs.KeptImages.{image_in-last_images, in_order-last_images}
 use Rattle.gx_rules.proofs.ShownRows.{rising-rows_in, row_at-rows_in}

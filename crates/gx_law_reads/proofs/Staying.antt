@@ -36,12 +36,12 @@ use Rattle.gx_law_order.proofs.Past.{committed-append}
 use Rattle.gx_law_order.proofs.Stages.{gx}
 use Rattle.gx_law_order.proofs.More.{marks-last}
 use Rattle.gx_law_order.proofs.World.{Knows}
-use Rattle.gx_law_commit.specs.Standings.{at}
-use Rattle.gx_law_commit.proofs.Always.{HeardAt, SaidTo}
-use Rattle.gx_law_commit.proofs.Counts.{NoPart, sent-no-part}
-use Rattle.gx_law_commit.proofs.Everywhere.{Holds, parts_in}
-use Rattle.gx_law_commit.proofs.Steps.{cancel-leads, event-leads, keeps-on, moves-keep-on}
-use Rattle.gx_law_commit.proofs.Ways.{Led}
+use Rattle.gx_law_order.specs.Standings.{at}
+use Rattle.gx_law_order.proofs.Always.{HeardAt, SaidTo}
+use Rattle.gx_law_order.proofs.Counts.{NoPart, sent-no-part}
+use Rattle.gx_law_order.proofs.Everywhere.{Holds, parts_in}
+use Rattle.gx_law_order.proofs.Steps.{cancel-leads, event-leads, keeps-on, moves-keep-on}
+use Rattle.gx_law_order.proofs.Ways.{Led}
 use Rattle.gx_dtx.specs.Table.{horizon_of}
 use Rattle.gx_law_reads.specs.Horizons.{HasRisen}
 use Rattle.gx_law_reads.specs.Sights.{DoViewsStay, IsOnlyAt}

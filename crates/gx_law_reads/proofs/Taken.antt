@@ -67,18 +67,18 @@ use Rattle.gx_law_order.proofs.Stages.{gx}
 use Rattle.gx_law_order.proofs.Statuses.{Moves, Turned, reply-turns, stage, stage_in}
 use Rattle.gx_law_order.proofs.Statuses.Stage.{Closing, Live as Running}
 use Rattle.gx_law_order.proofs.World.{Knows}
-use Rattle.gx_law_commit.specs.Said.{Answers, IsCommand, IsDone, Said, gxid_in, is_answer}
-use Rattle.gx_law_commit.specs.Standings.{Known, at, is_closing, known_at, standing, standing_in, waits_in}
-use Rattle.gx_law_commit.specs.Standings.Standing.{Live}
-use Rattle.gx_law_commit.proofs.Everywhere.{Holds, parts_in}
-use Rattle.gx_law_commit.proofs.Nodes.{has-without}
-use Rattle.gx_law_commit.proofs.Ways.{CommandOf}
+use Rattle.gx_law_order.specs.Said.{Answers, IsCommand, IsDone, Said, gxid_in, is_answer}
+use Rattle.gx_law_order.specs.Standings.{Known, at, is_closing, known_at, standing, standing_in, waits_in}
+use Rattle.gx_law_order.specs.Standings.Standing.{Live}
+use Rattle.gx_law_order.proofs.Everywhere.{Holds, parts_in}
+use Rattle.gx_law_order.proofs.Nodes.{has-without}
+use Rattle.gx_law_order.proofs.Ways.{CommandOf}
 use Rattle.gx_law_reads.proofs.Going.{ReadsTo, all-enlist, begins-latest, begins-went, begun-find, reads-for, waiting-went}
 use Rattle.gx_law_reads.proofs.Held.{Latest}
 use Rattle.gx_law_reads.proofs.Low.{Lows, latest, live-standing}
 use Rattle.gx_law_reads.proofs.Plain.{NoExec, abort-mild, commit-mild, reply-mild}
 use Rattle.gx_law_reads.proofs.Reading.{CommandLow, OrderLow, Stood}
-use Rattle.gx_law_commit.proofs.Always.{SaidTo}
+use Rattle.gx_law_order.proofs.Always.{SaidTo}
 use Rattle.gx_rules.specs.Locks.{with_hold, hold_mark, release_marks}
 use Rattle.gx_locks.specs.Locks.{Locks, is_free, resumed, wait_of}
 use Rattle.gx_waits.specs.declared.claim.Claim.{Claim}

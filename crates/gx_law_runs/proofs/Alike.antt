@@ -15,7 +15,7 @@ use Rattle.gx_store.specs.Points.{ends_in, marks_in, starts_in}
 use Rattle.gx_rules.specs.AtCoordinator.{is_in_block, is_nothing, is_unfinished_there}
 use Rattle.gx_rules.specs.Coordinators.{Coord, session_of, work_of}
 use Rattle.gx_store.specs.Language.{AreLinesNumbered}
-use Rattle.gx_law_sessions.specs.Standing.{IsSession, IsStanding, state_in, waits}
+use Rattle.gx_law_order.specs.Standing.{IsSession, IsStanding, state_in, waits}
 use Rattle.gx_store.specs.Schedule.{is_unfinished}
 use Rattle.gx_law_runs.proofs.Lines.{left-counted}
 

@@ -21,7 +21,7 @@ use Rattle.gx_law_order.proofs.AtCoordinators.{CoordIn, UnderWay}
 use Rattle.gx_law_order.proofs.Places.{IsOneOf}
 use Rattle.gx_law_order.proofs.Stages.{gx}
 use Rattle.gx_law_order.proofs.Tables.{FoundIn, PhaseIn, find_in, has_in}
-use Rattle.gx_law_schedules.proofs.Neat.{IsDone, IsExecOf, done-waiting}
+use Rattle.gx_law_runs.proofs.Neat.{IsDone, IsExecOf, done-waiting}
 use Rattle.gx_law_runs.proofs.Sparing.{HasWait}
 
 abbrev pub IsAsked : Coord → ℕ → Type 0

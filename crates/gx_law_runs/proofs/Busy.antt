@@ -33,9 +33,9 @@ use Rattle.gx_rules.specs.Machine.{World, world_of}
 use Rattle.gx_rules.specs.Rounds.{begins_round}
 use Rattle.gx_rules.proofs.Rounds.{cancel-ways, graph-ways}
 use Rattle.gx_store.specs.Whole.{AreInsertsWhole, IsWholeStmt}
-use Rattle.gx_law_sessions.specs.Standing.{IsStanding, is_busy, is_sound}
-use Rattle.gx_law_sessions.proofs.Stepping.{Holds}
-use Rattle.gx_law_sessions.proofs.World.{moves-holds}
+use Rattle.gx_law_order.specs.Standing.{IsStanding, is_busy, is_sound}
+use Rattle.gx_law_order.proofs.Stepping.{Holds}
+use Rattle.gx_law_order.proofs.Legality.{moves-holds}
 use Rattle.gx_law_order.specs.Moves.{Move, world_by}
 use Rattle.gx_law_order.proofs.Induction.{IsThere, at-events}
 use Rattle.gx_law_order.proofs.Lines.{asks as admits}
@@ -47,11 +47,11 @@ use Rattle.gx_law_order.proofs.Statuses.{Stage, is_running, stage}
 use Rattle.gx_law_order.proofs.Statuses.Stage.{Absent, Live, Closing, Finished, Dropped}
 use Rattle.gx_law_order.proofs.World.{world_knows}
 use Rattle.gx_law_runs.specs.Awaiting.{IsAwaiting}
-use Rattle.gx_law_schedules.proofs.Awaited.{DoAsk, IsKnown, moves-ask, moves-known, undrawn-none}
-use Rattle.gx_law_schedules.proofs.Neat.{clash}
+use Rattle.gx_law_runs.proofs.Awaited.{DoAsk, IsKnown, moves-ask, moves-known, undrawn-none}
+use Rattle.gx_law_runs.proofs.Neat.{clash}
 use Rattle.gx_law_runs.proofs.Asked.{IsAsked, IsBusy, asked-in}
 use Rattle.gx_law_runs.proofs.Carried.{IsOther, IsOtherMessage, asked-beside, still-asked}
-use Rattle.gx_law_runs.proofs.Replies.{Before, answer-goes, is_over}
+use Rattle.gx_law_runs.proofs.SessionAnswers.{Before, answer-goes, is_over}
 use Rattle.gx_law_runs.proofs.Starts.{Stays, end-stays, line-stays, resume-goes}
 use Rattle.gx_law_runs.proofs.Turns.{Goes, refused-settles}
 use Rattle.gx_ids.specs.declared.ids.Gxid.{Gxid}
@@ -59,8 +59,8 @@ use Rattle.gx_tree.specs.declared.stmt.Stmt.TheVariants as stmt
 use Rattle.gx_waits.specs.declared.claim.Claim.{Claim}
 use Rattle.gx_locks.specs.Locks.{Locks, wait_of}
 use Rattle.gx_law_order.proofs.Waiting.{GoesOut, going-out}
-use Rattle.gx_law_sessions.proofs.Waiting.{held-line}
-use Rattle.gx_law_holds.proofs.Single.{single-here}
+use Rattle.gx_law_order.proofs.WaitingLines.{held-line}
+use Rattle.gx_law_locks.proofs.Single.{single-here}
 use Rattle.gx_law_runs.proofs.Plans.{IsFilled}
 use Rattle.gx_law_runs.proofs.Sparing.{HasWait}
 

@@ -15,8 +15,8 @@ use Rattle.gx_rules.specs.AtCoordinator.{is_segment}
 use Rattle.gx_rules.specs.Coordinators.{Coord}
 use Rattle.gx_rules.specs.Rounds.{awaits_graph, can_begin}
 use Rattle.gx_rules.specs.Segments.{Seg}
-use Rattle.gx_law_schedules.proofs.Graphs as graphs
-use Rattle.gx_law_schedules.proofs.Rounds.{AreRoundsTold, world-told}
+use Rattle.gx_law_runs.proofs.Graphs as graphs
+use Rattle.gx_law_runs.proofs.RoundsEnabled.{AreRoundsTold, world-told}
 use Rattle.gx_law_runs.specs.Reached.{IsReached}
 use Rattle.gx_law_runs.specs.Replays.{coordinator_after, is_admitted, segment_after}
 use Rattle.gx_law_runs.proofs.Reaching.{replayed, w}

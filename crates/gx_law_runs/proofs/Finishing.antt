@@ -19,7 +19,7 @@ use Rattle.gx_rules.specs.Coordinators.{Coord}
 use Rattle.gx_rules.specs.Machine.{World, world_of}
 use Rattle.gx_law_order.proofs.World.{world_knows}
 use Rattle.gx_store.specs.Language.{AreLinesNumbered}
-use Rattle.gx_law_sessions.proofs.World.{events-legal, sessions-stand, world-holds}
+use Rattle.gx_law_order.proofs.Legality.{events-legal, sessions-stand, world-holds}
 use Rattle.gx_law_runs.specs.Replays.{coordinator_after}
 use Rattle.gx_law_runs.proofs.Replaying.{world-replayed}
 use Rattle.gx_rules.specs.AtCoordinator.{is_unfinished_there}

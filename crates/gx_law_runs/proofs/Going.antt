@@ -21,8 +21,8 @@ use Rattle.gx_rules.specs.Coordinators.{Coord, session_of}
 use Rattle.gx_rules.specs.Machine.{World, world_of}
 use Rattle.gx_rules.specs.Rounds.{awaits_graph}
 use Rattle.gx_store.specs.Whole.{AreInsertsWhole}
-use Rattle.gx_law_sessions.proofs.World.{sessions-stand}
-use Rattle.gx_law_commit.proofs.Dispatching.{each-unmap}
+use Rattle.gx_law_order.proofs.Legality.{sessions-stand}
+use Rattle.gx_law_order.proofs.Dispatching.{each-unmap}
 use Rattle.gx_law_order.proofs.Lists.{Each, each_weaker}
 use Rattle.gx_law_runs.specs.Reached.{IsReached}
 use Rattle.gx_law_runs.specs.Replays.{AreReplayed, coordinator_after, segment_after, world_behind}
@@ -34,12 +34,12 @@ use Rattle.gx_rules.specs.Segments.{Seg}
 use Rattle.gx_law_order.proofs.Past.{there-drawn}
 use Rattle.gx_law_order.proofs.Waiting.{has-statement}
 use Rattle.gx_law_order.proofs.World.{world_knows}
-use Rattle.gx_law_commit.proofs.Events.{live-stage}
-use Rattle.gx_law_schedules.specs.Enabled.{at_segment_by, drawn, ends_by, is_anybody_waiting, is_due, is_next_by, resends_due, resumes_by, rounds_by, sessions_of, starts_by}
-use Rattle.gx_law_schedules.proofs.Enabled.{all-segments, each-other, enabled-there}
-use Rattle.gx_law_schedules.proofs.Neat.{clash}
-use Rattle.gx_law_schedules.proofs.Rounds.{AreRoundsTold, world-told}
-use Rattle.gx_law_schedules.proofs.Sessions.{next-alike, start-alike}
+use Rattle.gx_law_order.proofs.Events.{live-stage}
+use Rattle.gx_law_runs.specs.Enabled.{at_segment_by, drawn, ends_by, is_anybody_waiting, is_due, is_next_by, resends_due, resumes_by, rounds_by, sessions_of, starts_by}
+use Rattle.gx_law_runs.proofs.Enabled.{all-segments, each-other, enabled-there}
+use Rattle.gx_law_runs.proofs.Neat.{clash}
+use Rattle.gx_law_runs.proofs.RoundsEnabled.{AreRoundsTold, world-told}
+use Rattle.gx_law_runs.proofs.Sessions.{next-alike, start-alike}
 use Rattle.gx_law_runs.specs.Awaiting.{IsAwaiting, IsBlocked, locks_at}
 use Rattle.gx_law_runs.proofs.Busy.{busy-awaits}
 use Rattle.gx_law_runs.proofs.Nothing.{any-none, in-nodes, in-range, nil-filter, nil-first, nil-flat, nil-left, nil-map, nil-right, none-any, or-neither}

@@ -19,9 +19,9 @@ use Rattle.gx_rules.specs.Snapshots.{snapshot_of}
 use Rattle.gx_law_order.proofs.Letters.{found_is}
 use Rattle.gx_law_order.proofs.Lists.{Each}
 use Rattle.gx_law_reads.specs.Sights.{AreRowsOf, AreRowsOfAll, IsOnlyAt, shown_to_all}
-use Rattle.gx_law_schedules.proofs.Awaited.{sent-room, world-asks}
-use Rattle.gx_law_schedules.proofs.Enabled.{all-admitted}
-use Rattle.gx_law_schedules.proofs.Room.{Stays, world-stays}
+use Rattle.gx_law_runs.proofs.Awaited.{sent-room, world-asks}
+use Rattle.gx_law_runs.proofs.Enabled.{all-admitted}
+use Rattle.gx_law_runs.proofs.Room.{Stays, world-stays}
 use Rattle.gx_law_runs.specs.Reached.{HasRoomAfter, IsReached}
 use Rattle.gx_law_runs.specs.Replays.{AreReplayed, IsNextAtCoordinator, IsNextAtSegment, coordinator_after, is_admitted, letters_after, world_behind}
 use Rattle.gx_law_runs.proofs.Leading.{after-last, coordinator-leads, segment-leads}

@@ -1,184 +1,253 @@
--- What an answer makes of the session of its transaction.
-use Rattle.std.proofs.Common.{◌≡◌, inl, inr, ℕ, List, [], ◌∷◌, Option, Some, None, Bool, true, false, refl, sym, subst, ap, ◌∙◌, if◌then◌else◌, ◌&&◌, eqb}
-use Rattle.std.specs.Prelude.{is_some}
-use Rattle.std.proofs.lemmas.Bool.{and_parts}
-use Rattle.gx_lemmas.proofs.Numbers.{eqb-self}
-use Rattle.gx_lemmas.proofs.Tests.{false-true}
+-- Which replies answer which messages.
+use Rattle.std.proofs.Common.{◌≡◌, ℕ, Option, Some, None, Bool, true, false, refl, ap, ◌∙◌, if◌then◌else◌, ◌&&◌, eqb}
+use Rattle.gx_lemmas.proofs.Tests.{and-false, and-true}
+use Rattle.gx_lemmas.proofs.Numbers.{eqb-self, eqb-turned}
 use Rattle.gx_ids.specs.declared.ids.Cid.{Cid}
+use Rattle.gx_ids.specs.declared.ids.Gxid.{Gxid}
 use Rattle.gx_ids.specs.declared.ids.Node.{Node}
-use Rattle.gx_tree.specs.declared.part.Part.{Part}
-use Rattle.gx_dtx.specs.Nodes.{has, without}
-use Rattle.gx_dtx.specs.Rules.{changed, decides, finishes, is_awaited as is_awaited_in, on_abort, on_reply, prepares, reply_found, stays, takes}
-use Rattle.gx_dtx.specs.Table.{find_txn, participants_in}
+use Rattle.gx_dtx.specs.Nodes.{has}
+use Rattle.gx_dtx.specs.Orders.{message_of}
+use Rattle.gx_dtx.specs.Rules.{awaits_found, is_awaited as is_awaited_in, order_found, order_in}
+use Rattle.gx_dtx.specs.declared.order.Order.{Order}
 use Rattle.gx_dtx.specs.declared.order.Order.TheVariants as order
 use Rattle.gx_dtx.specs.declared.phase.Phase.{Phase}
 use Rattle.gx_dtx.specs.declared.phase.Phase.TheVariants.{Active, Preparing, CommittingOne, CommittingTwo, Ended, Aborting}
 use Rattle.gx_dtx.specs.declared.txn.Txn.{Txn}
-use Rattle.gx_msg.specs.declared.reply.Cause.{Cause}
+use Rattle.gx_msg.specs.declared.message.Message.{Message}
+use Rattle.gx_msg.specs.declared.message.Message.TheVariants as message
 use Rattle.gx_msg.specs.declared.reply.Reply.{Reply}
 use Rattle.gx_msg.specs.declared.reply.Reply.TheVariants as reply
-use Rattle.gx_script.specs.declared.Script.{Script}
-use Rattle.gx_script.specs.declared.state.Block.{Block}
-use Rattle.gx_script.specs.declared.state.Block.TheVariants as block
-use Rattle.gx_rules.specs.AtCoordinator.{completes, goes_on, is_awaited, is_refused, item_for, on_answer, on_done, on_failed, on_status, order_to, reason_of, takes_done, with_done, writers_with}
-use Rattle.gx_rules.specs.Coordinators.{Command, Coord, Work, rests, with_work, work_of}
-use Rattle.gx_rules.specs.Fits.{fits_part}
-use Rattle.gx_law_order.proofs.Sessions.{Kept, stage_of}
-use Rattle.gx_law_order.proofs.Stages.{gx, left_of}
-use Rattle.gx_law_order.proofs.Statuses.{Stage, stage, stage_in}
-use Rattle.gx_law_order.proofs.Statuses.Stage.{Finished, Dropped, Live}
-use Rattle.gx_law_commit.proofs.Dispatching.{IsLive}
-use Rattle.gx_law_commit.proofs.Events.{live-stage}
-use Rattle.gx_law_commit.proofs.Nodes.{has-without}
-use Rattle.gx_law_schedules.proofs.Asking.{AreNeat}
-use Rattle.gx_law_schedules.proofs.Neat.{IsDone, NeatCommand, NeatPhase, NeatTxn}
-use Rattle.gx_law_runs.proofs.Asked.{IsAsked, IsBusy, IsOrdered, command-asked, done-unless, exec-some, has-first, ordered-asked}
-use Rattle.gx_law_runs.proofs.Turns.{Goes, answer-settles, changed-finds, commits-goes, ended-not, follows-goes, goes-by, goes-with, refused-settles, settles}
+use Rattle.gx_store.specs.declared.node.NodeEvent.{NodeEvent}
+use Rattle.gx_store.specs.declared.node.NodeEvent.TheVariants as event
+use Rattle.gx_store.specs.Journals.{is_same_node}
+use Rattle.gx_store.specs.Schedule.{is_answer_to, is_reply_to}
+use Rattle.gx_rules.specs.AtCoordinator.{status_order}
+use Rattle.gx_law_order.proofs.Stages.{gx}
+use Rattle.gx_law_runs.proofs.Neat.{IsExecOf}
 
--- a transaction that has its Commit or Abort mark, and isn't forgotten
-abbrev pub is_over : Stage → Bool
-is_over Finished = true
-is_over Dropped = true
-is_over _ = false
+-- what a message leaves of what was asked
+abbrev pub left_by : Node → Gxid → Option Message → NodeEvent → Option Message
+left_by i g asked (event.Deliver from envelope) = if is_same_node from i && is_answer_to asked g (Some envelope.message) then None else asked
+left_by i g asked _ = asked
 
--- STATUSES
-module _ (g : ℕ) (t : Txn) (j : Node) (fails : Bool) where
-  decides-ordered : (xs : List Node) (b : Bool) (i : Node) → has i xs ≡ true → settles (decides (gx g) xs t.participants b).out.outcome ≡ false → IsOrdered (left_of (decides (gx g) xs t.participants b).step (Some t))
-  decides-ordered xs false i h e = (i, ap (λ (q : Bool). is_some (if q then Some order.CommitPrepared else None)) h)
-  decides-ordered xs true i h e = absurd (cc)
+-- NO ANSWER
+pub unanswered : (i from : Node) (asked : Option Message) (b : Bool) → b ≡ false → (if is_same_node from i && b then None else asked) ≡ asked
+unanswered i from asked b e = plain (is_same_node from i) b e
+  where
+    plain : (a b : Bool) → b ≡ false → (if a && b then None else asked) ≡ asked
+    plain true b e = ap (λ (b : Bool). if b then None else asked) e
+    plain false b e = refl
 
-  prepares-ordered : (xs rest : List Node) (i : Node) → has i xs ≡ true → settles (prepares (gx g) xs t.participants rest fails).out.outcome ≡ false → IsOrdered (left_of (prepares (gx g) xs t.participants rest fails).step (Some t))
-  prepares-ordered xs [] i h e = decides-ordered xs fails i h e
-  prepares-ordered xs (y ∷ ys) i h e = (y, ap (λ (q : Bool). is_some (if q then Some order.Prepare else None)) (has-first y ys))
+abbrev pub IsNoAnswer : Message → Type 0
+IsNoAnswer (message.Answer g r) = ⊥
+IsNoAnswer _ = Unit {0}
 
-  finishes-ordered : (rest : List Node) → settles (finishes (gx g) t.participants rest).out.outcome ≡ false → IsOrdered (left_of (finishes (gx g) t.participants rest).step (Some t))
-  finishes-ordered [] e = ended-not g t.participants e
-  finishes-ordered (y ∷ ys) e = (y, ap (λ (q : Bool). is_some (if q then Some order.CommitPrepared else None)) (has-first y ys))
+pub no-answer : (asked : Option Message) (g : Gxid) (m : Message) → IsNoAnswer m → is_answer_to asked g (Some m) ≡ false
+no-answer None g m e = refl
+no-answer (Some a) g (message.Answer h r) e = absurd e
+no-answer (Some a) g (message.Exec h c l x y s) e = refl
+no-answer (Some a) g (message.Prepare h) e = refl
+no-answer (Some a) g (message.Commit h) e = refl
+no-answer (Some a) g (message.CommitPrepared h) e = refl
+no-answer (Some a) g (message.Abort h) e = refl
+no-answer (Some a) g (message.Forget h) e = refl
+no-answer (Some a) g (message.Collect round) e = refl
+no-answer (Some a) g (message.Graph round graph) e = refl
 
-  takes-ordered : (ws : List Node) (p : Phase) (r : Reply) → is_awaited_in p j r ≡ true → NeatPhase ws t.participants p → is_over (stage_in p) ≡ false → settles (takes (gx g) t.participants j fails p r).out.outcome ≡ false → IsOrdered (left_of (takes (gx g) t.participants j fails p r).step (Some t))
-  takes-ordered ws (Preparing xs aw) reply.Prepared e n o s = prepares-ordered xs (without j aw) j (n.2 j e) s
-  takes-ordered ws (Preparing xs aw) reply.Jfault e n o s = absurd (cc)
-  takes-ordered ws (CommittingOne x) reply.Committed e n o s = ended-not g t.participants s
-  takes-ordered ws (CommittingOne x) reply.Jfault e n o s = absurd (cc)
-  takes-ordered ws (CommittingTwo aw) reply.Committed e n o s = finishes-ordered (without j aw) s
-  takes-ordered ws (Ended aw) r e n o s = absurd (cc)
-  takes-ordered ws (Aborting aw) r e n o s = absurd (cc)
-  takes-ordered ws p r e n o s = absurd (cc)
+-- an answer about another transaction
+pub answer-other : (asked : Option Message) (g h : ℕ) (r : Reply) → eqb h g ≡ false → is_answer_to asked (gx h) (Some (message.Answer (gx g) r)) ≡ false
+answer-other None g h r e = refl
+answer-other (Some a) g h r e = ap (λ b. b && is_reply_to a r) (eqb-turned h g e)
 
-module _ {script : Script} (c : Coord) (k : Kept script c) (n : AreNeat c) (g : ℕ) where
-  -- what is known before the answer
-  abbrev pub Before : Type 0
-  Before = IsBusy c g × (is_over (stage_of c g) ≡ false)
+own-answer : (a : Message) (g : ℕ) (r : Reply) → is_answer_to (Some a) (gx g) (Some (message.Answer (gx g) r)) ≡ is_reply_to a r
+own-answer a g r = ap (λ b. b && is_reply_to a r) (eqb-self g)
 
-  rest-goes : Goes Before c g (rests c)
-  rest-goes = inl (record { sessions = λ j. refl; asked = λ b. b.0; spares = λ h e. refl })
+-- ANSWERS TO ORDERS
+-- how the reply meets each order
+abbrev pub IsReplyFor : Order → Reply → Bool
+IsReplyFor o r = is_reply_to (message_of o (gx 0)) r
 
-  -- who isn't running its commands awaits none
-  stage-done : (stage_of c g ≡ Live → ⊥) → IsDone (c.works g).command
-  stage-done away = done-unless (c.works g).command (λ m e waits. away ((k.tied g).awaits m e waits).0)
+same-reply : (o : Order) (g : ℕ) (r : Reply) → is_reply_to (message_of o (gx g)) r ≡ IsReplyFor o r
+same-reply order.Prepare g r = by r
+  where
+    by : (r : Reply) → is_reply_to (message.Prepare (gx g)) r ≡ is_reply_to (message.Prepare (gx 0)) r
+    by (reply.Done c w n p) = refl
+    by (reply.Failed c x) = refl
+    by reply.Prepared = refl
+    by reply.Committed = refl
+    by reply.Jfault = refl
+    by reply.Again = refl
+    by reply.Aborted = refl
+    by reply.Forgotten = refl
+same-reply order.Commit g r = by r
+  where
+    by : (r : Reply) → is_reply_to (message.Commit (gx g)) r ≡ is_reply_to (message.Commit (gx 0)) r
+    by (reply.Done c w n p) = refl
+    by (reply.Failed c x) = refl
+    by reply.Prepared = refl
+    by reply.Committed = refl
+    by reply.Jfault = refl
+    by reply.Again = refl
+    by reply.Aborted = refl
+    by reply.Forgotten = refl
+same-reply order.CommitPrepared g r = by r
+  where
+    by : (r : Reply) → is_reply_to (message.CommitPrepared (gx g)) r ≡ is_reply_to (message.CommitPrepared (gx 0)) r
+    by (reply.Done c w n p) = refl
+    by (reply.Failed c x) = refl
+    by reply.Prepared = refl
+    by reply.Committed = refl
+    by reply.Jfault = refl
+    by reply.Again = refl
+    by reply.Aborted = refl
+    by reply.Forgotten = refl
+same-reply order.Abort g r = by r
+  where
+    by : (r : Reply) → is_reply_to (message.Abort (gx g)) r ≡ is_reply_to (message.Abort (gx 0)) r
+    by (reply.Done c w n p) = refl
+    by (reply.Failed c x) = refl
+    by reply.Prepared = refl
+    by reply.Committed = refl
+    by reply.Jfault = refl
+    by reply.Again = refl
+    by reply.Aborted = refl
+    by reply.Forgotten = refl
+same-reply order.Forget g r = by r
+  where
+    by : (r : Reply) → is_reply_to (message.Forget (gx g)) r ≡ is_reply_to (message.Forget (gx 0)) r
+    by (reply.Done c w n p) = refl
+    by (reply.Failed c x) = refl
+    by reply.Prepared = refl
+    by reply.Committed = refl
+    by reply.Jfault = refl
+    by reply.Again = refl
+    by reply.Aborted = refl
+    by reply.Forgotten = refl
 
-  module _ (j : Node) (fails : Bool) where
-    -- REPLIES ABOUT THE STATUS
-    module _ (r : Reply) where
-      not-live : (p : Phase) → is_awaited_in p j r ≡ true → stage_in p ≡ Live → ⊥
-      not-live Active e h = by_reply r e
-        where
-          by_reply : (r : Reply) → is_awaited_in Active j r ≡ true → ⊥
-          by_reply (reply.Done d w m p) e = cc
-          by_reply (reply.Failed d x) e = cc
-          by_reply reply.Prepared e = cc
-          by_reply reply.Committed e = cc
-          by_reply reply.Jfault e = cc
-          by_reply reply.Again e = cc
-          by_reply reply.Aborted e = cc
-          by_reply reply.Forgotten e = cc
-      not-live (Preparing xs aw) e h = cc
-      not-live (CommittingOne x) e h = cc
-      not-live (CommittingTwo aw) e h = cc
-      not-live (Ended aw) e h = cc
-      not-live (Aborting aw) e h = cc
+-- an order that is awaited by a test
+answer-if : (b : Bool) (o : Order) (g : ℕ) (r : Reply) → is_answer_to (status_order (gx g) (if b then Some o else None)) (gx g) (Some (message.Answer (gx g) r)) ≡ (b && IsReplyFor o r)
+answer-if true o g r = own-answer (message_of o (gx g)) g r ∙ same-reply o g r
+answer-if false o g r = refl
 
-      taken-asked : (t : Txn) → find_txn c.table (gx g) ≡ Some t → is_awaited_in t.phase j r ≡ true → settles (takes (gx g) t.participants j fails t.phase r).out.outcome ≡ false → Before → IsAsked (record c { table = changed c.table (gx g) (takes (gx g) t.participants j fails t.phase r) }) g
-      taken-asked t f e s b =
-          ordered-asked (record c { table = changed c.table (gx g) (takes (gx g) t.participants j fails t.phase r) }) g (left_of (takes (gx g) t.participants j fails t.phase r).step (Some t))
-          (stage-done (λ h. not-live t.phase e (sym (ap stage f) ∙ h)))
-          (changed-finds Before c g k.whole (takes (gx g) t.participants j fails t.phase r) ∙ ap (left_of (takes (gx g) t.participants j fails t.phase r).step) f)
-          (takes-ordered g t j fails (c.works g).writers t.phase r e (subst (NeatTxn (c.works g).writers) f (n g).txn).1 (sym (ap (λ x. is_over (stage x)) f) ∙ b.1) s)
+-- the status awaits the reply where it is one to the order
+abbrev pub IsAboutStatus : Reply → Type 0
+IsAboutStatus (reply.Done c w n p) = ⊥
+IsAboutStatus (reply.Failed c x) = ⊥
+IsAboutStatus _ = Unit {0}
 
-      reply-asked : (o : Option Txn) → find_txn c.table (gx g) ≡ o → settles (reply_found (gx g) j r fails o).out.outcome ≡ false → Before → IsBusy (record c { table = changed c.table (gx g) (reply_found (gx g) j r fails o) }) g
-      reply-asked None f s b = b.0
-      reply-asked (Some t) f s b = by_test (is_awaited_in t.phase j r) refl s
-        where
-          by_test : (q : Bool) → is_awaited_in t.phase j r ≡ q → settles (if q then takes (gx g) t.participants j fails t.phase r else stays).out.outcome ≡ false → IsBusy (record c { table = changed c.table (gx g) (if q then takes (gx g) t.participants j fails t.phase r else stays) }) g
-          by_test true e s = inl (taken-asked t f e s b)
-          by_test false e s = b.0
+phase-alike : (p : Phase) (j : Node) (g : ℕ) (r : Reply) → IsAboutStatus r → is_answer_to (status_order (gx g) (order_in p j)) (gx g) (Some (message.Answer (gx g) r)) ≡ is_awaited_in p j r
+phase-alike p j g (reply.Done c w n q) e = absurd e
+phase-alike p j g (reply.Failed c x) e = absurd e
+phase-alike Active j g reply.Prepared e = refl
+phase-alike Active j g reply.Committed e = refl
+phase-alike Active j g reply.Jfault e = refl
+phase-alike Active j g reply.Again e = refl
+phase-alike Active j g reply.Aborted e = refl
+phase-alike Active j g reply.Forgotten e = refl
+phase-alike (Preparing ws aw) j g reply.Prepared e = answer-if (has j aw) order.Prepare g reply.Prepared ∙ and-true (has j aw)
+phase-alike (Preparing ws aw) j g reply.Jfault e = answer-if (has j aw) order.Prepare g reply.Jfault ∙ and-true (has j aw)
+phase-alike (Preparing ws aw) j g reply.Committed e = answer-if (has j aw) order.Prepare g reply.Committed ∙ and-false (has j aw)
+phase-alike (Preparing ws aw) j g reply.Again e = answer-if (has j aw) order.Prepare g reply.Again ∙ and-false (has j aw)
+phase-alike (Preparing ws aw) j g reply.Aborted e = answer-if (has j aw) order.Prepare g reply.Aborted ∙ and-false (has j aw)
+phase-alike (Preparing ws aw) j g reply.Forgotten e = answer-if (has j aw) order.Prepare g reply.Forgotten ∙ and-false (has j aw)
+phase-alike (CommittingOne w) j g reply.Committed e = answer-if (eqb w.0 j.0) order.Commit g reply.Committed ∙ and-true (eqb w.0 j.0)
+phase-alike (CommittingOne w) j g reply.Jfault e = answer-if (eqb w.0 j.0) order.Commit g reply.Jfault ∙ and-true (eqb w.0 j.0)
+phase-alike (CommittingOne w) j g reply.Prepared e = answer-if (eqb w.0 j.0) order.Commit g reply.Prepared ∙ and-false (eqb w.0 j.0)
+phase-alike (CommittingOne w) j g reply.Again e = answer-if (eqb w.0 j.0) order.Commit g reply.Again ∙ and-false (eqb w.0 j.0)
+phase-alike (CommittingOne w) j g reply.Aborted e = answer-if (eqb w.0 j.0) order.Commit g reply.Aborted ∙ and-false (eqb w.0 j.0)
+phase-alike (CommittingOne w) j g reply.Forgotten e = answer-if (eqb w.0 j.0) order.Commit g reply.Forgotten ∙ and-false (eqb w.0 j.0)
+phase-alike (CommittingTwo aw) j g reply.Committed e = answer-if (has j aw) order.CommitPrepared g reply.Committed ∙ and-true (has j aw)
+phase-alike (CommittingTwo aw) j g reply.Prepared e = answer-if (has j aw) order.CommitPrepared g reply.Prepared ∙ and-false (has j aw)
+phase-alike (CommittingTwo aw) j g reply.Jfault e = answer-if (has j aw) order.CommitPrepared g reply.Jfault ∙ and-false (has j aw)
+phase-alike (CommittingTwo aw) j g reply.Again e = answer-if (has j aw) order.CommitPrepared g reply.Again ∙ and-false (has j aw)
+phase-alike (CommittingTwo aw) j g reply.Aborted e = answer-if (has j aw) order.CommitPrepared g reply.Aborted ∙ and-false (has j aw)
+phase-alike (CommittingTwo aw) j g reply.Forgotten e = answer-if (has j aw) order.CommitPrepared g reply.Forgotten ∙ and-false (has j aw)
+phase-alike (Ended aw) j g reply.Forgotten e = answer-if (has j aw) order.Forget g reply.Forgotten ∙ and-true (has j aw)
+phase-alike (Ended aw) j g reply.Prepared e = answer-if (has j aw) order.Forget g reply.Prepared ∙ and-false (has j aw)
+phase-alike (Ended aw) j g reply.Committed e = answer-if (has j aw) order.Forget g reply.Committed ∙ and-false (has j aw)
+phase-alike (Ended aw) j g reply.Jfault e = answer-if (has j aw) order.Forget g reply.Jfault ∙ and-false (has j aw)
+phase-alike (Ended aw) j g reply.Again e = answer-if (has j aw) order.Forget g reply.Again ∙ and-false (has j aw)
+phase-alike (Ended aw) j g reply.Aborted e = answer-if (has j aw) order.Forget g reply.Aborted ∙ and-false (has j aw)
+phase-alike (Aborting aw) j g reply.Aborted e = answer-if (has j aw) order.Abort g reply.Aborted ∙ and-true (has j aw)
+phase-alike (Aborting aw) j g reply.Prepared e = answer-if (has j aw) order.Abort g reply.Prepared ∙ and-false (has j aw)
+phase-alike (Aborting aw) j g reply.Committed e = answer-if (has j aw) order.Abort g reply.Committed ∙ and-false (has j aw)
+phase-alike (Aborting aw) j g reply.Jfault e = answer-if (has j aw) order.Abort g reply.Jfault ∙ and-false (has j aw)
+phase-alike (Aborting aw) j g reply.Again e = answer-if (has j aw) order.Abort g reply.Again ∙ and-false (has j aw)
+phase-alike (Aborting aw) j g reply.Forgotten e = answer-if (has j aw) order.Abort g reply.Forgotten ∙ and-false (has j aw)
 
-      status-goes : Goes Before c g (on_status c (gx g) j r fails)
-      status-goes = goes-with Before c g _ (item_for c.table (gx g) j r) (follows-goes Before c g (on_reply c.table (gx g) j r fails) _ (reply-asked (find_txn c.table (gx g)) refl))
+pub status-alike : (t : Option Txn) (j : Node) (g : ℕ) (r : Reply) → IsAboutStatus r → is_answer_to (status_order (gx g) (order_found j t)) (gx g) (Some (message.Answer (gx g) r)) ≡ awaits_found j r t
+status-alike None j g r e = refl
+status-alike (Some t) j g r e = phase-alike t.phase j g r e
 
-    -- REPLIES TO A COMMAND
-    module _ (wrote : Bool) (count : ℕ) (part : Part) (m : Command) (it : (c.works g).command ≡ Some m) (there : has j m.awaited ≡ true) where
-      abbrev work : Work
-      work = record (work_of c (gx g)) { writers = writers_with wrote j (work_of c (gx g)).writers; command = Some (with_done m j count part) }
+-- an EXEC isn't answered by a reply about the status, nor an order by one to a command
+pub exec-no-status : (a : Option Message) (g : ℕ) (c : Cid) (r : Reply) → IsExecOf g c a → IsAboutStatus r → is_answer_to a (gx g) (Some (message.Answer (gx g) r)) ≡ false
+exec-no-status None g c r e f = absurd e
+exec-no-status (Some (message.Exec h d l x y s)) g c r e f = own-answer (message.Exec h d l x y s) g r ∙ none r f
+  where
+    none : (r : Reply) → IsAboutStatus r → is_reply_to (message.Exec h d l x y s) r ≡ false
+    none (reply.Done c w n p) f = absurd f
+    none (reply.Failed c x) f = absurd f
+    none reply.Prepared f = refl
+    none reply.Committed f = refl
+    none reply.Jfault f = refl
+    none reply.Again f = refl
+    none reply.Aborted f = refl
+    none reply.Forgotten f = refl
+exec-no-status (Some (message.Prepare h)) g c r e f = absurd e
+exec-no-status (Some (message.Commit h)) g c r e f = absurd e
+exec-no-status (Some (message.CommitPrepared h)) g c r e f = absurd e
+exec-no-status (Some (message.Abort h)) g c r e f = absurd e
+exec-no-status (Some (message.Forget h)) g c r e f = absurd e
+exec-no-status (Some (message.Collect h)) g c r e f = absurd e
+exec-no-status (Some (message.Answer h x)) g c r e f = absurd e
+exec-no-status (Some (message.Graph h x)) g c r e f = absurd e
 
-      abbrev next : Coord
-      next = with_work c (gx g) work
+-- a reply to the command of this number
+abbrev pub IsOfCommand : Cid → Reply → Type 0
+IsOfCommand c (reply.Done d w n p) = d ≡ c
+IsOfCommand c (reply.Failed d x) = d ≡ c
+IsOfCommand c _ = ⊥
 
-      own : next.works g ≡ work
-      own = ap (λ (b : Bool). if b then work else c.works g) (eqb-self g)
+pub order-no-command : (o : Option Order) (g : ℕ) (cid : Cid) (r : Reply) → IsOfCommand cid r → is_answer_to (status_order (gx g) o) (gx g) (Some (message.Answer (gx g) r)) ≡ false
+order-no-command None g cid r e = refl
+order-no-command (Some o) g cid r e = own-answer (message_of o (gx g)) g r ∙ by o r e
+  where
+    by : (o : Order) (r : Reply) → IsOfCommand cid r → is_reply_to (message_of o (gx g)) r ≡ false
+    by order.Prepare (reply.Done d w n p) e = refl
+    by order.Prepare (reply.Failed d x) e = refl
+    by order.Commit (reply.Done d w n p) e = refl
+    by order.Commit (reply.Failed d x) e = refl
+    by order.CommitPrepared (reply.Done d w n p) e = refl
+    by order.CommitPrepared (reply.Failed d x) e = refl
+    by order.Abort (reply.Done d w n p) e = refl
+    by order.Abort (reply.Failed d x) e = refl
+    by order.Forget (reply.Done d w n p) e = refl
+    by order.Forget (reply.Failed d x) e = refl
+    by o reply.Prepared e = absurd e
+    by o reply.Committed e = absurd e
+    by o reply.Jfault e = absurd e
+    by o reply.Again e = absurd e
+    by o reply.Aborted e = absurd e
+    by o reply.Forgotten e = absurd e
 
-      live : IsLive c g
-      live = live-stage c g ((k.tied g).awaits m it (λ z. false-true (sym (ap (has j) z) ∙ there))).0
-
-      -- who is still awaited has an order
-      ordered : (i : Node) → has i (without j m.awaited) ≡ true → is_some (order_to i m.orders) ≡ true
-      ordered i q = exec-some g m.cid (order_to i m.orders) (command i (by_same (eqb j.0 i.0) (sym (has-without i j m.awaited) ∙ q))).1
-        where
-          command : NeatCommand g (participants_in (find_txn c.table (gx g))) (Some m)
-          command = subst (NeatCommand g (participants_in (find_txn c.table (gx g)))) it (n g).command
-
-          by_same : (b : Bool) → (if b then false else has i m.awaited) ≡ true → has i m.awaited ≡ true
-          by_same true e = absurd (cc)
-          by_same false e = e
-
-      completes-goes : without j m.awaited ≡ [] → (b : Block) → Goes Before next g (completes next (gx g) b)
-      completes-goes q block.Outside =
-          commits-goes Before next g k.whole (record { txn = live.txn; found = live.found; active = live.active }) (subst (λ (w : Work). IsDone w.command) (sym own) (λ i. ap (has i) q))
-      completes-goes q (block.Open l) = inr (answer-settles Before next g)
-      completes-goes q block.Failed = inr (answer-settles Before next g)
-
-      goes-on : (rest : List Node) → without j m.awaited ≡ rest → Goes Before next g (goes_on next (gx g) rest)
-      goes-on [] q = completes-goes q _
-      goes-on (i ∷ is) q =
-          let first : has i (without j m.awaited) ≡ true = ap (has i) q ∙ has-first i is in
-          inl (record { sessions = λ l. refl; asked = λ b. inl (command-asked next g (with_done m j count part) i (ap (λ (w : Work). w.command) own) first (ordered i first)); spares = λ h e. refl })
-
-      done-goes : Goes Before c g (takes_done c (gx g) j wrote count part m)
-      done-goes = goes-by Before next c g _ refl (ap (λ (w : Work). w.session) own) (λ h e. refl) (goes-on (without j m.awaited) refl)
-
-    on-done-goes : (cid : Cid) (wrote : Bool) (count : ℕ) (part : Part) (m : Option Command) → (c.works g).command ≡ m → Goes Before c g (on_done c (gx g) j cid wrote count part m)
-    on-done-goes cid wrote count part None e = rest-goes
-    on-done-goes cid wrote count part (Some m) e = by_test (is_awaited m j cid && fits_part m.stmt part) refl
-      where
-        by_test : (b : Bool) → (is_awaited m j cid && fits_part m.stmt part) ≡ b → Goes Before c g (if b then takes_done c (gx g) j wrote count part m else rests c)
-        by_test true q = done-goes wrote count part m e (and_parts _ _ (and_parts _ _ q).0).1
-        by_test false q = rest-goes
-
-    on-failed-goes : (cid : Cid) (why : Cause) (m : Option Command) → Goes Before c g (on_failed c (gx g) j cid why m)
-    on-failed-goes cid why None = rest-goes
-    on-failed-goes cid why (Some m) = by_test (is_awaited m j cid)
-      where
-        by_test : (b : Bool) → Goes Before c g (if b then is_refused c (gx g) (on_abort c.table (gx g)) [] (reason_of why) else rests c)
-        by_test true = inr (refused-settles Before c g (on_abort c.table (gx g)) [] (reason_of why))
-        by_test false = rest-goes
-
-    -- ALL ANSWERS
-    pub answer-goes : (r : Reply) → Goes Before c g (on_answer c (gx g) j fails r)
-    answer-goes (reply.Done cid wrote count part) = on-done-goes cid wrote count part (c.works g).command refl
-    answer-goes (reply.Failed cid why) = on-failed-goes cid why (c.works g).command
-    answer-goes reply.Prepared = status-goes reply.Prepared
-    answer-goes reply.Committed = status-goes reply.Committed
-    answer-goes reply.Jfault = status-goes reply.Jfault
-    answer-goes reply.Again = status-goes reply.Again
-    answer-goes reply.Aborted = status-goes reply.Aborted
-    answer-goes reply.Forgotten = status-goes reply.Forgotten
+pub exec-command : (a : Option Message) (g : ℕ) (c cid : Cid) (r : Reply) → IsExecOf g c a → IsOfCommand cid r → is_answer_to a (gx g) (Some (message.Answer (gx g) r)) ≡ eqb cid.0 c.0
+exec-command None g c cid r e f = absurd e
+exec-command (Some (message.Exec h d l x y s)) g c cid r e f = own-answer (message.Exec h d l x y s) g r ∙ by r f ∙ ap (λ (z : Cid). eqb cid.0 z.0) e.1
+  where
+    by : (r : Reply) → IsOfCommand cid r → is_reply_to (message.Exec h d l x y s) r ≡ eqb cid.0 d.0
+    by (reply.Done z w n p) f = ap (λ (z : Cid). eqb z.0 d.0) f
+    by (reply.Failed z x) f = ap (λ (z : Cid). eqb z.0 d.0) f
+    by reply.Prepared f = absurd f
+    by reply.Committed f = absurd f
+    by reply.Jfault f = absurd f
+    by reply.Again f = absurd f
+    by reply.Aborted f = absurd f
+    by reply.Forgotten f = absurd f
+exec-command (Some (message.Prepare h)) g c cid r e f = absurd e
+exec-command (Some (message.Commit h)) g c cid r e f = absurd e
+exec-command (Some (message.CommitPrepared h)) g c cid r e f = absurd e
+exec-command (Some (message.Abort h)) g c cid r e f = absurd e
+exec-command (Some (message.Forget h)) g c cid r e f = absurd e
+exec-command (Some (message.Collect h)) g c cid r e f = absurd e
+exec-command (Some (message.Answer h x)) g c cid r e f = absurd e
+exec-command (Some (message.Graph h x)) g c cid r e f = absurd e

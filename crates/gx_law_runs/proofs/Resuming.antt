@@ -31,15 +31,15 @@ use Rattle.gx_law_order.proofs.Sent.{at}
 use Rattle.gx_law_order.proofs.Stages.{gx}
 use Rattle.gx_law_order.proofs.Waiting.{HasSlice, Waits, each-among, has-slice, has-statement, waiting}
 use Rattle.gx_law_order.proofs.World.{Knows, world_knows}
-use Rattle.gx_law_commit.proofs.Always.{world-holds}
-use Rattle.gx_law_commit.proofs.Events.{live-stage}
-use Rattle.gx_law_commit.proofs.Waiting.{awaited}
-use Rattle.gx_law_commit.specs.Standings.{standing}
-use Rattle.gx_law_commit.specs.Standings.Standing.{Unborn}
+use Rattle.gx_law_order.proofs.Always.{world-holds}
+use Rattle.gx_law_order.proofs.Events.{live-stage}
+use Rattle.gx_law_order.proofs.WaitingParts.{awaited}
+use Rattle.gx_law_order.specs.Standings.{standing}
+use Rattle.gx_law_order.specs.Standings.Standing.{Unborn}
 use Rattle.gx_law_reads.proofs.Ends.{TakenAt, world-facts}
-use Rattle.gx_law_holds.specs.Marked.{IsMarked}
-use Rattle.gx_law_schedules.proofs.Enabled.{drawn-alike}
-use Rattle.gx_law_holds.proofs.World.{world-locked}
+use Rattle.gx_law_locks.specs.Marked.{IsMarked}
+use Rattle.gx_law_runs.proofs.Enabled.{drawn-alike}
+use Rattle.gx_law_locks.proofs.HoldsInRuns.{world-locked}
 use Rattle.gx_law_runs.specs.Reached.{IsReached}
 use Rattle.gx_law_runs.specs.Replays.{coordinator_after, segment_after}
 use Rattle.gx_law_runs.proofs.Reaching.{replayed}

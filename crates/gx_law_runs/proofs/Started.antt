@@ -13,7 +13,7 @@ use Rattle.gx_store.specs.Marks.{answer_count}
 use Rattle.gx_store.specs.Points.{marks_in, starts_by, starts_in}
 use Rattle.gx_store.proofs.Runs.{starts_in-push}
 use Rattle.gx_store.specs.Language.{AreLinesNumbered}
-use Rattle.gx_law_sessions.specs.Rest.{AreEventsLegal}
+use Rattle.gx_law_order.specs.Rest.{AreEventsLegal}
 use Rattle.gx_law_runs.proofs.Lines.{left-counted}
 
 module _ (script : Script) (numbered : AreLinesNumbered [] script.lines) (k : SessionId) where

@@ -30,10 +30,10 @@ use Rattle.gx_store.specs.Whole.{IsWholeStmt}
 use Rattle.gx_law_order.proofs.Lines.{Asks as Admits}
 use Rattle.gx_law_order.proofs.Sessions.{Kept, is_nothing_in, is_open_in, is_working_in}
 use Rattle.gx_law_order.proofs.Stages.{gx}
-use Rattle.gx_law_commit.proofs.Dispatching.{IsLive}
-use Rattle.gx_law_commit.proofs.Events.{live-stage}
-use Rattle.gx_law_schedules.proofs.Asking.{with_waiting}
-use Rattle.gx_law_schedules.proofs.Neat.{IsDone, clash}
+use Rattle.gx_law_order.proofs.Dispatching.{IsLive}
+use Rattle.gx_law_order.proofs.Events.{live-stage}
+use Rattle.gx_law_runs.proofs.Asking.{with_waiting}
+use Rattle.gx_law_runs.proofs.Neat.{IsDone, clash}
 use Rattle.gx_law_runs.proofs.Asked.{IsBusy, command-asked, done-unless, has-first}
 use Rattle.gx_law_runs.proofs.Plans.{IsFilled, IsPlanFull, plan-full}
 use Rattle.gx_law_runs.proofs.Turns.{Goes, commits-goes, goes-by, refused-settles}

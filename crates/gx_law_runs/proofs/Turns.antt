@@ -17,8 +17,8 @@ use Rattle.gx_store.specs.declared.mark.Mark.{Mark}
 use Rattle.gx_rules.specs.AtCoordinator.{answers, commits, failure_marks, follows, is_committed, is_idle, is_refused}
 use Rattle.gx_rules.specs.Coordinators.{Coord, CoordTurn, Session, work_of}
 use Rattle.gx_law_order.proofs.Stages.{IsWhole, changed-at, gx, left_of}
-use Rattle.gx_law_commit.proofs.Dispatching.{IsLive}
-use Rattle.gx_law_schedules.proofs.Neat.{IsDone, clash}
+use Rattle.gx_law_order.proofs.Dispatching.{IsLive}
+use Rattle.gx_law_runs.proofs.Neat.{IsDone, clash}
 use Rattle.gx_law_runs.proofs.Asked.{IsBusy, IsOrdered, has-first, ordered-asked}
 use Rattle.gx_law_runs.proofs.Sparing.{Spares, released-spares}
 

@@ -20,7 +20,7 @@ use Rattle.gx_rules.specs.Machine.{can}
 use Rattle.gx_rules.specs.Segments.{Seg}
 use Rattle.gx_law_order.proofs.Lists.{Each, each_weaker}
 use Rattle.gx_law_order.proofs.Ordered.{world_well}
-use Rattle.gx_law_schedules.proofs.Enabled.{any-each, any-same, resumes-here-admitted, resumes-there-admitted, segments-first}
+use Rattle.gx_law_runs.proofs.Enabled.{any-each, any-same, resumes-here-admitted, resumes-there-admitted, segments-first}
 use Rattle.gx_law_runs.specs.Reached.{IsReached}
 use Rattle.gx_law_runs.specs.Replays.{coordinator_after, is_admitted, segment_after}
 use Rattle.gx_law_runs.proofs.Reaching.{replayed, w}

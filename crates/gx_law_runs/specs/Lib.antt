@@ -1,3 +1,6 @@
+pub mod Links
+pub mod Room
+pub mod Enabled
 pub mod Replays
 pub mod Reached
 pub mod Endings

@@ -7,8 +7,8 @@ use Rattle.gx_store.specs.Runs.{IsLegalHistory}
 use Rattle.gx_rules.specs.Machine.{run_of, world_of}
 use Rattle.gx_rules.specs.System.{IsSystemRun}
 use Rattle.gx_sql.specs.Script.{Reads}
-use Rattle.gx_law_rounds.proofs.Whole.{world-rounds}
-use Rattle.gx_law_rounds.proofs.EachVictim.{world-cancels}
+use Rattle.gx_law_locks.proofs.Whole.{world-rounds}
+use Rattle.gx_law_locks.proofs.EachVictim.{world-cancels}
 use Rattle.gx_law_answers.specs.Cancelled.{AreVictimsCancelled}
 use Rattle.gx_law_answers.proofs.Join.{legal, system-legal}
 use Rattle.gx_law_answers.proofs.Snaps.{snapshots-one}

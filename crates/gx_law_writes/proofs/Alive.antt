@@ -29,12 +29,12 @@ use Rattle.gx_store.specs.Writes.{IsLate}
 use Rattle.gx_store.proofs.Marks.{has_snapshot-append, is_aborted-append, is_snapped-append}
 use Rattle.gx_rules.specs.Machine.{World}
 use Rattle.gx_law_order.proofs.Lists.{Each}
-use Rattle.gx_law_sessions.specs.Alive.{WasUnderWay}
-use Rattle.gx_law_sessions.specs.Orders.{IsOrder, IsReadBy, IsServed, level_by, level_of_began}
-use Rattle.gx_law_sessions.specs.Scanned.{began_from, command_at, stmt_of_command}
-use Rattle.gx_law_sessions.specs.Standing.{IsFirst, is_busy, state_in}
-use Rattle.gx_law_sessions.proofs.Said.{CalmFor}
-use Rattle.gx_law_commit.specs.Standings.{gx}
+use Rattle.gx_law_order.specs.Alive.{WasUnderWay}
+use Rattle.gx_law_order.specs.Orders.{IsOrder, IsReadBy, IsServed, level_by, level_of_began}
+use Rattle.gx_law_order.specs.Scanned.{began_from, command_at, stmt_of_command}
+use Rattle.gx_law_order.specs.Standing.{IsFirst, is_busy, state_in}
+use Rattle.gx_law_order.proofs.Said.{CalmFor}
+use Rattle.gx_law_order.specs.Standings.{gx}
 use Rattle.gx_law_writes.proofs.Live.{Running, under-way}
 
 -- THE COMMAND'S SNAPSHOT

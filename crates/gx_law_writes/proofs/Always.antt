@@ -21,8 +21,8 @@ use Rattle.gx_rules.specs.Sending.{counted, numbered}
 use Rattle.gx_law_order.proofs.Lists.{Each, each_append}
 use Rattle.gx_law_order.proofs.Moves.{HasNamed}
 use Rattle.gx_law_order.proofs.Releases.{each-released}
-use Rattle.gx_law_sessions.specs.Rest.{EachMark}
-use Rattle.gx_law_sessions.proofs.Given.{marks-append}
+use Rattle.gx_law_order.specs.Rest.{EachMark}
+use Rattle.gx_law_order.proofs.Given.{marks-append}
 
 -- it holds of each mark of these steps, whatever marks the step gets besides
 abbrev pub AreAlways : (Point → Mark → Type 0) → List Step → List Step → Type 0

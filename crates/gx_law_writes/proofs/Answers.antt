@@ -44,10 +44,10 @@ use Rattle.gx_rules.specs.Machine.{World}
 use Rattle.gx_law_order.proofs.Lists.{Each, each_weaker}
 use Rattle.gx_law_order.proofs.Sessions.{Kept, is_closing_in, stage_of}
 use Rattle.gx_store.specs.Language.{AreLinesNumbered}
-use Rattle.gx_law_sessions.specs.Rest.{EachMark}
-use Rattle.gx_law_sessions.specs.Standing.{AreSessions, HasSnapshot, Owns, is_busy, level_in, state_in}
-use Rattle.gx_law_sessions.proofs.Said.{CalmFor}
-use Rattle.gx_law_commit.specs.Standings.{gx, waits_in}
+use Rattle.gx_law_order.specs.Rest.{EachMark}
+use Rattle.gx_law_order.specs.Standing.{AreSessions, HasSnapshot, Owns, is_busy, level_in, state_in}
+use Rattle.gx_law_order.proofs.Said.{CalmFor}
+use Rattle.gx_law_order.specs.Standings.{gx, waits_in}
 use Rattle.gx_law_writes.specs.Inserts.{HasInserted, InsertTold}
 use Rattle.gx_law_writes.proofs.Alive.{has-snap, line-is}
 use Rattle.gx_law_writes.proofs.Live.{Running, live-owns, running, running-in, runs}
@@ -80,7 +80,7 @@ own-kept ReadCommitted ms ns g c o y e h = absurd (differ (sym h ∙ e))
     differ z = cc
 own-kept RepeatableRead ms ns g c o y e h = from (subst (HasSnapshot RepeatableRead ms g) e h)
   where
-    from : Rattle.gx_law_sessions.specs.Standing.IsTaken ms g y → has_own_snapshot RepeatableRead (ms ++ ns) g c ≡ true
+    from : Rattle.gx_law_order.specs.Standing.IsTaken ms g y → has_own_snapshot RepeatableRead (ms ++ ns) g c ≡ true
     from t = has_snapshot-append ms ns g ∙ or_left (has_snapshot ms g) (has_snapshot ns g) (has-snap ms t.place g t.d y t.taken).0
 
 busy-level : (b : Block) (n : ℕ) → level_of (state_in b n) ≡ level_in b

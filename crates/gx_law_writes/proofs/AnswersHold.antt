@@ -49,14 +49,14 @@ use Rattle.gx_law_order.proofs.Ordered.{seg_marks}
 use Rattle.gx_law_order.proofs.Releases.{each-released}
 use Rattle.gx_law_order.proofs.Sent.{at}
 use Rattle.gx_law_order.proofs.World.{Knows, moves_knows}
-use Rattle.gx_law_sessions.proofs.Stepping.{Holds}
-use Rattle.gx_law_sessions.proofs.World.{moves-holds}
-use Rattle.gx_law_sessions.specs.Rest.{EachMark}
-use Rattle.gx_law_sessions.specs.Standing.{IsStanding, waits}
+use Rattle.gx_law_order.proofs.Stepping.{Holds}
+use Rattle.gx_law_order.proofs.Legality.{moves-holds}
+use Rattle.gx_law_order.specs.Rest.{EachMark}
+use Rattle.gx_law_order.specs.Standing.{IsStanding, waits}
 use Rattle.gx_law_writes.specs.Commands.{AnswerHolds, AreAnswersHeld, AreLeftAlone}
 use Rattle.gx_law_writes.proofs.Answering.{AtOnce, Dull, IsHome, IsRefusal, IsServed, NoAnswer, OneAnswer, Starts, end-none, line-starts, message-deals, one-more, resume-refuses}
 use Rattle.gx_law_writes.proofs.Commands.{HoldsTableOf, IsCommandOf, IsRun, IsWaitingOf, as-meant, out-holds, run-is}
-use Rattle.gx_law_holds.proofs.Orders.{Ordered, moves-orders}
+use Rattle.gx_law_locks.proofs.Orders.{Ordered, moves-orders}
 use Rattle.gx_msg.specs.declared.message.Out.{Out}
 
 -- MARKS

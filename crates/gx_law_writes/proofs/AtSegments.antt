@@ -62,7 +62,7 @@ use Rattle.gx_law_reads.specs.Horizons.{IsSeenBelow, IsToRun}
 use Rattle.gx_law_reads.specs.Sights.{DoViewsStay, IsOnlyAt, IsShownView}
 use Rattle.gx_law_reads.proofs.Ends.{Facts}
 use Rattle.gx_law_reads.proofs.Waiting.{new-to-run, waits-to-run}
-use Rattle.gx_law_holds.proofs.World.{Locked}
+use Rattle.gx_law_locks.proofs.HoldsInRuns.{Locked}
 use Rattle.gx_law_writes.specs.Says.{Says, count_at, stmt_of_change}
 use Rattle.gx_law_writes.proofs.Bases.{freed-on, started-on}
 use Rattle.gx_law_writes.proofs.Comes.{legals-each}
@@ -75,18 +75,18 @@ use Rattle.gx_law_writes.proofs.VersionsTold.{IsOn, Known}
 use Rattle.gx_law_writes.proofs.Undone.{IsBegun, undone, undone-drops}
 use Rattle.gx_law_order.proofs.More.{marks-last}
 use Rattle.gx_store.specs.Language.{AreLinesNumbered}
-use Rattle.gx_law_sessions.specs.Alive.{HasRun, WasUnderWay}
-use Rattle.gx_law_sessions.specs.Orders.{IsOrder, IsServed}
-use Rattle.gx_law_sessions.specs.Rest.{EachMark}
-use Rattle.gx_law_sessions.specs.Scanned.{stmt_of_command}
-use Rattle.gx_law_sessions.proofs.Given.{marks-append}
-use Rattle.gx_law_sessions.proofs.Outs.{MessageIs}
-use Rattle.gx_law_sessions.proofs.Stepping as stepping
-use Rattle.gx_law_commit.specs.Pairs.{is_open}
-use Rattle.gx_law_commit.specs.Standings.{at, gx}
-use Rattle.gx_law_commit.proofs.Complete.{IsBack, SentBack}
-use Rattle.gx_law_commit.proofs.Ways.{CommandOf}
-use Rattle.gx_law_commit.proofs.Whole.{Both}
+use Rattle.gx_law_order.specs.Alive.{HasRun, WasUnderWay}
+use Rattle.gx_law_order.specs.Orders.{IsOrder, IsServed}
+use Rattle.gx_law_order.specs.Rest.{EachMark}
+use Rattle.gx_law_order.specs.Scanned.{stmt_of_command}
+use Rattle.gx_law_order.proofs.Given.{marks-append}
+use Rattle.gx_law_order.proofs.Outs.{MessageIs}
+use Rattle.gx_law_order.proofs.Stepping as stepping
+use Rattle.gx_law_order.specs.Pairs.{is_open}
+use Rattle.gx_law_order.specs.Standings.{at, gx}
+use Rattle.gx_law_order.proofs.Complete.{IsBack, SentBack}
+use Rattle.gx_law_order.proofs.Ways.{CommandOf}
+use Rattle.gx_law_order.proofs.Whole.{Both}
 use Rattle.gx_law_writes.specs.Changes.{FaultLegal}
 use Rattle.gx_law_writes.specs.Homes.{AreRowsHome, IsPlacedMark}
 use Rattle.gx_law_writes.specs.Writes.{WriteLegal}

@@ -19,7 +19,7 @@ use Rattle.gx_rules.specs.Segments.{Local, Seg, local_of, with_local}
 use Rattle.gx_rules.specs.Slices.{own_lock, starts_from}
 use Rattle.gx_law_order.proofs.SegItems.{writes_at}
 use Rattle.gx_law_order.proofs.Waiting.{freed}
-use Rattle.gx_law_commit.specs.Pairs.{is_open}
+use Rattle.gx_law_order.specs.Pairs.{is_open}
 use Rattle.gx_law_writes.proofs.Frames.{Inv, held-other, local-other, local-own, lock-less, no-version, unlike-owner}
 use Rattle.gx_law_writes.proofs.VersionsTold.{IsOn}
 

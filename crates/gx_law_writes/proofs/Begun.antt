@@ -56,10 +56,10 @@ use Rattle.gx_law_order.proofs.Ordered.{at-both, at_coordinator, sends-at}
 use Rattle.gx_law_order.proofs.Waiting.{GoesOn, GoesOnAtRow, freed, goes-on-is, going-on}
 use Rattle.gx_law_order.proofs.More.{marks-last}
 use Rattle.gx_law_order.proofs.World.{Knows}
-use Rattle.gx_law_commit.specs.Standings.{at}
-use Rattle.gx_law_commit.proofs.Everywhere.{Holds}
-use Rattle.gx_law_commit.proofs.Always.{HeardAt, SaidTo, by-heard}
-use Rattle.gx_law_commit.proofs.Steps.{world-keeps}
+use Rattle.gx_law_order.specs.Standings.{at}
+use Rattle.gx_law_order.proofs.Everywhere.{Holds}
+use Rattle.gx_law_order.proofs.Always.{HeardAt, SaidTo, by-heard}
+use Rattle.gx_law_order.proofs.Steps.{world-keeps}
 use Rattle.gx_law_writes.proofs.Turns.{Continues, IsKeptOrDropped, NoRow, Quiet, Turns, Waited, base, message-turns, resumption-turns}
 
 -- the first command of a transaction that has done no row yet: one that waits for its table, or the next after the last

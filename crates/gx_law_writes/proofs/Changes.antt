@@ -39,12 +39,12 @@ use Rattle.gx_rules.specs.Segments.Phase.{Aborted, Committed, Forgotten, Prepare
 use Rattle.gx_law_order.proofs.Lists.{Each}
 use Rattle.gx_law_order.proofs.Ordered.{resumes_there, world_well}
 use Rattle.gx_law_order.proofs.Waiting.{GoesOn, going-on}
-use Rattle.gx_law_sessions.specs.Rest.{EachMark}
-use Rattle.gx_law_sessions.proofs.World as histories
-use Rattle.gx_law_commit.specs.Pairs.{is_open}
-use Rattle.gx_law_commit.specs.Standings.{at}
-use Rattle.gx_law_commit.proofs.Whole.{world-both}
-use Rattle.gx_law_holds.proofs.World.{world-locked}
+use Rattle.gx_law_order.specs.Rest.{EachMark}
+use Rattle.gx_law_order.proofs.Legality as histories
+use Rattle.gx_law_order.specs.Pairs.{is_open}
+use Rattle.gx_law_order.specs.Standings.{at}
+use Rattle.gx_law_order.proofs.Whole.{world-both}
+use Rattle.gx_law_locks.proofs.HoldsInRuns.{world-locked}
 use Rattle.gx_law_reads.proofs.Ends.{world-facts}
 use Rattle.gx_law_order.proofs.Journals.{world-hold}
 use Rattle.gx_law_writes.specs.Changes.{AreLaterTurnsTrue, AreNewTurnsTrue, DoCountsStay, FaultLegal, IsTrueTurn}

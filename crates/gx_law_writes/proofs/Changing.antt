@@ -45,7 +45,7 @@ use Rattle.gx_rules.specs.Visits.{WritesIt}
 use Rattle.gx_rules.proofs.Moving.{Keeps}
 use Rattle.gx_law_order.proofs.Lists.{Each, each_append, each_weaker}
 use Rattle.gx_law_order.proofs.Waiting.{freed}
-use Rattle.gx_law_sessions.specs.Scanned.{stmt_of_command}
+use Rattle.gx_law_order.specs.Scanned.{stmt_of_command}
 pub use Rattle.gx_law_writes.specs.Says.{changing_stmt, stmt_of_change}
 use Rattle.gx_law_writes.specs.Homes.{IsPlaced, IsSameKey, KeepsItsKey, KeepsKey}
 use Rattle.gx_law_writes.proofs.Pieces.{IsSliceOf, delete-line, update-line}

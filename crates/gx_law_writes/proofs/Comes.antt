@@ -22,7 +22,7 @@ use Rattle.gx_rules.specs.Slices.{Moved, fails_on, first_fault}
 use Rattle.gx_rules.specs.Visits.{DidStop, WaitsAt}
 use Rattle.gx_law_order.proofs.Lists.{Each, each_weaker}
 use Rattle.gx_law_order.proofs.SegItems.{writes_at}
-use Rattle.gx_law_sessions.specs.Rest.{EachMark}
+use Rattle.gx_law_order.specs.Rest.{EachMark}
 use Rattle.gx_law_writes.specs.Parts.{IsPartOf}
 use Rattle.gx_law_writes.proofs.Chosen.{Sight}
 use Rattle.gx_law_writes.proofs.Frames.{Inv}

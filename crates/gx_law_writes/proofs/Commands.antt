@@ -40,12 +40,12 @@ use Rattle.gx_law_order.proofs.Lists.{Each}
 use Rattle.gx_law_order.proofs.Queued.{lock-of, statement-waits}
 use Rattle.gx_law_order.proofs.Sessions.{Kept, stage_of}
 use Rattle.gx_law_order.proofs.Statuses.Stage.{Live}
-use Rattle.gx_law_holds.proofs.Marks.{waits_from-append}
-use Rattle.gx_law_sessions.proofs.Said.{CalmFor, Said, said-calm}
-use Rattle.gx_law_sessions.specs.Standing.{IsLineOf, IsSession, IsStanding, Owns, Stands, is_alone, is_busy, is_sound, state_in}
+use Rattle.gx_law_locks.proofs.Marks.{waits_from-append}
+use Rattle.gx_law_order.proofs.Said.{CalmFor, Said, said-calm}
+use Rattle.gx_law_order.specs.Standing.{IsLineOf, IsSession, IsStanding, Owns, Stands, is_alone, is_busy, is_sound, state_in}
 use Rattle.gx_law_writes.specs.Commands.{AreLeftAlone, AreUnsent, AwaitsTable, DoCommandsHold, HasNotGoneOut}
-use Rattle.gx_law_holds.proofs.Going.{CommandLocked, HasLock}
-use Rattle.gx_law_holds.proofs.Lasting.{IsIn, in-added, in-filter, in-new, in-without}
+use Rattle.gx_law_locks.proofs.Going.{CommandLocked, HasLock}
+use Rattle.gx_law_locks.proofs.Lasting.{IsIn, in-added, in-filter, in-new, in-without}
 
 -- THE TABLE
 -- the transaction holds at the coordinator the lock that the statement takes on its table

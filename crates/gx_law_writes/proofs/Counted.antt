@@ -39,12 +39,12 @@ use Rattle.gx_law_order.proofs.Ordered.{seg_marks}
 use Rattle.gx_law_order.proofs.Waiting.{going-out}
 use Rattle.gx_law_order.proofs.More.{marks-last}
 use Rattle.gx_store.specs.Language.{AreLinesNumbered}
-use Rattle.gx_law_sessions.specs.Rest.{EachMark}
-use Rattle.gx_law_sessions.proofs.Given.{marks-append}
-use Rattle.gx_law_sessions.proofs.Stepping as stepping
-use Rattle.gx_law_sessions.proofs.World as histories
-use Rattle.gx_law_commit.specs.Standings.{at, gx}
-use Rattle.gx_law_commit.proofs.Whole.{Both, moves-both}
+use Rattle.gx_law_order.specs.Rest.{EachMark}
+use Rattle.gx_law_order.proofs.Given.{marks-append}
+use Rattle.gx_law_order.proofs.Stepping as stepping
+use Rattle.gx_law_order.proofs.Legality as histories
+use Rattle.gx_law_order.specs.Standings.{at, gx}
+use Rattle.gx_law_order.proofs.Whole.{Both, moves-both}
 use Rattle.gx_law_writes.specs.Inserts.{AreInsertsTold, InsertTold}
 use Rattle.gx_law_writes.proofs.Answers.{IsProgress, goes-progress, is-progress-more, marks-told}
 use Rattle.gx_law_writes.proofs.Told.{IsReport, IsWordOf, sending-told}

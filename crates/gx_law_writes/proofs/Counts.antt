@@ -20,8 +20,8 @@ use Rattle.gx_meaning.specs.Plan.{insert_pieces, nodes_from, row_pieces, rows_at
 use Rattle.gx_meaning.specs.declared.piece.Piece.{Piece}
 use Rattle.gx_rules.specs.AtCoordinator.{nodes_in}
 use Rattle.gx_law_order.proofs.Lists.{Each}
-use Rattle.gx_law_commit.proofs.Nodes.{has-append, has-without}
-use Rattle.gx_law_commit.specs.Standings.{at}
+use Rattle.gx_law_order.proofs.Nodes.{has-append, has-without}
+use Rattle.gx_law_order.specs.Standings.{at}
 
 -- ROWS THAT ARE AWAITED
 module _ (place : KeyedRow → ℕ) where

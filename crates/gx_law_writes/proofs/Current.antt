@@ -23,7 +23,7 @@ use Rattle.gx_rules.specs.Shown.{counts, current_of, is_current}
 use Rattle.gx_rules.specs.Slices.{Moved, is_holding, own_lock}
 use Rattle.gx_law_order.proofs.Lists.{Each, each_append}
 use Rattle.gx_law_order.proofs.SegItems.{writes_at}
-use Rattle.gx_law_commit.specs.Pairs.{is_open}
+use Rattle.gx_law_order.specs.Pairs.{is_open}
 use Rattle.gx_law_reads.specs.Sights.{IsOnlyAt}
 use Rattle.gx_law_writes.proofs.Frames.{AddsOwn, Inv, IsWork}
 use Rattle.gx_law_writes.proofs.Newest.{FailsBoth, IsWriteOf, find-reverse, is_row, newest, newest-write, stricter-write}

@@ -20,12 +20,12 @@ use Rattle.gx_script.specs.declared.Script.{Script}
 use Rattle.gx_rules.specs.Machine.{World}
 use Rattle.gx_rules.specs.Slices.{own_lock}
 use Rattle.gx_law_order.proofs.Sent.{at}
-use Rattle.gx_law_commit.proofs.Counts.{writer-append}
-use Rattle.gx_law_holds.specs.Late.{AreReleasesLate}
-use Rattle.gx_law_holds.specs.Own.{DoHoldOwn}
-use Rattle.gx_law_holds.proofs.Lasting.{IsIn, late-behind, still-held}
-use Rattle.gx_law_holds.proofs.Moves.{own-lasts}
-use Rattle.gx_law_holds.proofs.World.{Locked}
+use Rattle.gx_law_order.proofs.Counts.{writer-append}
+use Rattle.gx_law_locks.specs.Late.{AreReleasesLate}
+use Rattle.gx_law_locks.specs.Own.{DoHoldOwn}
+use Rattle.gx_law_locks.proofs.Lasting.{IsIn, late-behind, still-held}
+use Rattle.gx_law_locks.proofs.Moves.{own-lasts}
+use Rattle.gx_law_locks.proofs.HoldsInRuns.{Locked}
 
 -- IN A STEP
 same-gxids : (a b : Gxid) → is_same_gxid a b ≡ true → a ≡ b

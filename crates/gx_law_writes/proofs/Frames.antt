@@ -25,7 +25,7 @@ use Rattle.gx_rules.specs.Slices.{Moved, adds_version, gives_back, is_holding, n
 use Rattle.gx_rules.proofs.Moving.{Keeps}
 use Rattle.gx_law_order.proofs.Lists.{Each, each_append}
 use Rattle.gx_law_order.proofs.SegItems.{writes_at, writes-append}
-use Rattle.gx_law_commit.specs.Pairs.{is_open}
+use Rattle.gx_law_order.specs.Pairs.{is_open}
 
 -- CLAIMS OF ANOTHER
 other-claim : (own other : Claim) → is_same_gxid other.gxid own.gxid ≡ false → same_claim other own ≡ false

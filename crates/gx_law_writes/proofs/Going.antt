@@ -36,11 +36,11 @@ use Rattle.gx_rules.specs.Shown.{shown}
 use Rattle.gx_rules.specs.Slices.{first_fault, starts_from}
 use Rattle.gx_law_order.proofs.Lists.{Each, each_append, each_weaker}
 use Rattle.gx_law_order.proofs.SegItems.{writes_at}
-use Rattle.gx_law_sessions.specs.Orders.{IsServed}
-use Rattle.gx_law_sessions.specs.Scanned.{stmt_of_command}
-use Rattle.gx_law_sessions.proofs.Said.{CalmFor}
-use Rattle.gx_law_commit.specs.Pairs.{is_open}
-use Rattle.gx_law_commit.specs.Standings.{at}
+use Rattle.gx_law_order.specs.Orders.{IsServed}
+use Rattle.gx_law_order.specs.Scanned.{stmt_of_command}
+use Rattle.gx_law_order.proofs.Said.{CalmFor}
+use Rattle.gx_law_order.specs.Pairs.{is_open}
+use Rattle.gx_law_order.specs.Standings.{at}
 use Rattle.gx_law_reads.specs.Sights.{IsOnlyAt}
 use Rattle.gx_law_writes.specs.Parts.{IsPartOf}
 use Rattle.gx_law_writes.specs.Says.{Says, SaysDone, SaysFault, SaysOvertaken, stmt_of_change}

@@ -29,7 +29,7 @@ use Rattle.gx_rules.specs.Segments.{Seg, SegTurn, Suspended, Version}
 use Rattle.gx_rules.specs.Slices.{Moved}
 use Rattle.gx_rules.specs.Visits.{DidStop, Visit, WaitsAt, visited}
 use Rattle.gx_law_order.proofs.Lists.{Each, each_append, each_weaker}
-use Rattle.gx_law_sessions.specs.Orders.{IsServed}
+use Rattle.gx_law_order.specs.Orders.{IsServed}
 use Rattle.gx_law_reads.specs.Sights.{IsOnlyAt}
 use Rattle.gx_law_writes.specs.Parts.{IsPartOf}
 use Rattle.gx_law_writes.proofs.Comes.{stop-locks}

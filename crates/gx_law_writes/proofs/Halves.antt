@@ -23,7 +23,7 @@ use Rattle.gx_rules.specs.Segments.{Suspended, Version, local_of}
 use Rattle.gx_law_order.proofs.Lists.{Each}
 use Rattle.gx_law_order.proofs.Ordered.{Well}
 use Rattle.gx_law_order.proofs.Waiting.{waiting}
-use Rattle.gx_law_commit.specs.Standings.{at}
+use Rattle.gx_law_order.specs.Standings.{at}
 use Rattle.gx_law_reads.specs.Sights.{DoViewsStay, IsOnlyAt}
 use Rattle.gx_law_writes.proofs.Half.{IsHalf}
 use Rattle.gx_law_writes.proofs.SelectedRows.{HaveHomes}

@@ -20,8 +20,8 @@ use Rattle.gx_script.specs.declared.Script.{Script}
 use Rattle.gx_store.specs.declared.mark.Mark.{Mark}
 use Rattle.gx_store.specs.Lines.{BlockState, InBlock, Outside, Failed, is_command, stmt_of}
 use Rattle.gx_store.specs.Marks.{is_same_session}
-use Rattle.gx_law_sessions.specs.Scanned.{began_from, closes_block, command_at, command_from, nth_command}
-use Rattle.gx_law_sessions.specs.Orders.{IsOrder}
+use Rattle.gx_law_order.specs.Scanned.{began_from, closes_block, command_at, command_from, nth_command}
+use Rattle.gx_law_order.specs.Orders.{IsOrder}
 use Rattle.gx_law_writes.specs.Inserting.{AreInserting, is_inserting}
 use Rattle.gx_law_writes.proofs.Pieces.{IsSliceOf, order-slice}
 use Rattle.gx_law_writes.proofs.Told.{may_fail}

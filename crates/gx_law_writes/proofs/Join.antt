@@ -54,13 +54,13 @@ use Rattle.gx_law_order.proofs.Lists.{Each, each_append}
 use Rattle.gx_law_order.proofs.Ordered.{seg_marks}
 use Rattle.gx_law_order.proofs.Waiting.{GoesOn, each-among, going-on, going-out}
 use Rattle.gx_store.specs.Language.{AreLinesNumbered}
-use Rattle.gx_law_sessions.specs.Orders.{IsOrder}
-use Rattle.gx_law_sessions.specs.Finish.{AreVerdictsLegal, IsVerdictLegal}
-use Rattle.gx_law_sessions.specs.Rest.{AreRestLegal, EachMark, IsCaused, Rest, RestAnswer, RestRefusal, UnlessStart, is_going_out}
-use Rattle.gx_law_sessions.proofs.Given.{marks-append}
-use Rattle.gx_law_sessions.proofs.Outs.{MessageIs}
-use Rattle.gx_law_sessions.proofs.World.{legal-with-rest}
-use Rattle.gx_law_commit.specs.Standings.{at, gx}
+use Rattle.gx_law_order.specs.Orders.{IsOrder}
+use Rattle.gx_law_order.specs.Finish.{AreVerdictsLegal, IsVerdictLegal}
+use Rattle.gx_law_order.specs.Rest.{AreRestLegal, EachMark, IsCaused, Rest, RestAnswer, RestRefusal, UnlessStart, is_going_out}
+use Rattle.gx_law_order.proofs.Given.{marks-append}
+use Rattle.gx_law_order.proofs.Outs.{MessageIs}
+use Rattle.gx_law_order.proofs.Legality.{legal-with-rest}
+use Rattle.gx_law_order.specs.Standings.{at, gx}
 use Rattle.gx_law_writes.specs.Inserting.{AreInserting}
 use Rattle.gx_law_writes.specs.Writes.{AreWritesLegal, WriteLegal}
 use Rattle.gx_law_writes.proofs.Answers.{answered, tells}
@@ -123,7 +123,7 @@ sent-no-fault f (o ∷ outs) = (tt, sent-no-fault (counted f o) outs)
 unless : (e : Event) (A : Type 0) → A → UnlessStart e A
 unless e A a = by_test (is_going_out e)
   where
-    by_test : (b : Bool) → Rattle.gx_law_sessions.specs.Rest.unless b A
+    by_test : (b : Bool) → Rattle.gx_law_order.specs.Rest.unless b A
     by_test true = tt
     by_test false = a
 

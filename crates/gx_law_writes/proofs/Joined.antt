@@ -10,11 +10,11 @@ use Rattle.gx_store.specs.Locks.{AreGranted, AreLockedMarks, AreLockedSteps, IsM
 use Rattle.gx_store.specs.Marks.{is_aborted, is_ended}
 use Rattle.gx_store.specs.Points.{Point, before, marks_in}
 use Rattle.gx_store.specs.Waits.{claim}
-use Rattle.gx_law_sessions.specs.Rest.{EachMark}
-use Rattle.gx_law_holds.specs.Late.{AreReleasesLate}
-use Rattle.gx_law_holds.specs.Marked.{AreWaitsLegal}
-use Rattle.gx_law_holds.specs.Own.{DoHoldOwn}
-use Rattle.gx_law_holds.specs.Writes.{AreWritesUnderLock}
+use Rattle.gx_law_order.specs.Rest.{EachMark}
+use Rattle.gx_law_locks.specs.Late.{AreReleasesLate}
+use Rattle.gx_law_locks.specs.Marked.{AreWaitsLegal}
+use Rattle.gx_law_locks.specs.Own.{DoHoldOwn}
+use Rattle.gx_law_locks.specs.Writes.{AreWritesUnderLock}
 use Rattle.gx_law_writes.specs.Commands.{AnswerHolds, AreAnswersHeld, AreReadsHeld, EachPoint}
 
 -- WHAT IS ASKED OF EACH MARK BUT AN ANSWER

@@ -12,8 +12,8 @@ use Rattle.gx_store.specs.Legal.{AreLegalSteps}
 use Rattle.gx_store.specs.Points.{Point}
 use Rattle.gx_rules.specs.Machine.{world_of}
 use Rattle.gx_store.specs.Language.{AreLinesNumbered}
-use Rattle.gx_law_sessions.specs.Rest.{AreRestLegal, EachMark, Rest, RestAnswer}
-use Rattle.gx_law_sessions.proofs.World.{legal-with-rest}
+use Rattle.gx_law_order.specs.Rest.{AreRestLegal, EachMark, Rest, RestAnswer}
+use Rattle.gx_law_order.proofs.Legality.{legal-with-rest}
 use Rattle.gx_law_writes.specs.Inserts.{AreInsertsTold, InsertTold, IsInsertTold}
 use Rattle.gx_law_writes.specs.Left.{AreLeftLegal, Left, LeftAnswer}
 use Rattle.gx_law_writes.specs.Writes.{AreWritesLegal, WriteLegal}

@@ -42,14 +42,14 @@ use Rattle.gx_rules.specs.Locks.{hold_mark}
 use Rattle.gx_rules.specs.Machine.{World}
 use Rattle.gx_rules.specs.Sending.{counted, numbered}
 use Rattle.gx_law_order.proofs.Lists.{Each, each_append}
-use Rattle.gx_law_sessions.specs.Orders.{IsOrder, IsReadBy, IsServed, level_by, level_of_began}
+use Rattle.gx_law_order.specs.Orders.{IsOrder, IsReadBy, IsServed, level_by, level_of_began}
 use Rattle.gx_store.specs.Language.{AreLinesNumbered}
-use Rattle.gx_law_sessions.specs.Scanned.{began_from, command_at, stmt_of_command}
-use Rattle.gx_law_sessions.specs.Alive.{WasUnderWay}
-use Rattle.gx_law_sessions.specs.Rest.{EachMark}
-use Rattle.gx_law_sessions.specs.Standing.{IsFirst, is_busy, state_in}
-use Rattle.gx_law_sessions.proofs.Said.{CalmFor}
-use Rattle.gx_law_commit.specs.Standings.{gx}
+use Rattle.gx_law_order.specs.Scanned.{began_from, command_at, stmt_of_command}
+use Rattle.gx_law_order.specs.Alive.{WasUnderWay}
+use Rattle.gx_law_order.specs.Rest.{EachMark}
+use Rattle.gx_law_order.specs.Standing.{IsFirst, is_busy, state_in}
+use Rattle.gx_law_order.proofs.Said.{CalmFor}
+use Rattle.gx_law_order.specs.Standings.{gx}
 use Rattle.gx_law_writes.specs.Homes.{IsPlaced, IsPlacedMark}
 use Rattle.gx_law_writes.specs.Writes.{WriteLegal}
 use Rattle.gx_law_writes.proofs.Alive.{Late, Live, is-late, live-runs, live-snapped}

@@ -7,8 +7,8 @@ use Rattle.gx_store.specs.Points.{marks_in}
 use Rattle.gx_rules.specs.Machine.{World, world_of}
 use Rattle.gx_law_writes.specs.Legal.{AreLocksLegal}
 use Rattle.gx_law_writes.proofs.World.{world-holds}
-use Rattle.gx_law_holds.proofs.Orders.{world-orders}
-use Rattle.gx_law_holds.proofs.World.{world-exclusive, world-lasting, world-locked}
+use Rattle.gx_law_locks.proofs.Orders.{world-orders}
+use Rattle.gx_law_locks.proofs.HoldsInRuns.{world-exclusive, world-lasting, world-locked}
 use Rattle.gx_law_writes.proofs.Joined.{at-marks, locked-steps}
 use Rattle.gx_law_writes.proofs.Reading.{reads-held}
 use Rattle.gx_law_writes.proofs.AnswersHold.{answers-held}

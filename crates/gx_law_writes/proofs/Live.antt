@@ -20,10 +20,10 @@ use Rattle.gx_rules.specs.Machine.{World}
 use Rattle.gx_law_order.proofs.Lists.{Each}
 use Rattle.gx_law_order.proofs.Sessions.{Kept, is_live_in, is_working_in, stage_of}
 use Rattle.gx_law_order.proofs.Statuses.Stage.{Live as LiveStage}
-use Rattle.gx_law_sessions.specs.Standing.{AreSessions, IsLineOf, IsStanding, Owns, Roots, Stands, is_alone, is_busy, state_in}
-use Rattle.gx_law_sessions.proofs.Ends.{ended-more}
-use Rattle.gx_law_sessions.proofs.Said.{CalmFor, Said, said-calm}
-use Rattle.gx_law_commit.specs.Standings.{at, gx, waits_in}
+use Rattle.gx_law_order.specs.Standing.{AreSessions, IsLineOf, IsStanding, Owns, Roots, Stands, is_alone, is_busy, state_in}
+use Rattle.gx_law_order.proofs.Others.{ended-more}
+use Rattle.gx_law_order.proofs.Said.{CalmFor, Said, said-calm}
+use Rattle.gx_law_order.specs.Standings.{at, gx, waits_in}
 
 -- the transaction's command under way, in its session
 pub record Running (script : Script) (w : World) (g : ℕ) : Type 0 where

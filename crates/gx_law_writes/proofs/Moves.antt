@@ -47,13 +47,13 @@ use Rattle.gx_rules.proofs.Moving.{Ends, loop-keeps}
 use Rattle.gx_law_order.proofs.Changing.{rows-change, stop-keeps}
 use Rattle.gx_law_order.proofs.Lists.{Each, each_append, each_weaker}
 use Rattle.gx_law_order.proofs.Waiting.{freed}
-use Rattle.gx_law_sessions.specs.Orders.{IsOrder}
-use Rattle.gx_law_sessions.specs.Scanned.{stmt_of_command}
+use Rattle.gx_law_order.specs.Orders.{IsOrder}
+use Rattle.gx_law_order.specs.Scanned.{stmt_of_command}
 use Rattle.gx_store.specs.Language.{AreLinesNumbered}
-use Rattle.gx_law_sessions.specs.Rest.{EachMark}
-use Rattle.gx_law_sessions.proofs.Given.{marks-append}
-use Rattle.gx_law_commit.specs.Pairs.{IsVote}
-use Rattle.gx_law_commit.specs.Standings.{at, gx}
+use Rattle.gx_law_order.specs.Rest.{EachMark}
+use Rattle.gx_law_order.proofs.Given.{marks-append}
+use Rattle.gx_law_order.specs.Pairs.{IsVote}
+use Rattle.gx_law_order.specs.Standings.{at, gx}
 use Rattle.gx_law_writes.specs.Rows.{IsRowPiece}
 use Rattle.gx_law_writes.specs.Writes.{WriteLegal}
 use Rattle.gx_law_writes.proofs.Next.{new-next, next-above, next_by, next_command}

@@ -28,7 +28,7 @@ use Rattle.gx_rules.specs.Slices.{Moved}
 use Rattle.gx_rules.specs.Visits.{IsSettled, IsUnshown}
 use Rattle.gx_law_order.proofs.Lists.{Each}
 use Rattle.gx_law_order.proofs.SegItems.{writes_at}
-use Rattle.gx_law_commit.specs.Pairs.{is_open}
+use Rattle.gx_law_order.specs.Pairs.{is_open}
 use Rattle.gx_law_reads.specs.Sights.{IsOnlyAt}
 use Rattle.gx_law_writes.proofs.Chosen.{IsChosen, Sight, counted-ends, shown-very, told-now, view-still}
 use Rattle.gx_law_writes.proofs.Current.{IsAtHome, IsCurrentWrite, current-ends, only-append, tables-now, told-it, work-here}

@@ -30,7 +30,7 @@ use Rattle.gx_store.specs.Lines.{is_on_rows}
 use Rattle.gx_store.specs.Writes.{dist_of}
 use Rattle.gx_rules.specs.AtCoordinator.{table_of}
 use Rattle.gx_rules.specs.Changes.{Change, change_of}
-use Rattle.gx_law_sessions.specs.Orders.{IsOrder}
+use Rattle.gx_law_order.specs.Orders.{IsOrder}
 use Rattle.gx_law_writes.proofs.Plans.{in-each, same-pieces}
 
 -- the slice of a statement

@@ -24,7 +24,7 @@ use Rattle.gx_store.specs.Writes.{dist_of}
 use Rattle.gx_law_order.proofs.Lists.{Each}
 use Rattle.gx_law_writes.specs.Homes.{IsPlaced, IsRowOf, IsSameKey}
 use Rattle.gx_law_writes.specs.Rows.{AreRowsOf}
-use Rattle.gx_law_sessions.specs.Scanned.{stmt_of_command}
+use Rattle.gx_law_order.specs.Scanned.{stmt_of_command}
 
 -- one row of the tuples from this ordinal on
 pub record IsRow (g : Gxid) (c : Cid) (k : ℕ) (tuples : List (List Expr)) (row : KeyedRow) : Type 0 where

@@ -33,8 +33,8 @@ use Rattle.gx_store.specs.Writes.{dist_of}
 use Rattle.gx_rules.specs.AtCoordinator.{nodes_in, with_done}
 use Rattle.gx_rules.specs.Coordinators.{Command}
 use Rattle.gx_law_order.proofs.Lists.{Each, each_weaker}
-use Rattle.gx_law_commit.proofs.Nodes.{has-without}
-use Rattle.gx_law_commit.specs.Standings.{at, gx}
+use Rattle.gx_law_order.proofs.Nodes.{has-without}
+use Rattle.gx_law_order.specs.Standings.{at, gx}
 use Rattle.gx_law_writes.specs.Rows.{AreRowsOf, is_own_written}
 use Rattle.gx_law_writes.proofs.Counts.{all-there, each-passing, left, left-all, left-none, left-without, stands_at, waits_for}
 use Rattle.gx_law_writes.proofs.Alive.{own-more}

@@ -58,17 +58,17 @@ use Rattle.gx_law_order.proofs.Sessions.{is_nothing_in, is_open_in, stage_of}
 use Rattle.gx_law_order.proofs.Statuses.Stage.{Live}
 use Rattle.gx_law_order.proofs.Waiting.{GoesOut, going-out}
 use Rattle.gx_law_order.proofs.World.{Knows, moves_knows}
-use Rattle.gx_law_commit.proofs.Always as always
-use Rattle.gx_law_commit.proofs.Everywhere as commit
+use Rattle.gx_law_order.proofs.Always as always
+use Rattle.gx_law_order.proofs.Everywhere as commit
 use Rattle.gx_law_reads.proofs.Reading.{at-self}
-use Rattle.gx_law_sessions.proofs.Ends.{unsnapped}
-use Rattle.gx_law_sessions.proofs.Said.{CalmFor, Said, said-start}
-use Rattle.gx_law_sessions.proofs.Stepping as sessions
-use Rattle.gx_law_sessions.proofs.World as world
-use Rattle.gx_law_sessions.specs.Standing.{IsSession, IsStanding, Owns, under_way}
-use Rattle.gx_law_holds.proofs.Lasting.{IsIn, granted-held}
-use Rattle.gx_law_holds.proofs.Marks.{Quiet, quiet-holds}
-use Rattle.gx_law_holds.proofs.Orders.{Ordered, moves-orders}
+use Rattle.gx_law_order.proofs.Others.{unsnapped}
+use Rattle.gx_law_order.proofs.Said.{CalmFor, Said, said-start}
+use Rattle.gx_law_order.proofs.Stepping as sessions
+use Rattle.gx_law_order.proofs.Legality as world
+use Rattle.gx_law_order.specs.Standing.{IsSession, IsStanding, Owns, under_way}
+use Rattle.gx_law_locks.proofs.Lasting.{IsIn, granted-held}
+use Rattle.gx_law_locks.proofs.Marks.{Quiet, quiet-holds}
+use Rattle.gx_law_locks.proofs.Orders.{Ordered, moves-orders}
 use Rattle.gx_law_writes.specs.Commands.{AreReadsHeld, AreUnsent, EachPoint, IsOther}
 use Rattle.gx_law_writes.proofs.Answering.{IsHome}
 use Rattle.gx_law_writes.proofs.Commands.{HoldsTableOf, IsCommandOf, IsRun, IsWaitingOf, Runs, as-meant, out-holds, run-between, runs-back, runs-here, runs-on}

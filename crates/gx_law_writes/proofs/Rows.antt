@@ -29,8 +29,8 @@ use Rattle.gx_rules.specs.Segments.Phase.{Reading, Writing}
 use Rattle.gx_rules.specs.Slices.{Moved, adds_version, gives_back, inserted, inserts_row, own_lock, starts_from, takes_lock, takes_own, version, writes_row}
 use Rattle.gx_law_order.proofs.Lists.{Each, each_append, each_weaker}
 use Rattle.gx_law_order.proofs.Waiting.{freed}
-use Rattle.gx_law_sessions.specs.Rest.{EachMark}
-use Rattle.gx_law_sessions.proofs.Given.{marks-append}
+use Rattle.gx_law_order.specs.Rest.{EachMark}
+use Rattle.gx_law_order.proofs.Given.{marks-append}
 use Rattle.gx_law_writes.specs.Homes.{AreRowsHome, IsHomeMark}
 use Rattle.gx_law_writes.specs.Rows.{is_own_written}
 use Rattle.gx_law_writes.specs.Writes.{WriteLegal}

@@ -23,7 +23,7 @@ use Rattle.gx_rules.specs.Machine.{World}
 use Rattle.gx_rules.specs.Segments.{SegTurn, Suspended, Version}
 use Rattle.gx_law_order.proofs.Lists.{Each, each_weaker}
 use Rattle.gx_law_order.proofs.Ordered.{Well}
-use Rattle.gx_law_commit.specs.Standings.{at, gx}
+use Rattle.gx_law_order.specs.Standings.{at, gx}
 use Rattle.gx_law_reads.specs.Sights.{DoViewsStay, IsOnlyAt}
 use Rattle.gx_law_writes.proofs.Half.{IsHalf}
 use Rattle.gx_law_writes.proofs.Parts.{node-still}

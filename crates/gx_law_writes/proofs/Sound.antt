@@ -22,7 +22,7 @@ use Rattle.gx_rules.specs.Segments.Phase.{Aborted, Committed, Forgotten, Prepare
 use Rattle.gx_rules.specs.Shown.{counts}
 use Rattle.gx_rules.specs.Slices.{Moved, is_holding, own_lock}
 use Rattle.gx_law_order.proofs.Lists.{Each, each_append}
-use Rattle.gx_law_commit.specs.Pairs.{is_open}
+use Rattle.gx_law_order.specs.Pairs.{is_open}
 use Rattle.gx_law_writes.proofs.Frames.{AddsOwn, Inv, IsWork}
 
 -- WORK ENDS NOBODY

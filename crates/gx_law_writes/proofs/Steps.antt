@@ -25,8 +25,8 @@ use Rattle.gx_law_writes.proofs.Half.{IsHalf}
 use Rattle.gx_law_writes.proofs.SelectedRows.{HaveHomes}
 use Rattle.gx_law_writes.proofs.Undone.{IsBegun, begun-later}
 use Rattle.gx_store.specs.Language.{AreLinesNumbered}
-use Rattle.gx_law_sessions.specs.Rest.{EachMark}
-use Rattle.gx_law_commit.specs.Standings.{at, gx}
+use Rattle.gx_law_order.specs.Rest.{EachMark}
+use Rattle.gx_law_order.specs.Standings.{at, gx}
 use Rattle.gx_law_writes.specs.Homes.{AreRowsHome, IsPlacedMark}
 use Rattle.gx_law_writes.specs.Writes.{AreWritesLegal, WriteLegal}
 use Rattle.gx_law_writes.proofs.Homes.{homes-append, homes-more, homes-placed, no-writes-home}
@@ -45,7 +45,7 @@ use Rattle.gx_law_order.proofs.AtCoordinators.{cancel_stays}
 use Rattle.gx_law_order.proofs.Induction.{after_turn, marks-by-event, marks-by-victim}
 use Rattle.gx_law_order.proofs.Moves.{HasNamed}
 use Rattle.gx_law_order.proofs.Ordered.{sends-at}
-use Rattle.gx_law_holds.proofs.Own.{last-there}
+use Rattle.gx_law_locks.proofs.Own.{last-there}
 use Rattle.gx_store.specs.Ordered.{AreOrdered}
 
 abbrev pub locals_in : (ℕ → Seg) → ℕ → ℕ → Local

@@ -24,9 +24,9 @@ use Rattle.gx_store.specs.Messages.{IsSending}
 use Rattle.gx_store.proofs.Marks.{is_processed-append}
 use Rattle.gx_rules.specs.Segments.{Local}
 use Rattle.gx_law_order.proofs.Lists.{Each, each_weaker}
-use Rattle.gx_law_sessions.specs.Orders.{IsOrder}
+use Rattle.gx_law_order.specs.Orders.{IsOrder}
 use Rattle.gx_store.specs.Language.{AreLinesNumbered}
-use Rattle.gx_law_sessions.proofs.Outs.{order-more}
+use Rattle.gx_law_order.proofs.Outs.{order-more}
 use Rattle.gx_law_writes.specs.Rows.{is_own_written}
 use Rattle.gx_law_writes.proofs.Next.{next_command}
 

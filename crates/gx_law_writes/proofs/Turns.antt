@@ -42,7 +42,7 @@ use Rattle.gx_law_order.proofs.Releases.{each-released}
 use Rattle.gx_law_order.proofs.Lists.{Each}
 use Rattle.gx_law_order.proofs.Suspensions.{wanted-owner}
 use Rattle.gx_law_order.proofs.Waiting.{GoesOn, GoesOnAtRow, GoesOnSo, freed, going-ways}
-use Rattle.gx_law_commit.specs.Pairs.{is_open}
+use Rattle.gx_law_order.specs.Pairs.{is_open}
 use Rattle.gx_law_writes.proofs.Next.{drops-next, next_command}
 
 abbrev pub NoWrite : Mark → Type 0

@@ -26,11 +26,11 @@ use Rattle.gx_law_order.proofs.Statuses.Stage.{Live}
 use Rattle.gx_law_order.proofs.Waiting.{IsAmong, each-among}
 use Rattle.gx_law_order.proofs.More.{marks-last}
 use Rattle.gx_law_order.proofs.World.{Knows}
-use Rattle.gx_law_commit.specs.Said.{SaidAt, SaidIn, segment_of}
-use Rattle.gx_law_commit.specs.Standings.{at}
-use Rattle.gx_law_commit.proofs.Everywhere.{Holds}
+use Rattle.gx_law_order.specs.Said.{SaidAt, SaidIn, segment_of}
+use Rattle.gx_law_order.specs.Standings.{at}
+use Rattle.gx_law_order.proofs.Everywhere.{Holds}
 use Rattle.gx_law_reads.proofs.Low.{drawn-is, live-standing}
-use Rattle.gx_law_commit.proofs.Steps.{moves-keep}
+use Rattle.gx_law_order.proofs.Steps.{moves-keep}
 use Rattle.gx_law_writes.specs.Commands.{AreUnsent, IsOther}
 
 -- a message that is sent is among these letters

@@ -29,9 +29,9 @@ use Rattle.gx_law_order.proofs.Lists.{Each, each_weaker}
 use Rattle.gx_law_order.proofs.OwnLocks.{LocksItself, has_version}
 use Rattle.gx_law_order.proofs.SegItems.{writes_at}
 use Rattle.gx_law_order.proofs.World.{Knows}
-use Rattle.gx_law_commit.specs.Standings.{at}
-use Rattle.gx_law_commit.proofs.Everywhere.{Holds}
-use Rattle.gx_law_holds.proofs.World.{Locked}
+use Rattle.gx_law_order.specs.Standings.{at}
+use Rattle.gx_law_order.proofs.Everywhere.{Holds}
+use Rattle.gx_law_locks.proofs.HoldsInRuns.{Locked}
 use Rattle.gx_law_reads.specs.Sights.{DoesEndAt}
 use Rattle.gx_law_reads.proofs.Ends.{Facts}
 use Rattle.gx_law_reads.proofs.Images.{versions-written}

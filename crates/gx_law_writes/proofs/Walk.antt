@@ -63,7 +63,7 @@ use Rattle.gx_law_order.proofs.Lists.{Each, each_append}
 use Rattle.gx_law_order.proofs.Sessions.{Kept, is_nothing_in, is_open_in, stage_of}
 use Rattle.gx_law_order.proofs.Statuses.Stage.{Closing, Live as LiveStage}
 use Rattle.gx_law_order.proofs.Statuses.{Moves, Turned, reply-turns, stage}
-use Rattle.gx_law_commit.specs.Standings.{gx}
+use Rattle.gx_law_order.specs.Standings.{gx}
 use Rattle.gx_rules.specs.Locks.{with_hold, hold_mark, release_marks}
 use Rattle.gx_locks.specs.Locks.{Locks, is_free, resumed, wait_of}
 use Rattle.gx_waits.specs.declared.claim.Claim.{Claim}

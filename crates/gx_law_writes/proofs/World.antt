@@ -34,16 +34,16 @@ use Rattle.gx_law_reads.specs.Sights.{AreShownViews, DoViewsStay, IsShownView}
 use Rattle.gx_law_reads.proofs.Below.{nobody-dropped}
 use Rattle.gx_law_reads.proofs.Ends.{Facts}
 use Rattle.gx_law_reads.proofs.Seeing.{shown-views}
-use Rattle.gx_law_holds.proofs.World.{Locked}
+use Rattle.gx_law_locks.proofs.HoldsInRuns.{Locked}
 use Rattle.gx_store.specs.Language.{AreLinesNumbered}
-use Rattle.gx_law_sessions.specs.Alive.{HasRun}
-use Rattle.gx_law_sessions.proofs.Outs.{MessageIs}
-use Rattle.gx_law_sessions.proofs.Ran.{LetterRan, has-run}
-use Rattle.gx_law_sessions.proofs.Stepping as stepping
-use Rattle.gx_law_sessions.proofs.World as histories
-use Rattle.gx_law_commit.specs.Standings.{at}
-use Rattle.gx_law_commit.proofs.Complete.{SentBack, StepBack}
-use Rattle.gx_law_commit.proofs.Whole.{Both}
+use Rattle.gx_law_order.specs.Alive.{HasRun}
+use Rattle.gx_law_order.proofs.Outs.{MessageIs}
+use Rattle.gx_law_order.proofs.Ran.{LetterRan, has-run}
+use Rattle.gx_law_order.proofs.Stepping as stepping
+use Rattle.gx_law_order.proofs.Legality as histories
+use Rattle.gx_law_order.specs.Standings.{at}
+use Rattle.gx_law_order.proofs.Complete.{SentBack, StepBack}
+use Rattle.gx_law_order.proofs.Whole.{Both}
 use Rattle.gx_law_writes.specs.Changes.{IsTrueTurn}
 use Rattle.gx_law_writes.specs.Homes.{IsPlacedMark}
 use Rattle.gx_law_writes.proofs.Homes.{homes-placed}
@@ -53,10 +53,10 @@ use Rattle.gx_law_order.specs.Moves.{Move, moved, world_by}
 use Rattle.gx_law_order.proofs.Induction.{IsThere, is-there, place-of}
 use Rattle.gx_law_order.proofs.Moves.{all-keep, happens-keeps, moved-ways, moves_after, next-move, world-moves}
 use Rattle.gx_law_order.proofs.Journals.{moves-hold}
-use Rattle.gx_law_commit.proofs.Whole.{moves-both}
+use Rattle.gx_law_order.proofs.Whole.{moves-both}
 use Rattle.gx_law_reads.proofs.Ends.{moves-facts}
 use Rattle.gx_law_reads.proofs.Staying.{moved-views-stay}
-use Rattle.gx_law_holds.proofs.World.{moves-locked}
+use Rattle.gx_law_locks.proofs.HoldsInRuns.{moves-locked}
 use Rattle.gx_law_writes.proofs.Steps.{CountsStay, Leads, cancel-leads, coord-leads}
 use Rattle.gx_law_writes.proofs.AtSegments.{at-row-all, at-row-says, changes-faults, exec-all, exec-says, message-goes, resumption-goes, seg-leads, table-all, table-says}
 pub use Rattle.gx_law_writes.proofs.Steps.{Holds, locals_in, nexts_in}

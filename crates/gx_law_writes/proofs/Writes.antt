@@ -11,9 +11,9 @@ use Rattle.gx_store.specs.Marks.{is_aborted}
 use Rattle.gx_store.specs.Points.{marks_in}
 use Rattle.gx_store.specs.Writes.{LegalWrite}
 use Rattle.gx_store.specs.Locks.{WritesUnderLock}
-use Rattle.gx_law_sessions.specs.Rest.{EachMark}
+use Rattle.gx_law_order.specs.Rest.{EachMark}
 use Rattle.gx_law_writes.specs.Writes.{AreWritesLegal, WriteLegal}
-use Rattle.gx_law_holds.specs.Writes.{AreWritesLocked, AreWritesUnderLock}
+use Rattle.gx_law_locks.specs.Writes.{AreWritesLocked, AreWritesUnderLock}
 
 front : (script : Script) (before xs ys : List Mark) → AreWritesLocked script before (xs ++ ys) → AreWritesLocked script before xs
 front script before [] ys e = tt

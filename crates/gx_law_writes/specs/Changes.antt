@@ -26,7 +26,7 @@ use Rattle.gx_rules.specs.AtSegment.{on_message, resumes}
 use Rattle.gx_rules.specs.Changes.{Change, change_of}
 use Rattle.gx_rules.specs.Machine.{World, found, seg_can}
 use Rattle.gx_rules.specs.Segments.{SegTurn, Suspended, local_of}
-use Rattle.gx_law_sessions.specs.Rest.{EachMark}
+use Rattle.gx_law_order.specs.Rest.{EachMark}
 use Rattle.gx_law_writes.specs.Says.{Says, count_at}
 
 abbrev pub FaultLegal : Script → Point → Mark → Type 0

@@ -22,7 +22,7 @@ use Rattle.gx_store.specs.Points.{Point, marks_in, starts_by}
 use Rattle.gx_store.specs.Refusals.{the_coordinator}
 use Rattle.gx_store.specs.Waits.{waits_at}
 use Rattle.gx_rules.specs.AtCoordinator.{lock_for}
-use Rattle.gx_law_sessions.specs.Rest.{EachMark}
+use Rattle.gx_law_order.specs.Rest.{EachMark}
 
 -- the mark starts or answers no line of the session, and gives back nothing of the transaction
 abbrev pub LeavesAlone : SessionId → Gxid → Mark → Type 0

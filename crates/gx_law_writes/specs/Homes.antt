@@ -21,7 +21,7 @@ use Rattle.gx_store.specs.declared.mark.Mark.{Mark}
 use Rattle.gx_store.specs.declared.mark.Mark.TheVariants as mark
 use Rattle.gx_store.specs.Marks.{is_written}
 use Rattle.gx_store.specs.Writes.{dist_of}
-use Rattle.gx_law_sessions.specs.Scanned.{stmt_of_command}
+use Rattle.gx_law_order.specs.Scanned.{stmt_of_command}
 
 -- these are the values of the row's tuple, in the INSERT that the row's identity names
 pub record IsRowOf (script : Script) (marks : List Mark) (table : Table) (rid : Rid) (values : List Value) : Type 0 where

@@ -14,7 +14,7 @@ use Rattle.gx_store.specs.declared.run.Step.{Step}
 use Rattle.gx_store.specs.Answers.{Tells}
 use Rattle.gx_store.specs.Commands.{RunsCommand}
 use Rattle.gx_store.specs.Points.{Point, before}
-use Rattle.gx_law_sessions.specs.Rest.{EachMark}
+use Rattle.gx_law_order.specs.Rest.{EachMark}
 
 -- the command under way at the point has inserted so many rows
 abbrev pub HasInserted : Script → Point → SessionId → ℕ → Type 0

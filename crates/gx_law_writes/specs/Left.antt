@@ -11,7 +11,7 @@ use Rattle.gx_store.specs.declared.run.Step.{Step}
 use Rattle.gx_store.specs.Faults.{LegalFault}
 use Rattle.gx_store.specs.Legal.{LegalVerdict}
 use Rattle.gx_store.specs.Points.{Point}
-use Rattle.gx_law_sessions.specs.Rest.{EachMark, RestAnswer, UnlessStart}
+use Rattle.gx_law_order.specs.Rest.{EachMark, RestAnswer, UnlessStart}
 
 abbrev pub LeftAnswer : Script → Point → SessionId → StmtAnswer → Type 0
 LeftAnswer script point session (told.Inserted n) = Unit {0}

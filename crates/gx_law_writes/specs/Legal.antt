@@ -6,8 +6,8 @@ use Rattle.gx_store.specs.declared.run.Step.{Step}
 use Rattle.gx_store.specs.Locks.{AreExclusive, AreLockedSteps}
 use Rattle.gx_store.specs.Points.{marks_in}
 use Rattle.gx_law_writes.specs.Commands.{AreReadsHeld}
-use Rattle.gx_law_holds.specs.Lasting.{DoHoldsLast}
-use Rattle.gx_law_holds.specs.Marked.{AreWaitsLegal}
+use Rattle.gx_law_locks.specs.Lasting.{DoHoldsLast}
+use Rattle.gx_law_locks.specs.Marked.{AreWaitsLegal}
 
 -- The run's locks are legal by the definition. Besides, a command that reads holds its table behind each step's last mark too; who
 -- begins to wait at a node has no other wait there; at no point do two transactions hold conflicting modes on one object at one

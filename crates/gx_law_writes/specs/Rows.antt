@@ -22,7 +22,7 @@ use Rattle.gx_store.specs.Points.{marks_in}
 use Rattle.gx_store.specs.Refusals.{the_coordinator}
 use Rattle.gx_store.specs.Writes.{dist_of}
 use Rattle.gx_rules.specs.Machine.{Letter, World}
-use Rattle.gx_law_sessions.specs.Scanned.{stmt_of_command}
+use Rattle.gx_law_order.specs.Scanned.{stmt_of_command}
 
 -- the rows have the values of the tuples, one each, with ordinals from this one on
 abbrev pub AreRowsOf : Gxid → Cid → ℕ → List (List Expr) → List KeyedRow → Type 0

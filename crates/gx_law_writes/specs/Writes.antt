@@ -6,7 +6,7 @@ use Rattle.gx_store.specs.declared.mark.Mark.TheVariants as mark
 use Rattle.gx_store.specs.declared.run.Step.{Step}
 use Rattle.gx_store.specs.Points.{Point}
 use Rattle.gx_store.specs.Writes.{LegalSkip, LegalWrite}
-use Rattle.gx_law_sessions.specs.Rest.{EachMark}
+use Rattle.gx_law_order.specs.Rest.{EachMark}
 
 abbrev pub WriteLegal : Script → Point → Mark → Type 0
 WriteLegal script point (mark.Write g c node table rid image) = LegalWrite script point g c node table rid image

@@ -2,7 +2,7 @@
 ghost use Rattle.std.specs.Prelude.{◌≤◌, Bool, List, []};
 ghost use Rattle.gx_law_writes.specs.Commands.{AreAnswersHeld, AreReadsHeld, DoCommandsHold};
 ghost use Rattle.gx_law_writes.specs.Legal.{AreLocksLegal};
-ghost use Rattle.gx_law_holds.specs.Writes.{AreWritesUnderLock};
+ghost use Rattle.gx_law_locks.specs.Writes.{AreWritesUnderLock};
 ghost use Rattle.gx_law_order.specs.Runs.{steps_after};
 ghost use Rattle.gx_script.specs.declared.Script.{Script};
 ghost use Rattle.gx_store.specs.declared.event.Event.{Event as OneEvent};

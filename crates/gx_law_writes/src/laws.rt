@@ -4,7 +4,7 @@ ghost use Rattle.gx_store.specs.Language.{AreLinesNumbered};
 ghost use Rattle.gx_ids.specs.declared.ids.Cid.{Cid as OneCid};
 ghost use Rattle.gx_ids.specs.declared.ids.Gxid.{Gxid as OneGxid};
 ghost use Rattle.gx_law_order.specs.Runs.{steps_after};
-ghost use Rattle.gx_law_sessions.specs.Finish.{AreVerdictsLegal};
+ghost use Rattle.gx_law_order.specs.Finish.{AreVerdictsLegal};
 ghost use Rattle.gx_meaning.specs.Constants.{rows_of};
 ghost use Rattle.gx_rules.specs.Machine.{after, run_of, world_of};
 ghost use Rattle.gx_script.specs.declared.Script.{Script};

@@ -11,9 +11,9 @@ use Rattle.gx_store.specs.Refusals.{the_coordinator}
 use Rattle.gx_rules.specs.AtCoordinator.{is_segment}
 use Rattle.gx_rules.specs.Machine.{can_here, delivered, found, world_of}
 use Rattle.gx_world.specs.Links.{letter_at, link_in}
-use Rattle.gx_law_schedules.specs.Links.{is_number, message_of}
+use Rattle.gx_law_runs.specs.Links.{is_number, message_of}
 use Rattle.gx_store.specs.Schedule.{sent_message}
-use Rattle.gx_law_schedules.proofs.World.{world-letters}
+use Rattle.gx_law_runs.proofs.World.{world-letters}
 use Rattle.gx_law_runs.specs.Replays.{AreReplayed, is_admitted, letters_after, world_behind}
 use Rattle.gx_law_runs.proofs.Reaching.{replayed}
 use Rattle.gx_world.specs.declared.network.Network.{Network}

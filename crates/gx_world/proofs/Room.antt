@@ -6,7 +6,7 @@ use Rattle.gx_script.specs.declared.Script.{Script}
 use Rattle.gx_store.specs.declared.run.Step.{Step}
 use Rattle.gx_store.specs.Schedule.{is_round, round_count}
 use Rattle.gx_rules.specs.Coordinators as rule
-use Rattle.gx_law_rounds.proofs.World.{world-rounded}
+use Rattle.gx_law_locks.proofs.RoundsInRuns.{world-rounded}
 use Rattle.gx_law_runs.specs.Reached.{HasRoomAfter, IsReached}
 use Rattle.gx_law_runs.specs.Replays.{coordinator_after, world_behind}
 use Rattle.gx_law_runs.proofs.Reaching.{replayed}

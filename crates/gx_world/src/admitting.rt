@@ -8,7 +8,7 @@ ghost use Rattle.gx_rules.specs.Coordinators.{Coord as RuleCoord};
 ghost use Rattle.gx_rules.specs.Segments.{Seg};
 ghost use Rattle.gx_segment.specs.Steps.{IsSegment};
 ghost use Rattle.gx_segment.specs.declared.segment.Segment.{Segment as OneSegment};
-ghost use Rattle.gx_law_schedules.specs.Links.{is_number};
+ghost use Rattle.gx_law_runs.specs.Links.{is_number};
 ghost use Rattle.gx_locks.specs.Locks.{is_ready, wait_of};
 ghost use Rattle.gx_store.specs.Journals.{is_same_node};
 ghost use Rattle.gx_store.specs.Refusals.{the_coordinator};

@@ -1,11 +1,11 @@
 ghost use Rattle.std.specs.Prelude.{◌≡◌, ◌<◌, ◌^◌, ◌∷◌, true, false, [], IfOk, IsErr, OnOk, OnErr, length, map, option_copied, option_map};
 ghost use Rattle.std.specs.Option.{option_to_list};
 ghost use Rattle.gx_store.specs.Whole.{AreInsertsWhole};
-ghost use Rattle.gx_law_rounds.specs.Blocked.{DoStayBlocked};
+ghost use Rattle.gx_law_locks.specs.Blocked.{DoStayBlocked};
 ghost use Rattle.gx_law_writes.specs.Legal.{AreLocksLegal};
-ghost use Rattle.gx_law_commit.specs.Told.{DoStepsTell};
+ghost use Rattle.gx_law_order.specs.Told.{DoStepsTell};
 ghost use Rattle.gx_law_runs.specs.Reached.{IsReached};
-ghost use Rattle.gx_law_rounds.specs.Legal.{AreRoundsLegal};
+ghost use Rattle.gx_law_locks.specs.Legal.{AreRoundsLegal};
 ghost use Rattle.gx_rules.specs.AtCoordinator.{is_unfinished_there};
 ghost use Rattle.gx_ids.specs.declared.ids.SessionId.{SessionId as Id};
 ghost use Rattle.gx_law_runs.specs.Replays.{coordinator_after, is_admitted};

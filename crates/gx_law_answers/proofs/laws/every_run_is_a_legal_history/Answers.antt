@@ -1,8 +1,8 @@
 use Rattle.gx_law_answers.proofs.Join.{legal}
 use Rattle.gx_law_answers.proofs.Snaps.{snapshots-one}
 use Rattle.gx_law_answers.proofs.Whole.{filled, keyed}
-use Rattle.gx_law_rounds.proofs.Whole.{world-rounds}
-use Rattle.gx_law_rounds.proofs.EachVictim.{world-cancels}
+use Rattle.gx_law_locks.proofs.Whole.{world-rounds}
+use Rattle.gx_law_locks.proofs.EachVictim.{world-cancels}
 use Rattle.gx_law_answers.proofs.laws.every_run_is_a_legal_history.Goals as goal
 
 pub returns : goal.returns

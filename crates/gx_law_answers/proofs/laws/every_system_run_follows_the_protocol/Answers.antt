@@ -1,7 +1,7 @@
 use Rattle.std.proofs.Common.{[], subst}
 use Rattle.gx_store.specs.Protocol.{DoStepsFollow}
 use Rattle.gx_law_order.proofs.Machines.{system-led}
-use Rattle.gx_law_commit.proofs.Whole.{world-follows}
+use Rattle.gx_law_order.proofs.Whole.{world-follows}
 use Rattle.gx_law_answers.proofs.laws.every_system_run_follows_the_protocol.Goals as goal
 
 pub returns : goal.returns

@@ -1,10 +1,10 @@
 use Rattle.gx_law_order.proofs.World.{world_knows}
-use Rattle.gx_law_sessions.proofs.World.{sessions-stand}
+use Rattle.gx_law_order.proofs.Legality.{sessions-stand}
 use Rattle.gx_rules.specs.Machine.{world_of}
 use Rattle.gx_law_writes.proofs.Commands.{commands-hold}
-use Rattle.gx_law_holds.proofs.Orders.{world-orders}
+use Rattle.gx_law_locks.proofs.Orders.{world-orders}
 use Rattle.gx_law_writes.proofs.Unsent.{next-unsent, world-has}
-use Rattle.gx_law_commit.proofs.Always.{world-holds}
+use Rattle.gx_law_order.proofs.Always.{world-holds}
 use Rattle.gx_law_writes.proofs.holding.commands_hold_their_tables_until_answered.Goals as goal
 
 pub returns : goal.returns

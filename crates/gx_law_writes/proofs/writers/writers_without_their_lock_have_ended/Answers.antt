@@ -1,4 +1,4 @@
-use Rattle.gx_law_holds.proofs.World.{world-locked}
+use Rattle.gx_law_locks.proofs.HoldsInRuns.{world-locked}
 use Rattle.gx_law_writes.proofs.Ended.{writer-ended}
 use Rattle.gx_law_writes.proofs.writers.writers_without_their_lock_have_ended.Goals as goal
 use Rattle.gx_rules.specs.Machine.{world_of}

@@ -1,5 +1,0 @@
-use Rattle.gx_law_commit.proofs.Above.{world-above}
-use Rattle.gx_law_commit.proofs.runs.holders_are_above_horizons.Goals as goal
-
-pub returns : goal.returns
-returns c = λ script events some. world-above script some events

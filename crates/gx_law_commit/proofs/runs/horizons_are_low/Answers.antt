@@ -1,5 +1,0 @@
-use Rattle.gx_law_commit.proofs.Low.{world-low}
-use Rattle.gx_law_commit.proofs.runs.horizons_are_low.Goals as goal
-
-pub returns : goal.returns
-returns c = λ script events some. world-low script some events

@@ -1,4 +1,0 @@
-//! The commit protocol in every run of the machine: laws over the rules of both nodes.
-#![tactic(auto)]
-
-pub mod runs;

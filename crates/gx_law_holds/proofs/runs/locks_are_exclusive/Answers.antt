@@ -1,5 +1,0 @@
-use Rattle.gx_law_holds.proofs.World.{world-exclusive}
-use Rattle.gx_law_holds.proofs.runs.locks_are_exclusive.Goals as goal
-
-pub returns : goal.returns
-returns c = λ script events before later some is. world-exclusive script some events before later is

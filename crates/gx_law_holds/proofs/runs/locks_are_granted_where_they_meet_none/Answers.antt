@@ -1,5 +1,0 @@
-use Rattle.gx_law_holds.proofs.World.{world-locked}
-use Rattle.gx_law_holds.proofs.runs.locks_are_granted_where_they_meet_none.Goals as goal
-
-pub returns : goal.returns
-returns c = λ script events some. (world-locked script some events).granted

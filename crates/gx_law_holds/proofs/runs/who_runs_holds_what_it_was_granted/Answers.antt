@@ -1,5 +1,0 @@
-use Rattle.gx_law_holds.proofs.World.{world-lasting}
-use Rattle.gx_law_holds.proofs.runs.who_runs_holds_what_it_was_granted.Goals as goal
-
-pub returns : goal.returns
-returns c = λ script events before later some is. world-lasting script some events before later is

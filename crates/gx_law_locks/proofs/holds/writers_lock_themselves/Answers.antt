@@ -1,0 +1,5 @@
+use Rattle.gx_law_locks.proofs.HoldsInRuns.{world-locked}
+use Rattle.gx_law_locks.proofs.holds.writers_lock_themselves.Goals as goal
+
+pub returns : goal.returns
+returns c = λ script events some. (world-locked script some events).own

@@ -1,0 +1,14 @@
+pub mod Marked
+pub mod Late
+pub mod Lasting
+pub mod Orders
+pub mod Writes
+pub mod Own
+pub mod Waiting
+pub mod Held
+pub mod Steps
+pub mod Committing
+pub mod Blocked
+pub mod Reports
+pub mod Gathered
+pub mod Legal

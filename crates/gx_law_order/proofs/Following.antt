@@ -1,0 +1,258 @@
+-- From what a step's marks follow to the protocol over steps.
+use Rattle.std.proofs.Common.{◌≡◌, ◌⊎◌, inl, inr, ℕ, suc, ◌+◌, List, [], ◌∷◌, ◌++◌, Some, Bool, true, false, refl, sym, subst, ap, ◌∙◌, ◌||◌, arith, append-nil}
+use Rattle.std.proofs.lemmas.List.{append_assoc}
+use Rattle.std.specs.Prelude.{length, slice_get, take}
+use Rattle.std.specs.List.{Contains}
+use Rattle.gx_ids.specs.declared.ids.Gxid.{Gxid}
+use Rattle.gx_ids.specs.declared.ids.Node.{Node}
+use Rattle.gx_msg.specs.declared.message.Message.{Message}
+use Rattle.gx_msg.specs.declared.message.Message.TheVariants as message
+use Rattle.gx_msg.specs.declared.message.Out.{Out}
+use Rattle.gx_msg.specs.declared.reply.Reply.TheVariants as reply
+use Rattle.gx_script.specs.declared.Script.{Script}
+use Rattle.gx_store.specs.declared.event.Event.{Event}
+use Rattle.gx_store.specs.declared.mark.Mark.{Mark}
+use Rattle.gx_store.specs.declared.mark.Mark.TheVariants as mark
+use Rattle.gx_store.specs.declared.run.Step.{Step}
+use Rattle.gx_store.specs.Journals.{is_same_node}
+use Rattle.gx_store.specs.Marks.{is_aborted, is_committed}
+use Rattle.gx_store.specs.Messages.{HasReceived, Receives}
+use Rattle.gx_store.specs.Points.{Point, before, marks_in}
+use Rattle.gx_store.specs.Protocol.{CommitsAlone, CommitsAsPromised, CommitsThere, IsExecuted, Promises, decided_count, is_writer, local_count, prepared_count}
+use Rattle.gx_store.specs.Refusals.{the_coordinator}
+use Rattle.gx_rules.specs.Sending.{counted, numbered}
+use Rattle.gx_law_order.proofs.Lists.{Each}
+use Rattle.gx_law_order.proofs.Past.{aborted-append, committed-append}
+use Rattle.gx_law_order.specs.Followed.{DoMarksEnd, DoStepsEnd, EndsAt}
+use Rattle.gx_law_order.specs.Pairs.{Pair, bit}
+use Rattle.gx_law_order.specs.Said.{is_answer}
+use Rattle.gx_law_order.specs.Standings.{Known, Part, at, gx, is_closing, is_decided}
+use Rattle.gx_law_order.specs.Standings.Standing.{One, Two}
+use Rattle.gx_law_order.proofs.Counts.{NoEnd, no-aborted, no-committed}
+use Rattle.gx_law_order.proofs.Ended.{IsExec}
+use Rattle.gx_law_order.proofs.Handled.{Follows, HasMark, IsExecOf, NoVote, Tells, Votes}
+use Rattle.gx_law_order.proofs.Ways.{Fol, FolAt, IsOf}
+
+pub is-contained : (m : Mark) (xs : List Mark) → HasMark m xs → Contains xs m
+is-contained m [] h = absurd h
+is-contained m (x ∷ xs) (inl e) = (0, omega arith, sym e)
+is-contained m (x ∷ xs) (inr h) = let c = is-contained m xs h in (suc c.0, omega arith, c.2)
+
+pub has-right : (m : Mark) (xs ys : List Mark) → HasMark m ys → HasMark m (xs ++ ys)
+has-right m [] ys h = h
+has-right m (x ∷ xs) ys h = inr (has-right m xs ys h)
+
+pub has-left : (m : Mark) (xs ys : List Mark) → HasMark m xs → HasMark m (xs ++ ys)
+has-left m [] ys h = absurd h
+has-left m (x ∷ xs) ys (inl e) = inl e
+has-left m (x ∷ xs) ys (inr h) = inr (has-left m xs ys h)
+
+-- one step more
+pub end-push : (script : Script) (before ss : List Step) (s : Step) → DoStepsEnd script before ss → DoMarksEnd script (before ++ ss) s [] s.marks → DoStepsEnd script before (ss ++ s ∷ [])
+end-push script before [] s e h = (subst (λ x. DoMarksEnd script x s [] s.marks) (append-nil before) h, tt)
+end-push script before (x ∷ ss) s e h = (e.0, end-push script (before ++ x ∷ []) ss s e.1 (subst (λ y. DoMarksEnd script y s [] s.marks) (sym (append_assoc before (x ∷ []) ss)) h))
+
+-- a message that is received in this step, or a command that an earlier one has received
+pub record HasComeBefore (steps : List Step) (i : ℕ) (told : Message) : Type 0 where
+  pub command : IsExec told
+  pub place : ℕ
+  pub step : Step
+  pub stands : slice_get steps place ≡ Some step
+  pub received : Receives (take place steps) step.event the_coordinator (at i) told
+
+abbrev pub HasReached : List Step → Event → ℕ → Message → Type 0
+HasReached steps e i told = Receives steps e the_coordinator (at i) told ⊎ HasComeBefore steps i told
+
+-- THE COORDINATOR
+module _ (script : Script) (steps : List Step) (step : Step) where
+  abbrev point : List Mark → List Mark → Point
+  point earlier later = record { steps = steps; event = step.event; earlier = earlier; later = later }
+
+  -- sendings that are no answers
+  sent-one : (earlier later : List Mark) (to : Node) (number : ℕ) (m : Message) → is_answer m ≡ false → EndsAt script step.stamp.node (point earlier later) (mark.Sent to number m)
+  sent-one earlier later to number (message.Answer g r) e = absurd (cc)
+  sent-one earlier later to number (message.Exec g c level x h y) e = tt
+  sent-one earlier later to number (message.Prepare g) e = tt
+  sent-one earlier later to number (message.Commit g) e = tt
+  sent-one earlier later to number (message.CommitPrepared g) e = tt
+  sent-one earlier later to number (message.Abort g) e = tt
+  sent-one earlier later to number (message.Forget g) e = tt
+  sent-one earlier later to number (message.Collect round) e = tt
+  sent-one earlier later to number (message.Graph round graph) e = tt
+
+  sent-end : (earlier : List Mark) (f : ℕ → ℕ) (outs : List Out) → Each (λ (o : Out). is_answer o.message ≡ false) outs → DoMarksEnd script steps step earlier (numbered f outs)
+  sent-end earlier f [] e = tt
+  sent-end earlier f (o ∷ outs) e = (sent-one earlier (numbered (counted f o) outs) o.node (f o.node.0 + 1) o.message e.0, sent-end (earlier ++ mark.Sent o.node (f o.node.0 + 1) o.message ∷ []) (counted f o) outs e.1)
+
+  fol-one : (earlier later : List Mark) (m : Mark) → FolAt script (marks_in steps ++ earlier) m → EndsAt script step.stamp.node (point earlier later) m
+  fol-one earlier later (mark.Commit g) e = e
+  fol-one earlier later (mark.Decided g) e = e
+  fol-one earlier later (mark.Abort g) e = e
+  fol-one earlier later (mark.Write g c n t r x) e = absurd e
+  fol-one earlier later (mark.Prepared n g) e = absurd e
+  fol-one earlier later (mark.LocalCommit n g) e = absurd e
+  fol-one earlier later (mark.Sent to number told) e = absurd e
+  fol-one earlier later (mark.Answer s n a) e = tt
+  fol-one earlier later m e = tt
+
+  pub coord-end : (earlier ns : List Mark) (f : ℕ → ℕ) (outs : List Out) → Fol script (marks_in steps ++ earlier) ns → Each (λ (o : Out). is_answer o.message ≡ false) outs → DoMarksEnd script steps step earlier (ns ++ numbered f outs)
+  coord-end earlier [] f outs e h = sent-end earlier f outs h
+  coord-end earlier (m ∷ ns) f outs e h = (
+    fol-one earlier (ns ++ numbered f outs) m e.0,
+    coord-end (earlier ++ m ∷ []) ns f outs (subst (λ x. Fol script x ns) (append_assoc (marks_in steps) earlier (m ∷ [])) e.1) h,
+  )
+
+  -- A SEGMENT
+  module _ (told : Message) (k : Known) (i g : ℕ) (here : step.stamp.node ≡ at i) (reached : HasReached steps step.event i told) (aborted : k.aborted ≡ is_aborted (marks_in steps) (gx g)) (committed : k.committed ≡ is_committed (marks_in steps) (gx g)) (decided : k.decided ≡ decided_count (marks_in steps) (gx g)) (p : Part) (pair : Pair k p) (of : IsOf p (marks_in steps) i g) (only : k.at ≡ One true → (n : Node) → is_writer (marks_in steps) (gx g) n ≡ is_same_node n (at i)) where
+    or-false : (a b c : Bool) → a ≡ false → b ≡ false → c ≡ a → (c || b) ≡ false
+    or-false a b c e f q = grind arith
+
+    not-aborted : (earlier : List Mark) → Each NoEnd earlier → k.aborted ≡ false → is_aborted (marks_in steps ++ earlier) (gx g) ≡ false
+    not-aborted earlier e n = aborted-append (marks_in steps) earlier (gx g) ∙ or-false k.aborted (is_aborted earlier (gx g)) (is_aborted (marks_in steps) (gx g)) n (no-aborted earlier (gx g) e) (sym aborted)
+
+    not-committed : (earlier : List Mark) → Each NoEnd earlier → k.committed ≡ false → is_committed (marks_in steps ++ earlier) (gx g) ≡ false
+    not-committed earlier e n = committed-append (marks_in steps) earlier (gx g) ∙ or-false k.committed (is_committed earlier (gx g)) (is_committed (marks_in steps) (gx g)) n (no-committed earlier (gx g) e) (sym committed)
+
+    same-gxid : (h : Gxid) → h.0 ≡ g → gx g ≡ h
+    same-gxid h e = ap (λ n. gx n) (sym e)
+
+    same-at : (n : Node) → n.0 ≡ i → at i ≡ n
+    same-at n e = ap (λ j. at j) (sym e)
+
+    -- what is no command comes in this step
+    gets : (m : Message) → (IsExec m → ⊥) → told ≡ m → Receives steps step.event the_coordinator (at i) m
+    gets m other e = by_time reached
+      where
+        by_time : HasReached steps step.event i told → Receives steps step.event the_coordinator (at i) m
+        by_time (inl r) = subst (Receives steps step.event the_coordinator (at i)) e r
+        by_time (inr r) = absurd (other (subst IsExec e r.command))
+
+    executed : (earlier later : List Mark) (c : Rattle.gx_ids.specs.declared.ids.Cid.Cid) → IsExecOf told g c → IsExecuted (point earlier later) (gx g) c (at i)
+    executed earlier later c x = record { level = x.level; snapshot = x.snapshot; horizon = x.horizon; slice = x.slice; received = subst (HasReceived (point earlier later) the_coordinator (at i)) x.is (by_time reached) }
+      where
+        by_time : HasReached steps step.event i told → HasReceived (point earlier later) the_coordinator (at i) told
+        by_time (inl r) = (length steps, inr (refl, r))
+        by_time (inr r) = (r.place, inl (r.step, r.stands, r.received))
+
+    here-nil : marks_in steps ++ [] ≡ marks_in steps
+    here-nil = append-nil (marks_in steps)
+
+    commits-by : (later : List Mark) → ((told ≡ message.Commit (gx g)) × (k.at ≡ One true)) ⊎ ((told ≡ message.CommitPrepared (gx g)) × (k.at ≡ Two true)) → CommitsAlone (point [] later) (at i) (gx g) ⊎ CommitsAsPromised (point [] later) (at i) (gx g)
+    commits-by later (inl e) =
+        inl (record {
+          told = gets (message.Commit (gx g)) (λ z. z) e.0;
+          only = λ n. ap (λ x. is_writer x (gx g) n) here-nil ∙ only e.1 n;
+          unprepared = ap (λ x. prepared_count x (at i) (gx g)) here-nil ∙ of.promises ∙ pair.promised ∙ ap bit (pair.alone true e.1).1;
+        })
+    commits-by later (inr e) =
+        let writes : k.writes ≡ true = (pair.both true e.1).0 refl in
+        inr (record {
+          told = gets (message.CommitPrepared (gx g)) (λ z. z) e.0;
+          writer = ap (λ x. is_writer x (gx g) (at i)) here-nil ∙ of.wrote ∙ sym (pair.closing (ap is_closing e.1)) ∙ writes;
+          promised = ap (λ x. prepared_count x (at i) (gx g)) here-nil ∙ of.promises ∙ pair.promised ∙ ap bit ((pair.both true e.1).1 ∙ writes);
+          decided = ap (λ x. decided_count x (gx g)) here-nil ∙ sym decided ∙ pair.decided (ap is_decided e.1);
+        })
+
+    follow-one : (earlier later : List Mark) (m : Mark) → Each NoEnd earlier → Follows told k i g m → NoVote m → EndsAt script step.stamp.node (point earlier later) m
+    follow-one earlier later (mark.Write h c n t r x) e f v = subst (λ (y : Gxid). IsExecuted (point earlier later) y c n) (same-gxid h f.0) (subst (λ (y : Node). IsExecuted (point earlier later) (gx g) c y) (same-at n f.1) (executed earlier later c f.2))
+    follow-one earlier later (mark.Prepared n h) e f v = absurd v
+    follow-one earlier later (mark.LocalCommit n h) e f v = absurd v
+    follow-one earlier later (mark.Fault h c r x) e f v = tt
+    follow-one earlier later (mark.JournalFailed n h) e f v = tt
+    follow-one earlier later (mark.Start h s) e f v = absurd f
+    follow-one earlier later (mark.Snap h c x) e f v = absurd f
+    follow-one earlier later (mark.Skip h c r) e f v = tt
+    follow-one earlier later (mark.Commit h) e f v = absurd f
+    follow-one earlier later (mark.Abort h) e f v = absurd f
+    follow-one earlier later (mark.Answer s n a) e f v = absurd f
+    follow-one earlier later (mark.Hold n h o x) e f v = tt
+    follow-one earlier later (mark.Wait n h o x) e f v = tt
+    follow-one earlier later (mark.Release n h o x) e f v = tt
+    follow-one earlier later (mark.Report n r x) e f v = tt
+    follow-one earlier later (mark.Decided h) e f v = absurd f
+    follow-one earlier later (mark.Sent to number m) e f v = absurd f
+    follow-one earlier later m e f v = absurd f
+
+    -- the first mark
+    follow-first : (later ns : List Mark) (m : Mark) → Follows told k i g m → Votes told k p g (m ∷ ns) → EndsAt script step.stamp.node (point [] later) m
+    follow-first later ns (mark.Prepared n h) f v =
+        subst (λ (y : Gxid). Promises (point [] later) n y) (same-gxid h f.0)
+        (subst (λ (y : Node). Promises (point [] later) y (gx g)) (same-at n f.1)
+        (record {
+          told = gets (message.Prepare (gx g)) (λ z. z) f.2;
+          writer = ap (λ x. is_writer x (gx g) (at i)) here-nil ∙ of.wrote ∙ v.0;
+          first = ap (λ x. prepared_count x (at i) (gx g)) here-nil ∙ of.promises ∙ v.1;
+          uncommitted = not-committed [] tt f.3;
+          uncommitted_there = ap (λ x. local_count x (at i) (gx g)) here-nil ∙ of.commits ∙ v.2;
+        }))
+    follow-first later ns (mark.LocalCommit n h) f v =
+        subst (λ (y : Gxid). CommitsThere (point [] later) n y) (same-gxid h f.0)
+        (subst (λ (y : Node). CommitsThere (point [] later) y (gx g)) (same-at n f.1)
+        (record {
+          running = or-false (is_committed (marks_in steps ++ []) (gx g)) (is_aborted (marks_in steps ++ []) (gx g)) (is_committed (marks_in steps ++ []) (gx g)) (not-committed [] tt f.4) (not-aborted [] tt f.3) refl;
+          first = ap (λ x. local_count x (at i) (gx g)) here-nil ∙ of.commits ∙ v.0;
+          by = commits-by later v.1;
+        }))
+    follow-first later ns m f v = follow-one [] later m tt f tt
+
+    votes-rest : (m : Mark) (ns : List Mark) → Votes told k p g (m ∷ ns) → Each NoVote ns
+    votes-rest (mark.Prepared n h) ns v = v.3
+    votes-rest (mark.LocalCommit n h) ns v = v.2
+    votes-rest m ns v = v
+
+    no-end-one : (m : Mark) → Follows told k i g m → NoEnd m
+    no-end-one (mark.Commit h) f = f
+    no-end-one (mark.Abort h) f = f
+    no-end-one (mark.Decided h) f = f
+    no-end-one m f = tt
+
+    each-last : (xs : List Mark) (m : Mark) → Each NoEnd xs → NoEnd m → Each NoEnd (xs ++ m ∷ [])
+    each-last [] m e f = (f, tt)
+    each-last (x ∷ xs) m e f = (e.0, each-last xs m e.1 f)
+
+    -- its sendings, behind its marks
+    module _ (q : Part) (marks : List Mark) (failed : q.vote ≡ Some reply.Jfault → HasMark (mark.JournalFailed (at i) (gx g)) (marks_in steps ++ marks)) where
+      tells-one : (more later : List Mark) (to : Node) (number : ℕ) (m : Message) → Tells k q i g marks m → EndsAt script step.stamp.node (point (marks ++ more) later) (mark.Sent to number m)
+      tells-one more later to number (message.Answer h reply.Jfault) e =
+          subst (λ (y : Gxid). Contains (marks_in steps ++ (marks ++ more)) (mark.JournalFailed step.stamp.node y)) (same-gxid h e.0)
+          (subst (λ (y : Node). Contains (marks_in steps ++ (marks ++ more)) (mark.JournalFailed y (gx g))) (sym here)
+          (subst (λ x. Contains x (mark.JournalFailed (at i) (gx g))) (append_assoc (marks_in steps) marks more) (is-contained _ _ (has-left _ (marks_in steps ++ marks) more (failed e.1)))))
+      tells-one more later to number (message.Answer h reply.Again) e =
+          subst (λ (y : Gxid). Contains (marks ++ more) (mark.JournalFailed step.stamp.node y)) (same-gxid h e.0)
+          (subst (λ (y : Node). Contains (marks ++ more) (mark.JournalFailed y (gx g))) (sym here) (is-contained _ _ (has-left _ marks more e.1)))
+      tells-one more later to number (message.Answer h (reply.Done c x y z)) e = tt
+      tells-one more later to number (message.Answer h (reply.Failed c x)) e = tt
+      tells-one more later to number (message.Answer h reply.Prepared) e = tt
+      tells-one more later to number (message.Answer h reply.Committed) e = tt
+      tells-one more later to number (message.Answer h reply.Aborted) e = tt
+      tells-one more later to number (message.Answer h reply.Forgotten) e = tt
+      tells-one more later to number (message.Exec h c level x y z) e = tt
+      tells-one more later to number (message.Prepare h) e = tt
+      tells-one more later to number (message.Commit h) e = tt
+      tells-one more later to number (message.CommitPrepared h) e = tt
+      tells-one more later to number (message.Abort h) e = tt
+      tells-one more later to number (message.Forget h) e = tt
+      tells-one more later to number (message.Collect round) e = tt
+      tells-one more later to number (message.Graph round graph) e = tt
+
+      tells-end : (more : List Mark) (f : ℕ → ℕ) (outs : List Out) → Each (λ (o : Out). Tells k q i g marks o.message) outs → DoMarksEnd script steps step (marks ++ more) (numbered f outs)
+      tells-end more f [] e = tt
+      tells-end more f (o ∷ outs) e = (
+        tells-one more (numbered (counted f o) outs) o.node (f o.node.0 + 1) o.message e.0,
+        subst (λ x. DoMarksEnd script steps step x (numbered (counted f o) outs)) (sym (append_assoc marks more (mark.Sent o.node (f o.node.0 + 1) o.message ∷ []))) (tells-end (more ++ mark.Sent o.node (f o.node.0 + 1) o.message ∷ []) (counted f o) outs e.1),
+      )
+
+      marks-end : (earlier ns : List Mark) (f : ℕ → ℕ) (outs : List Out) → earlier ++ ns ≡ marks → Each NoEnd earlier → Each (Follows told k i g) ns → Each NoVote ns → Each (λ (o : Out). Tells k q i g marks o.message) outs → DoMarksEnd script steps step earlier (ns ++ numbered f outs)
+      marks-end earlier [] f outs same e m v h =
+          subst (λ x. DoMarksEnd script steps step x (numbered f outs)) (append-nil marks ∙ sym same ∙ append-nil earlier) (tells-end [] f outs h)
+      marks-end earlier (x ∷ ns) f outs same e m v h = (
+        follow-one earlier (ns ++ numbered f outs) x e m.0 v.0,
+        marks-end (earlier ++ x ∷ []) ns f outs (append_assoc earlier (x ∷ []) ns ∙ same) (each-last earlier x e (no-end-one x m.0)) m.1 v.1 h,
+      )
+
+      first-end : (ns : List Mark) (f : ℕ → ℕ) (outs : List Out) → ns ≡ marks → Each (Follows told k i g) ns → Votes told k p g ns → Each (λ (o : Out). Tells k q i g marks o.message) outs → DoMarksEnd script steps step [] (ns ++ numbered f outs)
+      first-end [] f outs same m v h = marks-end [] [] f outs same tt tt tt h
+      first-end (x ∷ ns) f outs same m v h = (follow-first (ns ++ numbered f outs) ns x m.0 v, marks-end (x ∷ []) ns f outs same (no-end-one x m.0, tt) m.1 (votes-rest x ns v) h)
+
+      pub seg-end : (f : ℕ → ℕ) (outs : List Out) → Each (Follows told k i g) marks → Votes told k p g marks → Each (λ (o : Out). Tells k q i g marks o.message) outs → DoMarksEnd script steps step [] (marks ++ numbered f outs)
+      seg-end f outs m v h = first-end marks f outs refl m v h

@@ -1,5 +1,0 @@
-use Rattle.gx_law_order.proofs.Machines.{system-led}
-use Rattle.gx_law_order.proofs.runs.system_runs_are_of_the_machine.Goals as goal
-
-pub returns : goal.returns
-returns c = λ script run is. system-led script run is

@@ -1,5 +1,0 @@
-use Rattle.gx_law_rounds.proofs.Lawful.{run-stays-blocked}
-use Rattle.gx_law_rounds.proofs.blocking.blocked_stays_blocked.Goals as goal
-
-pub returns : goal.returns
-returns c = λ script events some. run-stays-blocked script some events

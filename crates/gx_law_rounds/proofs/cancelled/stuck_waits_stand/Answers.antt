@@ -1,6 +1,0 @@
-use Rattle.gx_law_rounds.proofs.Whole.{world-rounds}
-use Rattle.gx_law_rounds.proofs.EachVictim.{world-stands}
-use Rattle.gx_law_rounds.proofs.cancelled.stuck_waits_stand.Goals as goal
-
-pub returns : goal.returns
-returns c = λ script events some. world-stands script some (world-rounds script some) events

@@ -1,6 +1,0 @@
-use Rattle.gx_law_rounds.proofs.Whole.{world-rounds}
-use Rattle.gx_law_rounds.proofs.EachVictim.{world-names}
-use Rattle.gx_law_rounds.proofs.cancelled.victims_are_named_rightly.Goals as goal
-
-pub returns : goal.returns
-returns c = λ script events some. world-names script some (world-rounds script some) events

@@ -1,5 +1,0 @@
-use Rattle.gx_law_rounds.proofs.Asking.{world-asks}
-use Rattle.gx_law_rounds.proofs.runs.rounds_ask_each_segment.Goals as goal
-
-pub returns : goal.returns
-returns c = λ script events some. world-asks script some events

@@ -1,5 +1,0 @@
-use Rattle.gx_law_rounds.proofs.Asking.{world-ends}
-use Rattle.gx_law_rounds.proofs.runs.rounds_end_with_their_last_graph.Goals as goal
-
-pub returns : goal.returns
-returns c = λ script events some. world-ends script some events

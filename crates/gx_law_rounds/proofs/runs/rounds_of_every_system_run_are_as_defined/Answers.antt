@@ -1,5 +1,0 @@
-use Rattle.gx_law_rounds.proofs.Whole.{system-rounds}
-use Rattle.gx_law_rounds.proofs.runs.rounds_of_every_system_run_are_as_defined.Goals as goal
-
-pub returns : goal.returns
-returns c = λ script run some system. system-rounds script some run system

@@ -1,5 +1,0 @@
-use Rattle.gx_law_schedules.proofs.Enabled.{enabled-there}
-use Rattle.gx_law_schedules.proofs.laws.enabled_by_what_nodes_hold.Goals as goal
-
-pub returns : goal.returns
-returns c = λ script events some. enabled-there script some events

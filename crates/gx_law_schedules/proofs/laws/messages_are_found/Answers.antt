@@ -1,5 +1,0 @@
-use Rattle.gx_law_schedules.proofs.World.{world-letters}
-use Rattle.gx_law_schedules.proofs.laws.messages_are_found.Goals as goal
-
-pub returns : goal.returns
-returns c = λ script events from to number some. (world-letters script some events from to number).message

@@ -1,5 +1,0 @@
-use Rattle.gx_law_schedules.proofs.Enabled.{unknown-none}
-use Rattle.gx_law_schedules.proofs.laws.nothing_is_awaited_before_it_begins.Goals as goal
-
-pub returns : goal.returns
-returns c = λ script events segment g some none. unknown-none script some events segment g none

@@ -1,5 +1,0 @@
-use Rattle.gx_law_sessions.proofs.World.{orders-alive}
-use Rattle.gx_law_sessions.proofs.histories.orders_are_under_way.Goals as goal
-
-pub returns : goal.returns
-returns c = λ script events some. orders-alive script some events

@@ -1,5 +1,0 @@
-use Rattle.gx_law_sessions.proofs.World.{sessions-stand}
-use Rattle.gx_law_sessions.proofs.histories.sessions_stand.Goals as goal
-
-pub returns : goal.returns
-returns c = λ script events some. sessions-stand script some events
