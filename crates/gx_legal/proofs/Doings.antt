@@ -7,7 +7,7 @@ use Rattle.gx_ids.specs.declared.rid.Rid.{Rid}
 use Rattle.gx_legal.specs.Deeds.{Doing, IsByCommand, IsByEarlierInStep, IsByEarlierStep, IsByEither, IsLateDoing, May}
 use Rattle.gx_legal.specs.declared.deed.Act.{Act}
 use Rattle.gx_legal.specs.declared.deed.Act.TheVariants as act
-use Rattle.gx_legal_rows.specs.declared.command.RowAt.{RowAt}
+use Rattle.gx_legal.specs.declared.command.RowAt.{RowAt}
 use Rattle.gx_script.specs.declared.Script.{Script}
 use Rattle.gx_store.specs.declared.mark.Mark.{Mark}
 use Rattle.gx_store.specs.Points.{IsNoLater, Point, before}

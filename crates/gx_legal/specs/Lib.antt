@@ -1,3 +1,17 @@
+pub mod Numbers
+pub mod Images
+pub mod Places
+pub mod Gathered
+pub mod Viewed
+pub mod Written
+pub mod Selected
+pub mod Changed
+pub mod Late
+pub mod Inserted
+pub mod Writes
+pub mod Faulted
+pub mod RowsDone
+pub mod Told
 pub mod Answers
 pub mod Causes
 pub mod Commands

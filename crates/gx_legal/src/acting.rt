@@ -7,12 +7,15 @@ ghost use Rattle.gx_store.specs.Writes.{IsWriteOf, may_skip as can_skip};
 ghost use Rattle.gx_store.specs.Commands.{has_own_snapshot as is_served};
 ghost use Rattle.gx_legal.specs.Deeds.{May, doing_of};
 
+use crate::command::{Command, RowAt};
 use crate::deed::{Act, Deed};
+use crate::faults::is_fault_of;
+use crate::late_writes::is_late_write_of;
 use crate::lines::is_on_rows;
+use crate::marks::has_own_snapshot;
+use crate::skips::is_skip_of;
+use crate::writes::is_write_of;
 use gx_ids::{Mem, Rid};
-use gx_legal_rows::{
-    Command, RowAt, has_own_snapshot, is_fault_of, is_late_write_of, is_skip_of, is_write_of,
-};
 use gx_meaning::ArithFault;
 use gx_script::Script;
 use gx_store::Mark;

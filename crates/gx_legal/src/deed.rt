@@ -1,7 +1,7 @@
 // What a command does by a mark, and whether one under way may do it.
 
+use crate::command::RowAt;
 use gx_ids::{Cid, Gxid, Rid};
-use gx_legal_rows::RowAt;
 use gx_store::Mark;
 use gx_tree::Row;
 

@@ -6,12 +6,12 @@ ghost use Rattle.gx_store.specs.Writes.{LegalSkip, LegalWrite};
 ghost use Rattle.gx_legal.specs.Deeds.{IsByEither};
 ghost use Rattle.gx_legal.specs.Moments.{point_of};
 
+use crate::command::RowAt;
 use crate::deed::{Act, Deed};
 use crate::late::is_late;
 use crate::moment::Moment;
 use crate::working::is_by_command;
 use gx_ids::{Cid, Gxid, Mem, Node, Rid, Table};
-use gx_legal_rows::RowAt;
 use gx_tree::Row;
 use std::alloc::Global;
 

@@ -10,15 +10,17 @@ ghost use Rattle.gx_legal.specs.Done.{IsBack, IsDoneBy, IsPieceBack};
 ghost use Rattle.gx_legal.specs.Moments.{point_of};
 ghost use Rattle.gx_legal.specs.Standings.{state_in};
 
+use crate::command::Command;
 use crate::heard::has_heard;
 use crate::lines::{is_command, level_in, number_in, transaction_at};
+use crate::marks::is_committed;
 use crate::moment::Moment;
 use crate::pieces::pieces_of;
 use crate::seats::{is_ended_at, standing_at};
 use crate::standing::Block;
+use crate::told::tells;
 use crate::word::{Report, Word};
 use gx_ids::{Gxid, Mem, Node, SessionId};
-use gx_legal_rows::{Command, is_committed, tells};
 use gx_meaning::Piece;
 use gx_store::StmtAnswer;
 use gx_tree::Stmt;

@@ -4,10 +4,12 @@ ghost use Rattle.gx_store.specs.Refusals.{HasFaulted};
 ghost use Rattle.gx_legal.specs.Causes.{FaultsAt, FaultsBy};
 ghost use Rattle.gx_legal.specs.Moments.{point_of};
 
+use crate::command::Command;
+use crate::faults::is_fault_of;
+use crate::marks::is_aborted;
 use crate::moment::Moment;
 use crate::noted::{Evaluation, is_heard};
 use gx_ids::Mem;
-use gx_legal_rows::{Command, is_aborted, is_fault_of};
 use gx_meaning::ArithFault;
 use gx_msg::Cause;
 use gx_store::Mark;

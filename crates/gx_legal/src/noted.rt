@@ -5,10 +5,10 @@ ghost use Rattle.gx_store.specs.Refusals.{IsHeard, IsWord};
 ghost use Rattle.gx_legal.specs.Causes.{NotesIn, NotesInStep, StandsAt};
 ghost use Rattle.gx_legal.specs.Moments.{point_of};
 
+use crate::images::is_same_image;
 use crate::moment::Moment;
 use crate::word::{Report, Word, delivers};
 use gx_ids::{Cid, Gxid, Node, Rid};
-use gx_legal_rows::is_same_image;
 use gx_msg::Cause;
 use gx_store::{Event, Mark, Step};
 use gx_tree::{Row, Stmt};

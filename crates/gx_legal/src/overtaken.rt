@@ -4,11 +4,12 @@ ghost use Rattle.gx_store.specs.Refusals.{IsOvertaken};
 ghost use Rattle.gx_legal.specs.Causes.{IsOvertakenThere};
 ghost use Rattle.gx_legal.specs.Moments.{point_of};
 
+use crate::command::Command;
 use crate::firsts::first_sending;
 use crate::moment::Moment;
+use crate::overtaken_rows::is_overtaken_row;
 use crate::word::{Report, Word, delivers};
 use gx_ids::{Gxid, Mem, Node, Rid, Table};
-use gx_legal_rows::{Command, is_overtaken_row};
 use gx_msg::Cause;
 use gx_store::Event;
 use gx_tree::{Cond, Level, Stmt};

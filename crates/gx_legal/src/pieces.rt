@@ -6,9 +6,9 @@ ghost use Rattle.gx_store.specs.Language.{IsScript};
 ghost use Rattle.gx_legal.specs.Done.{AreSent};
 ghost use Rattle.gx_legal.specs.Tables.{IsOn, IsShort, table_at};
 
+use crate::command::Command;
 use gx_eval::EvalFault;
 use gx_ids::{Mem, OutOfMemory, Table};
-use gx_legal_rows::Command;
 use gx_meaning::Piece;
 use gx_plan::plan;
 use gx_script::Script;

@@ -6,16 +6,17 @@ ghost use Rattle.gx_legal.specs.Causes.{IsRefusedFor};
 ghost use Rattle.gx_legal.specs.Moments.{point_of};
 ghost use Rattle.gx_legal.specs.Standings.{state_in};
 
+use crate::command::Command;
 use crate::faulted::has_faulted;
 use crate::journals::has_journal_failed;
 use crate::lines::{is_command, level_in, number_in, transaction_at};
+use crate::marks::is_aborted;
 use crate::moment::Moment;
 use crate::named::is_named;
 use crate::overtaken::is_overtaken;
 use crate::seats::standing_at;
 use crate::standing::Block;
 use gx_ids::{Mem, SessionId};
-use gx_legal_rows::{Command, is_aborted};
 use gx_meaning::ArithFault;
 use gx_msg::Cause;
 use gx_store::Refused;

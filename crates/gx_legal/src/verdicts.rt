@@ -9,9 +9,9 @@ ghost use Rattle.gx_legal.specs.Moments.{point_of};
 ghost use Rattle.gx_legal.specs.Verdicts.{HasRefusal, IsRefusalOf};
 
 use crate::counts::session_of;
+use crate::marks::is_aborted;
 use crate::moment::Moment;
 use gx_ids::{Gxid, SessionId};
-use gx_legal_rows::is_aborted;
 use gx_store::{Mark, Refused, StmtAnswer};
 use gx_waits::Verdict;
 

@@ -9,3 +9,4 @@ pub mod Summary
 pub mod TraceText
 pub mod Words
 pub mod Worked
+pub mod Told

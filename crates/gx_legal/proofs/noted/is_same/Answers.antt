@@ -1,5 +1,5 @@
 use Rattle.std.proofs.Common.{sym, ◌∙◌}
-use Rattle.gx_legal_rows.proofs.Equal.{images-decided}
+use Rattle.gx_legal.proofs.Equal.{images-decided}
 use Rattle.gx_legal.proofs.noted.is_same.Goals as goal
 
 pub returns : goal.returns

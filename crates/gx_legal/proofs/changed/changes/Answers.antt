@@ -1,0 +1,10 @@
+use Rattle.gx_legal.proofs.Decided.{decided}
+use Rattle.gx_legal.proofs.RowsTreated.{changed-is, is-changed}
+use Rattle.gx_legal.proofs.changed.changes.Goals as goal
+
+pub returns : goal.returns
+returns c =
+    let a = c.args in
+    let k = a.command in
+    decided c.in_ok-holds.holds _ _ c.in_ok-holds.ensures (changed-is a.marks.now k.level k.gxid k.cid a.table a.cond.now a.count)
+    (is-changed a.marks.now k.level k.gxid k.cid a.table a.cond.now a.count)

@@ -1,0 +1,13 @@
+use Rattle.std.proofs.Common.{◌≡◌}
+use Rattle.std.specs.List.{list_any}
+use Rattle.gx_legal.specs.Places.{is_snapshot, places_from}
+use Rattle.gx_legal.specs.Selected.{is_changeable, is_changeable_at}
+use Rattle.gx_legal.specs.Written.{written_of}
+use Rattle.gx_legal.proofs.selecting.is_changeable.Given as goal
+
+abbrev pub invariant-loop-place : goal.invariant-loop-place
+invariant-loop-place l =
+    let k = l.choice.command in
+    let c = l.choice in
+    list_any (is_changeable_at l.marks k.level k.gxid k.cid c.table c.cond.now c.rid (written_of l.write) l.old) (places_from (is_snapshot k.level k.gxid k.cid) l.place-iterator.iter.count l.place-iterator.iter.iter.rest.now)
+    ≡ is_changeable l.marks k.level k.gxid k.cid c.table c.cond.now c.rid (written_of l.write) l.old

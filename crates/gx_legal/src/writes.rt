@@ -1,0 +1,133 @@
+ghost use Rattle.std.specs.Prelude.{◌≡◌, ◌≤◌, ◌&&◌, ◌==◌, ◌↔◌, not, IfOk, IsTrue};
+ghost use Rattle.gx_store.specs.Writes.{IsWriteOf};
+ghost use Rattle.gx_legal.specs.Changed.{is_changed as was_changed, is_gone as was_gone, is_set as was_set, is_set_to as was_set_to};
+ghost use Rattle.gx_legal.specs.Writes.{is_next as may_be_next, is_write as may_write};
+
+use crate::command::{Choice, Command, RowAt};
+use crate::images::is_image;
+use crate::inserts::is_inserted;
+use crate::late_writes::is_written_at;
+use crate::marks::{is_processed, node_of};
+use crate::selecting::is_changeable;
+use crate::setting::set_row;
+use crate::skips::choice_of;
+use crate::writing::free_write;
+use gx_ids::{Mem, Table};
+use gx_meaning::ArithFault;
+use gx_script::Script;
+use gx_store::Mark;
+use gx_tree::{Assign, Row, Stmt};
+use std::alloc::Global;
+
+/// Whether the command's statement may write this image of the row behind these marks.
+pub fn is_write_of(
+    alloc: Global,
+    script: &Script,
+    marks: &[Mark],
+    command: Command,
+    stmt: &Stmt,
+    row: RowAt,
+    image: &Option<Row>,
+) -> Mem<bool>
+    requires some { 1 ≤ script.now.segments }
+    requires few { script.now.segments ≤ 16 }
+    ensures { IfOk result (λ holds. IsTrue holds ↔ IsWriteOf script.now marks.now command.level command.gxid command.cid stmt.now row.node row.table row.rid image.now) }
+{
+    let holds = is_write(alloc, script, marks, command, stmt, row, image)?;
+    Ok(holds)
+}
+
+fn is_write(
+    alloc: Global,
+    script: &Script,
+    marks: &[Mark],
+    command: Command,
+    stmt: &Stmt,
+    row: RowAt,
+    image: &Option<Row>,
+) -> Mem<bool>
+    requires some { 1 ≤ script.now.segments }
+    requires few { script.now.segments ≤ 16 }
+    ensures { IfOk result (λ holds. holds ≡ may_write script.now marks.now command.level command.gxid command.cid stmt.now row.node row.table row.rid image.now) }
+{
+    match stmt {
+        Stmt::Insert(table, tuples) => {
+            let tuples = tuples.as_slice();
+            Ok(
+                *table == row.table
+                    && is_inserted(alloc, script, marks, command, *table, tuples, row, image)?,
+            )
+        }
+        Stmt::Update(table, assigns, cond) => {
+            let choice = choice_of(command, *table, cond, row.rid);
+            Ok(
+                is_next(marks, command, *table, row)
+                    && is_updated(alloc, marks, choice, assigns.as_slice(), image)?,
+            )
+        }
+        Stmt::Delete(table, cond) => {
+            let choice = choice_of(command, *table, cond, row.rid);
+            Ok(is_next(marks, command, *table, row) && is_deleted(alloc, marks, choice, image)?)
+        }
+        _ => Ok(false),
+    }
+}
+
+// Whether the row stands there, and the command hasn't written or skipped it.
+fn is_next(marks: &[Mark], command: Command, table: Table, row: RowAt) -> bool
+    ensures { result ≡ may_be_next marks.now command.gxid command.cid table row.node row.table row.rid }
+{
+    table == row.table
+        && is_written_at(node_of(marks, row.rid), row.node)
+        && !is_processed(marks, command.gxid, command.cid, row.rid)
+}
+
+fn is_updated(
+    alloc: Global,
+    marks: &[Mark],
+    choice: Choice<'_>,
+    assigns: &[Assign],
+    image: &Option<Row>,
+) -> Mem<bool>
+    ensures { IfOk result (λ holds. holds ≡ was_changed marks.now choice.entry.command.level choice.entry.command.gxid choice.entry.command.cid
+        choice.entry.table choice.entry.cond.now choice.entry.rid (was_set assigns.now image.now)) }
+{
+    let Some(write) = free_write(marks, choice.command.gxid, choice.rid) else {
+        return Ok(false);
+    };
+    match write.image {
+        None => Ok(false),
+        Some(old) => Ok(
+            is_set(alloc, assigns, image, old)? && is_changeable(alloc, marks, choice, write, old)?,
+        ),
+    }
+}
+
+fn is_deleted(alloc: Global, marks: &[Mark], choice: Choice<'_>, image: &Option<Row>) -> Mem<bool>
+    ensures { IfOk result (λ holds. holds ≡ was_changed marks.now choice.entry.command.level choice.entry.command.gxid choice.entry.command.cid
+        choice.entry.table choice.entry.cond.now choice.entry.rid (was_gone image.now)) }
+{
+    let Some(write) = free_write(marks, choice.command.gxid, choice.rid) else {
+        return Ok(false);
+    };
+    match write.image {
+        None => Ok(false),
+        Some(old) => Ok(image.is_none() && is_changeable(alloc, marks, choice, write, old)?),
+    }
+}
+
+// Whether the image is what the SET list gives.
+fn is_set(alloc: Global, assigns: &[Assign], image: &Option<Row>, old: &Row) -> Mem<bool>
+    ensures { IfOk result (λ holds. holds ≡ was_set assigns.now image.now old.now) }
+{
+    Ok(is_set_to(set_row(alloc, assigns, old.as_slice())?, image))
+}
+
+fn is_set_to(set: Result<Row, ArithFault>, image: &Option<Row>) -> bool
+    ensures { result ≡ was_set_to set image.now }
+{
+    match set {
+        Ok(new) => is_image(image, &new),
+        Err(_) => false,
+    }
+}

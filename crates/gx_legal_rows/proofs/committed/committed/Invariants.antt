@@ -1,6 +1,0 @@
-use Rattle.std.proofs.Common.{◌≡◌, [], drop}
-use Rattle.gx_legal_rows.specs.Gathered.{committed_from}
-use Rattle.gx_legal_rows.proofs.committed.committed.Given as goal
-
-abbrev pub invariant-loop-mark : goal.invariant-loop-mark
-invariant-loop-mark l = committed_from l.gxids.keys (drop l.mark-index l.marks) ≡ committed_from [] l.marks

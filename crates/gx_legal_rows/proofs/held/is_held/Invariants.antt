@@ -1,6 +1,0 @@
-use Rattle.std.proofs.Common.{◌≡◌, false}
-use Rattle.gx_legal_rows.specs.Told.{held_from}
-use Rattle.gx_legal_rows.proofs.held.is_held.Given as goal
-
-abbrev pub invariant-loop-mark : goal.invariant-loop-mark
-invariant-loop-mark l = held_from l.node l.wanted false l.mark-iterator.iter.rest.now ≡ held_from l.node l.wanted false l.marks

@@ -1,6 +1,0 @@
-use Rattle.std.proofs.Common.{◌≡◌, ◌++◌, drop}
-use Rattle.gx_legal_rows.specs.Told.{met_rows}
-use Rattle.gx_legal_rows.proofs.shown.met_rows.Given as goal
-
-abbrev pub invariant-loop-row : goal.invariant-loop-row
-invariant-loop-row l = l.met.items ++ met_rows l.cond (drop l.row-index l.rows) ≡ met_rows l.cond l.rows

@@ -1,0 +1,46 @@
+// The one write, and the status.
+ghost use Rattle.gx_report.specs.Told.{IsTold, IsToldOf};
+
+use crate::attempt::Attempt;
+use gx_outside::{Failed, Sink, write_whole};
+use gx_store::Run;
+use std::alloc::Global;
+
+/// What a call did: its status, and the run that it made. 0 is done, 2 words that aren't in the language, 3 a refused script, 4 a read fault, 5 a write fault, 6
+/// want of memory, 7 a run that took all its turns, 8 a run that is stuck, and 9 too many bytes.
+#[derive(Drop)]
+pub struct Report {
+    pub status: u8,
+    pub run: Run,
+}
+
+// Writes the text of an ending with this status.
+fn told<K: Sink>(status: u8, run: Run, text: &[u8], sink: &mut K) -> Report
+    ensures { IsTold status run text.now (K.written sink.old) (K.written sink.new) (K.fault_count sink.old) (K.fault_count sink.new) result }
+{
+    match write_whole(sink, text) {
+        Ok(()) => Report { status, run },
+        Err(Failed) => Report { status: 5, run },
+    }
+}
+
+/// Tells what the work came to, in one write.
+pub fn told_of<K: Sink>(alloc: Global, attempt: Attempt, sink: &mut K) -> Report
+    ensures { IsToldOf attempt (K.written sink.old) (K.written sink.new) (K.fault_count sink.old) (K.fault_count sink.new) result }
+{
+    match attempt {
+        Attempt::Done(run, text) => told(0, run, text.as_slice(), sink),
+        Attempt::Stopped(run, text) => told(7, run, text.as_slice(), sink),
+        Attempt::Stuck(run, text) => told(8, run, text.as_slice(), sink),
+        Attempt::Usage => told(
+            2,
+            Run::new(alloc),
+            b"usage: gx [--seed N] [--threads] [--trace] [--turns N] [--gen N]\n",
+            sink,
+        ),
+        Attempt::Refused(text) => told(3, Run::new(alloc), text.as_slice(), sink),
+        Attempt::ReadFault => told(4, Run::new(alloc), b"read fault\n", sink),
+        Attempt::TooLarge => told(9, Run::new(alloc), b"too large\n", sink),
+        Attempt::OutOfMemory(run) => Report { status: 6, run },
+    }
+}
