@@ -27,7 +27,7 @@ pub mod Hearing
 pub mod Judged
 pub mod Legality
 pub mod Oks
-pub mod Places
+pub mod MarkPlaces
 pub mod Planning
 pub mod Refusing
 pub mod Seeing

@@ -26,7 +26,7 @@ use Rattle.gx_store.specs.Refusals.{IsOvertakenRow, the_coordinator}
 use Rattle.gx_tree.specs.declared.cond.Cond.{Cond}
 use Rattle.gx_tree.specs.declared.stmt.Level.{Level}
 use Rattle.gx_legal.proofs.Causes.{failed-told, sender-same}
-use Rattle.gx_legal.proofs.Places.{none-below, step-inside, step-whole}
+use Rattle.gx_legal.proofs.MarkPlaces.{none-below, step-inside, step-whole}
 use Rattle.gx_legal.proofs.Stepping.{take-part}
 use Rattle.gx_legal.specs.Causes.{IsOvertakenThere}
 use Rattle.gx_legal.specs.Firsts.{IsFirstIn, IsFirstSending, SendsFrom, SendsWordAt}

@@ -1,6 +1,6 @@
 -- Where a session stands behind one more mark.
 use Rattle.std.proofs.Common.{◌≡◌, ℕ, ◌+◌, ◌<◌, List, [], ◌∷◌, ◌++◌, get_or, length, take, subst, sym, ap, ◌∙◌, arith}
-use Rattle.gx_legal.proofs.Places.{take-next}
+use Rattle.gx_legal.proofs.MarkPlaces.{take-next}
 use Rattle.gx_ids.specs.declared.ids.SessionId.{SessionId}
 use Rattle.gx_script.specs.declared.Script.{Script}
 use Rattle.gx_store.specs.declared.mark.Mark.{Mark}

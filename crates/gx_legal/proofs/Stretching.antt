@@ -6,7 +6,7 @@ use Rattle.gx_store.specs.declared.mark.Mark.{Mark}
 use Rattle.gx_store.specs.declared.run.Step.{Step}
 use Rattle.gx_store.specs.Legal.{IsLegalStep}
 use Rattle.gx_store.specs.Points.{marks_in}
-use Rattle.gx_legal.proofs.Places.{part-whole, step-inside, step-whole}
+use Rattle.gx_legal.proofs.MarkPlaces.{part-whole, step-inside, step-whole}
 use Rattle.gx_legal.specs.Stretches.{MayFollow}
 
 module _ (steps : List Step) (k : ℕ) (step : Step) (earlier all marks : List Mark) (start : ℕ) (at : slice_get steps k ≡ Some step) (whole : all ≡ marks_in steps ++ earlier)

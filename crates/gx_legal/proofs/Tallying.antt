@@ -23,7 +23,7 @@ use Rattle.gx_store.specs.Points.{ends_by, ends_in, marks_in, starts_by, starts_
 use Rattle.gx_store.proofs.Lines.{state_from-append}
 use Rattle.gx_store.proofs.Marks.{answer_count-append, is_aborted-append, is_begun_after-append, is_committed-append, started_after-append}
 use Rattle.gx_store.proofs.Runs.{ends_in-push, marks_in-push, starts_in-push}
-use Rattle.gx_legal.proofs.Places.{take-next}
+use Rattle.gx_legal.proofs.MarkPlaces.{take-next}
 use Rattle.gx_legal.specs.declared.standing.Block.TheVariants as block
 use Rattle.gx_legal.specs.declared.standing.Standing.{Standing}
 use Rattle.gx_legal.specs.declared.tally.Seat.{Seat}

@@ -1,7 +1,7 @@
 use Rattle.std.proofs.Common.{◌<◌, length, arith}
 use Rattle.gx_lemmas.proofs.Tests.{false-true}
 use Rattle.gx_legal.proofs.Faulting.{faulted-inside, of-faulted}
-use Rattle.gx_legal.proofs.Places.{none-below}
+use Rattle.gx_legal.proofs.MarkPlaces.{none-below}
 use Rattle.gx_legal.proofs.Sessions.{no-longer}
 use Rattle.gx_legal.specs.Causes.{FaultsAt}
 use Rattle.gx_legal.specs.Moments.{point_of}

@@ -1,7 +1,7 @@
 use Rattle.std.proofs.Common.{◌≡◌, ◌≤◌, ◌<◌, ◌+◌, ◌∙◌, Some, slice_get, get_or, ap, length, arith}
 use Rattle.std.proofs.lemmas.Option.{slice_get-get_or}
 use Rattle.gx_lemmas.proofs.Lists.{place-below}
-use Rattle.gx_legal.proofs.Places.{marks-through, step-inside}
+use Rattle.gx_legal.proofs.MarkPlaces.{marks-through, step-inside}
 use Rattle.gx_legal.proofs.Sendings.{found-here, found-later}
 use Rattle.gx_legal.proofs.firsts.first_sending.Goals as goal
 

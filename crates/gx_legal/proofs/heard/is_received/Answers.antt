@@ -5,7 +5,7 @@ use Rattle.gx_lemmas.proofs.Options.{some-same}
 use Rattle.gx_lemmas.proofs.Tests.{false-true}
 use Rattle.gx_store.specs.declared.event.Event.TheVariants.{Receive}
 use Rattle.gx_store.specs.declared.run.Step.{Step}
-use Rattle.gx_legal.proofs.Places.{none-below}
+use Rattle.gx_legal.proofs.MarkPlaces.{none-below}
 use Rattle.gx_legal.proofs.Sessions.{no-longer}
 use Rattle.gx_legal.specs.Words.{ReceivesAt}
 use Rattle.gx_legal.proofs.heard.is_received.Goals as goal

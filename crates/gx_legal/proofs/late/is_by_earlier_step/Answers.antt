@@ -6,7 +6,7 @@ use Rattle.gx_store.specs.declared.mark.Mark.{Mark}
 use Rattle.gx_store.specs.declared.run.Step.{Step}
 use Rattle.gx_store.specs.Points.{marks_in}
 use Rattle.gx_legal.proofs.Earlier.{behind-inside, behind-none, behind-some}
-use Rattle.gx_legal.proofs.Places.{marks-through, split-at}
+use Rattle.gx_legal.proofs.MarkPlaces.{marks-through, split-at}
 use Rattle.gx_legal.proofs.Sessions.{no-longer}
 use Rattle.gx_legal.proofs.Stretching.{stretch-among, stretch-inside}
 use Rattle.gx_legal.proofs.Tallying.{can-step, tally-steps}

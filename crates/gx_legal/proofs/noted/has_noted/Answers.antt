@@ -4,7 +4,7 @@ use Rattle.gx_lemmas.proofs.Lists.{place-below}
 use Rattle.gx_lemmas.proofs.Options.{some-same}
 use Rattle.gx_lemmas.proofs.Tests.{false-true}
 use Rattle.gx_store.specs.declared.run.Step.{Step}
-use Rattle.gx_legal.proofs.Places.{none-below}
+use Rattle.gx_legal.proofs.MarkPlaces.{none-below}
 use Rattle.gx_legal.proofs.Sessions.{no-longer}
 use Rattle.gx_legal.specs.Causes.{NotesIn, NotesInStep}
 use Rattle.gx_legal.proofs.noted.has_noted.Goals as goal

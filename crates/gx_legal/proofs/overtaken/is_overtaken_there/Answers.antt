@@ -3,7 +3,7 @@ use Rattle.gx_lemmas.proofs.Tests.{false-true}
 use Rattle.gx_msg.specs.declared.reply.Cause.TheVariants.{Serialization}
 use Rattle.gx_store.specs.Refusals.{the_coordinator}
 use Rattle.gx_legal.proofs.Oks.{if_ok}
-use Rattle.gx_legal.proofs.Places.{length-taken}
+use Rattle.gx_legal.proofs.MarkPlaces.{length-taken}
 use Rattle.gx_legal.proofs.Sendings.{first-inside, there-is, there-unsent}
 use Rattle.gx_legal.specs.Moments.{point_of}
 use Rattle.gx_legal.specs.declared.word.Word.TheVariants.{Failed}

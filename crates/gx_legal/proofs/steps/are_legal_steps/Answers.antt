@@ -5,7 +5,7 @@ use Rattle.gx_lemmas.proofs.Tests.{false-true}
 use Rattle.gx_store.specs.declared.mark.Mark.{Mark}
 use Rattle.gx_store.specs.Points.{marks_in}
 use Rattle.gx_legal.proofs.Legality.{steps-end, steps-next, steps-stop}
-use Rattle.gx_legal.proofs.Places.{marks-through}
+use Rattle.gx_legal.proofs.MarkPlaces.{marks-through}
 use Rattle.gx_legal.proofs.Sessions.{no-longer}
 use Rattle.gx_legal.proofs.Stretching.{follow-is, stretch-among, stretch-inside}
 use Rattle.gx_legal.proofs.Tallying.{can-step, tally-steps}
