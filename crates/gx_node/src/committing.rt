@@ -133,8 +133,22 @@ pub(crate) fn take_prepare<J: Journal>(
         return Ok(nothing());
     }
     match (local.phase, local.vote) {
-        (Phase::Reading, None) => take_on(alloc, node, gxid, local, promise(node, gxid, kept), journal),
-        (Phase::Writing, None) => take_on(alloc, node, gxid, local, promise(node, gxid, kept), journal),
+        (Phase::Reading, None) => take_on(
+            alloc,
+            node,
+            gxid,
+            local,
+            promise(node, gxid, kept),
+            journal,
+        ),
+        (Phase::Writing, None) => take_on(
+            alloc,
+            node,
+            gxid,
+            local,
+            promise(node, gxid, kept),
+            journal,
+        ),
         (Phase::Aborted, _) => Ok(nothing()),
         _ => Ok(tell_vote(local)),
     }
@@ -170,8 +184,22 @@ pub(crate) fn take_commit<J: Journal>(
         return Ok(nothing());
     }
     match (local.phase, local.vote) {
-        (Phase::Reading, None) => take_on(alloc, node, gxid, local, commitment(node, gxid, kept), journal),
-        (Phase::Writing, None) => take_on(alloc, node, gxid, local, commitment(node, gxid, kept), journal),
+        (Phase::Reading, None) => take_on(
+            alloc,
+            node,
+            gxid,
+            local,
+            commitment(node, gxid, kept),
+            journal,
+        ),
+        (Phase::Writing, None) => take_on(
+            alloc,
+            node,
+            gxid,
+            local,
+            commitment(node, gxid, kept),
+            journal,
+        ),
         (Phase::Reading, Some(_)) => Ok(tell_vote(local)),
         (Phase::Writing, Some(_)) => Ok(tell_vote(local)),
         (Phase::Committed, _) => Ok(tell_commit(local)),
