@@ -2,10 +2,6 @@
 //! tables.
 #![tactic(auto)]
 
-ghost use Rattle.std.specs.Prelude.{◌≡◌, IfOk, length, map};
-ghost use Rattle.gx_outside.specs.Memory.{shelf_of};
-ghost use Rattle.gx_outside.specs.Shelves.{AreEmpty};
-
 mod attempt;
 mod bytes;
 mod driving;
@@ -14,24 +10,11 @@ mod running;
 mod telling;
 mod top;
 
-use gx_ids::Mem;
-use gx_outside::{JournalMem, PassGate, StdinSource, StdoutSink};
-use std::alloc::Global;
+use gx_drive::empty_journals;
+use gx_outside::{PassGate, StdinSource, StdoutSink};
 use std::process::ExitCode;
 use std::{env, io};
 use top::run_gx;
-
-// Journals for the coordinator and 16 segments.
-fn journals(alloc: Global) -> Mem<Vec<JournalMem>>
-    ensures count { IfOk result (λ journals. length journals.items ≡ 17) }
-    ensures empty { IfOk result (λ journals. AreEmpty (map shelf_of journals.items)) }
-{
-    let mut journals = Vec::new(alloc);
-    for _node in 0..17usize {
-        journals.push(JournalMem::new(alloc, Vec::new(alloc))?)?;
-    }
-    Ok(journals)
-}
 
 fn main(rt: HostRuntime) -> ExitCode {
     let alloc = rt.alloc();
@@ -41,7 +24,7 @@ fn main(rt: HostRuntime) -> ExitCode {
     let Ok(words) = words.skip(1).collect::<Vec<String>>(alloc) else {
         return ExitCode::from(6);
     };
-    let Ok(mut journals) = journals(alloc) else {
+    let Ok(mut journals) = empty_journals(alloc) else {
         return ExitCode::from(6);
     };
     let mut source = StdinSource::new(rt.reader());

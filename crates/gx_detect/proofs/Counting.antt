@@ -1,5 +1,5 @@
 -- Counts by transactions and nodes.
-use Rattle.std.proofs.Common.{◌≡◌, ◌≢◌, ◌==◌, ◌&&◌, ℕ, Bool, false, subst, refl, arith}
+use Rattle.std.proofs.Common.{◌≡◌, ◌≢◌, ◌==◌, ◌&&◌, ℕ, false, subst, refl, arith}
 use Rattle.std.proofs.lemmas.Bool.Decides.{nat_tests}
 use Rattle.std.specs.Prelude.{Some, IsSome, IsTrue, OnOk, Result, Ok, Err}
 use Rattle.std.specs.BTreeMap.{BTreeMap, WritesThrough, get, get_by, is_at}

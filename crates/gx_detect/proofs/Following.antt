@@ -85,15 +85,6 @@ noted_but_last aim edges p old new noted marks tally popped e c q n z =
     Contains-push_cases new.freed.items p q (subst (λ l. Contains l q) popped
     (noted e (subst (λ m. Contains (left_of edges m.items) e) marks c) q n (subst (λ t. count_at t q ≡ 0) tally z)))
 
-pub noted_if_counted : (aim : Aim) (edges : List PlacedEdge) (p : Place) (rest : Rest) → AreNotedBut p aim edges rest → 0 < count_at rest.tally p → AreNoted aim edges rest
-noted_if_counted aim edges p rest noted some e c q n z = ⊎_elim
-    (λ (f : Contains rest.freed.items q). f)
-    (λ (s : p ≡ q). absurd (never (count_at rest.tally p) some (ap (count_at rest.tally) s ∙ z)))
-    (noted e c q n z)
-  where
-    never : (k : ℕ) → 0 < k → k ≡ 0 → ⊥
-    never k l z = omega arith
-
 pub all_done : (aim : Aim) (edges : List PlacedEdge) (rest : Rest) → AreNoted aim edges rest → rest.freed.items ≡ [] → IsDone aim edges rest
 all_done aim edges rest noted none e c p n = go (count_at rest.tally p) refl
   where

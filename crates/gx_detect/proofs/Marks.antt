@@ -16,11 +16,6 @@ get_at [] k d below = absurd (omega arith)
 get_at (x ∷ xs) zero d below = refl
 get_at (x ∷ xs) (suc k) d below = get_at xs k d (omega arith)
 
-pub at_get : {A : Type 0} (xs : List A) (k : ℕ) (d x : A) → slice_get xs k ≡ Some x → get_or xs k d ≡ x
-at_get [] k d x e = absurd (cc)
-at_get (y ∷ ys) zero d x e = cc
-at_get (y ∷ ys) (suc k) d x e = at_get ys k d x e
-
 pub get_below : {A : Type 0} (xs : List A) (k : ℕ) (x : A) → slice_get xs k ≡ Some x → k < length xs
 get_below [] k x e = absurd (cc)
 get_below (y ∷ ys) zero x e = omega arith

@@ -56,9 +56,6 @@ pub record IsUnderWay (edges part : List PlacedEdge) (chosen : List Gxid) : Type
   pub victims : (more : List Gxid) → AreVictims now more → AreVictims edges (chosen ++ more)
   pub cores : (more : List Gxid) → HaveClosedCores now more → HaveClosedCores edges (chosen ++ more)
 
-pub begins : (edges part : List PlacedEdge) → IsLargest Core edges part → IsUnderWay edges part []
-begins edges part largest = record { now = edges; largest = largest; victims = λ more m. m; cores = λ more m. m }
-
 greatest_in : (edges part : List PlacedEdge) (v : Gxid) → IsLargest Core edges part → IsNamed part v → ((w : Gxid) → IsNamed part w → w.0 ≤ v.0) → IsGreatestInCore edges v
 greatest_in edges part v largest named up =
     let core = is_core edges part largest in

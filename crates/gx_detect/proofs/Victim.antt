@@ -1,9 +1,8 @@
 -- Victims are the youngest of deadlocks.
-use Rattle.std.proofs.Common.{◌≡◌, List, [], ◌∷◌, refl}
+use Rattle.std.proofs.Common.{List, [], ◌∷◌}
 use Rattle.std.specs.Prelude.{Contains, filter, not}
 use Rattle.gx_ids.specs.declared.ids.Gxid.{Gxid}
 use Rattle.gx_waits.specs.declared.placed_edge.PlacedEdge.{PlacedEdge}
-use Rattle.gx_waits.specs.declared.verdict.Verdict.TheVariants.{Victims}
 use Rattle.gx_waits.specs.Closed.{IsNamed, IsNamedInStuck, IsStuck}
 use Rattle.gx_waits.specs.Edge.{names}
 use Rattle.gx_waits.specs.Victims.{AreVictims, IsGreatestInCore, IsVerdict}
@@ -48,7 +47,3 @@ pub names_victims : (edges : List PlacedEdge) (victims : List Gxid) → AreVicti
     → NamesVictims edges (naming victims)
 names_victims edges [] are have = tt
 names_victims edges (v ∷ victims) are have = are_in_turn edges (v ∷ victims) are have
-
-pub naming-some : (victims : List Gxid) → (victims ≡ [] → ⊥) → naming victims ≡ Victims victims
-naming-some [] some = absurd (some refl)
-naming-some (v ∷ victims) some = refl

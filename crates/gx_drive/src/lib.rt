@@ -5,6 +5,7 @@
 pub mod agenda;
 mod detecting;
 mod drawing;
+pub mod empty;
 pub mod end;
 mod ends;
 mod links;
@@ -16,6 +17,7 @@ mod stuck;
 mod turn;
 
 pub use agenda::Agenda;
+pub use empty::empty_journals;
 pub use end::End;
 pub use ordered::run_ordered;
 pub use seeded::run_seeded;

@@ -1,7 +1,6 @@
 -- Laws of the orders of values, keys, rows and groups.
 use Rattle.std.proofs.Common.{◌≡◌, ◌∙◌, Bool, true, false, List, [], ◌∷◌, refl, ap, sym, subst}
 use Rattle.std.proofs.lemmas.Cmp.{tied_itself, upto}
-use Rattle.std.proofs.lemmas.Map.Lookups.{exact_bytes, exact_signed}
 use Rattle.std.specs.Cmp.{IsTotalOrder, back_total, nat_cmp_total, on_total, then_total}
 use Rattle.std.specs.Option.{option_cmp}
 use Rattle.std.specs.Ordering.{is_eq, is_gt, ordering_reverse, ordering_then}
@@ -9,20 +8,14 @@ use Rattle.std.specs.Prelude.{Option, None, Some, slice_get}
 use Rattle.std.specs.declared.cmp.Ordering.{Ordering}
 use Rattle.std.specs.declared.cmp.Ordering.TheVariants.{Less, Equal, Greater}
 use Rattle.gx_ids.specs.declared.rid.Rid.{Rid}
+use Rattle.gx_tree.proofs.Values.{same_value}
 use Rattle.gx_tree.specs.Value.{value_order}
 use Rattle.gx_tree.specs.declared.row.KeyedRow.{KeyedRow}
 use Rattle.gx_tree.specs.declared.value.Value.{Value}
-use Rattle.gx_tree.specs.declared.value.Value.TheVariants.{Int, Text}
 use Rattle.gx_gather.specs.Laws.{rising-total, value_order-total}
 use Rattle.gx_meaning.specs.Order.{by_place, by_places, directed, group_order, rid_order, rising, row_order}
 use Rattle.gx_meaning.specs.declared.sort_key.SortKey.{SortKey}
 use Rattle.gx_gather.proofs.InOrder.{Equal-from, tied-from}
-
-pub value_order-exact : (a b : Value) → value_order a b ≡ Equal → a ≡ b
-value_order-exact (Int m) (Int n) e = ap Int (exact_signed m n e)
-value_order-exact (Int m) (Text t) e = cc
-value_order-exact (Text s) (Int n) e = cc
-value_order-exact (Text s) (Text t) e = ap Text (exact_bytes s t e)
 
 -- ---- what a test for Greater says
 gt-less : (o : Ordering) → is_gt o ≡ true → ordering_reverse o ≡ Less
@@ -61,7 +54,7 @@ pub gt-once : (a b : Value) → is_gt (value_order a b) ≡ true → is_gt (valu
 gt-once a b e f = above-once value_order-total a b e f
 
 pub tie-once : (a b : Value) → is_gt (value_order a b) ≡ false → is_gt (value_order b a) ≡ false → a ≡ b
-tie-once a b e f = value_order-exact a b (tie-from value_order-total a b e f)
+tie-once a b e f = same_value a b (tie-from value_order-total a b e f)
 
 -- ---- keys
 first-Equal : (o p : Ordering) → ordering_then o p ≡ Equal → (o ≡ Equal) × (p ≡ Equal)
@@ -75,7 +68,7 @@ rising-exact [] (b ∷ bs) e = cc
 rising-exact (a ∷ as') [] e = cc
 rising-exact (a ∷ as') (b ∷ bs) e =
     let both = first-Equal (value_order a b) (rising as' bs) e in
-    let head : a ≡ b = value_order-exact a b both.0 in
+    let head : a ≡ b = same_value a b both.0 in
     let tail : as' ≡ bs = rising-exact as' bs both.1 in
     cc
 

@@ -1,5 +1,5 @@
 -- The answer over the whole from that over the parts of a division.
-use Rattle.std.proofs.Common.{◌||◌, ℕ, ◌+◌, ◌≤◌, ◌≡◌, ◌∙◌, Bool, true, false, cond, List, [], ◌∷◌, ◌++◌, filter, map, length, refl, ap, sym, arith}
+use Rattle.std.proofs.Common.{◌||◌, ℕ, ◌≤◌, ◌≡◌, ◌∙◌, Bool, true, false, cond, List, [], ◌∷◌, ◌++◌, filter, map, length, refl, ap, sym, arith}
 use Rattle.std.proofs.lemmas.List.Sorted.{list_any-IsPermutation}
 use Rattle.std.specs.List.{flat_map, zip}
 use Rattle.std.specs.List.Sorted.{IsPermutation, IsSortedBy}

@@ -1,5 +1,5 @@
 use gx_ids::OutOfMemory;
-use std::alloc::{AllocError, AllocFailed};
+use std::alloc::AllocFailed;
 
 /// The limits that tokens of a line may pass, in the order in which one of them is named where a token passes several.
 #[derive(Clone, Copy, Debug, PartialEq, Eq)]
@@ -42,17 +42,6 @@ impl From<OutOfMemory> for ReadError {
     ghost from_gives = { λ _ e. e ≡ error.OutOfMemory };
 
     fn from(_error: OutOfMemory) -> ReadError {
-        ReadError::OutOfMemory
-    }
-}
-
-impl From<AllocError> for ReadError {
-    ghost use Rattle.std.specs.Prelude.{◌≡◌};
-    ghost use Rattle.gx_grammar.specs.declared.fault.ReadError.TheVariants as error;
-
-    ghost from_gives = { λ _ e. e ≡ error.OutOfMemory };
-
-    fn from(_error: AllocError) -> ReadError {
         ReadError::OutOfMemory
     }
 }

@@ -1,5 +1,5 @@
 -- Whole numbers and tests of them; each lemma by its left side.
-use Rattle.std.proofs.Common.{◌≡◌, ◌≤◌, ◌<◌, ℕ, ◌+◌, Bool, true, false, arith, eqb, nat_lt, ◌==◌}
+use Rattle.std.proofs.Common.{◌≡◌, ◌≤◌, ◌<◌, ℕ, ◌+◌, true, false, arith, eqb, nat_lt, ◌==◌}
 use Rattle.std.proofs.lemmas.Bool.Decides.{nat_tests}
 
 -- TESTS

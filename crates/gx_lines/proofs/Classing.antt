@@ -1,5 +1,6 @@
 -- The laws of the classes of tokens.
 use Rattle.std.proofs.Common.{◌≡◌, ℕ, ◌<◌, ◌≤◌, ◌==◌, nat_le, true, false, ◌&&◌, if◌then◌else◌, List, [], length, Option, Some, None, max, refl, sym, ◌∙◌, ap, subst, arith}
+use Rattle.gx_lex.specs.declared.word.Word.{Word}
 use Rattle.gx_lex.specs.declared.word.Word.TheVariants as word
 use Rattle.gx_lex.specs.declared.token.Token.{Token}
 use Rattle.gx_lex.specs.declared.token.Token.TheVariants as token
@@ -14,20 +15,16 @@ use Rattle.gx_grammar.proofs.Good.{Class}
 use Rattle.gx_grammar.proofs.Parts.{plain_class}
 use Rattle.gx_lines.specs.declared.classes.Size.{Size}
 use Rattle.gx_lines.specs.declared.classes.Segments.{Segments}
-use Rattle.gx_lines.specs.Classes.{pick_some, size_of, segments_in, segments_of, in_range, number_in, agg_word, agg_of, direction_word, direction_of, strength_word, strength_of, switch_word, switch_of, kind_word, kind_of, fate_word, fate_of, way_word, way_of}
+use Rattle.gx_lines.specs.Classes.{pick_some, word_of, size_of, segments_in, segments_of, in_range, number_in, agg_word, agg_of, direction_word, direction_of, strength_word, strength_of, switch_word, switch_of, kind_word, kind_of, fate_word, fate_of, way_word, way_of}
 use Rattle.gx_lines.specs.declared.classes.Agg.{Agg}
 use Rattle.gx_lines.specs.declared.classes.Agg.TheVariants as agg
 use Rattle.gx_lines.specs.declared.classes.Direction.{Direction}
 use Rattle.gx_lines.specs.declared.classes.Direction.TheVariants as direction
-use Rattle.gx_lines.specs.declared.classes.Strength.{Strength}
 use Rattle.gx_lines.specs.declared.classes.Strength.TheVariants as strength
-use Rattle.gx_lines.specs.declared.classes.Switch.{Switch}
 use Rattle.gx_lines.specs.declared.classes.Switch.TheVariants as switch
-use Rattle.gx_lines.specs.declared.classes.KindSyn.{KindSyn}
 use Rattle.gx_lines.specs.declared.classes.KindSyn.TheVariants as kind
 use Rattle.gx_lines.specs.declared.classes.Fate.{Fate}
 use Rattle.gx_lines.specs.declared.classes.Fate.TheVariants as fate
-use Rattle.gx_lines.specs.declared.classes.Way.{Way}
 use Rattle.gx_lines.specs.declared.classes.Way.TheVariants as way
 
 isnt_is : {X P : Type 0} (x : X) → Isnt ≡ Is x → P
@@ -55,82 +52,38 @@ some_passes X l (Some x) e = is_passes X l x (pick_some (Some x)) refl e
 some_passes X l None e = isnt_passes X l (pick_some None) refl e
 
 -- WORDS of which one stands
-agg_never : (y : Token) (l : LineLimit) → agg_of y ≡ Passes l → ⊥
-agg_never (token.Word w) l e = some_passes Agg l (agg_word w) e
-agg_never (token.Name m) l e = isnt_passes Agg l (agg_of (token.Name m)) refl e
-agg_never (token.Number m) l e = isnt_passes Agg l (agg_of (token.Number m)) refl e
-agg_never (token.Text m) l e = isnt_passes Agg l (agg_of (token.Text m)) refl e
-agg_never (token.Symbol m) l e = isnt_passes Agg l (agg_of (token.Symbol m)) refl e
-agg_never token.Bad l e = isnt_passes Agg l (agg_of token.Bad) refl e
+word_never : {X : Type 0} (f : Word → Option X) (y : Token) (l : LineLimit) → word_of f y ≡ Passes l → ⊥
+word_never {X = X} f (token.Word w) l e = some_passes X l (f w) e
+word_never {X = X} f (token.Name m) l e = isnt_passes X l (word_of f (token.Name m)) refl e
+word_never {X = X} f (token.Number m) l e = isnt_passes X l (word_of f (token.Number m)) refl e
+word_never {X = X} f (token.Text m) l e = isnt_passes X l (word_of f (token.Text m)) refl e
+word_never {X = X} f (token.Symbol m) l e = isnt_passes X l (word_of f (token.Symbol m)) refl e
+word_never {X = X} f token.Bad l e = isnt_passes X l (word_of f token.Bad) refl e
+
+-- one of the words, with its value
+word_class : {X : Type 0} (f : Word → Option X) (w : Word) (x : X) → f w ≡ Some x → Class (λ d. word_of f)
+word_class f w x e = plain_class (word_of f) (token.Word w) x (ap pick_some e) (word_never f)
 
 pub agg_class : Class (λ d. agg_of)
-agg_class = plain_class agg_of (token.Word word.Sum) agg.Sum refl agg_never
-
-direction_never : (y : Token) (l : LineLimit) → direction_of y ≡ Passes l → ⊥
-direction_never (token.Word w) l e = some_passes Direction l (direction_word w) e
-direction_never (token.Name m) l e = isnt_passes Direction l (direction_of (token.Name m)) refl e
-direction_never (token.Number m) l e = isnt_passes Direction l (direction_of (token.Number m)) refl e
-direction_never (token.Text m) l e = isnt_passes Direction l (direction_of (token.Text m)) refl e
-direction_never (token.Symbol m) l e = isnt_passes Direction l (direction_of (token.Symbol m)) refl e
-direction_never token.Bad l e = isnt_passes Direction l (direction_of token.Bad) refl e
+agg_class = word_class agg_word word.Sum agg.Sum refl
 
 pub direction_class : Class (λ d. direction_of)
-direction_class = plain_class direction_of (token.Word word.Asc) direction.Asc refl direction_never
-
-strength_never : (y : Token) (l : LineLimit) → strength_of y ≡ Passes l → ⊥
-strength_never (token.Word w) l e = some_passes Strength l (strength_word w) e
-strength_never (token.Name m) l e = isnt_passes Strength l (strength_of (token.Name m)) refl e
-strength_never (token.Number m) l e = isnt_passes Strength l (strength_of (token.Number m)) refl e
-strength_never (token.Text m) l e = isnt_passes Strength l (strength_of (token.Text m)) refl e
-strength_never (token.Symbol m) l e = isnt_passes Strength l (strength_of (token.Symbol m)) refl e
-strength_never token.Bad l e = isnt_passes Strength l (strength_of token.Bad) refl e
+direction_class = word_class direction_word word.Asc direction.Asc refl
 
 pub strength_class : Class (λ d. strength_of)
-strength_class = plain_class strength_of (token.Word word.Share) strength.Share refl strength_never
-
-switch_never : (y : Token) (l : LineLimit) → switch_of y ≡ Passes l → ⊥
-switch_never (token.Word w) l e = some_passes Switch l (switch_word w) e
-switch_never (token.Name m) l e = isnt_passes Switch l (switch_of (token.Name m)) refl e
-switch_never (token.Number m) l e = isnt_passes Switch l (switch_of (token.Number m)) refl e
-switch_never (token.Text m) l e = isnt_passes Switch l (switch_of (token.Text m)) refl e
-switch_never (token.Symbol m) l e = isnt_passes Switch l (switch_of (token.Symbol m)) refl e
-switch_never token.Bad l e = isnt_passes Switch l (switch_of token.Bad) refl e
+strength_class = word_class strength_word word.Share strength.Share refl
 
 pub switch_class : Class (λ d. switch_of)
-switch_class = plain_class switch_of (token.Word word.On) switch.On refl switch_never
-
-kind_never : (y : Token) (l : LineLimit) → kind_of y ≡ Passes l → ⊥
-kind_never (token.Word w) l e = some_passes KindSyn l (kind_word w) e
-kind_never (token.Name m) l e = isnt_passes KindSyn l (kind_of (token.Name m)) refl e
-kind_never (token.Number m) l e = isnt_passes KindSyn l (kind_of (token.Number m)) refl e
-kind_never (token.Text m) l e = isnt_passes KindSyn l (kind_of (token.Text m)) refl e
-kind_never (token.Symbol m) l e = isnt_passes KindSyn l (kind_of (token.Symbol m)) refl e
-kind_never token.Bad l e = isnt_passes KindSyn l (kind_of token.Bad) refl e
+switch_class = word_class switch_word word.On switch.On refl
 
 pub kind_class : Class (λ d. kind_of)
-kind_class = plain_class kind_of (token.Word word.Bigint) kind.Bigint refl kind_never
-
-fate_never : (y : Token) (l : LineLimit) → fate_of y ≡ Passes l → ⊥
-fate_never (token.Word w) l e = some_passes Fate l (fate_word w) e
-fate_never (token.Name m) l e = isnt_passes Fate l (fate_of (token.Name m)) refl e
-fate_never (token.Number m) l e = isnt_passes Fate l (fate_of (token.Number m)) refl e
-fate_never (token.Text m) l e = isnt_passes Fate l (fate_of (token.Text m)) refl e
-fate_never (token.Symbol m) l e = isnt_passes Fate l (fate_of (token.Symbol m)) refl e
-fate_never token.Bad l e = isnt_passes Fate l (fate_of token.Bad) refl e
+kind_class = word_class kind_word word.Bigint kind.Bigint refl
 
 pub fate_class : Class (λ d. fate_of)
-fate_class = plain_class fate_of (token.Word word.Lose) fate.Lose refl fate_never
-
-way_never : (y : Token) (l : LineLimit) → way_of y ≡ Passes l → ⊥
-way_never (token.Word w) l e = some_passes Way l (way_word w) e
-way_never (token.Name m) l e = isnt_passes Way l (way_of (token.Name m)) refl e
-way_never (token.Number m) l e = isnt_passes Way l (way_of (token.Number m)) refl e
-way_never (token.Text m) l e = isnt_passes Way l (way_of (token.Text m)) refl e
-way_never (token.Symbol m) l e = isnt_passes Way l (way_of (token.Symbol m)) refl e
-way_never token.Bad l e = isnt_passes Way l (way_of token.Bad) refl e
+fate_class = word_class fate_word word.Lose fate.Lose refl
 
 pub way_class : Class (λ d. way_of)
-way_class = plain_class way_of (token.Word word.To) way.To refl way_never
+way_class = word_class way_word word.To way.To refl
 
 size_never : (y : Token) (l : LineLimit) → size_of y ≡ Passes l → ⊥
 size_never (token.Number m) l e = is_passes Size l (record { 0 = m }) (size_of (token.Number m)) refl e
@@ -262,36 +215,6 @@ direction_first P e0 e1 (token.Text m) x q = isnt_is x q
 direction_first P e0 e1 (token.Symbol m) x q = isnt_is x q
 direction_first P e0 e1 token.Bad x q = isnt_is x q
 
-pub strength_first : (P : Token → Type 0) → P (token.Word word.Share) → P (token.Word word.Exclusive) → (y : Token) (x : Strength) → strength_of y ≡ Is x → P y
-strength_first P e0 e1 (token.Word word.Share) x q = e0
-strength_first P e0 e1 (token.Word word.Exclusive) x q = e1
-strength_first P e0 e1 (token.Word w) x q = isnt_is x q
-strength_first P e0 e1 (token.Name m) x q = isnt_is x q
-strength_first P e0 e1 (token.Number m) x q = isnt_is x q
-strength_first P e0 e1 (token.Text m) x q = isnt_is x q
-strength_first P e0 e1 (token.Symbol m) x q = isnt_is x q
-strength_first P e0 e1 token.Bad x q = isnt_is x q
-
-pub switch_first : (P : Token → Type 0) → P (token.Word word.On) → P (token.Word word.Off) → (y : Token) (x : Switch) → switch_of y ≡ Is x → P y
-switch_first P e0 e1 (token.Word word.On) x q = e0
-switch_first P e0 e1 (token.Word word.Off) x q = e1
-switch_first P e0 e1 (token.Word w) x q = isnt_is x q
-switch_first P e0 e1 (token.Name m) x q = isnt_is x q
-switch_first P e0 e1 (token.Number m) x q = isnt_is x q
-switch_first P e0 e1 (token.Text m) x q = isnt_is x q
-switch_first P e0 e1 (token.Symbol m) x q = isnt_is x q
-switch_first P e0 e1 token.Bad x q = isnt_is x q
-
-pub kind_first : (P : Token → Type 0) → P (token.Word word.Bigint) → P (token.Word word.Text) → (y : Token) (x : KindSyn) → kind_of y ≡ Is x → P y
-kind_first P e0 e1 (token.Word word.Bigint) x q = e0
-kind_first P e0 e1 (token.Word word.Text) x q = e1
-kind_first P e0 e1 (token.Word w) x q = isnt_is x q
-kind_first P e0 e1 (token.Name m) x q = isnt_is x q
-kind_first P e0 e1 (token.Number m) x q = isnt_is x q
-kind_first P e0 e1 (token.Text m) x q = isnt_is x q
-kind_first P e0 e1 (token.Symbol m) x q = isnt_is x q
-kind_first P e0 e1 token.Bad x q = isnt_is x q
-
 pub fate_first : (P : Token → Type 0) → P (token.Word word.Lose) → P (token.Word word.Repeat) → (y : Token) (x : Fate) → fate_of y ≡ Is x → P y
 fate_first P e0 e1 (token.Word word.Lose) x q = e0
 fate_first P e0 e1 (token.Word word.Repeat) x q = e1
@@ -301,16 +224,6 @@ fate_first P e0 e1 (token.Number m) x q = isnt_is x q
 fate_first P e0 e1 (token.Text m) x q = isnt_is x q
 fate_first P e0 e1 (token.Symbol m) x q = isnt_is x q
 fate_first P e0 e1 token.Bad x q = isnt_is x q
-
-pub way_first : (P : Token → Type 0) → P (token.Word word.To) → P (token.Word word.From) → (y : Token) (x : Way) → way_of y ≡ Is x → P y
-way_first P e0 e1 (token.Word word.To) x q = e0
-way_first P e0 e1 (token.Word word.From) x q = e1
-way_first P e0 e1 (token.Word w) x q = isnt_is x q
-way_first P e0 e1 (token.Name m) x q = isnt_is x q
-way_first P e0 e1 (token.Number m) x q = isnt_is x q
-way_first P e0 e1 (token.Text m) x q = isnt_is x q
-way_first P e0 e1 (token.Symbol m) x q = isnt_is x q
-way_first P e0 e1 token.Bad x q = isnt_is x q
 
 -- SEGMENTS
 seg_is : (d : Limits) (n : ℕ) (x : Segments) → segments_in d n ≡ Is x → ((n == 0) ≡ false) × (n ≤ max d.segments 1) × (Is (record { 0 = n }) ≡ Is x)

@@ -64,33 +64,31 @@ abbrev pub pick_some : {X : Type 0} → Option X → Pick X
 pick_some (Some x) = Is x
 pick_some None = Isnt
 
+-- a word that has a value
+abbrev pub word_of : {X : Type 0} → (Word → Option X) → Token → Pick X
+word_of f (token.Word w) = pick_some (f w)
+word_of f _ = Isnt
+
 abbrev pub agg_of : Token → Pick Agg
-agg_of (token.Word w) = pick_some (agg_word w)
-agg_of _ = Isnt
+agg_of = word_of agg_word
 
 abbrev pub direction_of : Token → Pick Direction
-direction_of (token.Word w) = pick_some (direction_word w)
-direction_of _ = Isnt
+direction_of = word_of direction_word
 
 abbrev pub strength_of : Token → Pick Strength
-strength_of (token.Word w) = pick_some (strength_word w)
-strength_of _ = Isnt
+strength_of = word_of strength_word
 
 abbrev pub switch_of : Token → Pick Switch
-switch_of (token.Word w) = pick_some (switch_word w)
-switch_of _ = Isnt
+switch_of = word_of switch_word
 
 abbrev pub kind_of : Token → Pick KindSyn
-kind_of (token.Word w) = pick_some (kind_word w)
-kind_of _ = Isnt
+kind_of = word_of kind_word
 
 abbrev pub fate_of : Token → Pick Fate
-fate_of (token.Word w) = pick_some (fate_word w)
-fate_of _ = Isnt
+fate_of = word_of fate_word
 
 abbrev pub way_of : Token → Pick Way
-way_of (token.Word w) = pick_some (way_word w)
-way_of _ = Isnt
+way_of = word_of way_word
 
 -- a number of any size
 abbrev pub size_of : Token → Pick Size

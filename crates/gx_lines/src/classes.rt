@@ -1,13 +1,37 @@
 // Classes of tokens: words of which one stands, and numbers.
-ghost use Rattle.std.specs.Prelude.{◌≡◌};
+ghost use Rattle.std.specs.Prelude.{◌≡◌, Option};
 ghost use Rattle.gx_lines.specs.Classes as of;
+ghost use Rattle.gx_lines.specs.Classes.{word_of};
 ghost use Rattle.gx_grammar.specs.Rules.{one_at};
-ghost use Rattle.gx_grammar.specs.Code.{Gives};
+ghost use Rattle.gx_grammar.specs.Code.{Gives, pick_of};
+ghost use Rattle.gx_lex.specs.declared.word.Word.{Word};
 
 use gx_grammar::{Fault, Limits, LineLimit, Picked, ReadError, TokenClass};
 use gx_ids::Mem;
 use gx_lex::{Token, Word};
 use std::alloc::Global;
+
+// A class of words, each of which has a value.
+trait WordClass: Sized {
+    ghost words: { Word → Option Self };
+
+    // The value of a word.
+    fn of_word(word: Word) -> Option<Self>
+        ensures { result ≡ words word };
+}
+
+// What a token is to a class of words.
+fn pick_word<T: WordClass>(token: &Token) -> Picked<T>
+    ensures { pick_of result ≡ word_of T.words token.now }
+{
+    match token {
+        Token::Word(word) => match T::of_word(*word) {
+            Some(value) => Picked::Is(value),
+            None => Picked::Isnt,
+        },
+        _ => Picked::Isnt,
+    }
+}
 
 /// An aggregate over a column.
 #[derive(Clone, Copy, Debug, PartialEq, Eq)]
@@ -17,15 +41,18 @@ pub enum Agg {
     Max,
 }
 
-/// The agg that a word is.
-fn agg_word(word: Word) -> Option<Agg>
-    ensures { result ≡ of.agg_word word }
-{
-    match word {
-        Word::Sum => Some(Agg::Sum),
-        Word::Min => Some(Agg::Min),
-        Word::Max => Some(Agg::Max),
-        _ => None,
+impl WordClass for Agg {
+    ghost use Rattle.gx_lines.specs.Classes.{agg_word};
+
+    ghost words = { agg_word };
+
+    fn of_word(word: Word) -> Option<Agg> {
+        match word {
+            Word::Sum => Some(Agg::Sum),
+            Word::Min => Some(Agg::Min),
+            Word::Max => Some(Agg::Max),
+            _ => None,
+        }
     }
 }
 
@@ -35,13 +62,7 @@ impl TokenClass for Agg {
     ghost class = { λ limits. agg_of };
 
     fn pick(_alloc: Global, _limits: Limits, token: &Token) -> Mem<Picked<Agg>> {
-        match token {
-            Token::Word(word) => match agg_word(*word) {
-                Some(value) => Ok(Picked::Is(value)),
-                None => Ok(Picked::Isnt),
-            },
-            _ => Ok(Picked::Isnt),
-        }
+        Ok(pick_word(token))
     }
 }
 
@@ -52,14 +73,17 @@ pub enum Direction {
     Desc,
 }
 
-/// The direction that a word is.
-fn direction_word(word: Word) -> Option<Direction>
-    ensures { result ≡ of.direction_word word }
-{
-    match word {
-        Word::Asc => Some(Direction::Asc),
-        Word::Desc => Some(Direction::Desc),
-        _ => None,
+impl WordClass for Direction {
+    ghost use Rattle.gx_lines.specs.Classes.{direction_word};
+
+    ghost words = { direction_word };
+
+    fn of_word(word: Word) -> Option<Direction> {
+        match word {
+            Word::Asc => Some(Direction::Asc),
+            Word::Desc => Some(Direction::Desc),
+            _ => None,
+        }
     }
 }
 
@@ -69,13 +93,7 @@ impl TokenClass for Direction {
     ghost class = { λ limits. direction_of };
 
     fn pick(_alloc: Global, _limits: Limits, token: &Token) -> Mem<Picked<Direction>> {
-        match token {
-            Token::Word(word) => match direction_word(*word) {
-                Some(value) => Ok(Picked::Is(value)),
-                None => Ok(Picked::Isnt),
-            },
-            _ => Ok(Picked::Isnt),
-        }
+        Ok(pick_word(token))
     }
 }
 
@@ -86,14 +104,17 @@ pub enum Strength {
     Exclusive,
 }
 
-/// The strength that a word is.
-fn strength_word(word: Word) -> Option<Strength>
-    ensures { result ≡ of.strength_word word }
-{
-    match word {
-        Word::Share => Some(Strength::Share),
-        Word::Exclusive => Some(Strength::Exclusive),
-        _ => None,
+impl WordClass for Strength {
+    ghost use Rattle.gx_lines.specs.Classes.{strength_word};
+
+    ghost words = { strength_word };
+
+    fn of_word(word: Word) -> Option<Strength> {
+        match word {
+            Word::Share => Some(Strength::Share),
+            Word::Exclusive => Some(Strength::Exclusive),
+            _ => None,
+        }
     }
 }
 
@@ -103,13 +124,7 @@ impl TokenClass for Strength {
     ghost class = { λ limits. strength_of };
 
     fn pick(_alloc: Global, _limits: Limits, token: &Token) -> Mem<Picked<Strength>> {
-        match token {
-            Token::Word(word) => match strength_word(*word) {
-                Some(value) => Ok(Picked::Is(value)),
-                None => Ok(Picked::Isnt),
-            },
-            _ => Ok(Picked::Isnt),
-        }
+        Ok(pick_word(token))
     }
 }
 
@@ -120,14 +135,17 @@ pub enum Switch {
     Off,
 }
 
-/// The switch that a word is.
-fn switch_word(word: Word) -> Option<Switch>
-    ensures { result ≡ of.switch_word word }
-{
-    match word {
-        Word::On => Some(Switch::On),
-        Word::Off => Some(Switch::Off),
-        _ => None,
+impl WordClass for Switch {
+    ghost use Rattle.gx_lines.specs.Classes.{switch_word};
+
+    ghost words = { switch_word };
+
+    fn of_word(word: Word) -> Option<Switch> {
+        match word {
+            Word::On => Some(Switch::On),
+            Word::Off => Some(Switch::Off),
+            _ => None,
+        }
     }
 }
 
@@ -137,13 +155,7 @@ impl TokenClass for Switch {
     ghost class = { λ limits. switch_of };
 
     fn pick(_alloc: Global, _limits: Limits, token: &Token) -> Mem<Picked<Switch>> {
-        match token {
-            Token::Word(word) => match switch_word(*word) {
-                Some(value) => Ok(Picked::Is(value)),
-                None => Ok(Picked::Isnt),
-            },
-            _ => Ok(Picked::Isnt),
-        }
+        Ok(pick_word(token))
     }
 }
 
@@ -154,14 +166,17 @@ pub enum KindSyn {
     Text,
 }
 
-/// The kind that a word is.
-fn kind_word(word: Word) -> Option<KindSyn>
-    ensures { result ≡ of.kind_word word }
-{
-    match word {
-        Word::Bigint => Some(KindSyn::Bigint),
-        Word::Text => Some(KindSyn::Text),
-        _ => None,
+impl WordClass for KindSyn {
+    ghost use Rattle.gx_lines.specs.Classes.{kind_word};
+
+    ghost words = { kind_word };
+
+    fn of_word(word: Word) -> Option<KindSyn> {
+        match word {
+            Word::Bigint => Some(KindSyn::Bigint),
+            Word::Text => Some(KindSyn::Text),
+            _ => None,
+        }
     }
 }
 
@@ -171,13 +186,7 @@ impl TokenClass for KindSyn {
     ghost class = { λ limits. kind_of };
 
     fn pick(_alloc: Global, _limits: Limits, token: &Token) -> Mem<Picked<KindSyn>> {
-        match token {
-            Token::Word(word) => match kind_word(*word) {
-                Some(value) => Ok(Picked::Is(value)),
-                None => Ok(Picked::Isnt),
-            },
-            _ => Ok(Picked::Isnt),
-        }
+        Ok(pick_word(token))
     }
 }
 
@@ -188,14 +197,17 @@ pub enum Fate {
     Repeat,
 }
 
-/// The fate that a word is.
-fn fate_word(word: Word) -> Option<Fate>
-    ensures { result ≡ of.fate_word word }
-{
-    match word {
-        Word::Lose => Some(Fate::Lose),
-        Word::Repeat => Some(Fate::Repeat),
-        _ => None,
+impl WordClass for Fate {
+    ghost use Rattle.gx_lines.specs.Classes.{fate_word};
+
+    ghost words = { fate_word };
+
+    fn of_word(word: Word) -> Option<Fate> {
+        match word {
+            Word::Lose => Some(Fate::Lose),
+            Word::Repeat => Some(Fate::Repeat),
+            _ => None,
+        }
     }
 }
 
@@ -205,13 +217,7 @@ impl TokenClass for Fate {
     ghost class = { λ limits. fate_of };
 
     fn pick(_alloc: Global, _limits: Limits, token: &Token) -> Mem<Picked<Fate>> {
-        match token {
-            Token::Word(word) => match fate_word(*word) {
-                Some(value) => Ok(Picked::Is(value)),
-                None => Ok(Picked::Isnt),
-            },
-            _ => Ok(Picked::Isnt),
-        }
+        Ok(pick_word(token))
     }
 }
 
@@ -222,14 +228,17 @@ pub enum Way {
     From,
 }
 
-/// The way that a word is.
-fn way_word(word: Word) -> Option<Way>
-    ensures { result ≡ of.way_word word }
-{
-    match word {
-        Word::To => Some(Way::To),
-        Word::From => Some(Way::From),
-        _ => None,
+impl WordClass for Way {
+    ghost use Rattle.gx_lines.specs.Classes.{way_word};
+
+    ghost words = { way_word };
+
+    fn of_word(word: Word) -> Option<Way> {
+        match word {
+            Word::To => Some(Way::To),
+            Word::From => Some(Way::From),
+            _ => None,
+        }
     }
 }
 
@@ -239,13 +248,7 @@ impl TokenClass for Way {
     ghost class = { λ limits. way_of };
 
     fn pick(_alloc: Global, _limits: Limits, token: &Token) -> Mem<Picked<Way>> {
-        match token {
-            Token::Word(word) => match way_word(*word) {
-                Some(value) => Ok(Picked::Is(value)),
-                None => Ok(Picked::Isnt),
-            },
-            _ => Ok(Picked::Isnt),
-        }
+        Ok(pick_word(token))
     }
 }
 

@@ -1,9 +1,11 @@
 // Reads SELECT.
 ghost use Rattle.std.specs.Prelude.{◌≡◌};
 ghost use Rattle.gx_lex.specs.declared.symbol.Symbol.TheVariants as sign;
+ghost use Rattle.gx_lex.specs.declared.word.Word.TheVariants as keyword;
 ghost use Rattle.gx_grammar.specs.Code.{Gives};
+ghost use Rattle.gx_grammar.specs.Tokens as class;
 ghost use Rattle.gx_grammar.specs.Tokens.{enclosed_at, listed_at};
-ghost use Rattle.gx_grammar.specs.Rules.{starts, made_at, maybe_at, one_at};
+ghost use Rattle.gx_grammar.specs.Rules.{starts, made_at, maybe_at, behind_at, one_at};
 ghost use Rattle.gx_lines.specs.Classes.{direction_of};
 ghost use Rattle.gx_lines.specs.declared.syn.ItemSyn.TheVariants as item_syn;
 ghost use Rattle.gx_lines.specs.Queries as of;
@@ -11,8 +13,8 @@ ghost use Rattle.gx_lines.specs.Queries as of;
 use crate::classes::{Direction, Size};
 use crate::syn::{ItemSyn, ItemsSyn, KeySyn, SelectSyn};
 use gx_grammar::{
-    Limits, Part, ReadError, Syn, begins_with_sign, begins_with_word, is_word, read_first_expr,
-    read_list, read_one, read_sign, read_word,
+    Limits, Part, ReadError, begins_with_sign, begins_with_word, is_word, read_list, read_one,
+    read_sign, read_word,
 };
 use gx_ids::Seq;
 use gx_lex::{Symbol, Token, Word};
@@ -153,21 +155,37 @@ impl Part for KeySyn {
     }
 }
 
-/// The condition behind WHERE, where one stands.
-pub fn where_part<'a>(
+impl Part for Size {
+    ghost use Rattle.gx_grammar.specs.Rules.{one_at};
+    ghost use Rattle.gx_lines.specs.Classes.{size_of};
+
+    ghost reads = { λ limits. one_at size_of };
+
+    fn read<'a>(
+        alloc: Global,
+        limits: Limits,
+        tokens: &'a [Token],
+    ) -> Result<(Size, &'a [Token]), ReadError> {
+        read_one(alloc, limits, tokens)
+    }
+}
+
+/// A part behind a word, where the word stands first.
+pub fn part_behind<'a, T: Part>(
+    word: Word,
     alloc: Global,
     limits: Limits,
     tokens: &'a [Token],
-) -> Reading<'a, Option<Syn>>
-    ensures { Gives (λ r. (r.0, r.1.now)) result (of.where_at limits tokens.now) }
+) -> Reading<'a, Option<T>>
+    ensures { Gives (λ r. (r.0, r.1.now)) result (maybe_at (class.is_word word) (behind_at (class.is_word word) (T.reads limits)) tokens.now) }
 {
     match tokens.split_first() {
         None => Ok((None, tokens)),
         Some((token, _)) => {
-            if is_word(Word::Where, token) {
-                let rest = read_word(Word::Where, tokens)?;
-                let (cond, rest) = read_first_expr(alloc, limits, rest)?;
-                Ok((Some(cond), rest))
+            if is_word(word, token) {
+                let rest = read_word(word, tokens)?;
+                let (part, rest) = T::read(alloc, limits, rest)?;
+                Ok((Some(part), rest))
             } else {
                 Ok((None, tokens))
             }
@@ -175,60 +193,23 @@ pub fn where_part<'a>(
     }
 }
 
-fn group_part<'a>(
+// A list behind a word and BY, where the word stands first.
+fn list_by<'a, T: Part>(
+    word: Word,
     alloc: Global,
     limits: Limits,
     tokens: &'a [Token],
-) -> Reading<'a, Option<Seq<Txt>>>
-    ensures { Gives (λ r. (r.0, r.1.now)) result (of.group_at limits tokens.now) }
+) -> Reading<'a, Option<Seq<T>>>
+    ensures { Gives (λ r. (r.0, r.1.now)) result (maybe_at (class.is_word word) (behind_at (class.is_word word) (behind_at (class.is_word keyword.By) (listed_at (T.reads limits)))) tokens.now) }
 {
     match tokens.split_first() {
         None => Ok((None, tokens)),
         Some((token, _)) => {
-            if is_word(Word::Group, token) {
-                let rest = read_word(Word::Group, tokens)?;
+            if is_word(word, token) {
+                let rest = read_word(word, tokens)?;
                 let rest = read_word(Word::By, rest)?;
-                let (names, rest) = read_list(alloc, limits, rest)?;
-                Ok((Some(names), rest))
-            } else {
-                Ok((None, tokens))
-            }
-        }
-    }
-}
-
-fn order_part<'a>(
-    alloc: Global,
-    limits: Limits,
-    tokens: &'a [Token],
-) -> Reading<'a, Option<Seq<KeySyn>>>
-    ensures { Gives (λ r. (r.0, r.1.now)) result (of.order_at limits tokens.now) }
-{
-    match tokens.split_first() {
-        None => Ok((None, tokens)),
-        Some((token, _)) => {
-            if is_word(Word::Order, token) {
-                let rest = read_word(Word::Order, tokens)?;
-                let rest = read_word(Word::By, rest)?;
-                let (keys, rest) = read_list(alloc, limits, rest)?;
-                Ok((Some(keys), rest))
-            } else {
-                Ok((None, tokens))
-            }
-        }
-    }
-}
-
-fn limit_part<'a>(alloc: Global, limits: Limits, tokens: &'a [Token]) -> Reading<'a, Option<Size>>
-    ensures { Gives (λ r. (r.0, r.1.now)) result (of.limit_at tokens.now) }
-{
-    match tokens.split_first() {
-        None => Ok((None, tokens)),
-        Some((token, _)) => {
-            if is_word(Word::Limit, token) {
-                let rest = read_word(Word::Limit, tokens)?;
-                let (size, rest) = read_one(alloc, limits, rest)?;
-                Ok((Some(size), rest))
+                let (list, rest) = read_list(alloc, limits, rest)?;
+                Ok((Some(list), rest))
             } else {
                 Ok((None, tokens))
             }
@@ -244,10 +225,10 @@ pub fn select<'a>(alloc: Global, limits: Limits, tokens: &'a [Token]) -> Reading
     let (items, rest) = items(alloc, limits, rest)?;
     let rest = read_word(Word::From, rest)?;
     let (table, rest) = read_one(alloc, limits, rest)?;
-    let (cond, rest) = where_part(alloc, limits, rest)?;
-    let (group, rest) = group_part(alloc, limits, rest)?;
-    let (order, rest) = order_part(alloc, limits, rest)?;
-    let (limit, rest) = limit_part(alloc, limits, rest)?;
+    let (cond, rest) = part_behind(Word::Where, alloc, limits, rest)?;
+    let (group, rest) = list_by(Word::Group, alloc, limits, rest)?;
+    let (order, rest) = list_by(Word::Order, alloc, limits, rest)?;
+    let (limit, rest) = part_behind(Word::Limit, alloc, limits, rest)?;
     Ok((
         SelectSyn {
             items,

@@ -7,7 +7,7 @@ ghost use Rattle.gx_lines.specs.Queries as queries;
 ghost use Rattle.gx_lines.specs.declared.syn.StmtSyn.TheVariants as stmt_syn;
 
 use crate::classes::Strength;
-use crate::query::{Reading, select, where_part};
+use crate::query::{Reading, part_behind, select};
 use crate::syn::{AssignSyn, StmtSyn, TupleSyn};
 use gx_grammar::{
     Limits, Part, ReadError, begins_with_word, is_word, read_first_expr, read_list, read_one,
@@ -140,7 +140,7 @@ fn update<'a>(alloc: Global, limits: Limits, tokens: &'a [Token]) -> Reading<'a,
     let (table, rest) = read_one(alloc, limits, rest)?;
     let rest = read_word(Word::Set, rest)?;
     let (assigns, rest) = read_list(alloc, limits, rest)?;
-    let (cond, rest) = where_part(alloc, limits, rest)?;
+    let (cond, rest) = part_behind(Word::Where, alloc, limits, rest)?;
     Ok((StmtSyn::Update(table, assigns, cond), rest))
 }
 
@@ -150,7 +150,7 @@ fn delete<'a>(alloc: Global, limits: Limits, tokens: &'a [Token]) -> Reading<'a,
     let rest = read_word(Word::Delete, tokens)?;
     let rest = read_word(Word::From, rest)?;
     let (table, rest) = read_one(alloc, limits, rest)?;
-    let (cond, rest) = where_part(alloc, limits, rest)?;
+    let (cond, rest) = part_behind(Word::Where, alloc, limits, rest)?;
     Ok((StmtSyn::Delete(table, cond), rest))
 }
 

@@ -33,7 +33,8 @@ fn push_row(text: &mut Vec<u8>, values: &[Value]) -> Mem<()>
     Ok(())
 }
 
-fn push_image(text: &mut Vec<u8>, image: &Option<Row>) -> Mem<()>
+/// Adds a row's image: its values, or that it is gone.
+pub fn push_image(text: &mut Vec<u8>, image: &Option<Row>) -> Mem<()>
     ensures { OnOk result (text.new.items ≡ text.old.items ++ bytes_of_image image.now) }
 {
     match image {

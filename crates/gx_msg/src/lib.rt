@@ -10,7 +10,7 @@ pub mod reply;
 mod step;
 pub mod text;
 
-pub use bytes::item_bytes;
+pub use bytes::{item_bytes, push_image};
 pub use item::{ItemFault, JournalItem, Kept};
 pub use message::{Envelope, Message, Out};
 pub use read::read_item;

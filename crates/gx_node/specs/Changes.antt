@@ -43,10 +43,13 @@ once l (Some vote) new = tells l (Some vote)
 abbrev pub is_refused : Node → Gxid → Local → JournalItem → Change
 is_refused node g l it = record { now = record l { vote = Some answer.Jfault }; mark = Some (mark.JournalFailed node g); reply = Some answer.Jfault; item = Some it; ends = false }
 
+-- once the journal has its item, it stands in this phase, with this answer and this mark
+abbrev pub takes_on : Node → Gxid → JournalItem → Phase → Reply → Mark → Bool → Local → Change
+takes_on node g it phase vote m true l = is_refused node g l it
+takes_on node g it phase vote m false l = record { now = record l { phase = phase; vote = Some vote }; mark = Some m; reply = Some vote; item = Some it; ends = false }
+
 abbrev pub promises : Node → Gxid → List Kept → Bool → Local → Change
-promises node g kept true l = is_refused node g l (item.Prepare g kept)
-promises node g kept false l =
-    record { now = record l { phase = Prepared; vote = Some answer.Prepared }; mark = Some (mark.Prepared node g); reply = Some answer.Prepared; item = Some (item.Prepare g kept); ends = false }
+promises node g kept fails l = takes_on node g (item.Prepare g kept) Prepared answer.Prepared (mark.Prepared node g) fails l
 
 abbrev pub prepares : Node → Gxid → List Kept → Bool → Local → Phase → Change
 prepares node g kept fails l Reading = once l l.vote (promises node g kept fails l)
@@ -55,9 +58,7 @@ prepares node g kept fails l Aborted = stays l
 prepares node g kept fails l _ = tells l l.vote
 
 abbrev pub commits_now : Node → Gxid → List Kept → Bool → Local → Change
-commits_now node g kept true l = is_refused node g l (item.Commit g kept)
-commits_now node g kept false l =
-    record { now = record l { phase = Committed; vote = Some answer.Committed }; mark = Some (mark.LocalCommit node g); reply = Some answer.Committed; item = Some (item.Commit g kept); ends = false }
+commits_now node g kept fails l = takes_on node g (item.Commit g kept) Committed answer.Committed (mark.LocalCommit node g) fails l
 
 abbrev pub unless_prepared : Local → Change
 unless_prepared l = if was_prepared l.vote then stays l else tells l l.vote

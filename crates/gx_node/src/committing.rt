@@ -1,10 +1,10 @@
 // PREPARE, COMMIT and COMMIT PREPARED.
 ghost use Rattle.std.specs.Prelude.{◌≡◌, true, false, Some, None, IfOk, OnErr};
 ghost use Rattle.gx_outside.specs.Shelves.{HasKept};
-ghost use Rattle.gx_node.specs.Changes.{Does, commits_now, finishes_now, promises, unless_prepared, unless_waiting};
+ghost use Rattle.gx_node.specs.Changes.{Does, finishes_now, takes_on, unless_prepared, unless_waiting};
 ghost use Rattle.gx_node.specs.Changes as change;
 ghost use Rattle.gx_node.specs.Orders.{Took};
-ghost use Rattle.gx_node.specs.Phases.{local_of, phase_of};
+ghost use Rattle.gx_node.specs.Phases.{local_of, phase_of, reply_of};
 
 use crate::appending::append;
 use crate::local::{Local, Phase, Taken, Vote};
@@ -52,27 +52,63 @@ fn refuse(node: Node, gxid: Gxid, local: &mut Local) -> Taken
     }
 }
 
-fn promise<J: Journal>(
+// What a transaction takes on once the journal has its item.
+struct Pledge {
+    item: JournalItem,
+    phase: Phase,
+    vote: Vote,
+    mark: Mark,
+}
+
+fn promise(node: Node, gxid: Gxid, kept: Seq<Kept>) -> Pledge
+    ensures { result ≡ record { item = JournalItem.Prepare gxid kept; phase = Phase.Prepared; vote = Vote.Prepared; mark = Mark.Prepared node gxid } }
+{
+    Pledge {
+        item: JournalItem::Prepare(gxid, kept),
+        phase: Phase::Prepared,
+        vote: Vote::Prepared,
+        mark: Mark::Prepared { node, gxid },
+    }
+}
+
+fn commitment(node: Node, gxid: Gxid, kept: Seq<Kept>) -> Pledge
+    ensures { result ≡ record { item = JournalItem.Commit gxid kept; phase = Phase.Committed; vote = Vote.Committed; mark = Mark.LocalCommit node gxid } }
+{
+    Pledge {
+        item: JournalItem::Commit(gxid, kept),
+        phase: Phase::Committed,
+        vote: Vote::Committed,
+        mark: Mark::LocalCommit { node, gxid },
+    }
+}
+
+fn take_on<J: Journal>(
     alloc: Global,
     node: Node,
     gxid: Gxid,
     local: &mut Local,
-    kept: Seq<Kept>,
+    pledge: Pledge,
     journal: &mut J,
 ) -> Mem<Taken>
-    ensures does { IfOk result (λ taken. Does (promises node gxid kept taken.fails (local_of local.old)) (local_of local.new) taken) }
-    ensures took { IfOk result (λ taken. Took (J.shelf journal.old) (J.shelf journal.new) taken.fails (promises node gxid kept taken.fails (local_of local.old)).item) }
+    ensures does { IfOk result (λ taken. Does (takes_on node gxid pledge.item (phase_of pledge.phase) (reply_of pledge.vote) pledge.mark taken.fails
+        (local_of local.old)) (local_of local.new) taken) }
+    ensures took { IfOk result (λ taken. Took (J.shelf journal.old) (J.shelf journal.new) taken.fails (Some pledge.item)) }
     ensures err { OnErr result ((local.new ≡ local.old) × HasKept (J.shelf journal.old) (J.shelf journal.new)) }
 {
-    let item = JournalItem::Prepare(gxid, kept);
+    let Pledge {
+        item,
+        phase,
+        vote,
+        mark,
+    } = pledge;
     if append(alloc, &item, journal)? {
         return Ok(refuse(node, gxid, local));
     }
-    local.phase = Phase::Prepared;
-    local.vote = Some(Vote::Prepared);
+    local.phase = phase;
+    local.vote = Some(vote);
     Ok(Taken {
-        mark: Some(Mark::Prepared { node, gxid }),
-        reply: Some(Reply::Prepared),
+        mark: Some(mark),
+        reply: Some(vote.reply()),
         fails: false,
         ends: false,
     })
@@ -97,37 +133,25 @@ pub(crate) fn take_prepare<J: Journal>(
         return Ok(nothing());
     }
     match (local.phase, local.vote) {
-        (Phase::Reading, None) => promise(alloc, node, gxid, local, kept, journal),
-        (Phase::Writing, None) => promise(alloc, node, gxid, local, kept, journal),
+        (Phase::Reading, None) => take_on(
+            alloc,
+            node,
+            gxid,
+            local,
+            promise(node, gxid, kept),
+            journal,
+        ),
+        (Phase::Writing, None) => take_on(
+            alloc,
+            node,
+            gxid,
+            local,
+            promise(node, gxid, kept),
+            journal,
+        ),
         (Phase::Aborted, _) => Ok(nothing()),
         _ => Ok(tell_vote(local)),
     }
-}
-
-fn commit<J: Journal>(
-    alloc: Global,
-    node: Node,
-    gxid: Gxid,
-    local: &mut Local,
-    kept: Seq<Kept>,
-    journal: &mut J,
-) -> Mem<Taken>
-    ensures does { IfOk result (λ taken. Does (commits_now node gxid kept taken.fails (local_of local.old)) (local_of local.new) taken) }
-    ensures took { IfOk result (λ taken. Took (J.shelf journal.old) (J.shelf journal.new) taken.fails (commits_now node gxid kept taken.fails (local_of local.old)).item) }
-    ensures err { OnErr result ((local.new ≡ local.old) × HasKept (J.shelf journal.old) (J.shelf journal.new)) }
-{
-    let item = JournalItem::Commit(gxid, kept);
-    if append(alloc, &item, journal)? {
-        return Ok(refuse(node, gxid, local));
-    }
-    local.phase = Phase::Committed;
-    local.vote = Some(Vote::Committed);
-    Ok(Taken {
-        mark: Some(Mark::LocalCommit { node, gxid }),
-        reply: Some(Reply::Committed),
-        fails: false,
-        ends: false,
-    })
 }
 
 // COMMIT is for who was never prepared here.
@@ -160,8 +184,22 @@ pub(crate) fn take_commit<J: Journal>(
         return Ok(nothing());
     }
     match (local.phase, local.vote) {
-        (Phase::Reading, None) => commit(alloc, node, gxid, local, kept, journal),
-        (Phase::Writing, None) => commit(alloc, node, gxid, local, kept, journal),
+        (Phase::Reading, None) => take_on(
+            alloc,
+            node,
+            gxid,
+            local,
+            commitment(node, gxid, kept),
+            journal,
+        ),
+        (Phase::Writing, None) => take_on(
+            alloc,
+            node,
+            gxid,
+            local,
+            commitment(node, gxid, kept),
+            journal,
+        ),
         (Phase::Reading, Some(_)) => Ok(tell_vote(local)),
         (Phase::Writing, Some(_)) => Ok(tell_vote(local)),
         (Phase::Committed, _) => Ok(tell_commit(local)),

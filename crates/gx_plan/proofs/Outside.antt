@@ -5,8 +5,8 @@ use Rattle.std.proofs.lemmas.Bool.{and_parts}
 use Rattle.std.specs.Ordering.{is_eq}
 use Rattle.std.specs.declared.cmp.Ordering.{Ordering}
 use Rattle.std.specs.declared.cmp.Ordering.TheVariants.{Less, Equal, Greater}
-use Rattle.std.proofs.lemmas.Map.Lookups.{exact_bytes, exact_signed}
 use Rattle.std.proofs.lemmas.Bool.Decides.{nat_tests}
+use Rattle.gx_tree.proofs.Values.{same_value}
 use Rattle.gx_tree.specs.Value.{value_order}
 use Rattle.gx_tree.specs.declared.value.Value.{Value}
 use Rattle.gx_tree.specs.declared.value.Value.TheVariants.{Int, Text}
@@ -27,12 +27,6 @@ use Rattle.gx_meaning.specs.declared.fault.ArithFault.{ArithFault}
 use Rattle.gx_meaning.proofs.Nodes.{kind_of-col, value_of-lit, value_of-col}
 use Rattle.gx_meaning.specs.Target.{IsFalseOutside, key_of, key_step, key_target, literal_of, target_of}
 use Rattle.gx_meaning.specs.Place.{key_place}
-
-pub same_value : (a b : Value) → value_order a b ≡ Equal → a ≡ b
-same_value (Int m) (Int n) h = ap Int (exact_signed m n h)
-same_value (Text s) (Text t) h = ap Text (exact_bytes s t h)
-same_value (Int m) (Text t) h = cc
-same_value (Text s) (Int n) h = cc
 
 not_equal : (order : Ordering) → order ≢ Equal → is_eq order ≡ false
 not_equal Less h = refl

@@ -1,5 +1,5 @@
 use gx_ids::OutOfMemory;
-use std::alloc::{AllocError, AllocFailed};
+use std::alloc::AllocFailed;
 
 /// What is wrong with the names or the kinds of a line.
 #[derive(Clone, Copy, Debug, PartialEq, Eq)]
@@ -37,17 +37,6 @@ impl From<OutOfMemory> for ResolveError {
     ghost from_gives = { λ _ e. e ≡ error.OutOfMemory };
 
     fn from(_error: OutOfMemory) -> ResolveError {
-        ResolveError::OutOfMemory
-    }
-}
-
-impl From<AllocError> for ResolveError {
-    ghost use Rattle.std.specs.Prelude.{◌≡◌};
-    ghost use Rattle.gx_resolve.specs.declared.fault.ResolveError.TheVariants as error;
-
-    ghost from_gives = { λ _ e. e ≡ error.OutOfMemory };
-
-    fn from(_error: AllocError) -> ResolveError {
         ResolveError::OutOfMemory
     }
 }

@@ -1,5 +1,5 @@
 -- What a round makes of either node, way by way: what holds of each way holds of the turn.
-use Rattle.std.proofs.Common.{◌≡◌, ◌&&◌, ◌==◌, nat_lt, ℕ, List, [], Option, Some, None, Bool, true, false, refl, if◌then◌else◌}
+use Rattle.std.proofs.Common.{◌≡◌, ◌==◌, nat_lt, ℕ, [], Option, Some, None, Bool, true, false, refl, if◌then◌else◌}
 use Rattle.std.proofs.lemmas.Bool.{and_parts}
 use Rattle.gx_ids.specs.declared.ids.Gxid.{Gxid}
 use Rattle.gx_ids.specs.declared.ids.Node.{Node}

@@ -8,7 +8,7 @@ ghost use Rattle.gx_sql.specs.Progress as said;
 ghost use Rattle.gx_sql.specs.declared.refusal.LineError.TheVariants as error;
 
 use crate::refusal::{LineError, LineFault, fault_of};
-use gx_ids::{Node, SessionId, Table};
+use gx_ids::{Mem, Node, SessionId, Table};
 use gx_lines::{Fate, LineSyn, LinkSyn, StmtSyn, Switch, TableSyn, Way};
 use gx_resolve::{ResolveError, named_table, resolve_stmt, resolve_table};
 use gx_script::{Line, LinkFault};
@@ -103,6 +103,13 @@ fn is_known(tables: &IndexMap<Vec<u8>, Schema>, name: &[u8]) -> bool
     tables.contains_key(name)
 }
 
+/// The key of what has this name.
+fn key_of(alloc: Global, name: &[u8]) -> Mem<Vec<u8>>
+    ensures { IfOk result (λ key. key.items ≡ name.now) }
+{
+    Ok(Vec::from_slice(alloc, name)?)
+}
+
 /// Adds a table whose name is new.
 fn insert_table(
     alloc: Global,
@@ -117,7 +124,7 @@ fn insert_table(
     ensures named { OnOk result (AreTables tables.new.entries) }
     ensures more { OnOk result (length tables.new.entries ≡ length tables.old.entries + 1) }
 {
-    let key = Vec::from_slice(alloc, schema.name.as_slice())?;
+    let key = key_of(alloc, schema.name.as_slice())?;
     tables.insert(key, schema)?;
     Ok(())
 }
@@ -162,7 +169,7 @@ fn push_line(
     let (place, count) = find_session(sessions, name);
     let session = SessionId(place as u8);
     let number = count + 1;
-    let key = Vec::from_slice(alloc, name)?;
+    let key = key_of(alloc, name)?;
     sessions.insert(key, number)?;
     lines.push(Line {
         session,

@@ -5,7 +5,7 @@ ghost use Rattle.gx_sql.specs.Script as script;
 use gx_grammar::{Fault, LineLimit, ReadError};
 use gx_ids::OutOfMemory;
 use gx_resolve::{NameFault, ResolveError};
-use std::alloc::{AllocError, AllocFailed};
+use std::alloc::AllocFailed;
 
 /// The limits of a script: 16 segments, 64 sessions, 64 tables, 32 columns of a table, 100,000 lines, 63 bytes of a name,
 /// 1,000 bytes of a text, and of an expression 100 parentheses, NOTs and minus signs around a token and 1,000 operators.
@@ -115,17 +115,6 @@ impl From<OutOfMemory> for LineError {
     ghost from_gives = { λ _ e. e ≡ error.OutOfMemory };
 
     fn from(_error: OutOfMemory) -> LineError {
-        LineError::OutOfMemory
-    }
-}
-
-impl From<AllocError> for LineError {
-    ghost use Rattle.std.specs.Prelude.{◌≡◌};
-    ghost use Rattle.gx_sql.specs.declared.refusal.LineError.TheVariants as error;
-
-    ghost from_gives = { λ _ e. e ≡ error.OutOfMemory };
-
-    fn from(_error: AllocError) -> LineError {
         LineError::OutOfMemory
     }
 }

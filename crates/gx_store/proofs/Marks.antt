@@ -8,7 +8,7 @@ use Rattle.gx_ids.specs.declared.rid.Rid.{Rid}
 use Rattle.gx_tree.specs.declared.value.Value.{Value}
 use Rattle.gx_store.specs.declared.mark.Mark.{Mark}
 use Rattle.gx_store.specs.declared.mark.Mark.TheVariants.{Start, Snap, Write, Skip, Commit, Abort, Answer}
-use Rattle.gx_store.specs.Marks.{is_committed, is_aborted, is_ended, is_snapped, has_snapshot, is_written, is_processed, is_command_of, is_same_session, is_same_gxid, is_same_rid, start_count, answer_count, is_answered, started_after, is_begun_after}
+use Rattle.gx_store.specs.Marks.{is_committed, is_aborted, is_ended, is_snapped, has_snapshot, is_written, is_processed, is_command_of, is_same_session, is_same_gxid, is_same_rid, answer_count, started_after, is_begun_after}
 use Rattle.gx_store.specs.View.{image_after}
 
 or_assoc : (a b c : Bool) → (a || (b || c)) ≡ ((a || b) || c)
@@ -39,11 +39,6 @@ has_snapshot-append [] ys g = refl
 has_snapshot-append (Snap h d s ∷ xs) ys g = ap (λ b. is_same_gxid h g || b) (has_snapshot-append xs ys g) ∙ or_assoc (is_same_gxid h g) (has_snapshot xs g) (has_snapshot ys g)
 has_snapshot-append (_ ∷ xs) ys g = has_snapshot-append xs ys g
 
-pub is_answered-append : (session : SessionId) (xs ys : List Mark) → is_answered session (xs ++ ys) ≡ (is_answered session xs || is_answered session ys)
-is_answered-append session [] ys = refl
-is_answered-append session (Answer s n a ∷ xs) ys = ap (λ b. is_same_session s session || b) (is_answered-append session xs ys) ∙ or_assoc (is_same_session s session) (is_answered session xs) (is_answered session ys)
-is_answered-append session (_ ∷ xs) ys = is_answered-append session xs ys
-
 pub is_begun_after-append : (session : SessionId) (begun : Bool) (xs ys : List Mark) → is_begun_after session begun (xs ++ ys) ≡ is_begun_after session (is_begun_after session begun xs) ys
 is_begun_after-append session begun [] ys = refl
 is_begun_after-append session begun (Start g s ∷ xs) ys = is_begun_after-append session (is_same_session s session || begun) xs ys
@@ -68,11 +63,6 @@ is_processed-append (Write h d node t r image ∷ xs) ys g c rid =
 is_processed-append (Skip h d r ∷ xs) ys g c rid =
     ap (λ b. (is_command_of g c h d && is_same_rid r rid) || b) (is_processed-append xs ys g c rid) ∙ or_assoc (is_command_of g c h d && is_same_rid r rid) (is_processed xs g c rid) (is_processed ys g c rid)
 is_processed-append (_ ∷ xs) ys g c rid = is_processed-append xs ys g c rid
-
-pub start_count-append : (xs ys : List Mark) → start_count (xs ++ ys) ≡ start_count xs + start_count ys
-start_count-append [] ys = omega arith
-start_count-append (Start g s ∷ xs) ys = omega (arith, start_count-append xs ys)
-start_count-append (_ ∷ xs) ys = start_count-append xs ys
 
 cond_plus : (b : Bool) (m n : ℕ) → cond b (m + n + 1) (m + n) ≡ cond b (m + 1) m + n
 cond_plus true m n = omega arith

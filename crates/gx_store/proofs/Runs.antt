@@ -1,11 +1,9 @@
 -- Runs that grow by a step.
-use Rattle.std.proofs.Common.{◌≡◌, ◌+◌, List, [], ◌∷◌, ◌++◌, sym, subst, ap, ◌∙◌, arith, append_assoc, append-nil}
+use Rattle.std.proofs.Common.{◌≡◌, ◌+◌, List, [], ◌∷◌, ◌++◌, ap, ◌∙◌, arith, append-nil}
 use Rattle.std.proofs.lemmas.List.Concat.{flat_map-append}
 use Rattle.gx_store.specs.declared.mark.Mark.{Mark}
 use Rattle.gx_store.specs.declared.run.Step.{Step}
 use Rattle.gx_ids.specs.declared.ids.SessionId.{SessionId}
-use Rattle.gx_script.specs.declared.Script.{Script}
-use Rattle.gx_store.specs.Legal.{AreLegalSteps, IsLegalStep}
 use Rattle.gx_store.specs.Points.{ends_by, ends_in, marks_in, starts_by, starts_in}
 
 pub marks_in-push : (steps : List Step) (step : Step) → marks_in (steps ++ step ∷ []) ≡ marks_in steps ++ step.marks
@@ -18,9 +16,3 @@ starts_in-push session (s ∷ ss) step = omega (arith, starts_in-push session ss
 pub ends_in-push : (session : SessionId) (steps : List Step) (step : Step) → ends_in session (steps ++ step ∷ []) ≡ ends_in session steps + ends_by session step.event
 ends_in-push session [] step = omega arith
 ends_in-push session (s ∷ ss) step = omega (arith, ends_in-push session ss step)
-
-pub AreLegalSteps-push : (script : Script) (before steps : List Step) (step : Step) → AreLegalSteps script before steps → IsLegalStep script (before ++ steps) step → AreLegalSteps script before (steps ++ step ∷ [])
-AreLegalSteps-push script before [] step h l = let P : List Step → Type 0 = λ b. IsLegalStep script b step in (subst P (append-nil before) l, tt)
-AreLegalSteps-push script before (s ∷ ss) step h l =
-    let P : List Step → Type 0 = λ b. IsLegalStep script b step in
-    (h.0, AreLegalSteps-push script (before ++ s ∷ []) ss step h.1 (subst P (sym (append_assoc before (s ∷ []) ss)) l))

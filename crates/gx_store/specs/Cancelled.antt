@@ -1,6 +1,6 @@
 -- Why a round may cancel whom it names: the waits by which it was decided still stand, and those of whom a victim is the youngest can't go
 -- on unless one of them is aborted (after the idea of the Global Deadlock Detector, Lyu et al., SIGMOD 2021).
-use Rattle.std.specs.Prelude.{◌≡◌, ◌↔◌, ℕ, true, false, not, List, [], ◌∷◌, ◌++◌, filter, map, slice_get, take, Some, All, Any, Contains}
+use Rattle.std.specs.Prelude.{◌≡◌, ◌↔◌, ℕ, not, List, [], ◌∷◌, ◌++◌, filter, map, All, Any, Contains}
 use Rattle.gx_ids.specs.declared.ids.Gxid.{Gxid}
 use Rattle.gx_ids.specs.declared.ids.Node.{Node}
 use Rattle.gx_script.specs.declared.Script.{Script}

@@ -1,23 +1,18 @@
 -- Two places of the index.
 use Rattle.std.proofs.Common.{◌≡◌, ◌≢◌, ◌⊎◌, inl, inr, ⊎_elim, ℕ, ap, sym, refl, subst, ◌∙◌, true, false}
 use Rattle.std.proofs.lemmas.Cmp.{int_cmp_total, nat_cmp_total, nat_list_cmp_total, tied_itself}
-use Rattle.std.proofs.lemmas.Map.Lookups.{exact_bytes, exact_signed, exact_unsigned}
+use Rattle.std.proofs.lemmas.Map.Lookups.{exact_unsigned}
 use Rattle.std.specs.BTreeMap.{is_at}
 use Rattle.std.specs.Ordering.{is_eq, nat_cmp, ordering_then}
 use Rattle.std.specs.declared.cmp.Ordering.{Ordering}
 use Rattle.std.specs.declared.cmp.Ordering.TheVariants.{Less, Equal, Greater}
 use Rattle.gx_ids.specs.declared.ids.Table.{Table}
+use Rattle.gx_tree.proofs.Values.{same_value}
 use Rattle.gx_tree.specs.Value.{value_order}
 use Rattle.gx_tree.specs.declared.value.Value.{Value}
 use Rattle.gx_tree.specs.declared.value.Value.TheVariants.{Int, Text}
 use Rattle.gx_sweep.specs.declared.table_key.TableKey.{TableKey}
 use Rattle.gx_sweep.specs.contracts.table_key.TableKeyOrd.TheImpl as block
-
-pub same_value : (a b : Value) → value_order a b ≡ Equal → a ≡ b
-same_value (Int m) (Int n) e = ap Int (exact_signed m n e)
-same_value (Text s) (Text t) e = ap Text (exact_bytes s t e)
-same_value (Int m) (Text t) e = cc
-same_value (Text s) (Int n) e = cc
 
 pub value_itself : (a : Value) → value_order a a ≡ Equal
 value_itself (Int m) = tied_itself int_cmp_total m

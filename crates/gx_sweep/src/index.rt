@@ -68,6 +68,7 @@ impl KeyIndex {
         ensures found { IfOk result (λ rids. rids.items ≡ rids_under self.now (key_at table key.now)) }
         ensures rising { IfOk result (λ rids. IsStrictlySortedBy rid_cmp rids.items) }
     {
+        // A map is asked by a whole key: std leaves no other kind of query to a program.
         let key = key.copy(self.alloc)?;
         match self.places.get(&TableKey { table, key }) {
             Some(rids) => listed(self.alloc, rids),

@@ -22,7 +22,7 @@ overflow_add-number c =
 pub returns-clause-sessions : goal.returns-clause-sessions
 returns-clause-sessions c =
     ap named c.in_ok-insert.ensures.entries ∙ named_insert c.args.sessions.now.entries c.in_ok-key.key (c.find_session-place.result.1 + 1)
-    ∙ ap (λ (n : List ℕ). counted n (c.find_session-place.result.1 + 1) (named c.args.sessions.now.entries)) c.in_ok-key.ensures.items
+    ∙ ap (λ (n : List ℕ). counted n (c.find_session-place.result.1 + 1) (named c.args.sessions.now.entries)) c.in_ok-key.ensures
     ∙ ap (λ (n : ℕ). counted c.args.name.now (n + 1) (named c.args.sessions.now.entries)) c.find_session-place.ensures.count
 
 pub returns-clause-counts : goal.returns-clause-counts
@@ -33,4 +33,4 @@ returns-clause-counts c =
     subst (λ es. AreCounts (vec_len c.push.new.self) es) (sym c.in_ok-insert.ensures.entries) (counts_insert (vec_len c.args.lines.now) (vec_len c.push.new.self) (c.find_session-place.result.1 + 1) c.args.sessions.now.entries c.in_ok-key.key c.requires.counts (omega arith) (omega arith))
 
 pub returns-clause-few : goal.returns-clause-few
-returns-clause-few c = subst (λ (n : ℕ). n ≤ 64) (sym (ap length c.in_ok-insert.ensures.entries)) (insert_room c.args.sessions.now.entries c.in_ok-key.key (c.find_session-place.result.1 + 1) c.requires.sessions (subst (λ (n : List ℕ). HasRoom n (named c.args.sessions.now.entries)) (sym c.in_ok-key.ensures.items) c.requires.few))
+returns-clause-few c = subst (λ (n : ℕ). n ≤ 64) (sym (ap length c.in_ok-insert.ensures.entries)) (insert_room c.args.sessions.now.entries c.in_ok-key.key (c.find_session-place.result.1 + 1) c.requires.sessions (subst (λ (n : List ℕ). HasRoom n (named c.args.sessions.now.entries)) (sym c.in_ok-key.ensures) c.requires.few))

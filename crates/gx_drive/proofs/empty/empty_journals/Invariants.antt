@@ -1,6 +1,6 @@
 use Rattle.std.proofs.Common.{◌≡◌, [], length}
 use Rattle.std.specs.Prelude.{All}
-use Rattle.gx.proofs.journals.Given as goal
+use Rattle.gx_drive.proofs.empty.empty_journals.Given as goal
 
 abbrev pub invariant-loop-node : goal.invariant-loop-node
 invariant-loop-node l = record {
