@@ -59,10 +59,11 @@ pub fn take(alloc: Global, running: &[Gxid], latest_ended: Option<Gxid>) -> Mem<
     let xmax = latest_ended.map_or(Gxid(1), |gxid| Gxid(gxid.0 + 1));
     let below = below(alloc, running, xmax)?;
     let xmin = below.first().copied().unwrap_or(xmax);
+    let running = Shared::new(alloc, Seq::from_vec(below))?;
     Ok(Snapshot {
         xmin,
         xmax,
-        running: Shared::new(alloc, Seq::from_vec(below))?,
+        running,
     })
 }
 
