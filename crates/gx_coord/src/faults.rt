@@ -15,7 +15,7 @@ fn evaluated(alloc: Global, expr: &Expr) -> Result<Value, EvalFault>
     requires { IsConstant expr.now }
     ensures { Means (value_of [] expr.now) result }
 {
-    let none = Row::from_vec(Vec::new(alloc));
+    let none = Row::from_vec(alloc, Vec::new(alloc))?;
     eval(alloc, expr, &none)
 }
 

@@ -5,7 +5,7 @@ ghost use Rattle.gx_rules.specs.AtCoordinator.{enlisted_all, nodes_in, order_of,
 
 use gx_dsnap::Snapshot;
 use gx_dtx::Dtx;
-use gx_ids::{Cid, Duplicate, Gxid, Mem, Node, Seq};
+use gx_ids::{Cid, Duplicate, Gxid, Mem, Node, Seq, Shared};
 use gx_meaning::Piece;
 use gx_msg::{Message, Out};
 use gx_tree::Level;
@@ -26,6 +26,7 @@ fn order(alloc: Global, of: &Ordering, piece: Piece) -> Mem<Out>
     ensures { IfOk result (λ out. out ≡ order_of of.now.gxid of.now.cid of.now.level of.now.snapshot of.now.horizon piece) }
 {
     let Piece { node, slice } = piece;
+    let slice = Shared::new(alloc, slice)?;
     let snapshot = of.snapshot.copy(alloc)?;
     Ok(Out {
         node,

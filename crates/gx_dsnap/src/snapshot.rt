@@ -3,7 +3,7 @@ ghost use Rattle.std.specs.List.Sorted.{IsStrictlySortedBy-prop};
 ghost use Rattle.std.specs.Option.{ForSome};
 ghost use Rattle.gx_dsnap.specs.Gxids.{IsRising, gxid_cmp, first_or, is_below, is_listed, after_ended};
 
-use gx_ids::{Duplicate, Gxid, Mem, Seq};
+use gx_ids::{Duplicate, Gxid, Mem, Seq, Shared};
 use std::alloc::Global;
 
 /// A distributed snapshot: the transactions below `xmax` that weren't running when it was taken have ended for its
@@ -13,7 +13,7 @@ use std::alloc::Global;
 pub struct Snapshot {
     pub xmin: Gxid,
     pub xmax: Gxid,
-    pub running: Seq<Gxid>,
+    pub running: Shared<Seq<Gxid>>,
     pub ghost rising: { IsRising running } by { IsStrictlySortedBy-prop gxid_cmp running },
     pub ghost below: { All (λ g. g.0 < xmax.0) running },
     pub ghost least: { xmin ≡ first_or running xmax },
@@ -33,7 +33,7 @@ impl Snapshot {
     fn lists(&self, gxid: Gxid) -> bool
         ensures { result ≡ is_listed gxid self.now.running }
     {
-        self.running.as_slice().binary_search(&gxid).is_ok()
+        self.running.get().as_slice().binary_search(&gxid).is_ok()
     }
 }
 
@@ -59,10 +59,11 @@ pub fn take(alloc: Global, running: &[Gxid], latest_ended: Option<Gxid>) -> Mem<
     let xmax = latest_ended.map_or(Gxid(1), |gxid| Gxid(gxid.0 + 1));
     let below = below(alloc, running, xmax)?;
     let xmin = below.first().copied().unwrap_or(xmax);
+    let running = Shared::new(alloc, Seq::from_vec(below))?;
     Ok(Snapshot {
         xmin,
         xmax,
-        running: Seq::from_vec(below),
+        running,
     })
 }
 

@@ -24,7 +24,7 @@ pub fn new_groups(alloc: Global, query: &Query) -> Mem<Groups>
 {
     let mut groups = BTreeMap::new(alloc);
     if query.group.is_empty() {
-        let key = GroupKey::from_row(Row::from_vec(Vec::new(alloc)));
+        let key = GroupKey::from_row(Row::from_vec(alloc, Vec::new(alloc))?);
         let cells = empty_aggregates(alloc, query.items.as_slice())?;
         groups.insert(key, cells)?;
     }
@@ -61,7 +61,7 @@ pub fn row_key(alloc: Global, group: &[u8], row: &KeyedRow) -> Mem<GroupKey>
     for column in group {
         values.push(column_value(alloc, row, *column)?)?;
     }
-    Ok(GroupKey::from_row(Row::from_vec(values)))
+    Ok(GroupKey::from_row(Row::from_vec(alloc, values)?))
 }
 
 fn column_value(alloc: Global, row: &KeyedRow, column: u8) -> Mem<Value>

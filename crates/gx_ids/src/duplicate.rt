@@ -7,7 +7,7 @@ use std::alloc::Global;
 
 /// A type whose values can be copied, where there is memory.
 pub trait Duplicate: Sized {
-    /// An equal value that shares nothing with this one.
+    /// An equal value, which a later change of this one leaves as it is.
     fn copy(&self, alloc: Global) -> Mem<Self>
         ensures { IfOk result (λ copy. copy ≡ self.now) };
 }

@@ -28,7 +28,7 @@ pub fn constants(alloc: Global, tuple: &[Expr]) -> Mem<Result<Row, ArithFault>>
             Err(fault) => return Ok(Err(fault)),
         }
     }
-    Ok(Ok(Row::from_vec(values)))
+    Ok(Ok(Row::from_vec(alloc, values)?))
 }
 
 /// The row that a SET list makes of an old one, or its first fault.
@@ -46,5 +46,5 @@ pub(crate) fn set_row(
             Err(fault) => return Ok(Err(fault)),
         }
     }
-    Ok(Ok(Row::from_vec(new)))
+    Ok(Ok(Row::from_vec(alloc, new)?))
 }

@@ -6,7 +6,7 @@ use crate::hold::Hold;
 use crate::key::Key;
 use crate::shelf::Shelf;
 use gx_ids::Mem;
-use gx_waits::Claim;
+use gx_waits::{Claim, Object};
 use std::alloc::Global;
 use std::collections::BTreeMap;
 
@@ -122,8 +122,18 @@ impl Index {
         }
     }
 
-    // Drops a shelf that nobody needs.
+    // Drops a shelf that nobody needs, but a table's, to which the next command on it comes.
     fn tidy(&mut self, key: Key)
+        ensures holds { (k : Key) → holds_at self.new k ≡ holds_at self.old k }
+        ensures places { (k : Key) → places_at self.new k ≡ places_at self.old k }
+    {
+        match key {
+            Key::On(Object::Relation(_)) => {}
+            _ => self.drop_idle(key),
+        }
+    }
+
+    fn drop_idle(&mut self, key: Key)
         ensures holds { (k : Key) → holds_at self.new k ≡ holds_at self.old k }
         ensures places { (k : Key) → places_at self.new k ≡ places_at self.old k }
     {

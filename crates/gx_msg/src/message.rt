@@ -1,6 +1,6 @@
 use crate::reply::Reply;
 use gx_dsnap::Snapshot;
-use gx_ids::{Cid, Duplicate, Gxid, Mem, Node};
+use gx_ids::{Cid, Duplicate, Gxid, Mem, Node, Shared};
 use gx_tree::{Level, Slice};
 use gx_waits::LocalGraph;
 use std::alloc::Global;
@@ -15,7 +15,7 @@ pub enum Message {
         level: Level,
         snapshot: Option<Snapshot>,
         horizon: Gxid,
-        slice: Slice,
+        slice: Shared<Slice>,
     },
     /// Promise to commit.
     Prepare(Gxid),

@@ -71,13 +71,13 @@ fn line_ended(spot: Spot, image: Option<Row>) -> Mem<Mid>
     Ok(rows_from(listed, gxid, kept, others))
 }
 
-fn value_ended(spot: Spot, values: Seq<Value>, byte: u8) -> Mem<Option<Mid>>
+fn value_ended(alloc: Global, spot: Spot, values: Seq<Value>, byte: u8) -> Mem<Option<Mid>>
     ensures { IfOk result (λ mid. mid ≡ of.value_ended spot values byte) }
 {
     if byte == b'|' {
         Ok(Some(Mid::Value(spot, values)))
     } else if byte == b'\n' {
-        let row = Row::from_vec(values.into_vec());
+        let row = Row::from_vec(alloc, values.into_vec())?;
         Ok(Some(line_ended(spot, Some(row))?))
     } else {
         Ok(None)
@@ -108,14 +108,20 @@ fn signed(is_negative: bool, number: u64) -> Option<i64>
     }
 }
 
-fn int_ended(spot: Spot, mut values: Seq<Value>, number: Option<i64>, byte: u8) -> Mem<Option<Mid>>
+fn int_ended(
+    alloc: Global,
+    spot: Spot,
+    mut values: Seq<Value>,
+    number: Option<i64>,
+    byte: u8,
+) -> Mem<Option<Mid>>
     ensures { IfOk result (λ mid. mid ≡ of.int_ended spot values number byte) }
 {
     match number {
         None => Ok(None),
         Some(number) => {
             values.push(Value::Int(number))?;
-            value_ended(spot, values, byte)
+            value_ended(alloc, spot, values, byte)
         }
     }
 }
@@ -185,7 +191,7 @@ fn number_ended(alloc: Global, field: Field, number: u64, byte: u8) -> Mem<Optio
         Field::RidOrdinal(rows, gxid, cid) => Ok(ordinal_ended(rows, gxid, cid, number, byte)),
         Field::Table(rows, rid) => Ok(table_ended(alloc, rows, rid, number, byte)),
         Field::Int(spot, values, is_negative) => {
-            int_ended(spot, values, signed(is_negative, number), byte)
+            int_ended(alloc, spot, values, signed(is_negative, number), byte)
         }
     }
 }
@@ -337,7 +343,13 @@ fn in_text(spot: Spot, values: Seq<Value>, mut text: Seq<u8>, byte: u8) -> Mem<O
     }
 }
 
-fn quoted(spot: Spot, mut values: Seq<Value>, mut text: Seq<u8>, byte: u8) -> Mem<Option<Mid>>
+fn quoted(
+    alloc: Global,
+    spot: Spot,
+    mut values: Seq<Value>,
+    mut text: Seq<u8>,
+    byte: u8,
+) -> Mem<Option<Mid>>
     ensures { IfOk result (λ next. next ≡ of.next (mid.Quoted spot values text) byte) }
 {
     if byte == b'\'' {
@@ -345,7 +357,7 @@ fn quoted(spot: Spot, mut values: Seq<Value>, mut text: Seq<u8>, byte: u8) -> Me
         Ok(Some(Mid::Text(spot, values, text)))
     } else {
         values.push(Value::Text(Txt::from_vec(text.into_vec())))?;
-        value_ended(spot, values, byte)
+        value_ended(alloc, spot, values, byte)
     }
 }
 
@@ -359,7 +371,7 @@ pub(crate) fn next(alloc: Global, mid: Mid, byte: u8) -> Mem<Option<Mid>>
         Mid::Digits(field, number) => next_digit(alloc, field, number, byte),
         Mid::Value(spot, values) => begin_value(alloc, spot, values, byte),
         Mid::Text(spot, values, text) => in_text(spot, values, text, byte),
-        Mid::Quoted(spot, values, text) => quoted(spot, values, text, byte),
+        Mid::Quoted(spot, values, text) => quoted(alloc, spot, values, text, byte),
         Mid::Done(_item) => Ok(None),
     }
 }

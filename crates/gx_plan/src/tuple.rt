@@ -5,7 +5,7 @@ ghost use Rattle.gx_meaning.specs.Expressions.{value_of};
 ghost use Rattle.gx_meaning.specs.Constants.{IsConstant, values_of};
 
 use gx_eval::{EvalFault, eval};
-use gx_ids::Seq;
+use gx_ids::{Duplicate, Seq};
 use gx_tree::{Expr, Row, Value};
 use std::alloc::Global;
 
@@ -19,7 +19,7 @@ pub fn tuple_values(alloc: Global, tuple: &[Expr]) -> Result<Row, EvalFault>
     for expr in tuple {
         values.push(constant(alloc, expr)?)?;
     }
-    Ok(Row::from_vec(values.into_vec()))
+    Ok(Row::from_vec(alloc, values.into_vec())?)
 }
 
 fn constant(alloc: Global, expr: &Expr) -> Result<Value, EvalFault>
@@ -27,6 +27,11 @@ fn constant(alloc: Global, expr: &Expr) -> Result<Value, EvalFault>
     ensures value { IfOk result (λ value. value_of [] expr.now ≡ Ok value) }
     ensures fault { (fault : ArithFault) → result ≡ Err (eval_fault fault) → value_of [] expr.now ≡ Err fault }
 {
-    let none = Row::from_vec(Vec::new(alloc));
-    eval(alloc, expr, &none)
+    match expr {
+        Expr::Lit(value) => Ok(value.copy(alloc)?),
+        _ => {
+            let none = Row::from_vec(alloc, Vec::new(alloc))?;
+            eval(alloc, expr, &none)
+        }
+    }
 }

@@ -24,7 +24,7 @@ fn push_snap(text: &mut Vec<u8>, gxid: Gxid, cid: Cid, snapshot: &Snapshot) -> M
     push_words(text, b" xmin", &[snapshot.xmin.0])?;
     push_words(text, b" xmax", &[snapshot.xmax.0])?;
     push_bytes(text, b" running")?;
-    push_gxids(text, snapshot.running.as_slice())
+    push_gxids(text, snapshot.running.get().as_slice())
 }
 
 fn push_answered(text: &mut Vec<u8>, script: &Script, session: SessionId, number: u32) -> Mem<()>

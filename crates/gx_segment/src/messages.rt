@@ -16,7 +16,7 @@ use crate::ordering::take;
 use crate::starting::resume;
 use gx_dsnap::Snapshot;
 use gx_dtx::order::Order;
-use gx_ids::{Cid, Gxid, Mem, Node, Seq};
+use gx_ids::{Cid, Duplicate, Gxid, Mem, Node, Seq, Shared};
 use gx_msg::Message;
 use gx_node::Suspended;
 use gx_outside::{Gate, Journal};
@@ -75,11 +75,12 @@ fn just_come(
     cid: Cid,
     level: Level,
     snapshot: Option<Snapshot>,
-    slice: Slice,
-) -> Suspended
-    ensures { result ≡ record { cid = cid; level = level; snapshot = snapshot; slice = slice; count = 0; row = None; rows = [] } }
+    slice: Shared<Slice>,
+) -> Mem<Suspended>
+    ensures { IfOk result (λ command. command ≡ record { cid = cid; level = level; snapshot = snapshot; slice = slice; count = 0; row = None; rows = [] }) }
 {
-    Suspended {
+    let slice = slice.get().copy(alloc)?;
+    Ok(Suspended {
         cid,
         level,
         snapshot,
@@ -87,7 +88,7 @@ fn just_come(
         count: 0,
         row: None,
         rows: Seq::new(alloc),
-    }
+    })
 }
 
 fn take_message<J: Journal, G: Gate>(
@@ -121,7 +122,7 @@ fn take_message<J: Journal, G: Gate>(
             horizon: low,
             slice,
         } => {
-            let command = just_come(alloc, cid, level, snapshot, slice);
+            let command = just_come(alloc, cid, level, snapshot, slice)?;
             exec(alloc, node, script, held, horizon, gxid, command, low, gate)
         }
         Message::Prepare(gxid) => {

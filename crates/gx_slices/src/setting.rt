@@ -37,7 +37,7 @@ fn set_row(alloc: Global, assigns: &[Assign], old: &Row) -> Mem<Result<Row, Arit
             Err(fault) => return Ok(Err(fault)),
         }
     }
-    Ok(Ok(Row::from_vec(values)))
+    Ok(Ok(Row::from_vec(alloc, values)?))
 }
 
 // What a command makes of a row: UPDATE the row with its values, DELETE none.

@@ -1,14 +1,14 @@
-ghost use Rattle.std.specs.Prelude.{◌≡◌};
+ghost use Rattle.std.specs.Prelude.{◌≡◌, IfOk};
 
 use crate::value::Value;
-use gx_ids::{Duplicate, Mem, Rid, copies};
+use gx_ids::{Duplicate, Mem, Rid, Seq, Shared};
 use std::alloc::Global;
 use std::marker::Model;
 
-/// A row of a table. Contracts see it as the list of its values, one for each column in order.
+/// A row of a table, which all who have a copy share. Contracts see it as the list of its values, one for each column in order.
 #[derive(Debug, Drop)]
 pub struct Row {
-    values: Vec<Value>,
+    values: Shared<Seq<Value>>,
 }
 
 impl Model for Row {
@@ -17,29 +17,31 @@ impl Model for Row {
 
     ghost Value = { List RowValue };
 
-    ghost view = { λ row. row.values.items };
+    ghost view = { λ row. row.values };
 }
 
 impl Row {
-    /// The row of these values. It takes no memory.
-    pub fn from_vec(values: Vec<Value>) -> Row
-        ensures { result ≡ values.items }
+    /// The row of these values.
+    pub fn from_vec(alloc: Global, values: Vec<Value>) -> Mem<Row>
+        ensures { IfOk result (λ row. row ≡ values.items) }
     {
-        Row { values }
+        Ok(Row {
+            values: Shared::new(alloc, Seq::from_vec(values))?,
+        })
     }
 
     /// The values, in the order of the columns.
     pub fn as_slice(&self) -> &[Value]
         ensures { result.now ≡ self.now }
     {
-        self.values.as_slice()
+        self.values.get().as_slice()
     }
 }
 
 impl Duplicate for Row {
     fn copy(&self, alloc: Global) -> Mem<Row> {
         Ok(Row {
-            values: copies(alloc, self.values.as_slice())?,
+            values: self.values.copy(alloc)?,
         })
     }
 }
