@@ -134,7 +134,31 @@ fn change_if_true(
     }
 }
 
-// A row whose newest version is settled. At repeatable read the row that was selected is changed.
+// At repeatable read the row that was selected is changed.
+fn change_shown(
+    alloc: Global,
+    change: &Change,
+    held: &mut Held,
+    entry: &mut Entry,
+    rid: Rid,
+    image: Option<Row>,
+    marks: &mut Vec<Mark>,
+) -> Mem<RowEnd>
+    ghost stage: { Stage }
+    requires may { MayChange stage.found.tables stage.found.start change.now }
+    requires at { IsAt stage change.now.writer.gxid held.old entry.old marks.old.items }
+    requires free { IsFree stage change.now.writer.gxid }
+    requires right { IsRightImage stage.found.tables change.now.writer.table image }
+    ensures { IfOk result (λ end. Came stage change.now.writer.gxid held.new entry.new marks.new.items
+        (rule.changes_shown stage.moved change.now.writer.gxid (change_in change.now) rid image) end) }
+{
+    match image {
+        Some(old) => change_row(alloc, change, held, entry, rid, old, marks),
+        None => skip(change, rid, marks),
+    }
+}
+
+// A row whose newest version is settled.
 fn process(
     alloc: Global,
     change: &Change,
@@ -158,10 +182,7 @@ fn process(
         Level::ReadCommitted => change_if_true(alloc, change, held, entry, rid, image, marks),
         Level::RepeatableRead => match overtaker(change, &held.store, writer, cid) {
             Some(writer) => Ok(RowEnd::Failing(Cause::Serialization(rid, writer))),
-            None => match image {
-                Some(old) => change_row(alloc, change, held, entry, rid, old, marks),
-                None => skip(change, rid, marks),
-            },
+            None => change_shown(alloc, change, held, entry, rid, image, marks),
         },
     }
 }
