@@ -41,7 +41,7 @@ is_below-first g xmax (h ∷ hs) under lower = let first : h.0 < xmax.0 = All-he
     below_through a b c ab bc = grind (arith, nat_tests)
 
 -- a snapshot sees each gxid below its xmin
-sees-below : (snap : Snapshot) (g : Gxid) → g.0 < snap.xmin.0 → sees snap g ≡ true
+pub sees-below : (snap : Snapshot) (g : Gxid) → g.0 < snap.xmin.0 → sees snap g ≡ true
 sees-below snap g low =
     let lower : g.0 < (first_or snap.running snap.xmax).0 = rw (← snap.least) low in
     ap (λ b. b && not (is_listed g snap.running)) (is_below-first g snap.xmax snap.running snap.below lower)

@@ -3,3 +3,4 @@ pub mod Rising
 pub mod Dropped
 pub mod XidEntries
 pub mod Places
+pub mod Replaced

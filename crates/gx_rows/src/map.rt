@@ -46,6 +46,13 @@ impl XidMap {
         })
     }
 
+    /// The gxid below which entries are dropped.
+    pub fn horizon(&self) -> Gxid
+        ensures { result ≡ self.now.horizon }
+    {
+        self.horizon
+    }
+
     /// The lxid in a gxid's entry.
     pub fn lxid_of(&self, gxid: Gxid) -> Option<Lxid>
         ensures value { result ≡ lxid_of self.now gxid }

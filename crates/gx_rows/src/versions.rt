@@ -1,7 +1,8 @@
 ghost use Rattle.std.specs.Prelude.{◌≡◌, ◌≢◌, ◌++◌, ◌∷◌, [], List, IfOk, OnOk, OnErr, ◌==◌};
 ghost use Rattle.std.specs.List.{list_any};
+ghost use Rattle.std.specs.Map.{set_value};
 ghost use Rattle.std.specs.Option.{option_copied};
-ghost use Rattle.std.specs.BTreeMap.{IsOrdered, IsUnchanged};
+ghost use Rattle.std.specs.BTreeMap.{IsOrdered, IsUnchanged, is_at};
 ghost use Rattle.std.specs.List.Sorted.{IsStrictlySortedBy};
 ghost use Rattle.gx_ids.specs.declared.rid.Rid.{Rid};
 ghost use Rattle.gx_rows.specs.Rids.{rid_cmp};
@@ -14,6 +15,7 @@ use gx_tree::Row;
 use std::alloc::Global;
 use std::collections::BTreeMap;
 use std::marker::Model;
+use std::mem;
 
 /// The versions of the rows at a segment. Contracts see them as the rids, rising, each with its versions in the order
 /// in which they were added.
@@ -77,6 +79,23 @@ impl Versions {
         push_version(self.alloc, &mut self.lists, rid, version)
     }
 
+    /// Takes out the versions of a rid, which has none from then on.
+    pub fn take(&mut self, rid: Rid) -> Seq<Version>
+        ensures taken { result ≡ versions_of self.old rid }
+        ensures left { self.new ≡ set_value (is_at (rid_cmp rid)) self.old [] }
+    {
+        let none = Seq::new(self.alloc);
+        replace_list(self.alloc, &mut self.lists, rid, none)
+    }
+
+    /// Puts versions in the place of those that a rid has. Of an unknown rid nothing is kept.
+    pub fn put(&mut self, rid: Rid, versions: Seq<Version>)
+        ensures { self.new ≡ set_value (is_at (rid_cmp rid)) self.old versions }
+    {
+        let before = replace_list(self.alloc, &mut self.lists, rid, versions);
+        drop(before);
+    }
+
     /// The newest version of a rid that isn't locally aborted.
     pub fn newest(&self, rid: Rid, map: &XidMap) -> Option<&Version>
         ensures { option_copied result ≡ newest_of self.now rid map.now }
@@ -112,6 +131,25 @@ fn push_version(
             list.push(version)?;
             lists.insert(rid, list)?;
             Ok(())
+        }
+    }
+}
+
+// Puts a list in the place of a rid's, if it is known, and hands back that one.
+fn replace_list(
+    alloc: Global,
+    lists: &mut BTreeMap<Rid, Seq<Version>>,
+    rid: Rid,
+    versions: Seq<Version>,
+) -> Seq<Version>
+    ensures before { result ≡ versions_of lists.old.entries rid }
+    ensures now { lists.new.entries ≡ set_value (is_at (rid_cmp rid)) lists.old.entries versions }
+{
+    match lists.get_mut(&rid) {
+        Some(list) => mem::replace(list, versions),
+        None => {
+            drop(versions);
+            Seq::new(alloc)
         }
     }
 }

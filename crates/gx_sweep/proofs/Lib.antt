@@ -1,2 +1,4 @@
 pub mod Places
 pub mod Inserted
+pub mod Living
+pub mod Rows
