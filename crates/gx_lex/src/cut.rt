@@ -240,7 +240,7 @@ fn put_last(out: &mut Vec<Token>, mid: Mid) -> Mem<()>
 fn cut(alloc: Global, line: &[u8]) -> Mem<Vec<Token>>
     ensures { IfOk result (λ tokens. tokens.items ≡ reader.lex line.now) }
 {
-    let mut out = Vec::new(alloc);
+    let mut out = Vec::with_capacity(alloc, line.len().min(64))?;
     let mut mid = Mid::Gap;
     for byte in line {
         mid = next(alloc, &mut out, mid, *byte)?;
