@@ -15,7 +15,7 @@ use Rattle.gx_segment.specs.Reports.{report_in}
 use Rattle.gx_segment.specs.declared.collecting.LastReport.{LastReport}
 use Rattle.gx_segment.specs.declared.segment.Segment.{Segment}
 
--- the segment holds what the rule's data says
+-- the segment holds what the rule's data says, but for dead versions that are dropped
 pub record IsSegment (segment : Segment) (s : Seg) : Type 0 where
   pub node : segment.node ≡ s.node
   pub held : IsHeld segment.script.value.tables segment.held s

@@ -62,7 +62,7 @@ pub record AreWriters (s : Seg) : Type 0 where
   pub low : (g : Gxid) → g.0 < s.horizon.0 → has_version s g ≡ true → has_ended (rule.local_of s g).phase ≡ true
   pub own : (g : Gxid) → list_any (same_claim (own_lock g)) s.locks.holds ≡ true → (has_version s g && not (has_ended (rule.local_of s g).phase)) ≡ true
 
--- what is held says the same as the rule's data
+-- what is held says the same as the rule's data, but for dead versions that are dropped
 pub record IsHeld (tables : List Schema) (held : Held) (s : Seg) : Type 0 where
   pub horizon : held.store.horizon ≡ s.horizon
   pub locals : (g : Gxid) → s.horizon.0 ≤ g.0 → local_in (entry_at held g) ≡ rule.local_of s g

@@ -30,7 +30,7 @@ pub record Writer : Type 0 where
   pub gxid : Gxid
   pub status : LocalStatus
 
--- the writes to each row of each table, in order; the writers; and the horizon
+-- the writes to each row of each table that are kept, in order; the writers; and the horizon
 pub record Store : Type 0 where
   pub tables : List (Table × List (Rid × List Write))
   pub writers : List Writer

@@ -22,7 +22,7 @@ use std::alloc::Global;
 use std::collections::BTreeMap;
 use std::marker::Model;
 
-/// What one segment keeps of rows: the writes to each row of each table, what became here of each transaction that wrote
+/// What one segment keeps of rows: the writes to each row of each table that no sweep has dropped, what became here of each transaction that wrote
 /// here, and the horizon, below which nobody asks for a transaction any more (Lyu et al., SIGMOD 2021). Contracts see all
 /// of it by gxids. How the tables are distributed, and which rows stand under which value of the distribution column, is kept besides,
 /// so that rows are found by it; nobody sees that.
