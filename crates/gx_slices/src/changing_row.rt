@@ -356,7 +356,10 @@ pub(crate) fn does_row(
         (rule.does_row stage.moved change.now.writer.gxid (change_in change.now) rid) end) }
 {
     let Writer {
-        node, gxid, table, ..
+        node,
+        gxid,
+        table,
+        ..
     } = change.writer;
     held.store.sweep(table, rid);
     let end = look_at(alloc, change, held, entry, rid, marks)?;
