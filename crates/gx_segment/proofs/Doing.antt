@@ -30,6 +30,7 @@ use Rattle.gx_segment.specs.Done.{HasDone, answer_of, to_coordinator}
 use Rattle.gx_segment.specs.Moves.{HasMoved, order_turn}
 use Rattle.gx_segment.specs.declared.done.Done.{Done}
 use Rattle.gx_segment.proofs.Following.{follows-change_of}
+use Rattle.gx_segment.proofs.Lasting.{lasts-change_of}
 use Rattle.gx_segment.proofs.Moving.{IsHeld-moved}
 use Rattle.gx_segment.proofs.Standing.{Fixed, goes_on-stands}
 
@@ -65,7 +66,7 @@ module _ (o : Order) (s : Seg) (g : Gxid) (fails : Bool) where
       let m : HasMoved held held' g made taken = subst (λ (c : Change). HasMoved held held' g c taken) same moved in
       subst (HasDone tables (record held' { locks = locks }) horizon done) (sym (above alive)) (record {
         held =
-            IsHeld-moved tables held held' s g made taken (turn_of o s g fails (local_of s g)) is alive m makes (follows-change_of o s.node g (kept_of s g) fails (local_of s g)) locks
+            IsHeld-moved tables held held' s g made taken (turn_of o s g fails (local_of s g)) is alive m makes (follows-change_of o s.node g (kept_of s g) fails (local_of s g)) (lasts-change_of o s.node g (kept_of s g) fails (local_of s g)) locks
             (left ∙ ap (λ (b : Bool). left_locks b held'.locks g) m.ends);
         horizon = e ∙ sym (ap (λ (x : Seg). x.horizon) makes.others);
         marks =

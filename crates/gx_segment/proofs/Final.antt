@@ -1,5 +1,5 @@
 -- What a reader without a transaction is shown.
-use Rattle.std.proofs.Common.{◌≡◌, ℕ, Bool, cond, ◌&&◌, ◌||◌, eqb, ltb, List, [], ◌∷◌, Option, Some, None, refl, ap, ◌∙◌, arith}
+use Rattle.std.proofs.Common.{◌≡◌, ℕ, Bool, false, cond, ◌&&◌, ◌||◌, eqb, ltb, List, [], ◌∷◌, Option, Some, None, refl, ap, ◌∙◌, arith}
 use Rattle.std.proofs.lemmas.Bool.Decides.{nat_tests}
 use Rattle.std.specs.Prelude.{find, option_and_then, reverse}
 use Rattle.gx_ids.specs.declared.ids.Table.{Table}
@@ -26,6 +26,9 @@ find-same p q same (w ∷ ws) = ap (λ (b : Bool). cond b (Some w) (find p ws)) 
 never_own : (a : Bool) (n : ℕ) (b : Bool) → b ≡ ((a && ltb n 0) || b)
 never_own a n b = grind (arith, nat_tests)
 
+none_before : (a : Bool) (n : ℕ) → (a && ltb n 0) ≡ false
+none_before a n = grind (arith, nat_tests)
+
 module _ (tables : List Schema) (held : Held) (s : Seg) (is : IsHeld tables held s) (snap : Snapshot) (table : Table) where
   stored : IsStored held.store s
   stored = record { horizon = is.horizon; writes = is.writes; wrote = is.wrote; committed = is.committed; unaborted = is.unaborted }
@@ -36,4 +39,4 @@ module _ (tables : List Schema) (held : Held) (s : Seg) (is : IsHeld tables held
       (find-same (is_shown_from held.store snap None no_command) (is_shown_from held.store snap (Some nobody) no_command) (λ w. never_own (eqb w.gxid.0 0) w.cid.0 (is_shown_from held.store snap None no_command w)) (reverse (writes_of held.store table rid)))
 
   pub rows-final : (rows : List KeyedRow) → AreRising rows → ((rid : Rid) → row_at rows rid ≡ shown_row_from held.store snap None no_command table rid) → rows ≡ shown s snap nobody no_command table
-  rows-final rows rising images = rows-shown held.store s stored snap nobody no_command table rows rising (λ rid. images rid ∙ by_nobody rid)
+  rows-final rows rising images = rows-shown held.store s stored snap nobody no_command (λ v e. none_before (eqb v.gxid.0 0) v.cid.0) table rows rising (λ rid. images rid ∙ by_nobody rid)

@@ -4,6 +4,7 @@ pub mod Told
 pub mod Doing
 pub mod Final
 pub mod Following
+pub mod Lasting
 pub mod Going
 pub mod Gone
 pub mod Gxids

@@ -5,9 +5,11 @@ use Rattle.std.specs.BTreeSet.{contains}
 use Rattle.std.specs.List.{list_all, list_any}
 use Rattle.std.specs.Prelude.{◌&&◌, not, nat_lt, is_some, option_map, filter, All, IsTrue}
 use Rattle.gx_ids.specs.declared.ids.Gxid.{Gxid}
+use Rattle.gx_ids.specs.declared.ids.Table.{Table}
+use Rattle.gx_ids.specs.declared.rid.Rid.{Rid}
 use Rattle.gx_tree.specs.declared.schema.Schema.{Schema}
-use Rattle.gx_dsnap.specs.Gxids.{gxid_cmp}
-use Rattle.gx_slices.specs.Store.{kept_at, passes, status_of}
+use Rattle.gx_dsnap.specs.Gxids.{gxid_cmp, is_below}
+use Rattle.gx_slices.specs.Store.{Write, kept_at, passes, status_of, writes_of}
 use Rattle.gx_waits.specs.Claim.{same_claim}
 use Rattle.gx_waits.specs.declared.claim.Claim.{Claim}
 use Rattle.gx_locks.specs.Claims.{is_of}
@@ -20,11 +22,13 @@ use Rattle.gx_rules.specs.Segments.{Local, Phase, Reading, Writing, Prepared, Co
 use Rattle.gx_rules.specs.Shown.{last_images}
 use Rattle.gx_rules.specs.Slices.{own_lock}
 use Rattle.gx_store.specs.Marks.{is_same_gxid}
-use Rattle.gx_slices.specs.Agrees.{AreWriters, IsHeld, entry_at, has_version, is_of_row, is_right_version, local_in, write_of}
+use Rattle.gx_slices.specs.Agrees.{AreWriters, IsHeld, entry_at, has_version, is_right_version, local_in}
+use Rattle.gx_slices.specs.Left.{AreLeft, IsLeft, has_aborted, is_of_row, is_settled}
 use Rattle.gx_slices.specs.Owning.{AreOwn, is_own}
 use Rattle.gx_slices.specs.Waiting.{AreWaits, IsRightWait, is_open}
 use Rattle.gx_slices.specs.declared.held.Held.{Held}
 use Rattle.gx_slices.proofs.Gxids.{itself}
+use Rattle.gx_slices.proofs.Left.{left-weaker}
 use Rattle.gx_slices.proofs.Owning.{AreOwn-filter}
 use Rattle.gx_slices.proofs.Waiting.{AreWaits-one, find-others, waits-without}
 use Rattle.gx_rows.specs.Counts.{is_committed}
@@ -32,6 +36,7 @@ use Rattle.gx_rows.specs.Rows.{is_unaborted}
 use Rattle.gx_rows.specs.declared.status.LocalStatus.{LocalStatus}
 use Rattle.gx_segment.specs.Moves.{HasMoved, status_in}
 use Rattle.gx_segment.proofs.Following.{Follows}
+use Rattle.gx_segment.proofs.Lasting.{Lasts}
 use Rattle.gx_segment.proofs.Gxids.{apart, below, same_gxid}
 
 still_there : (status : LocalStatus) (old : Option LocalStatus) → is_some (option_map (λ _. status) old) ≡ is_some old
@@ -261,15 +266,41 @@ module _ (tables : List Schema) (held held' : Held) (s : Seg) (g : Gxid) (change
   waits-moved follows =
       AreWaits-one tables s now g was.waits horizon (λ h other. others h (not_same h other)) left-waits (own-waits follows) (still-right follows)
 
-  pub IsHeld-moved : Follows (s.locals g.0) change → (locks : Locks) → locks ≡ left_locks change.ends held'.locks g → IsHeld tables (record held' { locks = locks }) turn.seg
-  IsHeld-moved follows locks left = record {
+  -- WHAT IS LEFT OF EACH ROW
+  aborted-moved : Lasts (s.locals g.0) change → (v : Version) (b : Bool) → eqb v.gxid.0 g.0 ≡ b → has_aborted s v ≡ true → has_aborted now v ≡ true
+  aborted-moved lasts v true e was_so =
+      ap (λ (l : Local). not (rule.is_unaborted l.phase)) (its v.gxid e)
+      ∙ lasts.aborted (subst (λ (h : Gxid). not (rule.is_unaborted (s.locals h.0).phase) ≡ true) (sym (same_gxid g v.gxid e)) was_so)
+  aborted-moved lasts v false e was_so = ap (λ (l : Local). not (rule.is_unaborted l.phase)) (others v.gxid e) ∙ was_so
+
+  committed-moved : Lasts (s.locals g.0) change → (v : Version) (b : Bool) → eqb v.gxid.0 g.0 ≡ b → has_committed (s.locals v.gxid.0).phase ≡ true → has_committed (now.locals v.gxid.0).phase ≡ true
+  committed-moved lasts v true e was_so =
+      ap (λ (l : Local). has_committed l.phase) (its v.gxid e) ∙ lasts.committed (subst (λ (h : Gxid). has_committed (s.locals h.0).phase ≡ true) (sym (same_gxid g v.gxid e)) was_so)
+  committed-moved lasts v false e was_so = ap (λ (l : Local). has_committed l.phase) (others v.gxid e) ∙ was_so
+
+  settled-moved : Lasts (s.locals g.0) change → (v : Version) → is_settled s v ≡ true → is_settled now v ≡ true
+  settled-moved lasts v is =
+      ap (λ (h : Gxid). has_committed (now.locals v.gxid.0).phase && is_below h v.gxid) horizon
+      ∙ left_part (has_committed (s.locals v.gxid.0).phase) (has_committed (now.locals v.gxid.0).phase) (is_below s.horizon v.gxid) (committed-moved lasts v (eqb v.gxid.0 g.0) refl) is
+    where
+      left_part : (a b c : Bool) → (a ≡ true → b ≡ true) → (a && c) ≡ true → (b && c) ≡ true
+      left_part true b c more e = ap (λ (x : Bool). x && c) (more refl) ∙ e
+      left_part false b c more e = absurd (cc)
+
+  left-moved : Lasts (s.locals g.0) change → (table : Table) (rid : Rid) → AreLeft now table rid (writes_of held'.store table rid)
+  left-moved lasts table rid =
+      subst (λ (vs : List Version). IsLeft (has_aborted now) (is_settled now) (writes_of held'.store table rid) (filter (is_of_row table rid) vs)) (sym versions)
+      (subst (λ (ws : List Write). IsLeft (has_aborted now) (is_settled now) ws (filter (is_of_row table rid) s.versions)) (sym (ap (λ ts. kept_at ts table rid) moved.tables))
+      (left-weaker (has_aborted s) (is_settled s) (has_aborted now) (is_settled now) (λ v. aborted-moved lasts v (eqb v.gxid.0 g.0) refl) (settled-moved lasts) (writes_of held.store table rid) (filter (is_of_row table rid) s.versions) (was.writes table rid)))
+
+  pub IsHeld-moved : Follows (s.locals g.0) change → Lasts (s.locals g.0) change → (locks : Locks) → locks ≡ left_locks change.ends held'.locks g → IsHeld tables (record held' { locks = locks }) turn.seg
+  IsHeld-moved follows lasts locks left = record {
     horizon = moved.horizon ∙ was.horizon ∙ sym horizon;
     locals = λ h up. locals-moved h (high h up) (eqb h.0 g.0) refl;
     kept = λ h up. moved.rows h ∙ was.kept h (high h up) ∙ ap (λ (vs : List Version). last_images (filter (λ v. is_same_gxid v.gxid h) vs)) (sym versions);
     dropped = λ h under. dropped h (subst (λ (x : Gxid). h.0 < x.0) horizon under);
     holders = λ h. holders-moved follows h (eqb h.0 g.0) refl;
-    writes = λ table rid.
-        ap (λ ts. kept_at ts table rid) moved.tables ∙ was.writes table rid ∙ ap (λ (vs : List Version). map write_of (filter (is_of_row table rid) vs)) (sym versions);
+    writes = left-moved lasts;
     wrote = λ h. wrote-moved h (eqb h.0 g.0) refl ∙ was.wrote h ∙ has_version-moved h;
     committed = λ h. passes-moved is_committed has_committed in_phase was.committed h (eqb h.0 g.0) refl ∙ ap (λ (b : Bool). b && has_committed (now.locals h.0).phase) (has_version-moved h);
     unaborted = λ h. passes-moved is_unaborted rule.is_unaborted unaborted_phase was.unaborted h (eqb h.0 g.0) refl ∙ ap (λ (b : Bool). b && rule.is_unaborted (now.locals h.0).phase) (has_version-moved h);

@@ -3,7 +3,7 @@ use Rattle.std.proofs.Common.{◌≡◌, ◌≤◌, ◌<◌, ℕ, Bool, true, fa
 use Rattle.std.proofs.lemmas.Bool.Decides.{nat_tests}
 use Rattle.std.specs.BTreeMap.{get}
 use Rattle.std.specs.BTreeSet.{contains}
-use Rattle.std.specs.Prelude.{◌&&◌, not, nat_lt, filter, is_some, map}
+use Rattle.std.specs.Prelude.{◌&&◌, not, nat_lt, filter, is_some}
 use Rattle.gx_ids.specs.declared.ids.Gxid.{Gxid}
 use Rattle.gx_tree.specs.declared.schema.Schema.{Schema}
 use Rattle.gx_dsnap.specs.Gxids.{gxid_cmp, is_below}
@@ -13,11 +13,13 @@ use Rattle.gx_rules.specs.AtSegment.{raised}
 use Rattle.gx_rules.specs.Fits.{holds_locks}
 use Rattle.gx_rules.specs.Maps.{each_below}
 use Rattle.gx_rules.specs.Segments as rule
-use Rattle.gx_rules.specs.Segments.{Phase, Reading, Writing, Prepared, Committed, Forgotten, Aborted, Seg, has_committed, has_ended, local_of}
-use Rattle.gx_slices.specs.Agrees.{AreWriters, IsHeld, has_version, is_of_row, local_in, rows_in, write_of}
+use Rattle.gx_rules.specs.Segments.{Phase, Reading, Writing, Prepared, Committed, Forgotten, Aborted, Seg, Version, has_committed, has_ended, local_of}
+use Rattle.gx_slices.specs.Agrees.{AreWriters, IsHeld, has_version, local_in, rows_in}
+use Rattle.gx_slices.specs.Left.{AreLeft, has_aborted, is_of_row, is_settled}
 use Rattle.gx_slices.specs.Store.{Store, greater, passes, status_of, writes_of}
 use Rattle.gx_slices.specs.Waiting.{AreWaits, is_open}
 use Rattle.gx_slices.specs.declared.held.Held.{Held}
+use Rattle.gx_slices.proofs.Left.{left-weaker}
 use Rattle.gx_segment.proofs.Below.{each_below-none, each_below-one}
 use Rattle.gx_segment.proofs.Keeping.{raised-rises}
 
@@ -84,6 +86,14 @@ module _ (tables : List Schema) (held held' : Held) (s : Seg) (h : Gxid) (was : 
   of_store : (P : Store → Type 0) → P (record held.store { horizon = greater held.store.horizon h }) → P held'.store
   of_store P p = subst P (sym store) p
 
+  -- who is settled stays so
+  settled-raised : (v : Version) → is_settled s v ≡ true → is_settled (raised s h) v ≡ true
+  settled-raised v is = let rises = raised-rises s h in still_below (has_committed (local_of s v.gxid).phase) v.gxid.0 s.horizon.0 (raised s h).horizon.0 rises is
+    where
+      still_below : (c : Bool) (n a b : ℕ) → a ≤ b → (c && nat_lt n a) ≡ true → (c && nat_lt n b) ≡ true
+      still_below true n a b up e = grind (arith, nat_tests)
+      still_below false n a b up e = absurd (cc)
+
   pub IsHeld-raised : ((g : Gxid) → horizon'.0 ≤ g.0 → get gxid_cmp held'.entries g ≡ get gxid_cmp held.entries g) → ((g : Gxid) → g.0 < horizon'.0 → get gxid_cmp held'.entries g ≡ None) → held'.holders ≡ held.holders → held'.locks ≡ held.locks → IsHeld tables held' (raised s h)
   IsHeld-raised entries dropped holders locks = record {
     horizon = ap (λ (x : Store). x.horizon) store ∙ ap (λ (k : Gxid). greater k h) was.horizon;
@@ -91,7 +101,9 @@ module _ (tables : List Schema) (held held' : Held) (s : Seg) (h : Gxid) (was : 
     kept = λ g up. ap rows_in (entries g (high g up)) ∙ was.kept g (low g up);
     dropped = λ g under. dropped g (subst (λ (k : Gxid). g.0 < k.0) (sym same) under);
     holders = λ g. ap (λ hs. contains gxid_cmp hs g) holders ∙ was.holders g;
-    writes = λ table rid. of_store (λ x. writes_of x table rid ≡ map write_of (filter (is_of_row table rid) s.versions)) (was.writes table rid);
+    writes = λ table rid.
+        of_store (λ x. AreLeft (raised s h) table rid (writes_of x table rid))
+        (left-weaker (has_aborted s) (is_settled s) (has_aborted (raised s h)) (is_settled (raised s h)) (λ v e. e) settled-raised (writes_of held.store table rid) (filter (is_of_row table rid) s.versions) (was.writes table rid));
     wrote = λ g. of_store (λ x. is_some (status_of x g) ≡ has_version s g) (was.wrote g);
     committed = λ g. of_store (λ x. passes is_committed (status_of x g) ≡ (has_version s g && has_committed (local_of s g).phase)) (was.committed g);
     unaborted = λ g. of_store (λ x. passes is_unaborted (status_of x g) ≡ (has_version s g && rule.is_unaborted (local_of s g).phase)) (was.unaborted g);

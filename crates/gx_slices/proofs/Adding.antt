@@ -6,6 +6,7 @@ use Rattle.std.proofs.lemmas.List.Folds.{list_any-append}
 use Rattle.std.proofs.lemmas.List.Sums.{fold-append}
 use Rattle.std.specs.List.{list_any}
 use Rattle.std.specs.Prelude.{◌<◌, find, is_some, unwrap_or}
+use Rattle.gx_dsnap.specs.Gxids.{is_below}
 use Rattle.gx_ids.specs.declared.ids.Cid.{Cid}
 use Rattle.gx_ids.specs.declared.ids.Gxid.{Gxid}
 use Rattle.gx_ids.specs.declared.ids.Node.{Node}
@@ -29,7 +30,8 @@ use Rattle.gx_rules.specs.Segments as rule
 use Rattle.gx_rules.specs.Segments.{Phase, Reading, Writing, Prepared, Committed, Forgotten, Aborted, Seg, Version, has_committed, has_ended}
 use Rattle.gx_rules.specs.Shown.{kept_of, kept_one, last_images}
 use Rattle.gx_rules.specs.Slices.{Moved, adds_version, own_lock, version, writes_row}
-use Rattle.gx_slices.specs.Agrees.{has_version, is_of_row, write_of}
+use Rattle.gx_slices.specs.Agrees.{has_version}
+use Rattle.gx_slices.specs.Left.{AreLeft, IsLeft, has_aborted, is_of_row, is_settled, write_of}
 use Rattle.gx_slices.specs.Apart.{IsApart}
 use Rattle.gx_slices.specs.Inserts.{IsPut}
 use Rattle.gx_slices.specs.Owning.{own_locks, own_marks}
@@ -38,6 +40,7 @@ use Rattle.gx_slices.specs.declared.held.Entry.{Entry}
 use Rattle.gx_slices.specs.declared.held.Held.{Held}
 use Rattle.gx_slices.proofs.Closing.{below_other}
 use Rattle.gx_slices.proofs.Gxids.{apart, differ, itself, other_row, other_table, row_itself, same_gxid, same_row, same_table, turned}
+use Rattle.gx_slices.proofs.Left.{left-push, left-weaker}
 use Rattle.gx_slices.proofs.OwnMoves.{any-own_locks}
 use Rattle.gx_slices.proofs.Owning.{AreOwn-own_locks, takes_own-with, waits-own_locks}
 
@@ -162,35 +165,63 @@ module _ (start : Seg) (first held held' : Held) (g : Gxid) (c : Cid) (node : No
       ∙ is.writers.own h (sym (any-own_locks h g was s.locks e) ∙ holds)
 
   -- what stands at a row
-  writes_split : (t : Table) (r : Rid) → map write_of (filter (is_of_row t r) s'.versions) ≡ map write_of (filter (is_of_row t r) s.versions) ++ map write_of (filter (is_of_row t r) (v ∷ []))
-  writes_split t r =
-      ap (map write_of) (filter-append (is_of_row t r) s.versions (v ∷ []))
-      ∙ map-append write_of (filter (is_of_row t r) s.versions) (filter (is_of_row t r) (v ∷ []))
+  aborted_before : (u : Version) → has_aborted s u ≡ true → has_aborted s' u ≡ true
+  aborted_before u e = by_test (eqb u.gxid.0 g.0) refl
+    where
+      differ : not true ≡ true → ⊥
+      differ f = cc
 
-  not_there : (t : Table) (r : Rid) → is_of_row t r v ≡ false → writes_of held'.store t r ≡ writes_of held.store t r → writes_of held'.store t r ≡ map write_of (filter (is_of_row t r) s'.versions)
+      by_test : (b : Bool) → eqb u.gxid.0 g.0 ≡ b → has_aborted s' u ≡ true
+      by_test false f = ap (λ (l : rule.Local). not (rule.is_unaborted l.phase)) (local_other u.gxid f) ∙ e
+      by_test true f =
+          absurd
+          (differ
+          (sym (ap not (open_unaborted was is.open_here))
+          ∙ subst (λ (h : Gxid). not (rule.is_unaborted (rule.local_of s h).phase) ≡ true) (sym (same_gxid g u.gxid f)) e))
+
+  settled_before : (u : Version) → is_settled s u ≡ true → is_settled s' u ≡ true
+  settled_before u e = by_test (eqb u.gxid.0 g.0) refl
+    where
+      differ : (false && is_below s.horizon g) ≡ true → ⊥
+      differ f = cc
+
+      by_test : (b : Bool) → eqb u.gxid.0 g.0 ≡ b → is_settled s' u ≡ true
+      by_test false f = ap (λ (l : rule.Local). has_committed l.phase && is_below s.horizon u.gxid) (local_other u.gxid f) ∙ e
+      by_test true f =
+          absurd
+          (differ
+          (sym (ap (λ (b : Bool). b && is_below s.horizon g) (open_uncommitted was is.open_here))
+          ∙ subst (λ (h : Gxid). (has_committed (rule.local_of s h).phase && is_below s.horizon h) ≡ true) (sym (same_gxid g u.gxid f)) e))
+
+  weaker : (ws : List Write) (vs : List Version) → IsLeft (has_aborted s) (is_settled s) ws vs → IsLeft (has_aborted s') (is_settled s') ws vs
+  weaker = left-weaker (has_aborted s) (is_settled s) (has_aborted s') (is_settled s') aborted_before settled_before
+
+  versions_split : (t : Table) (r : Rid) (b : Bool) → is_of_row t r v ≡ b → filter (is_of_row t r) s'.versions ≡ filter (is_of_row t r) s.versions ++ (if b then v ∷ [] else [])
+  versions_split t r b e =
+      filter-append (is_of_row t r) s.versions (v ∷ []) ∙ ap (λ (b : Bool). filter (is_of_row t r) s.versions ++ (if b then v ∷ [] else [])) e
+
+  not_there : (t : Table) (r : Rid) → is_of_row t r v ≡ false → writes_of held'.store t r ≡ writes_of held.store t r → AreLeft s' t r (writes_of held'.store t r)
   not_there t r e same =
-      same
-      ∙ is.stored.writes t r
-      ∙ sym (append-nil (map write_of (filter (is_of_row t r) s.versions)))
-      ∙ ap (λ (b : Bool). map write_of (filter (is_of_row t r) s.versions) ++ map write_of (if b then v ∷ [] else [])) (sym e)
-      ∙ sym (writes_split t r)
+      subst (λ (ws : List Write). AreLeft s' t r ws) (sym same)
+      (subst (IsLeft (has_aborted s') (is_settled s') (writes_of held.store t r)) (sym (versions_split t r false e ∙ append-nil (filter (is_of_row t r) s.versions)))
+      (weaker (writes_of held.store t r) (filter (is_of_row t r) s.versions) (is.stored.writes t r)))
 
-  there : writes_of held'.store table rid ≡ map write_of (filter (is_of_row table rid) s'.versions)
+  there : AreLeft s' table rid (writes_of held'.store table rid)
   there =
-      put.written
-      ∙ ap (λ (ws : List Write). ws ++ write_of v ∷ []) (is.stored.writes table rid)
-      ∙ ap (λ (b : Bool). map write_of (filter (is_of_row table rid) s.versions) ++ map write_of (if b then v ∷ [] else [])) (sym own)
-      ∙ sym (writes_split table rid)
+      subst (λ (ws : List Write). AreLeft s' table rid ws) (sym put.written)
+      (subst (IsLeft (has_aborted s') (is_settled s') (writes_of held.store table rid ++ write_of v ∷ [])) (sym (versions_split table rid true own))
+      (left-push (has_aborted s') (is_settled s') v (writes_of held.store table rid) (filter (is_of_row table rid) s.versions)
+      (weaker (writes_of held.store table rid) (filter (is_of_row table rid) s.versions) (is.stored.writes table rid))))
     where
       own : is_of_row table rid v ≡ true
       own = ap (λ (b : Bool). b && is_same_rid rid rid) (itself table.0) ∙ row_itself rid
 
-  writes : (t : Table) (r : Rid) (a : Bool) → eqb table.0 t.0 ≡ a → (b : Bool) → is_same_rid rid r ≡ b → writes_of held'.store t r ≡ map write_of (filter (is_of_row t r) s'.versions)
+  writes : (t : Table) (r : Rid) (a : Bool) → eqb table.0 t.0 ≡ a → (b : Bool) → is_same_rid rid r ≡ b → AreLeft s' t r (writes_of held'.store t r)
   writes t r true e true f =
       subst
-      (λ (q : Rid). writes_of held'.store t q ≡ map write_of (filter (is_of_row t q) s'.versions))
+      (λ (q : Rid). AreLeft s' t q (writes_of held'.store t q))
       (same_row rid r f)
-      (subst (λ (u : Table). writes_of held'.store u rid ≡ map write_of (filter (is_of_row u rid) s'.versions)) (same_table table t e) there)
+      (subst (λ (u : Table). AreLeft s' u rid (writes_of held'.store u rid)) (same_table table t e) there)
   writes t r true e false f =
       not_there t r (ap (λ (b : Bool). b && is_same_rid rid r) e ∙ f)
       (subst (λ (u : Table). writes_of held'.store u r ≡ writes_of held.store u r) (same_table table t e) (put.rows r (other_row rid r f)))

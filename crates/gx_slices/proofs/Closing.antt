@@ -1,22 +1,23 @@
 -- What is held, with a transaction's entry taken out, and put back.
 use Rattle.std.proofs.Common.{◌≡◌, ◌≢◌, Bool, true, false, ℕ, if◌then◌else◌, ◌&&◌, not, eqb, List, None, Some, refl, sym, ap, ◌∙◌, subst, arith}
-use Rattle.std.specs.Prelude.{◌<◌, ◌≤◌, nat_lt, All, IsTrue}
+use Rattle.std.specs.Prelude.{◌<◌, ◌≤◌, nat_lt, filter, All, IsTrue}
 use Rattle.std.specs.BTreeMap.{BTreeMap}
 use Rattle.std.specs.BTreeSet.{contains}
 use Rattle.std.specs.List.{list_any}
 use Rattle.gx_ids.specs.declared.ids.Cid.{Cid}
 use Rattle.gx_ids.specs.declared.ids.Gxid.{Gxid}
 use Rattle.gx_tree.specs.declared.schema.Schema.{Schema}
-use Rattle.gx_dsnap.specs.Gxids.{gxid_cmp}
+use Rattle.gx_dsnap.specs.Gxids.{gxid_cmp, is_below}
 use Rattle.gx_locks.specs.Claims.{is_of}
 use Rattle.gx_locks.specs.Locks.{Locks}
 use Rattle.gx_msg.specs.declared.item.Kept.{Kept}
 use Rattle.gx_msg.specs.declared.reply.Reply.{Reply}
-use Rattle.gx_slices.specs.Store.{Store}
+use Rattle.gx_slices.specs.Left.{has_aborted, is_of_row, is_settled}
+use Rattle.gx_slices.specs.Store.{Store, writes_of}
 use Rattle.gx_node.specs.Phases.{local_of}
 use Rattle.gx_rules.specs.Fits.{holds_locks, is_waiting}
 use Rattle.gx_rules.specs.Segments as rule
-use Rattle.gx_rules.specs.Segments.{Phase, Reading, Writing, Prepared, Committed, Forgotten, Aborted, Seg, Suspended, has_committed, has_ended, with_local}
+use Rattle.gx_rules.specs.Segments.{Phase, Reading, Writing, Prepared, Committed, Forgotten, Aborted, Seg, Suspended, Version, has_committed, has_ended, with_local}
 use Rattle.gx_rules.specs.Shown.{kept_of}
 use Rattle.gx_slices.specs.Agrees.{AreWriters, IsHeld, entry_at, has_version, is_right_version, local_in, rows_in}
 use Rattle.gx_slices.specs.Apart.{IsApart, IsBack, IsStored, answered}
@@ -25,6 +26,7 @@ use Rattle.gx_slices.specs.Waiting.{AreWaits, IsRightWait, is_open}
 use Rattle.gx_slices.specs.declared.held.Entry.{Entry}
 use Rattle.gx_slices.specs.declared.held.Held.{Held}
 use Rattle.gx_slices.proofs.Gxids.{apart, differ, itself, same_gxid}
+use Rattle.gx_slices.proofs.Left.{left-weaker}
 use Rattle.gx_slices.proofs.Waiting.{AreWaits-one, never}
 
 -- TAKEN OUT
@@ -128,6 +130,13 @@ module _ (tables : List Schema) (old new : Held) (before s : Seg) (g : Gxid) (lo
     own = λ h holds. ap (λ (p : Phase). has_version s h && not (has_ended p)) (phase_at h (eqb h.0 g.0) refl) ∙ writers.own h holds;
   }
 
+  -- so is what is left of each row
+  aborted_as : (v : Version) → has_aborted s v ≡ true → has_aborted after v ≡ true
+  aborted_as v e = ap (λ (p : Phase). not (rule.is_unaborted p)) (phase_at v.gxid (eqb v.gxid.0 g.0) refl) ∙ e
+
+  settled_as : (v : Version) → is_settled s v ≡ true → is_settled after v ≡ true
+  settled_as v e = ap (λ (p : Phase). has_committed p && is_below s.horizon v.gxid) (phase_at v.gxid (eqb v.gxid.0 g.0) refl) ∙ e
+
   pub IsHeld-now : nat_lt 0 local.last ≡ true → new.locks ≡ locks → AreOwn locks.holds → AreWriters (record s { locks = locks }) → AreWaits tables after → All (λ v. IsTrue (is_right_version tables v)) s.versions → IsHeld tables new after
   IsHeld-now new_one locks_are owned writers waits typed = record {
     horizon = stored.horizon;
@@ -135,7 +144,7 @@ module _ (tables : List Schema) (old new : Held) (before s : Seg) (g : Gxid) (lo
     kept = λ h up. rows h up (eqb h.0 g.0) refl;
     dropped = λ h under. dropped h (subst (λ (k : Gxid). h.0 < k.0) horizon under);
     holders = λ h. holds h (eqb h.0 g.0) refl;
-    writes = stored.writes;
+    writes = λ table rid. left-weaker (has_aborted s) (is_settled s) (has_aborted after) (is_settled after) aborted_as settled_as (writes_of new.store table rid) (filter (is_of_row table rid) s.versions) (stored.writes table rid);
     wrote = stored.wrote;
     committed = λ h. stored.committed h ∙ ap (λ (p : Phase). has_version s h && has_committed p) (sym (phase_at h (eqb h.0 g.0) refl));
     unaborted = λ h. stored.unaborted h ∙ ap (λ (p : Phase). has_version s h && rule.is_unaborted p) (sym (phase_at h (eqb h.0 g.0) refl));

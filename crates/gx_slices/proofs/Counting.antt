@@ -1,6 +1,6 @@
 -- What the store shows to a command is what the rule shows.
-use Rattle.std.proofs.Common.{◌≡◌, Bool, true, false, cond, if◌then◌else◌, eqb, ltb, ◌&&◌, ◌||◌, List, [], ◌∷◌, Option, Some, None, map, filter, refl, sym, ap, ◌∙◌}
-use Rattle.std.specs.Prelude.{option_map, option_and_then}
+use Rattle.std.proofs.Common.{◌≡◌, Bool, true, false, cond, if◌then◌else◌, eqb, ltb, not, ◌&&◌, ◌||◌, List, [], ◌∷◌, Option, Some, None, map, filter, refl, sym, ap, ◌∙◌, subst}
+use Rattle.std.specs.Prelude.{nat_lt, option_map, option_and_then}
 use Rattle.std.specs.List.{AllByRecursion, list_any}
 use Rattle.std.specs.Option.{option_or}
 use Rattle.gx_ids.specs.declared.ids.Cid.{Cid}
@@ -13,17 +13,22 @@ use Rattle.gx_dsnap.specs.Snapshot.{sees}
 use Rattle.gx_dsnap.specs.declared.snapshot.Snapshot.{Snapshot}
 use Rattle.gx_meaning.specs.Answer.{AreRising}
 use Rattle.gx_rows.specs.Rows.{last_passing}
-use Rattle.gx_slices.specs.Store.{Store, Write, is_shown_from, shown_row_from}
+use Rattle.gx_slices.specs.Store.{Store, Write, is_shown_from, passes, shown_row_from, status_of, writes_of}
+use Rattle.gx_rows.specs.Counts.{is_committed}
+use Rattle.gx_dsnap.specs.Gxids.{is_below}
 use Rattle.gx_store.specs.Marks.{is_same_gxid, is_same_rid}
 use Rattle.gx_store.specs.Rows.{row_at}
-use Rattle.gx_rules.specs.Segments.{Seg, Version, has_committed, local_of}
+use Rattle.gx_rules.specs.Segments.{Phase, Reading, Writing, Prepared, Committed, Forgotten, Aborted, Seg, Version, has_committed, is_unaborted, local_of}
 use Rattle.gx_rules.specs.Shown.{counts, last_images, shown}
 use Rattle.gx_rules.specs.Last.{counting, last_image, row_of}
 use Rattle.gx_rules.proofs.KeptImages.{image_in-last_images, in_order-last_images}
 use Rattle.gx_rules.proofs.ShownRows.{rising-rows_in, row_at-rows_in, rows-same}
-use Rattle.gx_slices.specs.Agrees.{has_version, is_of_row, write_of}
+use Rattle.gx_slices.specs.Agrees.{has_version}
+use Rattle.gx_slices.specs.Left.{has_aborted, is_of_row, is_settled, write_of}
+use Rattle.gx_slices.specs.Waiting.{is_open}
 use Rattle.gx_slices.specs.Apart.{IsStored}
-use Rattle.gx_slices.proofs.Gxids.{itself}
+use Rattle.gx_slices.proofs.Gxids.{itself, same_gxid}
+use Rattle.gx_slices.proofs.Left.{all-filter, taken-left}
 use Rattle.gx_slices.proofs.Lists.{all_map, last_passing-cons, or_any, or_none}
 
 -- THE LAST THAT PASSES
@@ -64,11 +69,55 @@ all_there (v ∷ vs) = (
   all_map (λ w e. ap (λ (b : Bool). is_same_gxid v.gxid w.gxid || b) e ∙ or_any (is_same_gxid v.gxid w.gxid)) vs (all_there vs),
 )
 
+and_false : (b : Bool) → (b && false) ≡ false
+and_false true = refl
+and_false false = refl
+
+uncommitted : (p : Phase) → not (is_unaborted p) ≡ true → has_committed p ≡ false
+uncommitted Reading e = absurd (cc)
+uncommitted Writing e = absurd (cc)
+uncommitted Prepared e = absurd (cc)
+uncommitted Committed e = absurd (cc)
+uncommitted (Forgotten true) e = absurd (cc)
+uncommitted (Forgotten false) e = refl
+uncommitted Aborted e = refl
+
+counted : (own committed below seen : Bool) → (committed && below) ≡ true → (own || (committed && (below || seen))) ≡ true
+counted true committed below seen e = refl
+counted false true true seen e = refl
+counted false true false seen e = absurd (cc)
+counted false false below seen e = absurd (cc)
+
 as_row : (o : Option Write) → option_and_then (λ w. w.image) o ≡ row_of (option_map (λ w. w.image) o)
 as_row None = refl
 as_row (Some w) = refl
 
-module _ (store : Store) (s : Seg) (is : IsStored store s) (snap : Snapshot) (g : Gxid) (c : Cid) where
+-- A READER
+-- The reader has written nothing by an earlier command, or its transaction hasn't aborted.
+abbrev pub HasNoDead : Seg → Gxid → Cid → Type 0
+HasNoDead s g c = (v : Version) → has_aborted s v ≡ true → (is_same_gxid v.gxid g && nat_lt v.cid.0 c.0) ≡ false
+
+open_unaborted : (p : Phase) → is_open p ≡ true → not (is_unaborted p) ≡ false
+open_unaborted Reading e = refl
+open_unaborted Writing e = refl
+open_unaborted Prepared e = absurd (cc)
+open_unaborted Committed e = absurd (cc)
+open_unaborted (Forgotten c) e = absurd (cc)
+open_unaborted Aborted e = absurd (cc)
+
+-- who runs a command hasn't aborted
+pub HasNoDead-open : (s : Seg) (g : Gxid) (c : Cid) → is_open (local_of s g).phase ≡ true → HasNoDead s g c
+HasNoDead-open s g c open_here v e = by_test (eqb v.gxid.0 g.0) refl
+  where
+    differ : false ≡ true → ⊥
+    differ f = cc
+
+    by_test : (b : Bool) → eqb v.gxid.0 g.0 ≡ b → (b && ltb v.cid.0 c.0) ≡ false
+    by_test false f = refl
+    by_test true f =
+        absurd (differ (sym (open_unaborted (local_of s g).phase open_here) ∙ subst (λ (h : Gxid). not (is_unaborted (local_of s h).phase) ≡ true) (sym (same_gxid g v.gxid f)) e))
+
+module _ (store : Store) (s : Seg) (is : IsStored store s) (snap : Snapshot) (g : Gxid) (c : Cid) (none : HasNoDead s g c) where
   -- a write is shown where its version counts
   agrees : (v : Version) → has_version s v.gxid ≡ true → is_shown_from store snap (Some g) c (write_of v) ≡ counts s snap g c v
   agrees v there =
@@ -76,10 +125,23 @@ module _ (store : Store) (s : Seg) (is : IsStored store s) (snap : Snapshot) (g 
       ap (λ (b : Bool). own || (b && (ltb v.gxid.0 store.horizon.0 || sees snap v.gxid))) (is.committed v.gxid ∙ ap (λ (b : Bool). b && has_committed (local_of s v.gxid).phase) there)
       ∙ ap (λ (h : Gxid). own || (has_committed (local_of s v.gxid).phase && (ltb v.gxid.0 h.0 || sees snap v.gxid))) is.horizon
 
+  -- Whose transaction has aborted isn't shown, and who is settled is.
+  never : (v : Version) → has_aborted s v ≡ true → is_shown_from store snap (Some g) c (write_of v) ≡ false
+  never v e =
+      ap (λ (b : Bool). b || (passes is_committed (status_of store v.gxid) && (ltb v.gxid.0 store.horizon.0 || sees snap v.gxid))) (none v e)
+      ∙ ap (λ (b : Bool). b && (ltb v.gxid.0 store.horizon.0 || sees snap v.gxid)) (is.committed v.gxid ∙ ap (λ (b : Bool). has_version s v.gxid && b) (uncommitted (local_of s v.gxid).phase e) ∙ and_false (has_version s v.gxid))
+
+  always : (v : Version) → has_version s v.gxid ≡ true → is_settled s v ≡ true → is_shown_from store snap (Some g) c (write_of v) ≡ true
+  always v there e =
+      agrees v there ∙ counted (eqb v.gxid.0 g.0 && ltb v.cid.0 c.0) (has_committed (local_of s v.gxid).phase) (is_below s.horizon v.gxid) (sees snap v.gxid) e
+
   module _ (table : Table) where
     shown_row_from-counting : (rid : Rid) → shown_row_from store snap (Some g) c table rid ≡ row_of (last_image rid (counting s snap g c table))
     shown_row_from-counting rid =
-        ap (λ (ws : List Write). option_and_then (λ w. w.image) (last_passing (is_shown_from store snap (Some g) c) ws)) (is.writes table rid)
+        let vs = filter (is_of_row table rid) s.versions in
+        let there = all-filter (λ v. has_version s v.gxid ≡ true) (is_of_row table rid) s.versions (all_there s.versions) in
+        ap (option_and_then (λ (w : Write). w.image))
+        (taken-left (has_aborted s) (is_settled s) (is_shown_from store snap (Some g) c) (λ v. has_version s v.gxid) never always (writes_of store table rid) vs there (is.writes table rid))
         ∙ as_row (last_passing (is_shown_from store snap (Some g) c) (map write_of (filter (is_of_row table rid) s.versions)))
         ∙ ap row_of (last_image-passing (is_shown_from store snap (Some g) c) (counts s snap g c) table rid s.versions (all_map agrees s.versions (all_there s.versions)))
 

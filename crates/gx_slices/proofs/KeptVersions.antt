@@ -20,7 +20,7 @@ use Rattle.gx_slices.specs.Filed.{versions_in, filed}
 pub table_cmp-total : IsTotalOrder table_cmp
 table_cmp-total = on_total (λ (t : Table). t.0) nat_cmp_total
 
-tables_apart : (t u : Table) → t ≢ u → is_eq (table_cmp t u) ≡ false
+pub tables_apart : (t u : Table) → t ≢ u → is_eq (table_cmp t u) ≡ false
 tables_apart t u other = grind (arith, nat_tests)
 
 rids_apart : (q r : Rid) → q ≢ r → is_eq (rid_cmp q r) ≡ false

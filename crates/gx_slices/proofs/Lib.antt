@@ -6,6 +6,7 @@ pub mod Owning
 pub mod Waiting
 pub mod Wakes
 pub mod Lists
+pub mod Left
 pub mod Placing
 pub mod Rightness
 pub mod Sent
@@ -18,6 +19,7 @@ pub mod Readers
 pub mod Shown
 pub mod Statuses
 pub mod Writes
+pub mod SweptRows
 pub mod Keyed
 pub mod Enough
 pub mod Looked
@@ -34,3 +36,4 @@ pub mod Going
 pub mod Ending
 pub mod Starting
 pub mod Progressing
+pub mod AfterSweep

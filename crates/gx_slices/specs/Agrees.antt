@@ -1,5 +1,5 @@
--- What a segment holds, against the data of its rule. Of transactions below the horizon only the versions and who has
--- committed are kept; their records are dropped.
+-- What a segment holds, against the data of its rule. Of transactions below the horizon only versions and who has committed are
+-- kept; their records are dropped. Of a row's versions those may be gone that nobody is shown any more.
 use Rattle.std.specs.Prelude.{◌≡◌, ◌<◌, ◌≤◌, ◌==◌, Bool, true, false, not, ◌&&◌, nat_lt, is_some, List, [], filter, map, All, IsTrue, slice_get, Some, None}
 use Rattle.std.specs.declared.option.Option.{Option}
 use Rattle.std.specs.List.{list_any}
@@ -24,6 +24,7 @@ use Rattle.gx_rules.specs.Segments as rule
 use Rattle.gx_rules.specs.Segments.{Seg, Version, has_committed, has_ended, new_local}
 use Rattle.gx_rules.specs.Shown.{kept_of}
 use Rattle.gx_rules.specs.Slices.{own_lock}
+use Rattle.gx_slices.specs.Left.{AreLeft}
 use Rattle.gx_slices.specs.Owning.{AreOwn}
 use Rattle.gx_slices.specs.Waiting.{AreWaits}
 use Rattle.gx_slices.specs.declared.held.Entry.{Entry}
@@ -42,12 +43,6 @@ abbrev pub entry_at : Held → Gxid → Option Entry
 entry_at held g = lookup (is_at (gxid_cmp g)) held.entries.entries
 
 -- VERSIONS
-abbrev pub write_of : Version → Write
-write_of v = record { gxid = v.gxid; cid = v.cid; image = v.image }
-
-abbrev pub is_of_row : Table → Rid → Version → Bool
-is_of_row table rid v = (v.table.0 == table.0) && is_same_rid v.rid rid
-
 -- the transaction has written here
 abbrev pub has_version : Seg → Gxid → Bool
 has_version s g = list_any (λ v. is_same_gxid v.gxid g) s.versions
@@ -74,7 +69,7 @@ pub record IsHeld (tables : List Schema) (held : Held) (s : Seg) : Type 0 where
   pub kept : (g : Gxid) → s.horizon.0 ≤ g.0 → rows_in (entry_at held g) ≡ kept_of s g
   pub dropped : (g : Gxid) → g.0 < s.horizon.0 → entry_at held g ≡ None
   pub holders : (g : Gxid) → contains gxid_cmp held.holders g ≡ holds_locks (rule.local_of s g)
-  pub writes : (table : Table) (rid : Rid) → writes_of held.store table rid ≡ map write_of (filter (is_of_row table rid) s.versions)
+  pub writes : (table : Table) (rid : Rid) → AreLeft s table rid (writes_of held.store table rid)
   pub wrote : (g : Gxid) → is_some (status_of held.store g) ≡ has_version s g
   pub committed : (g : Gxid) → passes is_committed (status_of held.store g) ≡ (has_version s g && has_committed (rule.local_of s g).phase)
   pub unaborted : (g : Gxid) → passes is_unaborted (status_of held.store g) ≡ (has_version s g && rule.is_unaborted (rule.local_of s g).phase)

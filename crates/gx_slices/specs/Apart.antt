@@ -16,16 +16,17 @@ use Rattle.gx_rules.specs.Fits.{is_waiting}
 use Rattle.gx_rules.specs.Segments as rule
 use Rattle.gx_rules.specs.Segments.{Seg, has_committed}
 use Rattle.gx_rules.specs.Shown.{kept_of}
-use Rattle.gx_slices.specs.Agrees.{AreWriters, entry_at, has_version, is_of_row, write_of}
+use Rattle.gx_slices.specs.Agrees.{AreWriters, entry_at, has_version}
+use Rattle.gx_slices.specs.Left.{AreLeft}
 use Rattle.gx_slices.specs.Owning.{AreOwn}
 use Rattle.gx_slices.specs.Waiting.{is_open}
 use Rattle.gx_slices.specs.declared.held.Entry.{Entry}
 use Rattle.gx_slices.specs.declared.held.Held.{Held}
 
--- the store has the versions, and knows who has committed
+-- the store has the versions, but for some that are dead, and knows who has committed
 pub record IsStored (store : Store) (s : Seg) : Type 0 where
   pub horizon : store.horizon ≡ s.horizon
-  pub writes : (table : Table) (rid : Rid) → writes_of store table rid ≡ map write_of (filter (is_of_row table rid) s.versions)
+  pub writes : (table : Table) (rid : Rid) → AreLeft s table rid (writes_of store table rid)
   pub wrote : (g : Gxid) → is_some (status_of store g) ≡ has_version s g
   pub committed : (g : Gxid) → passes is_committed (status_of store g) ≡ (has_version s g && has_committed (rule.local_of s g).phase)
   pub unaborted : (g : Gxid) → passes is_unaborted (status_of store g) ≡ (has_version s g && rule.is_unaborted (rule.local_of s g).phase)

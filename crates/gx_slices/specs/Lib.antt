@@ -1,6 +1,7 @@
 pub mod Kept
 pub mod Owning
 pub mod Waiting
+pub mod Left
 pub mod Agrees
 pub mod Ran
 pub mod Apart

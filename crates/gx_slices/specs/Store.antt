@@ -1,5 +1,5 @@
 -- What one segment keeps of rows, told by gxids alone, and what it shows of them.
-use Rattle.std.specs.Prelude.{Bool, false, List, [], ◌==◌, ◌&&◌, ◌||◌, nat_lt, if◌then◌else◌, find, Option, None, Some, option_map, option_and_then, unwrap_or}
+use Rattle.std.specs.Prelude.{Bool, false, not, List, [], ◌==◌, ◌&&◌, ◌||◌, nat_lt, if◌then◌else◌, find, Option, None, Some, option_map, option_and_then, unwrap_or}
 use Rattle.std.specs.declared.cmp.Ordering.{Ordering}
 use Rattle.std.specs.Ordering.{nat_cmp}
 use Rattle.std.specs.Map.{lookup}
@@ -16,6 +16,7 @@ use Rattle.gx_rows.specs.Xids.{kept}
 use Rattle.gx_rows.specs.Rids.{rid_cmp}
 use Rattle.gx_rows.specs.Rows.{last_passing, is_unaborted}
 use Rattle.gx_rows.specs.Counts.{is_committed}
+use Rattle.gx_sweep.specs.Swept.{living}
 use Rattle.gx_slices.specs.declared.current.Current.{Current}
 
 -- what a command of a transaction made of a row; none is the row gone
@@ -92,3 +93,15 @@ current_of store w = record { writer = kept store.horizon w.gxid; cid = w.cid }
 -- the greater of two
 abbrev pub greater : Gxid → Gxid → Gxid
 greater a b = if nat_lt a.0 b.0 then b else a
+
+-- SWEEPING
+abbrev pub has_aborted : Store → Write → Bool
+has_aborted store w = passes (λ s. not (is_unaborted s)) (status_of store w.gxid)
+
+-- committed here, by a transaction below the horizon
+abbrev pub is_settled : Store → Write → Bool
+is_settled store w = passes is_committed (status_of store w.gxid) && nat_lt w.gxid.0 store.horizon.0
+
+-- what a sweep leaves of a row
+abbrev pub swept : Store → List Write → List Write
+swept store writes = living (has_aborted store) (is_settled store) writes

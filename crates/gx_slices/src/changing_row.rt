@@ -8,7 +8,7 @@ ghost use Rattle.gx_rules.specs.Shown.{current_of};
 ghost use Rattle.gx_rules.specs.Slices as slices;
 ghost use Rattle.gx_slices.specs.Stopping.{has_row, left_locks, left_marks, locks_after, marks_after, row_locks, row_marks, stop_locks, stop_marks};
 ghost use Rattle.gx_store.specs.Commands.{condition_on};
-ghost use Rattle.gx_slices.specs.Agrees.{write_of};
+ghost use Rattle.gx_slices.specs.Left.{write_of};
 ghost use Rattle.gx_slices.specs.Changing.{Came, IsAt, IsFree, IsRightImage, IsTypedFor, MayChange, Spot, Stage, awaited_in, change_in, end_of, is_done_at, newest_as};
 
 use crate::change::Change;
@@ -338,7 +338,8 @@ fn leave_row(
     }
 }
 
-// A row is written or skipped, and gives its lock back; or the command waits or fails at it.
+// A row is written or skipped, and gives its lock back; or the command waits or fails at it. Before that, versions of it that nobody is
+// shown any more go.
 pub(crate) fn does_row(
     alloc: Global,
     change: &Change,
@@ -354,7 +355,13 @@ pub(crate) fn does_row(
     ensures { IfOk result (λ end. Came stage change.now.writer.gxid held.new entry.new marks.new.items
         (rule.does_row stage.moved change.now.writer.gxid (change_in change.now) rid) end) }
 {
-    let Writer { node, gxid, .. } = change.writer;
+    let Writer {
+        node,
+        gxid,
+        table,
+        ..
+    } = change.writer;
+    held.store.sweep(table, rid);
     let end = look_at(alloc, change, held, entry, rid, marks)?;
     leave_row(node, &mut held.locks, gxid, rid, end, marks)?;
     Ok(end)

@@ -420,6 +420,7 @@ fn pick_shown(alloc: Global, held: &Held, change: &Change) -> Mem<Picked>
     ghost found: { Found }
     requires held { IsHeld found.tables held.now found.start }
     requires may { MayChange found.tables found.start change.now }
+    requires open_here { is_open (local_of found.start change.now.writer.gxid).phase ≡ true }
     ensures { IfOk result (IsPicked change.now.cond (rule.shown_to found.start change.now.writer.gxid (change_in change.now))) }
 {
     let Writer {

@@ -27,6 +27,7 @@ mod selecting;
 mod setting;
 pub mod store;
 mod suspending;
+mod sweeping;
 mod writing;
 
 pub use current::Current;

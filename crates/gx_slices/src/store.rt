@@ -6,11 +6,12 @@ ghost use Rattle.gx_ids.specs.declared.rid.Rid.{Rid};
 ghost use Rattle.gx_meaning.specs.Answer.{AreRising};
 ghost use Rattle.gx_store.specs.Rows.{row_at};
 ghost use Rattle.gx_slices.specs.Keyed.{IsShownFor};
-ghost use Rattle.gx_slices.specs.Store.{empty, writes_of, status_of, shown_row, shown_row_from, newest_of, current_of, greater};
+ghost use Rattle.gx_slices.specs.Store.{empty, writes_of, status_of, shown_row, shown_row_from, newest_of, current_of, greater, swept};
 
 use crate::current::Current;
 use crate::finding::rows_to_test;
 use crate::reading::{current_in, current_row_in, own_lxid, rows_in};
+use crate::sweeping::sweep_in;
 use crate::writing::{set_status_in, status_in, write_keyed};
 use gx_dsnap::Snapshot;
 use gx_ids::{Cid, Gxid, Mem, Rid, Table};
@@ -127,6 +128,18 @@ impl LocalStore {
         ensures { self.new ≡ record self.old { horizon = greater self.old.horizon horizon } }
     {
         self.xids.truncate(horizon);
+    }
+
+    /// Drops the writes to a row that nobody is shown any more: those of transactions that have aborted here, and those that a later one
+    /// has overtaken which is committed here by a transaction below the horizon.
+    pub fn sweep(&mut self, table: Table, rid: Rid)
+        ensures swept { writes_of self.new table rid ≡ swept self.old (writes_of self.old table rid) }
+        ensures rows { (r : Rid) → r ≢ rid → writes_of self.new table r ≡ writes_of self.old table r }
+        ensures tables { (t : Table) (r : Rid) → t ≢ table → writes_of self.new t r ≡ writes_of self.old t r }
+        ensures writers { self.new.writers ≡ self.old.writers }
+        ensures horizon { self.new.horizon ≡ self.old.horizon }
+    {
+        sweep_in(&mut self.tables, &self.xids, table, rid);
     }
 
     /// The rows of a table that a reader is shown, rising by their identities (PostgreSQL manual 13.2): `own` is its
