@@ -24,6 +24,13 @@ rises = tt
 pub rising_nothing : (rids : List Rid) → rids ≡ [] → IsStrictlySortedBy rid_cmp rids
 rising_nothing rids none = subst (IsStrictlySortedBy rid_cmp) (sym none) rises
 
+alone : (r : Rid) → IsStrictlySortedBy rid_cmp (r ∷ [])
+unfolding IsStrictlySortedBy
+alone r = (tt, tt)
+
+pub rising_one : (r : Rid) (rids : List Rid) → rids ≡ r ∷ [] → IsStrictlySortedBy rid_cmp rids
+rising_one r rids one = subst (IsStrictlySortedBy rid_cmp) (sym one) (alone r)
+
 itself : (r : Rid) → is_eq (rid_cmp r r) ≡ true
 itself r = grind (arith, nat_tests)
 
