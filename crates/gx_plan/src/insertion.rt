@@ -9,7 +9,7 @@ ghost use Rattle.gx_meaning.specs.Plan.{bucket_pieces, dealt, put_at};
 use crate::placement::place;
 use crate::tuple::tuple_values;
 use gx_eval::EvalFault;
-use gx_ids::{Cid, Gxid, Mem, Node, Rid, Seq, Table};
+use gx_ids::{Cid, Gxid, Mem, Node, Rid, Seq, Shared, Table};
 use gx_meaning::Piece;
 use gx_tree::{Expr, KeyedRow, Schema, Slice};
 use std::alloc::Global;
@@ -90,6 +90,7 @@ pub fn insert_pieces(alloc: Global, table: Table, buckets: Vec<Seq<KeyedRow>>) -
     for rows in buckets {
         number += 1;
         if !rows.is_empty() {
+            let rows = Shared::new(alloc, rows)?;
             pieces.push(Piece {
                 node: Node(number),
                 slice: Slice::Insert(table, rows),

@@ -144,7 +144,7 @@ fn push_stmt(text: &mut Vec<u8>, tables: &[Schema], stmt: &Stmt) -> Mem<()>
         Stmt::Begin(level) => push_bytes(text, begin_words(*level)),
         Stmt::Commit => push_bytes(text, b"COMMIT"),
         Stmt::Rollback => push_bytes(text, b"ROLLBACK"),
-        Stmt::Select(query) => push_select(text, tables, query),
+        Stmt::Select(query) => push_select(text, tables, query.get()),
         Stmt::Insert(table, tuples) => {
             let columns = columns_of(tables, *table);
             push_insert(text, table_name(tables, *table), columns, tuples.as_slice())

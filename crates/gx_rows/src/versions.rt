@@ -115,6 +115,15 @@ impl Versions {
     }
 }
 
+// A row's first version, which mostly stays its only one.
+fn first(alloc: Global, version: Version) -> Mem<Seq<Version>>
+    ensures { IfOk result (λ list. list ≡ version ∷ []) }
+{
+    let mut list = Vec::with_capacity(alloc, 1)?;
+    list.push(version)?;
+    Ok(Seq::from_vec(list))
+}
+
 fn push_version(
     alloc: Global,
     lists: &mut BTreeMap<Rid, Seq<Version>>,
@@ -127,8 +136,7 @@ fn push_version(
     match lists.get_mut(&rid) {
         Some(list) => list.push(version),
         None => {
-            let mut list = Seq::new(alloc);
-            list.push(version)?;
+            let list = first(alloc, version)?;
             lists.insert(rid, list)?;
             Ok(())
         }

@@ -1,21 +1,22 @@
 ghost use Rattle.std.specs.Prelude.{◌≡◌, ◌≢◌, [], true, IfOk, OnOk, OnErr};
-ghost use Rattle.std.specs.BTreeSet.{IsOrdered, insert_key, keys};
+ghost use Rattle.std.specs.BTreeSet.{insert_key};
 ghost use Rattle.std.specs.List.Sorted.{IsStrictlySortedBy};
 ghost use Rattle.gx_ids.specs.declared.rid.Rid.{Rid};
 ghost use Rattle.gx_sweep.specs.declared.table_key.TableKey.{TableKey};
 ghost use Rattle.gx_rows.specs.Rids.{rid_cmp};
 
+use crate::rids::{Rids, add_rid, list};
 use crate::table_key::TableKey;
 use gx_ids::{Duplicate, Mem, Rid, Table};
 use gx_tree::Value;
 use std::alloc::Global;
-use std::collections::{BTreeMap, BTreeSet};
+use std::collections::BTreeMap;
 
 /// Which rows were put under a value of a table's distribution column. It only grows.
 #[derive(Drop)]
 pub struct KeyIndex {
     alloc: Global,
-    places: BTreeMap<TableKey, BTreeSet<Rid>>,
+    places: BTreeMap<TableKey, Rids>,
 }
 
 impl KeyIndex {
@@ -50,14 +51,9 @@ impl KeyIndex {
         ensures err { OnErr result (rids_under self.new at ≡ rids_under self.old at) }
     {
         match self.places.get_mut(&at) {
-            Some(rids) => {
-                rids.insert(rid)?;
-                Ok(())
-            }
+            Some(rids) => add_rid(self.alloc, rids, rid),
             None => {
-                let mut rids = BTreeSet::new(self.alloc);
-                rids.insert(rid)?;
-                self.places.insert(at, rids)?;
+                self.places.insert(at, Rids::One(rid))?;
                 Ok(())
             }
         }
@@ -71,16 +67,8 @@ impl KeyIndex {
         // A map is asked by a whole key: std leaves no other kind of query to a program.
         let key = key.copy(self.alloc)?;
         match self.places.get(&TableKey { table, key }) {
-            Some(rids) => listed(self.alloc, rids),
+            Some(rids) => list(self.alloc, rids),
             None => Ok(Vec::new(self.alloc)),
         }
     }
-}
-
-fn listed(alloc: Global, rids: &BTreeSet<Rid>) -> Mem<Vec<Rid>>
-    ensures whole { IfOk result (λ list. list.items ≡ keys rids.now) }
-    ensures ordered { IsOrdered rid_cmp rids.now }
-{
-    let list: Vec<Rid> = rids.iter().copied().collect(alloc)?;
-    Ok(list)
 }

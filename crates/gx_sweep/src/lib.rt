@@ -3,6 +3,7 @@
 #![tactic(auto)]
 
 pub mod index;
+mod rids;
 pub mod sweeping;
 pub mod table_key;
 
