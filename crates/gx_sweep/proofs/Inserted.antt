@@ -1,5 +1,5 @@
 -- A row more under a key.
-use Rattle.std.proofs.Common.{◌≡◌, ◌≢◌, ⊎_elim, List, [], ◌∷◌, ◌++◌, ◌||◌, Bool, true, false, ap, sym, refl, ◌∙◌, subst, arith}
+use Rattle.std.proofs.Common.{◌≡◌, ◌≢◌, ⊎_elim, List, [], ◌∷◌, ◌||◌, Bool, true, false, ap, sym, refl, ◌∙◌, subst, arith}
 use Rattle.std.proofs.lemmas.Bool.Decides.{nat_tests}
 use Rattle.std.specs.Prelude.{Result, Ok, Err, OnOk, OnErr}
 use Rattle.std.specs.List.{list_any}
@@ -28,8 +28,8 @@ alone : (r : Rid) → IsStrictlySortedBy rid_cmp (r ∷ [])
 unfolding IsStrictlySortedBy
 alone r = (tt, tt)
 
-pub rising_pushed : (r : Rid) (rids none : List Rid) → rids ≡ none ++ r ∷ [] → none ≡ [] → IsStrictlySortedBy rid_cmp rids
-rising_pushed r rids none one is = subst (IsStrictlySortedBy rid_cmp) (sym (one ∙ ap (λ (l : List Rid). l ++ r ∷ []) is)) (alone r)
+pub rising_one : (r : Rid) (rids : List Rid) → rids ≡ r ∷ [] → IsStrictlySortedBy rid_cmp rids
+rising_one r rids one = subst (IsStrictlySortedBy rid_cmp) (sym one) (alone r)
 
 itself : (r : Rid) → is_eq (rid_cmp r r) ≡ true
 itself r = grind (arith, nat_tests)

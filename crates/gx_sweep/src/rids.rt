@@ -45,6 +45,14 @@ pub(crate) fn add_rid(alloc: Global, rids: &mut Rids, rid: Rid) -> Mem<()>
     }
 }
 
+fn alone(alloc: Global, rid: Rid) -> Mem<Vec<Rid>>
+    ensures { IfOk result (λ list. list.items ≡ rid ∷ []) }
+{
+    let mut list = Vec::with_capacity(alloc, 1)?;
+    list.push(rid)?;
+    Ok(list)
+}
+
 // Them, rising.
 pub(crate) fn list(alloc: Global, rids: &Rids) -> Mem<Vec<Rid>>
     ensures whole { IfOk result (λ list. list.items ≡ listed rids.now) }
@@ -52,8 +60,7 @@ pub(crate) fn list(alloc: Global, rids: &Rids) -> Mem<Vec<Rid>>
 {
     match rids {
         Rids::One(rid) => {
-            let mut list = Vec::with_capacity(alloc, 1)?;
-            list.push(*rid)?;
+            let list = alone(alloc, *rid)?;
             Ok(list)
         }
         Rids::Many(rids) => {
