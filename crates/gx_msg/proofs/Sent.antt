@@ -15,10 +15,10 @@ use Rattle.gx_msg.specs.contracts.message.Message as Message
 use Rattle.gx_msg.specs.contracts.message.Out as Out
 
 pub message_send : IsSend Message.the_field.row
-message_send = search (sendable, gxid.the_field_send, cid.the_field_send, level.the_field_send, option.the_field_send, snapshot.the_field_send, shared.the_send, slice_send, slice_sync, reply.the_field_send, graph.the_field_send) depth 20
+message_send = search (sendable, gxid.the_field_send, cid.the_field_send, level.the_field_send, option.the_field_send, option.the_field_sync, snapshot.the_field_send, snapshot.the_field_sync, shared.the_send, slice_send, slice_sync, reply.the_field_send, graph.the_field_send) depth 20
 
 pub message_sync : IsSync Message.the_field.row
-message_sync = search (sendable, gxid.the_field_sync, cid.the_field_sync, level.the_field_sync, option.the_field_sync, snapshot.the_field_sync, shared.the_sync, slice_send, slice_sync, reply.the_field_sync, graph.the_field_sync) depth 20
+message_sync = search (sendable, gxid.the_field_sync, cid.the_field_sync, level.the_field_sync, option.the_field_send, option.the_field_sync, snapshot.the_field_send, snapshot.the_field_sync, shared.the_sync, slice_send, slice_sync, reply.the_field_sync, graph.the_field_sync) depth 20
 
 pub out_send : IsSend Out.the_field.row
 out_send = search (sendable, node.the_field_send, message_send) depth 20

@@ -4,6 +4,7 @@ use Rattle.std.proofs.option.Option.TheSendSync as option
 use Rattle.gx_ids.proofs.boxed.Boxed.TheSendSync as boxed
 use Rattle.gx_ids.proofs.ids.Table.TheSendSync as table
 use Rattle.gx_ids.proofs.seq.Seq.TheSendSync as seq
+use Rattle.gx_ids.proofs.shared.Shared.TheSendSync as shared
 use Rattle.gx_modes.proofs.modes.Mode.TheSendSync as mode
 use Rattle.gx_tree.specs.contracts.expr.Expr as Expr
 use Rattle.gx_tree.specs.contracts.cond.Cond as Cond
@@ -46,13 +47,13 @@ pub assign_sync : IsSync Assign.the_field.row
 assign_sync = search (sendable, expr_sync)
 
 pub stmt_send : IsSend Stmt.the_field.row
-stmt_send = search (sendable, mode.the_field_send, level.the_field_send, table.the_field_send, seq.the_send, option.the_field_send, query_send, expr_send, assign_send, cond_send) depth 20
+stmt_send = search (sendable, mode.the_field_send, level.the_field_send, table.the_field_send, shared.the_send, expr_send, query_send, query_sync, assign_send, assign_sync, cond_send, cond_sync, seq.the_send, seq.the_sync, option.the_field_send, option.the_field_sync) depth 20
 
 pub stmt_sync : IsSync Stmt.the_field.row
-stmt_sync = search (sendable, mode.the_field_sync, level.the_field_sync, table.the_field_sync, seq.the_sync, option.the_field_sync, query_sync, expr_sync, assign_sync, cond_sync) depth 20
+stmt_sync = search (sendable, mode.the_field_sync, level.the_field_sync, table.the_field_sync, shared.the_sync, expr_sync, query_send, query_sync, assign_send, assign_sync, cond_send, cond_sync, seq.the_send, seq.the_sync, option.the_field_send, option.the_field_sync) depth 20
 
 pub slice_send : IsSend Slice.the_field.row
-slice_send = search (sendable, mode.the_field_send, keyed.the_field_send, table.the_field_send, seq.the_send, option.the_field_send, query_send, assign_send, cond_send) depth 20
+slice_send = search (sendable, mode.the_field_send, table.the_field_send, shared.the_send, keyed.the_field_send, keyed.the_field_sync, query_send, query_sync, assign_send, assign_sync, cond_send, cond_sync, seq.the_send, seq.the_sync, option.the_field_send, option.the_field_sync) depth 20
 
 pub slice_sync : IsSync Slice.the_field.row
-slice_sync = search (sendable, mode.the_field_sync, keyed.the_field_sync, table.the_field_sync, seq.the_sync, option.the_field_sync, query_sync, assign_sync, cond_sync) depth 20
+slice_sync = search (sendable, mode.the_field_sync, table.the_field_sync, shared.the_sync, keyed.the_field_send, keyed.the_field_sync, query_send, query_sync, assign_send, assign_sync, cond_send, cond_sync, seq.the_send, seq.the_sync, option.the_field_send, option.the_field_sync) depth 20
