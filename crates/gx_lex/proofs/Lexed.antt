@@ -22,7 +22,7 @@ or_assoc a b c = grind arith
 or_false : (a : Bool) → (a || false) ≡ a
 or_false a = grind arith
 
-word_more : (w acc rest : List ℕ) (c : Bool) (out : List Token) → every is_word_byte w → lex_on (w ++ rest) out (InWord acc c) ≡ lex_on rest out (InWord (acc ++ smalls w) (c || any is_capital w))
+pub word_more : (w acc rest : List ℕ) (c : Bool) (out : List Token) → every is_word_byte w → lex_on (w ++ rest) out (InWord acc c) ≡ lex_on rest out (InWord (acc ++ smalls w) (c || any is_capital w))
 word_more [] acc rest c out e = ap (λ (x : List ℕ). lex_on rest out (InWord x c)) (sym (append-nil acc)) ∙ ap (λ (x : Bool). lex_on rest out (InWord (acc ++ []) x)) (sym (or_false c))
 word_more (b ∷ w) acc rest c out e = step b (w ++ rest) out out (InWord acc c) (InWord (acc ++ small b ∷ []) (c || is_capital b)) (if_true (is_word_byte b) _ _ e.0)
     ∙ word_more w (acc ++ small b ∷ []) rest (c || is_capital b) out e.1
@@ -33,7 +33,7 @@ number_more : (w rest : List ℕ) (n : Option ℕ) (out : List Token) → every 
 number_more [] rest n out e = refl
 number_more (b ∷ w) rest n out e = step b (w ++ rest) out out (InNumber n) (InNumber (grown n b)) (if_true (is_digit b) _ _ e.0) ∙ number_more w rest (grown n b) out e.1
 
-word_end : (w rest : List ℕ) (c : Bool) (out : List Token) → Without is_word_byte rest → lex_on rest out (InWord w c) ≡ lex_on rest (out ++ word_token w c ∷ []) Gap
+pub word_end : (w rest : List ℕ) (c : Bool) (out : List Token) → Without is_word_byte rest → lex_on rest out (InWord w c) ≡ lex_on rest (out ++ word_token w c ∷ []) Gap
 word_end w [] c out e = refl
 word_end w (b ∷ rest) c out e = ap (λ (x : List Token × State). lex_on rest x.0 x.1) (if_false (is_word_byte b) _ _ e)
 
@@ -61,7 +61,7 @@ text_more : (w acc rest : List ℕ) (out : List Token) → lex_on (doubled w ++ 
 text_more [] acc rest out = ap (λ (x : List ℕ). lex_on rest out (InText x)) (sym (append-nil acc))
 text_more (b ∷ w) acc rest out = text_byte b w acc rest out (λ acc. text_more w acc rest out) (is_quote b) refl
 
-lost_stays : (w : List ℕ) (out : List Token) → lex_on w out Lost ≡ out ++ token.Bad ∷ []
+pub lost_stays : (w : List ℕ) (out : List Token) → lex_on w out Lost ≡ out ++ token.Bad ∷ []
 lost_stays [] out = refl
 lost_stays (b ∷ w) out = lost_stays w out
 

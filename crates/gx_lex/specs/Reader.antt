@@ -4,8 +4,6 @@ use Rattle.gx_lex.specs.declared.symbol.Symbol.{Symbol}
 use Rattle.gx_lex.specs.declared.symbol.Symbol.TheVariants as symbol
 use Rattle.gx_lex.specs.declared.token.Token.{Token}
 use Rattle.gx_lex.specs.declared.token.Token.TheVariants as token
-use Rattle.gx_lex.specs.declared.cut.Mid.{Mid}
-use Rattle.gx_lex.specs.declared.cut.Mid.TheVariants as mid
 use Rattle.gx_lex.specs.Words.{keyword_of}
 use Rattle.gx_lex.specs.Symbols.{symbol_of}
 use Rattle.gx_lex.specs.Lexing.{is_blank, is_capital, is_letter, is_digit, is_word_byte, is_quote, is_less, is_greater, is_equal, small, fitting, word_of}
@@ -65,14 +63,3 @@ lex_on (b ∷ bs) out s = lex_on bs (next out s b).0 (next out s b).1
 
 abbrev pub lex : List ℕ → List Token
 lex bs = lex_on bs [] Gap
-
--- what the code's state stands for
-abbrev pub state_of : Mid → State
-state_of mid.Gap = Gap
-state_of (mid.InWord w capital) = InWord w.items capital
-state_of (mid.InNumber n) = InNumber n
-state_of (mid.InText w) = InText w.items
-state_of (mid.Quoted w) = Quoted w.items
-state_of mid.BehindLess = BehindLess
-state_of mid.BehindGreater = BehindGreater
-state_of mid.Lost = Lost

@@ -1,64 +1,56 @@
-// Cuts a line into tokens, byte by byte.
-ghost use Rattle.std.specs.Prelude.{◌≡◌, List, ◌∷◌, [], ◌++◌, true, IfOk};
+// Cuts a line into tokens, one after the other.
+ghost use Rattle.std.specs.Prelude.{◌≡◌, ◌≤◌, ◌-◌, List, ◌∷◌, [], ◌++◌, true, false, drop, length, IfOk, MatchOption, Some};
+ghost use Rattle.std.specs.List.{list_any, prefix_len};
 ghost use Rattle.gx_lex.specs.Lexing as of;
 ghost use Rattle.gx_lex.specs.Reader as reader;
+ghost use Rattle.gx_lex.specs.Symbols.{symbol_of};
 ghost use Rattle.gx_lex.specs.declared.token.Token.{Token};
 
+use crate::byte::{is_blank, is_capital, is_digit, is_letter, is_word_byte};
 use crate::symbol::{Symbol, lone_symbol};
 use crate::token::Token;
-use crate::word::keyword;
+use crate::word::keyword_in_any_case;
 use gx_ids::Mem;
 use gx_tree::Txt;
 use std::alloc::Global;
 
-/// What the reader is in.
-#[derive(Drop)]
-enum Mid {
-    Gap,
-    InWord(Vec<u8>, bool),
-    InNumber(Option<u64>),
-    InText(Vec<u8>),
-    Quoted(Vec<u8>),
-    BehindLess,
-    BehindGreater,
-    Lost,
+fn word_len(line: &[u8]) -> usize
+    ensures value { result ≡ prefix_len of.is_word_byte line.now }
+    ensures within { result ≤ length line.now }
+{
+    line.iter().take_while(|byte| is_word_byte(**byte)).count()
 }
 
-fn is_blank(byte: u8) -> bool
-    ensures { result ≡ of.is_blank byte }
+fn has_capital(word: &[u8]) -> bool
+    ensures { result ≡ list_any of.is_capital word.now }
 {
-    byte == 32 || byte == 9
+    word.iter().any(|byte| is_capital(*byte))
 }
 
-fn is_capital(byte: u8) -> bool
-    ensures { result ≡ of.is_capital byte }
+/// The token of a word.
+#[tactic(auto, using(crate::proofs::Runs::small_already))]
+fn word_token(alloc: Global, word: &[u8]) -> Mem<Token>
+    ensures { IfOk result (λ t. t ≡ reader.word_token (of.smalls word.now) (list_any of.is_capital word.now)) }
 {
-    65 <= byte && byte <= 90
+    match keyword_in_any_case(word) {
+        Some(keyword) => Ok(Token::Word(keyword)),
+        None => {
+            if has_capital(word) {
+                Ok(Token::Bad)
+            } else {
+                Ok(Token::Name(Txt::from_vec(Vec::from_slice(alloc, word)?)))
+            }
+        }
+    }
 }
 
-fn is_letter(byte: u8) -> bool
-    ensures { result ≡ of.is_letter byte }
+/// The word that stands first, and the bytes behind it.
+fn word<'a>(alloc: Global, line: &'a [u8]) -> Mem<(Token, &'a [u8])>
+    ensures said { IfOk result (λ r. (out : List Token) → reader.lex_on line.now out (reader.InWord [] false) ≡ reader.lex_on r.1.now (out ++ r.0 ∷ []) reader.Gap) }
+    ensures behind { IfOk result (λ r. r.1.now ≡ drop (prefix_len of.is_word_byte line.now) line.now) }
 {
-    (97 <= byte && byte <= 122) || is_capital(byte)
-}
-
-fn is_digit(byte: u8) -> bool
-    ensures { result ≡ of.is_digit byte }
-{
-    48 <= byte && byte <= 57
-}
-
-fn is_word_byte(byte: u8) -> bool
-    ensures { result ≡ of.is_word_byte byte }
-{
-    is_letter(byte) || is_digit(byte) || byte == 95
-}
-
-/// The letter in small.
-fn small(byte: u8) -> u8
-    ensures { result ≡ of.small byte }
-{
-    if is_capital(byte) { byte + 32 } else { byte }
+    let (word, behind) = line.split_at(word_len(line));
+    Ok((word_token(alloc, word)?, behind))
 }
 
 /// The number that a further digit makes.
@@ -69,183 +61,142 @@ fn grown(number: Option<u64>, digit: u8) -> Option<u64>
     number?.checked_mul(10)?.checked_add((digit - 48) as u64)
 }
 
-/// A list of one byte.
-fn one(alloc: Global, byte: u8) -> Mem<Vec<u8>>
-    ensures { IfOk result (λ v. v.items ≡ byte ∷ []) }
+/// The number that begins with this digit, and the bytes behind it.
+fn number(first: u8, behind: &[u8]) -> (Token, &[u8])
+    requires { of.is_digit first ≡ true }
+    ensures said { (out : List Token) → reader.lex_on behind.now out (reader.InNumber (Some (first - 48))) ≡ reader.lex_on result.1.now (out ++ result.0 ∷ []) reader.Gap }
+    ensures within { length result.1.now ≤ length behind.now }
 {
-    let mut bytes = Vec::new(alloc);
-    bytes.push(byte)?;
-    Ok(bytes)
-}
-
-/// Puts a sign, where there is one.
-fn put_symbol(out: &mut Vec<Token>, symbol: Option<Symbol>) -> Mem<Mid>
-    ensures { IfOk result (λ m. (out.new.items, reader.state_of m) ≡ reader.put_symbol out.old.items symbol) }
-{
-    match symbol {
-        None => Ok(Mid::Lost),
-        Some(symbol) => {
-            out.push(Token::Symbol(symbol))?;
-            Ok(Mid::Gap)
+    let mut number = Some((first - 48) as u64);
+    let mut rest = behind;
+    while let Some((byte, others)) = rest.split_first() {
+        if !is_digit(*byte) {
+            return (Token::Number(number), rest);
         }
+        number = grown(number, *byte);
+        rest = others;
+    }
+    (Token::Number(number), rest)
+}
+
+/// The bytes behind a quote, where one stands first.
+fn behind_quote(line: &[u8]) -> Option<&[u8]>
+    ensures { MatchOption result (of.Without of.is_quote line.now) (λ r. line.now ≡ 39 ∷ r.now) }
+{
+    match line.split_first() {
+        Some((byte, rest)) if *byte == 39 => Some(rest),
+        _ => None,
     }
 }
 
-/// What a byte begins.
-fn begin(alloc: Global, out: &mut Vec<Token>, byte: u8) -> Mem<Mid>
-    ensures { IfOk result (λ m. (out.new.items, reader.state_of m) ≡ reader.begin out.old.items byte) }
+/// The text of which these bytes are left behind its first quote, and the bytes behind it.
+fn text<'a>(alloc: Global, line: &'a [u8]) -> Mem<(Token, &'a [u8])>
+    ensures said { IfOk result (λ r. (out : List Token) → reader.lex_on line.now out (reader.InText []) ≡ reader.lex_on r.1.now (out ++ r.0 ∷ []) reader.Gap) }
+    ensures within { IfOk result (λ r. length r.1.now ≤ length line.now) }
 {
-    if is_blank(byte) {
-        Ok(Mid::Gap)
-    } else if is_letter(byte) {
-        Ok(Mid::InWord(one(alloc, small(byte))?, is_capital(byte)))
-    } else if is_digit(byte) {
-        Ok(Mid::InNumber(Some((byte - 48) as u64)))
-    } else if byte == 39 {
-        Ok(Mid::InText(Vec::new(alloc)))
-    } else if byte == 60 {
-        Ok(Mid::BehindLess)
-    } else if byte == 62 {
-        Ok(Mid::BehindGreater)
-    } else {
-        put_symbol(out, lone_symbol(byte))
-    }
-}
-
-/// Puts the token of a word.
-fn put_word(out: &mut Vec<Token>, word: Vec<u8>, capital: bool) -> Mem<()>
-    ensures { IfOk result (λ _. out.new.items ≡ out.old.items ++ reader.word_token word.items capital ∷ []) }
-{
-    match keyword(word.as_slice()) {
-        Some(keyword) => out.push(Token::Word(keyword))?,
-        None => {
-            if capital {
-                out.push(Token::Bad)?
-            } else {
-                out.push(Token::Name(Txt::from_vec(word)))?
+    let mut text = Vec::new(alloc);
+    let mut rest = line;
+    while let Some((byte, behind)) = rest.split_first() {
+        if *byte != 39 {
+            text.push(*byte)?;
+            rest = behind;
+        } else {
+            match behind_quote(behind) {
+                Some(others) => {
+                    text.push(39)?;
+                    rest = others;
+                }
+                None => return Ok((Token::Text(Txt::from_vec(text)), behind)),
             }
         }
     }
-    Ok(())
+    Ok((Token::Bad, rest))
 }
 
-fn in_word(
-    alloc: Global,
-    out: &mut Vec<Token>,
-    mut word: Vec<u8>,
-    capital: bool,
-    byte: u8,
-) -> Mem<Mid>
-    ensures { IfOk result (λ m. (out.new.items, reader.state_of m) ≡ reader.next out.old.items (reader.InWord word.items capital) byte) }
+/// The sign that begins with `<`, and the bytes behind it.
+fn less(behind: &[u8]) -> (Token, &[u8])
+    ensures said { (out : List Token) → reader.lex_on behind.now out reader.BehindLess ≡ reader.lex_on result.1.now (out ++ result.0 ∷ []) reader.Gap }
+    ensures within { length result.1.now ≤ length behind.now }
 {
-    if is_word_byte(byte) {
-        word.push(small(byte))?;
-        Ok(Mid::InWord(word, capital || is_capital(byte)))
+    match behind.split_first() {
+        None => (Token::Symbol(Symbol::Less), behind),
+        Some((next, rest)) => {
+            if *next == 61 {
+                (Token::Symbol(Symbol::LessEqual), rest)
+            } else if *next == 62 {
+                (Token::Symbol(Symbol::NotEqual), rest)
+            } else {
+                (Token::Symbol(Symbol::Less), behind)
+            }
+        }
+    }
+}
+
+/// The sign that begins with `>`, and the bytes behind it.
+fn greater(behind: &[u8]) -> (Token, &[u8])
+    ensures said { (out : List Token) → reader.lex_on behind.now out reader.BehindGreater ≡ reader.lex_on result.1.now (out ++ result.0 ∷ []) reader.Gap }
+    ensures within { length result.1.now ≤ length behind.now }
+{
+    match behind.split_first() {
+        None => (Token::Symbol(Symbol::Greater), behind),
+        Some((next, rest)) => {
+            if *next == 61 {
+                (Token::Symbol(Symbol::GreaterEqual), rest)
+            } else {
+                (Token::Symbol(Symbol::Greater), behind)
+            }
+        }
+    }
+}
+
+/// The sign of one byte, or what no token begins with, and the bytes behind it.
+fn lone(first: u8, behind: &[u8]) -> (Token, &[u8])
+    ensures said { (out : List Token) → reader.lex_on behind.now (reader.put_symbol out (symbol_of first)).0 (reader.put_symbol out (symbol_of first)).1
+        ≡ reader.lex_on result.1.now (out ++ result.0 ∷ []) reader.Gap }
+    ensures within { length result.1.now ≤ length behind.now }
+{
+    match lone_symbol(first) {
+        Some(symbol) => (Token::Symbol(symbol), behind),
+        None => (Token::Bad, &[]),
+    }
+}
+
+/// The token that begins with this byte, which is no blank, and the bytes behind it.
+fn token<'a>(alloc: Global, line: &'a [u8], first: u8, behind: &'a [u8]) -> Mem<(Token, &'a [u8])>
+    requires first { line.now ≡ first ∷ behind.now }
+    requires begins { of.is_blank first ≡ false }
+    ensures said { IfOk result (λ r. (out : List Token) → reader.lex_on line.now out reader.Gap ≡ reader.lex_on r.1.now (out ++ r.0 ∷ []) reader.Gap) }
+    ensures within { IfOk result (λ r. length r.1.now ≤ length behind.now) }
+{
+    if is_letter(first) {
+        word(alloc, line)
+    } else if is_digit(first) {
+        Ok(number(first, behind))
+    } else if first == 39 {
+        text(alloc, behind)
+    } else if first == 60 {
+        Ok(less(behind))
+    } else if first == 62 {
+        Ok(greater(behind))
     } else {
-        put_word(out, word, capital)?;
-        begin(alloc, out, byte)
+        Ok(lone(first, behind))
     }
-}
-
-fn in_number(alloc: Global, out: &mut Vec<Token>, number: Option<u64>, byte: u8) -> Mem<Mid>
-    ensures { IfOk result (λ m. (out.new.items, reader.state_of m) ≡ reader.next out.old.items (reader.InNumber number) byte) }
-{
-    if is_digit(byte) {
-        Ok(Mid::InNumber(grown(number, byte)))
-    } else {
-        out.push(Token::Number(number))?;
-        begin(alloc, out, byte)
-    }
-}
-
-fn in_text(mut text: Vec<u8>, byte: u8) -> Mem<Mid>
-    ensures { IfOk result (λ m. (out : List Token) → (out, reader.state_of m) ≡ reader.next out (reader.InText text.items) byte) }
-{
-    if byte == 39 {
-        Ok(Mid::Quoted(text))
-    } else {
-        text.push(byte)?;
-        Ok(Mid::InText(text))
-    }
-}
-
-fn quoted(alloc: Global, out: &mut Vec<Token>, mut text: Vec<u8>, byte: u8) -> Mem<Mid>
-    ensures { IfOk result (λ m. (out.new.items, reader.state_of m) ≡ reader.next out.old.items (reader.Quoted text.items) byte) }
-{
-    if byte == 39 {
-        text.push(39)?;
-        Ok(Mid::InText(text))
-    } else {
-        out.push(Token::Text(Txt::from_vec(text)))?;
-        begin(alloc, out, byte)
-    }
-}
-
-fn behind_less(alloc: Global, out: &mut Vec<Token>, byte: u8) -> Mem<Mid>
-    ensures { IfOk result (λ m. (out.new.items, reader.state_of m) ≡ reader.next out.old.items reader.BehindLess byte) }
-{
-    if byte == 61 {
-        put_symbol(out, Some(Symbol::LessEqual))
-    } else if byte == 62 {
-        put_symbol(out, Some(Symbol::NotEqual))
-    } else {
-        out.push(Token::Symbol(Symbol::Less))?;
-        begin(alloc, out, byte)
-    }
-}
-
-fn behind_greater(alloc: Global, out: &mut Vec<Token>, byte: u8) -> Mem<Mid>
-    ensures { IfOk result (λ m. (out.new.items, reader.state_of m) ≡ reader.next out.old.items reader.BehindGreater byte) }
-{
-    if byte == 61 {
-        put_symbol(out, Some(Symbol::GreaterEqual))
-    } else {
-        out.push(Token::Symbol(Symbol::Greater))?;
-        begin(alloc, out, byte)
-    }
-}
-
-fn next(alloc: Global, out: &mut Vec<Token>, mid: Mid, byte: u8) -> Mem<Mid>
-    ensures { IfOk result (λ m. (out.new.items, reader.state_of m) ≡ reader.next out.old.items (reader.state_of mid) byte) }
-{
-    match mid {
-        Mid::Gap => begin(alloc, out, byte),
-        Mid::InWord(word, capital) => in_word(alloc, out, word, capital, byte),
-        Mid::InNumber(number) => in_number(alloc, out, number, byte),
-        Mid::InText(text) => in_text(text, byte),
-        Mid::Quoted(text) => quoted(alloc, out, text, byte),
-        Mid::BehindLess => behind_less(alloc, out, byte),
-        Mid::BehindGreater => behind_greater(alloc, out, byte),
-        Mid::Lost => Ok(Mid::Lost),
-    }
-}
-
-/// Puts the token that the end of the line ends.
-fn put_last(out: &mut Vec<Token>, mid: Mid) -> Mem<()>
-    ensures { IfOk result (λ _. out.new.items ≡ reader.ended out.old.items (reader.state_of mid)) }
-{
-    match mid {
-        Mid::Gap => {}
-        Mid::InWord(word, capital) => put_word(out, word, capital)?,
-        Mid::InNumber(number) => out.push(Token::Number(number))?,
-        Mid::InText(_text) => out.push(Token::Bad)?,
-        Mid::Quoted(text) => out.push(Token::Text(Txt::from_vec(text)))?,
-        Mid::BehindLess => out.push(Token::Symbol(Symbol::Less))?,
-        Mid::BehindGreater => out.push(Token::Symbol(Symbol::Greater))?,
-        Mid::Lost => out.push(Token::Bad)?,
-    }
-    Ok(())
 }
 
 fn cut(alloc: Global, line: &[u8]) -> Mem<Vec<Token>>
     ensures { IfOk result (λ tokens. tokens.items ≡ reader.lex line.now) }
 {
-    let mut out = Vec::with_capacity(alloc, line.len().min(64))?;
-    let mut mid = Mid::Gap;
-    for byte in line {
-        mid = next(alloc, &mut out, mid, *byte)?;
+    let mut out = Vec::with_capacity(alloc, 32)?;
+    let mut rest = line;
+    while let Some((byte, behind)) = rest.split_first() {
+        if is_blank(*byte) {
+            rest = behind;
+        } else {
+            let (token, others) = token(alloc, rest, *byte, behind)?;
+            out.push(token)?;
+            rest = others;
+        }
     }
-    put_last(&mut out, mid)?;
     Ok(out)
 }
 

@@ -1,6 +1,7 @@
 //! The tokens of the script language, and how a line's bytes are cut into them.
 #![tactic(auto)]
 
+pub mod byte;
 pub mod cut;
 pub mod symbol;
 pub mod token;
@@ -9,4 +10,4 @@ pub mod word;
 pub use cut::cut_line;
 pub use symbol::{Symbol, lone_symbol};
 pub use token::Token;
-pub use word::{WORDS, Word, keyword};
+pub use word::{WORDS, Word, keyword_in_any_case};

@@ -1,7 +1,11 @@
-ghost use Rattle.std.specs.Prelude.{◌≡◌, ℕ, List, length};
+ghost use Rattle.std.specs.Prelude.{◌≡◌, ℕ, List, length, nat_eq};
+ghost use Rattle.std.specs.Cmp.Lexicographic.{pointwise};
+ghost use Rattle.gx_lex.specs.Lexing.{smalls};
 ghost use Rattle.gx_lex.specs.Words;
 ghost use Rattle.gx_lex.specs.Words.{number_of, text_of, keyword_of};
 ghost use Rattle.gx_lex.specs.declared.word.Word.{Word};
+
+use crate::byte::small;
 
 /// A keyword of the script language.
 #[derive(Clone, Copy, Debug, PartialEq, Eq)]
@@ -267,21 +271,40 @@ fn of_length(letters: usize) -> &'static [Word]
     }
 }
 
-/// The first of these keywords that is spelled so, where there is one.
-fn find(words: &[Word], text: &[u8]) -> Option<Word>
-    ensures { result ≡ Words.find text.now words.now }
+/// Whether a word is spelled so, in letters of either case.
+fn is_spelled(spelling: &[u8], word: &[u8]) -> bool
+    ensures { result ≡ pointwise nat_eq spelling.now (smalls word.now) }
 {
-    for word in words {
-        if word.text() == text {
-            return Some(*word);
+    let mut spelling = spelling;
+    for byte in word {
+        match spelling.split_first() {
+            None => return false,
+            Some((letter, others)) => {
+                if *letter != small(*byte) {
+                    return false;
+                }
+                spelling = others;
+            }
+        }
+    }
+    spelling.is_empty()
+}
+
+/// The first of these keywords that the word is, in letters of either case, where there is one.
+fn find(words: &[Word], word: &[u8]) -> Option<Word>
+    ensures { result ≡ Words.find (smalls word.now) words.now }
+{
+    for keyword in words {
+        if is_spelled(keyword.text(), word) {
+            return Some(*keyword);
         }
     }
     None
 }
 
-/// The keyword that is spelled so, in small letters, where there is one.
-pub fn keyword(text: &[u8]) -> Option<Word>
-    ensures { result ≡ keyword_of text.now }
+/// The keyword that the word is, in letters of either case, where it is one.
+pub fn keyword_in_any_case(word: &[u8]) -> Option<Word>
+    ensures { result ≡ keyword_of (smalls word.now) }
 {
-    find(of_length(text.len()), text)
+    find(of_length(word.len()), word)
 }

@@ -1,6 +1,9 @@
-use Rattle.std.proofs.Common.{◌≡◌, drop}
-use Rattle.gx_lex.specs.Reader.{lex_on, lex, state_of}
+use Rattle.std.proofs.Common.{◌≡◌, length}
+use Rattle.gx_lex.specs.Reader.{Gap, lex_on, lex}
 use Rattle.gx_lex.proofs.cut.cut.Given as goal
 
 abbrev pub invariant-loop-byte : goal.invariant-loop-byte
-invariant-loop-byte l = lex_on (drop l.byte-index l.line) l.out.items (state_of l.mid) ≡ lex l.line
+invariant-loop-byte l = lex_on l.rest l.out.items Gap ≡ lex l.line
+
+abbrev pub decreases-loop-byte : goal.decreases-loop-byte
+decreases-loop-byte l = length l.rest

@@ -1,0 +1,40 @@
+// Classes of bytes.
+ghost use Rattle.std.specs.Prelude.{◌≡◌};
+ghost use Rattle.gx_lex.specs.Lexing as of;
+
+pub fn is_blank(byte: u8) -> bool
+    ensures { result ≡ of.is_blank byte }
+{
+    byte == 32 || byte == 9
+}
+
+pub fn is_capital(byte: u8) -> bool
+    ensures { result ≡ of.is_capital byte }
+{
+    65 <= byte && byte <= 90
+}
+
+pub fn is_letter(byte: u8) -> bool
+    ensures { result ≡ of.is_letter byte }
+{
+    (97 <= byte && byte <= 122) || is_capital(byte)
+}
+
+pub fn is_digit(byte: u8) -> bool
+    ensures { result ≡ of.is_digit byte }
+{
+    48 <= byte && byte <= 57
+}
+
+pub fn is_word_byte(byte: u8) -> bool
+    ensures { result ≡ of.is_word_byte byte }
+{
+    is_letter(byte) || is_digit(byte) || byte == 95
+}
+
+/// The letter in small.
+pub fn small(byte: u8) -> u8
+    ensures { result ≡ of.small byte }
+{
+    if is_capital(byte) { byte + 32 } else { byte }
+}
