@@ -11,3 +11,4 @@ pub mod Many
 pub mod Either
 pub mod Lines
 pub mod ExprGood
+pub mod Alone

@@ -1,7 +1,9 @@
 // Reads an expression, token by token.
-ghost use Rattle.std.specs.Prelude.{◌≡◌, ◌≤◌, ◌+◌, ◌∷◌, ◌++◌, [], nat_le, if◌then◌else◌, length, List, IfOk, reverse, Option, Some, None, true};
+ghost use Rattle.std.specs.Prelude.{◌≡◌, ◌≤◌, ◌+◌, ◌∷◌, ◌++◌, [], nat_le, if◌then◌else◌, length, List, IfOk, IfSome, Ok, is_some, reverse, Option, Some, None, true};
 ghost use Rattle.gx_grammar.specs.Grammar.{level as level_of, left_level as left_level_of, expr as is_expr};
 ghost use Rattle.gx_grammar.specs.Machine as machine;
+ghost use Rattle.gx_grammar.specs.Rules.{starts};
+ghost use Rattle.gx_grammar.specs.declared.fault.Limits.{Limits};
 ghost use Rattle.gx_grammar.specs.Code.{stack, turn_of, mode_of, Gives};
 
 use crate::fault::{Fault, Limits, LineLimit, ReadError};
@@ -514,8 +516,8 @@ fn finish(alloc: Global, frames: &mut Vec<Frame>, wait: Wait) -> Mem<Turn>
     }
 }
 
-/// Reads the expression that stands first, and hands back the tokens behind it.
-pub fn expr<'a>(
+/// Reads the expression that stands first step by step, and hands back the tokens behind it.
+fn expr_by_steps<'a>(
     alloc: Global,
     limits: Limits,
     tokens: &'a [Token],
@@ -538,5 +540,45 @@ pub fn expr<'a>(
     match finish(alloc, &mut frames, wait)? {
         Turn::Done(tree) => Ok((tree, rest)),
         _ => Err(ReadError::Fault(Fault::Syntax)),
+    }
+}
+
+fn begins_with_operator(tokens: &[Token]) -> bool
+    ensures { result ≡ starts (λ x. is_some (machine.op_of x)) tokens.now }
+{
+    match tokens.first() {
+        Some(token) => op_of(token).is_some(),
+        None => false,
+    }
+}
+
+/// The number that stands first, where it is the whole expression, and the tokens behind it.
+#[tactic(auto, using(crate::proofs::Alone::number_alone))]
+fn lone_number(tokens: &[Token]) -> Option<(Syn, &[Token])>
+    ensures { IfSome result (λ r. (limits : Limits) → machine.expr_at limits tokens.now ≡ Ok (r.0, r.1.now)) }
+{
+    match tokens.split_first() {
+        Some((Token::Number(size), rest)) => {
+            if begins_with_operator(rest) {
+                None
+            } else {
+                Some((Syn::Number(false, *size), rest))
+            }
+        }
+        _ => None,
+    }
+}
+
+/// Reads the expression that stands first, and hands back the tokens behind it.
+pub fn expr<'a>(
+    alloc: Global,
+    limits: Limits,
+    tokens: &'a [Token],
+) -> Result<(Syn, &'a [Token]), ReadError>
+    ensures { Gives (λ r. (r.0, r.1.now)) result (machine.expr_at limits tokens.now) }
+{
+    match lone_number(tokens) {
+        Some(read) => Ok(read),
+        None => expr_by_steps(alloc, limits, tokens),
     }
 }
