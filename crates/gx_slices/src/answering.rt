@@ -24,7 +24,7 @@ pub(crate) fn has_written(phase: Phase) -> bool
 
 // The part of an answer that gives no rows.
 pub(crate) fn no_rows(alloc: Global) -> Mem<Shared<Part>>
-    ensures { IfOk result (λ part. part ≡ part.Rows []) }
+    ensures { IfOk result (λ rows. rows ≡ part.Rows []) }
 {
     Shared::new(alloc, Part::Rows(Seq::new(alloc)))
 }
