@@ -43,7 +43,7 @@ pub(crate) fn insert(
 {
     let Writer { gxid, cid, .. } = writer;
     let part = no_rows(alloc)?;
-    let rows = rows.get().copy(alloc)?;
+    let rows = own_rows(alloc, &rows)?;
     let count = rows.len() as u64;
     let mut entry = take_entry(alloc, &mut held.entries, gxid);
     let marks = insert_rows(alloc, writer, held, &mut entry, rows.into_vec())?;
@@ -58,6 +58,13 @@ pub(crate) fn insert(
         marks: Seq::from_vec(marks),
         reply,
     })
+}
+
+// The slice's rows, to be taken apart.
+fn own_rows(alloc: Global, rows: &Shared<Seq<KeyedRow>>) -> Mem<Seq<KeyedRow>>
+    ensures { IfOk result (λ own. own ≡ rows.now) }
+{
+    rows.get().copy(alloc)
 }
 
 // Adds the rows, in order.
