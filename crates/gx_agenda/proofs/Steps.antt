@@ -1,19 +1,25 @@
 -- What is asked, one mark and one step later.
-use Rattle.std.proofs.Common.{◌≡◌, Bool, true, false, cond, ◌&&◌, refl, sym, ap, ◌∙◌, List, [], ◌∷◌, ◌++◌, append-nil, ℕ, ◌+◌, ◌<◌, length, get_or, take}
+use Rattle.std.proofs.Common.{◌≡◌, Bool, true, false, cond, ◌&&◌, ◌||◌, refl, sym, ap, ◌∙◌, List, [], ◌∷◌, ◌++◌, append-nil, ℕ, ◌+◌, ◌<◌, length, get_or, subst, take}
 use Rattle.std.proofs.lemmas.List.{append_assoc, take_more}
-use Rattle.std.specs.Prelude.{Option, Some, None, if◌then◌else◌}
+use Rattle.std.specs.List.{list_any}
+use Rattle.std.specs.Prelude.{Option, Some, None, if◌then◌else◌, is_some}
 use Rattle.gx_ids.specs.declared.ids.Gxid.{Gxid}
 use Rattle.gx_ids.specs.declared.ids.Node.{Node}
 use Rattle.gx_msg.specs.declared.message.Message.{Message}
+use Rattle.gx_msg.specs.declared.message.Message.TheVariants as message
+use Rattle.gx_msg.specs.declared.reply.Reply.{Reply}
 use Rattle.gx_store.specs.declared.event.Event.{Event}
 use Rattle.gx_store.specs.declared.event.Event.TheVariants as event
 use Rattle.gx_store.specs.declared.mark.Mark.{Mark}
 use Rattle.gx_store.specs.declared.mark.Mark.TheVariants as mark
 use Rattle.gx_store.specs.declared.run.Step.{Step}
 use Rattle.gx_store.specs.Journals.{is_same_node}
+use Rattle.gx_store.specs.Marks.{is_same_gxid}
 use Rattle.gx_store.specs.Refusals.{the_coordinator}
-use Rattle.gx_store.specs.Schedule.{asked, asked_by, asked_from, is_about, is_answer_to, sent_message, unless_answered}
+use Rattle.gx_store.specs.Schedule.{asked, asked_by, asked_from, is_about, is_answer_to, is_reply_to, sent_message, unless_answered}
+use Rattle.gx_agenda.specs.Awaited.{told_in}
 use Rattle.gx_agenda.specs.Following.{IsOrderOf}
+use Rattle.gx_agenda.proofs.Changes.{at_same}
 
 -- A MARK
 asked_by-append : (i : Node) (g : Gxid) (a : Option Message) (ms ns : List Mark) → asked_by i g a (ms ++ ns) ≡ asked_by i g (asked_by i g a ms) ns
@@ -78,3 +84,41 @@ asked_from-order before i g a (s ∷ ss) old = asked_from-order (before ++ s ∷
 
 pub asked-order : (steps : List Step) (i : Node) (g : Gxid) → IsOrderOf g (asked steps i g)
 asked-order steps i g = asked_from-order [] i g None steps tt
+
+-- WHAT IS ASKED ANEW
+-- where one of the marks asks, what was asked before makes no difference
+any-asks : (i : Node) (g : Gxid) (a b : Option Message) (ms : List Mark) → list_any (λ m. is_some (asked_by i g None (m ∷ []))) ms ≡ true → asked_by i g a ms ≡ asked_by i g b ms
+any-asks i g a b [] any = absurd (cc)
+any-asks i g a b (mark.Sent to number told ∷ ms) any = by (is_same_node to i && is_about g told) (any-asks i g a b ms) any
+  where
+    by : (t : Bool) → (list_any (λ m. is_some (asked_by i g None (m ∷ []))) ms ≡ true → asked_by i g a ms ≡ asked_by i g b ms)
+        → (is_some (cond t (Some told) None) || list_any (λ m. is_some (asked_by i g None (m ∷ []))) ms) ≡ true → asked_by i g (cond t (Some told) a) ms ≡ asked_by i g (cond t (Some told) b) ms
+    by true rest any = refl
+    by false rest any = rest any
+any-asks i g a b (m ∷ ms) any = any-asks i g a b ms any
+
+first-true : (a b : Bool) → (a && b) ≡ true → a ≡ true
+first-true true b e = refl
+first-true false b e = e
+
+-- an answer is one for its transaction
+answers-own : (x : Bool) (h g : Gxid) (was : Option Message) (r : Reply) → (x && is_answer_to was g (Some (message.Answer h r))) ≡ true → (x && is_same_gxid h g) ≡ true
+answers-own true h g (Some asked) r e = first-true (is_same_gxid h g) (is_reply_to asked r) e
+answers-own true h g None r e = absurd (cc)
+answers-own false h g was r e = e
+
+pub made-up : (from : Node) (h : Gxid) (r : Reply) (ms : List Mark) → list_any (λ m. is_some (asked_by from h None (m ∷ []))) ms ≡ true → (i : Node) (g : Gxid) (was : Option Message)
+    → asked_by i g (cond (is_same_node from i && is_answer_to was g (Some (message.Answer h r))) None was) ms ≡ asked_by i g was ms
+made-up from h r ms any i g was = by (is_same_node from i && is_answer_to was g (Some (message.Answer h r))) (answers-own (is_same_node from i) h g was r)
+  where
+    by : (b : Bool) → (b ≡ true → (is_same_node from i && is_same_gxid h g) ≡ true) → asked_by i g (cond b None was) ms ≡ asked_by i g was ms
+    by true own = at_same (λ j k. asked_by j k None ms) from i h g (own refl) ∙ any-asks from h None was ms any ∙ sym (at_same (λ j k. asked_by j k was ms) from i h g (own refl))
+    by false own = refl
+
+-- what a message answers, where it was received
+pub anew-received : (steps : List Step) (e : Event) (from to : Node) (number : ℕ) (o : Option Message) (ms : List Mark) → e ≡ event.Receive from to number → o ≡ told_in steps e
+    → ((i : Node) (g : Gxid) (was : Option Message) → asked_by i g (cond (is_same_node from i && is_answer_to was g o) None was) ms ≡ asked_by i g was ms)
+    → (i : Node) (g : Gxid) (was : Option Message) → asked_by i g (unless_answered steps i g was e) ms ≡ asked_by i g was ms
+anew-received steps e from to number o ms is told same i g was =
+    subst (λ (x : Event). o ≡ told_in steps x → asked_by i g (unless_answered steps i g was x) ms ≡ asked_by i g was ms) (sym is)
+    (λ t. ap (λ m. asked_by i g (cond (is_same_node from i && is_answer_to was g m) None was) ms) (sym t) ∙ same i g was) told

@@ -2,8 +2,9 @@
 use Rattle.std.proofs.Common.{◌≡◌, ◌+◌, ◌<◌, ℕ, Bool, true, false, cond, not, ◌&&◌, ◌||◌, eqb, refl, sym, ap, ◌∙◌, List, [], ◌∷◌, ◌++◌, append-nil, arith, length, get_or, take}
 use Rattle.std.proofs.lemmas.Bool.Decides.{nat_tests}
 use Rattle.std.proofs.lemmas.List.{take_more}
-use Rattle.std.specs.BTreeMap.{get, is_at}
+use Rattle.std.specs.BTreeMap.{BTreeMap, btree_map_len, get, is_at}
 use Rattle.std.specs.List.{filter, list_any}
+use Rattle.std.specs.Map.{lookup}
 use Rattle.std.specs.Option.{option_or}
 use Rattle.std.specs.Prelude.{Option, None, Some, unwrap_or}
 use Rattle.gx_ids.specs.declared.ids.Gxid.{Gxid}
@@ -92,6 +93,18 @@ module _ (q : Request) (there : List Claim) (o0 o1 : Request → Option (List Cl
   index-put p p1 d0 d1 same set index =
       index-one q p p1 d0 d1 (λ r. unwrap_or (o0 r) []) w (due_of (p q) there) index (λ r e. same r) put-off set
       (sym (ap (λ o. due_of o (w q)) (same q) ∙ ap (due_of (p q)) (set-here q w there (λ r. unwrap_or (o1 r) []) put)))
+
+-- where nobody waits, no wait ends
+no-waits : (q : Request) (es : List (Request × List Claim)) → length es ≡ 0 → unwrap_or (lookup (is_at (request_cmp q)) es) [] ≡ []
+no-waits q [] none = refl
+no-waits q (e ∷ es) none = absurd (omega (arith, none))
+
+pub none-waiting : (q : Request) (c : Claim) (waiting : BTreeMap Request (List Claim)) → btree_map_len waiting ≡ 0 → (r : Request) → waits_in waiting r ≡ cond (is_at (request_cmp q) r) (without c (waits_in waiting r)) (waits_in waiting r)
+none-waiting q c waiting none r = by (is_at (request_cmp q) r) (no-waits r waiting.entries none)
+  where
+    by : (b : Bool) → waits_in waiting r ≡ [] → waits_in waiting r ≡ cond b (without c (waits_in waiting r)) (waits_in waiting r)
+    by true e = e ∙ sym (ap (without c) e)
+    by false e = refl
 
 -- ONE MARK
 abbrev pub of_gxid : Gxid → List Claim → List Claim

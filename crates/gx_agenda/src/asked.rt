@@ -4,6 +4,7 @@ ghost use Rattle.std.specs.BTreeMap.{IsLowerBound, IsOrdered, get, is_at};
 ghost use Rattle.std.specs.List.{filter, flat_map};
 ghost use Rattle.gx_ids.specs.declared.ids.Gxid.{Gxid};
 ghost use Rattle.gx_ids.specs.declared.ids.Node.{Node};
+ghost use Rattle.gx_msg.specs.declared.message.Message.{Message};
 ghost use Rattle.gx_script.specs.declared.Script.{Script};
 ghost use Rattle.gx_store.specs.declared.run.Step.{Step};
 ghost use Rattle.gx_store.specs.Journals.{is_same_node};
@@ -12,10 +13,11 @@ ghost use Rattle.gx_store.specs.Schedule.{asked_by, first_of, is_about, is_graph
 ghost use Rattle.gx_agenda.specs.declared.request.Request.{Request as OneRequest};
 ghost use Rattle.gx_agenda.specs.Awaited.{AreAsked, AreAwaited, AreResendable, IsFirstGraph, IsIndexed, IsResendable, awaited_at, due_of, expected_at, told_in, waits_in};
 ghost use Rattle.gx_agenda.specs.Expected.{expected_of, unless_met};
-ghost use Rattle.gx_agenda.specs.Following.{Follows, FollowsOrders, unless_told};
+ghost use Rattle.gx_agenda.specs.Following.{Follows, FollowsOrders, IsOrderOf, unless_told};
 ghost use Rattle.gx_agenda.specs.Requests.{request_cmp};
 
 use crate::expected::{Expected, expected_answer, is_met_by, transaction_of};
+use crate::repeating::is_asked_anew;
 use crate::request::Request;
 use crate::resends::{earlier, first_key, push_graph, push_requests, resend};
 use gx_ids::{Gxid, Mem, Node, Seq};
@@ -89,10 +91,23 @@ impl Asked {
         ensures due { OnOk result (IsIndexed self.old → IsIndexed self.new) }
     {
         if step.stamp.node == Node(0) {
-            self.received(step.event, told);
+            self.hear(step, told);
             self.sent_all(step.marks.as_slice())?;
         }
         Ok(())
+    }
+
+    // The coordinator hears what its step received. What the step asks anew is awaited whatever it hears.
+    fn hear(&mut self, step: &Step, told: Option<&Message>)
+        ensures asked { (steps : List Step) → option_copied told.entry ≡ told_in steps step.now.event → (segment : Node) (g : Gxid) (was : Option Message) → IsOrderOf g was
+            → expected_at self.old segment g ≡ option_map expected_of was → (left : Option Message) × (expected_at self.new segment g ≡ option_map expected_of left)
+            × (asked_by segment g left step.now.marks ≡ asked_by segment g (unless_answered steps segment g was step.now.event) step.now.marks) }
+        ensures waiting { self.new.waiting ≡ self.old.waiting }
+        ensures due { IsIndexed self.old → IsIndexed self.new }
+    {
+        if !is_asked_anew(step.event, told, step.marks.as_slice()) {
+            self.received(step.event, told);
+        }
     }
 
     // The coordinator has received a message, if its event is a receipt.

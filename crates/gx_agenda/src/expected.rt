@@ -1,6 +1,7 @@
 // What orders to segments ask for, and the replies that meet it.
 ghost use Rattle.std.specs.Prelude.{◌≡◌, ◌==◌};
 ghost use Rattle.gx_agenda.specs.Expected.{expected_of, gxid_of, is_command, is_command_met, is_met};
+ghost use Rattle.gx_store.specs.Schedule.{is_about};
 
 use gx_ids::{Cid, Gxid};
 use gx_msg::{Message, Reply};
@@ -66,6 +67,16 @@ pub(crate) fn transaction_of(message: &Message) -> Option<Gxid>
         Message::Abort(gxid) => Some(*gxid),
         Message::Forget(gxid) => Some(*gxid),
         _ => None,
+    }
+}
+
+// Whether a message is an order about the transaction.
+pub(crate) fn is_about(gxid: Gxid, message: &Message) -> bool
+    ensures { result ≡ is_about gxid message.now }
+{
+    match transaction_of(message) {
+        Some(other) => other == gxid,
+        None => false,
     }
 }
 

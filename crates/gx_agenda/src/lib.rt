@@ -10,6 +10,7 @@ pub mod link;
 mod making;
 mod places;
 pub mod queue;
+mod repeating;
 pub mod request;
 mod resends;
 pub mod standing;

@@ -50,13 +50,13 @@ impl Asked {
                 gxid,
                 object,
                 mode,
-            } => self.end(*node, claim_of(gxid, object, mode)),
+            } => self.end(*node, gxid, object, mode),
             Mark::Release {
                 node,
                 gxid,
                 object,
                 mode,
-            } => self.end(*node, claim_of(gxid, object, mode)),
+            } => self.end(*node, gxid, object, mode),
             _ => Ok(()),
         }
     }
@@ -75,7 +75,21 @@ impl Asked {
         self.put(request, claims)
     }
 
-    fn end(&mut self, node: Node, claim: Claim) -> Mem<()>
+    fn end(&mut self, node: Node, gxid: &Gxid, object: &Object, mode: &Mode) -> Mem<()>
+        ensures awaited { OnOk result ((r : OneRequest) → awaited_at self.new r ≡ awaited_at self.old r) }
+        ensures waits { OnOk result ((r : OneRequest) → waits_in self.new.waiting r
+            ≡ (if is_at (request_cmp (record { segment = node; gxid = gxid.now })) r then without (record { gxid = gxid.now; object = object.now; mode = mode.now }) (waits_in self.old.waiting r)
+            else waits_in self.old.waiting r)) }
+        ensures due { OnOk result (IsIndexed self.old → IsIndexed self.new) }
+    {
+        if self.waiting.is_empty() {
+            Ok(())
+        } else {
+            self.strike(node, claim_of(gxid, object, mode))
+        }
+    }
+
+    fn strike(&mut self, node: Node, claim: Claim) -> Mem<()>
         ensures awaited { OnOk result ((r : OneRequest) → awaited_at self.new r ≡ awaited_at self.old r) }
         ensures waits { OnOk result ((r : OneRequest) → waits_in self.new.waiting r
             ≡ (if is_at (request_cmp (record { segment = node; gxid = claim.gxid })) r then without claim (waits_in self.old.waiting r) else waits_in self.old.waiting r)) }

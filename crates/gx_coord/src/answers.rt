@@ -45,7 +45,7 @@ fn told_of(alloc: Global, stmt: &Stmt, count: u128, parts: &[Part]) -> Mem<StmtA
     ensures { IfOk result (λ told. told ≡ told_by stmt.now count parts.now) }
 {
     match stmt {
-        Stmt::Select(query) => told_rows(alloc, query, parts),
+        Stmt::Select(query) => told_rows(alloc, query.get(), parts),
         Stmt::Insert(_, _) => Ok(StmtAnswer::Inserted(count)),
         Stmt::Update(_, _, _) => Ok(StmtAnswer::Updated(count)),
         Stmt::Delete(_, _) => Ok(StmtAnswer::Deleted(count)),

@@ -26,7 +26,7 @@ use crate::snapshots::read_for;
 use crate::work::{Command, Work};
 use gx_dsnap::Snapshot;
 use gx_eval::EvalFault;
-use gx_ids::{Cid, Duplicate, Gxid, Mem, OutOfMemory, Seq, SessionId, Table};
+use gx_ids::{Cid, Duplicate, Gxid, Mem, OutOfMemory, Seq, SessionId, Shared, Table};
 use gx_meaning::{ArithFault, Piece};
 use gx_msg::Out;
 use gx_plan::plan;
@@ -114,7 +114,7 @@ fn send(
         gxid,
         cid,
         level: level_of(coord, gxid),
-        snapshot,
+        snapshot: Shared::new(alloc, snapshot)?,
         horizon: coord.dtx.horizon(),
     };
     let awaited = nodes(alloc, pieces.as_slice())?;
@@ -201,7 +201,7 @@ fn table_of(line: &Stmt) -> Table
     ensures { result.0 ≡ turns.table_of line.now }
 {
     match line {
-        Stmt::Select(query) => query.table,
+        Stmt::Select(query) => query.get().table,
         Stmt::Insert(table, _) => *table,
         Stmt::Update(table, _, _) => *table,
         Stmt::Delete(table, _) => *table,

@@ -34,7 +34,7 @@ pub(crate) fn lock_for(script: &Script, gxid: Gxid, line: &Stmt) -> Option<Claim
     ensures own { IfSome result (λ wanted. wanted.gxid ≡ gxid) }
 {
     match line {
-        Stmt::Select(query) => Some(claim_on(gxid, query.table, Mode::AccessShare)),
+        Stmt::Select(query) => Some(claim_on(gxid, query.get().table, Mode::AccessShare)),
         Stmt::Insert(table, _) => Some(claim_on(gxid, *table, Mode::RowExclusive)),
         Stmt::Update(table, _, _) => Some(claim_on(gxid, *table, changing_mode(script))),
         Stmt::Delete(table, _) => Some(claim_on(gxid, *table, changing_mode(script))),

@@ -15,7 +15,7 @@ use crate::coord::Coord;
 use crate::rechecking::hear;
 use crate::replies::{Done, is_asked, is_done, is_taken, note_done, refuse};
 use crate::statuses::{Turned, take_status};
-use gx_ids::{Cid, Gxid, Mem, Node, Seq};
+use gx_ids::{Cid, Gxid, Mem, Node, Seq, Shared};
 use gx_msg::{Cause, Message, Out, Reply};
 use gx_outside::Journal;
 use gx_script::Script;
@@ -52,7 +52,7 @@ fn take_done(
     gxid: Gxid,
     node: Node,
     done: Done,
-    part: Part,
+    part: Shared<Part>,
     marks: &mut Vec<Mark>,
 ) -> Mem<Seq<Out>>
     requires same { coord.old.script.value ≡ script.now }
@@ -62,7 +62,7 @@ fn take_done(
     ensures outs { IfOk result (λ outs. outs ≡ (turns.on_done (coord_of coord.old) gxid node done.cid done.wrote done.count part ((coord_of coord.old).works gxid.0).command).outs) }
     ensures small { done.count < 2 ^ 64 }
 {
-    if is_taken(script, coord, gxid, node, done.cid, &part) {
+    if is_taken(script, coord, gxid, node, done.cid, part.get()) {
         note_done(alloc, coord, gxid, node, done, part)?;
         go_on(alloc, script, coord, gxid, marks)
     } else {
@@ -147,8 +147,9 @@ fn take_reply<J: Journal>(
             Ok(plain(alloc, outs))
         }
         Reply::Failed { cid, cause } => {
-            drop(reply);
-            let outs = take_failure(alloc, coord, gxid, node, cid, cause, marks)?;
+            let why = *cause.get();
+            drop(cause);
+            let outs = take_failure(alloc, coord, gxid, node, cid, why, marks)?;
             Ok(plain(alloc, outs))
         }
         status => take_status(alloc, script, coord, gxid, node, status, journal, marks),

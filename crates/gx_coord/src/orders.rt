@@ -17,7 +17,7 @@ pub struct Ordering {
     pub gxid: Gxid,
     pub cid: Cid,
     pub level: Level,
-    pub snapshot: Option<Snapshot>,
+    pub snapshot: Shared<Option<Snapshot>>,
     pub horizon: Gxid,
 }
 

@@ -9,7 +9,7 @@ ghost use Rattle.gx_coord.specs.Turns.{IsTurn};
 
 use crate::coord::Coord;
 use crate::rounds::{awaits_graph, last_round};
-use gx_ids::{Duplicate, Gxid, Mem, Node, Seq};
+use gx_ids::{Duplicate, Gxid, Mem, Node, Seq, Shared};
 use gx_store::Mark;
 use gx_waits::{LocalGraph, Verdict};
 use std::alloc::Global;
@@ -79,6 +79,7 @@ fn push_recheck(
 ) -> Mem<()>
     ensures { OnOk result (marks.new.items ≡ marks.old.items ++ Mark.Recheck round own verdict.now ∷ []) }
 {
+    let own = Shared::new(alloc, own)?;
     let verdict = verdict.copy(alloc)?;
     marks.push(Mark::Recheck {
         round,

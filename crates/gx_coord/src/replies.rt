@@ -14,7 +14,7 @@ use crate::ends::refuse_line;
 use crate::work::{Command, Work};
 use gx_dtx::DtxOut;
 use gx_dtx::nodes::{has, with_node, without};
-use gx_ids::{Cid, Gxid, Mem, Node, Seq};
+use gx_ids::{Cid, Duplicate, Gxid, Mem, Node, Seq, Shared};
 use gx_msg::Out;
 use gx_node::fits_part;
 use gx_script::Script;
@@ -80,13 +80,19 @@ pub(crate) fn is_taken(
     }
 }
 
-fn add_part(alloc: Global, command: &mut Command, node: Node, count: u64, part: Part) -> Mem<()>
+fn add_part(
+    alloc: Global,
+    command: &mut Command,
+    node: Node,
+    count: u64,
+    part: Shared<Part>,
+) -> Mem<()>
     requires { command.old.count ≤ 2 ^ 64 * length command.old.parts }
     ensures { OnOk result (command.new ≡ add_to node count part command.old) }
 {
     let _parts = command.parts.len();
     command.count += u128::from(count);
-    command.parts.push(part)?;
+    command.parts.push(part.get().copy(alloc)?)?;
     command.awaited = without(alloc, node, command.awaited.as_slice())?;
     Ok(())
 }
@@ -100,7 +106,7 @@ fn add_writer(alloc: Global, work: &mut Work, wrote: bool, node: Node) -> Mem<()
     Ok(())
 }
 
-fn add_done(alloc: Global, work: &mut Work, node: Node, done: Done, part: Part) -> Mem<()>
+fn add_done(alloc: Global, work: &mut Work, node: Node, done: Done, part: Shared<Part>) -> Mem<()>
     requires { IfSome work.old.command (λ k. k.count ≤ 2 ^ 64 * length k.parts) }
     ensures { OnOk result (work.new ≡ record work.old { writers = turns.writers_with done.wrote node work.old.writers; command = option_map (add_to node done.count part) work.old.command }) }
 {
@@ -118,7 +124,7 @@ pub(crate) fn note_done(
     gxid: Gxid,
     node: Node,
     done: Done,
-    part: Part,
+    part: Shared<Part>,
 ) -> Mem<()>
     requires there { is_some ((coord_of coord.old).works gxid.0).command ≡ true }
     requires counted { AreCounted ((coord_of coord.old).works gxid.0).command }

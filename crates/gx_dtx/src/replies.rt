@@ -113,8 +113,7 @@ fn wait_for(alloc: Global, writers: &Seq<Node>, awaited: Seq<Node>) -> Mem<Chang
     Ok(Change::waits(alloc, Phase::Preparing { writers, awaited }))
 }
 
-// Appends the decide item. What comes after either answer of the journal is made before, so that no memory is needed
-// afterwards.
+// Appends the decide item. What comes after it is made before, so that no memory is needed once it is appended.
 fn decide_now<J: Journal>(
     alloc: Global,
     gxid: Gxid,
@@ -127,11 +126,10 @@ fn decide_now<J: Journal>(
     ensures kept { OnErr result (HasKept (J.shelf journal.old) (J.shelf journal.new)) }
 {
     let decided = decide(alloc, gxid, writers)?;
-    let refused = refuse(alloc, gxid, participants, Node(0))?;
     let item = decide_item(alloc, gxid)?;
     match journal.append(item.as_slice()) {
         Ok(()) => Ok(decided),
-        Err(AppendFault::Failed) => Ok(refused),
+        Err(AppendFault::Failed) => refuse(alloc, gxid, participants, Node(0)),
         Err(AppendFault::OutOfMemory) => Err(OutOfMemory),
     }
 }

@@ -4,7 +4,7 @@ ghost use Rattle.gx_store.specs.declared.mark.Mark.TheVariants.{Recheck};
 ghost use Rattle.gx_store.specs.Points.{marks_in};
 ghost use Rattle.gx_legal.specs.Copies.{is_of_claim, is_of_message, is_of_node, is_of_row, is_of_transaction};
 
-use gx_ids::{Duplicate, Mem};
+use gx_ids::{Duplicate, Mem, Shared};
 use gx_store::{Mark, Step, StmtAnswer};
 use gx_waits::{LocalGraph, Verdict};
 use std::alloc::Global;
@@ -25,7 +25,7 @@ fn answer_copy(alloc: Global, answer: &StmtAnswer) -> Mem<StmtAnswer>
     }
 }
 
-fn recheck_copy(alloc: Global, round: u64, own: &LocalGraph, verdict: &Verdict) -> Mem<Mark>
+fn recheck_copy(alloc: Global, round: u64, own: &Shared<LocalGraph>, verdict: &Verdict) -> Mem<Mark>
     ensures { IfOk result (λ copy. copy ≡ Recheck round own.now verdict.now) }
 {
     let own = own.copy(alloc)?;

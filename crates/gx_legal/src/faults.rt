@@ -48,6 +48,7 @@ fn is_stmt_fault(
 {
     match stmt {
         Stmt::Select(query) => {
+            let query = query.get();
             let choice = choice_of(command, query.table, &query.cond, rid);
             is_seen_fault(alloc, marks, choice, image, fault)
         }
@@ -58,16 +59,16 @@ fn is_stmt_fault(
             let choice = Choice {
                 command,
                 table: *table,
-                cond,
+                cond: cond.get(),
                 rid,
             };
-            is_update_fault(alloc, marks, choice, assigns.as_slice(), image, fault)
+            is_update_fault(alloc, marks, choice, assigns.get().as_slice(), image, fault)
         }
         Stmt::Delete(table, cond) => {
             let choice = Choice {
                 command,
                 table: *table,
-                cond,
+                cond: cond.get(),
                 rid,
             };
             is_condition_fault(alloc, marks, choice, image, fault)

@@ -60,9 +60,21 @@ pub fn is_overtaken(
     }
     match stmt {
         Stmt::Update(table, _, cond) => is_overtaken_there(
-            alloc, moment, command, *table, cond, row,
+            alloc,
+            moment,
+            command,
+            *table,
+            cond.get(),
+            row,
         ),
-        Stmt::Delete(table, cond) => is_overtaken_there(alloc, moment, command, *table, cond, row),
+        Stmt::Delete(table, cond) => is_overtaken_there(
+            alloc,
+            moment,
+            command,
+            *table,
+            cond.get(),
+            row,
+        ),
         _ => Ok(false),
     }
 }

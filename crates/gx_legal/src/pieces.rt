@@ -19,7 +19,7 @@ fn table_of(stmt: &Stmt) -> Option<Table>
     ensures { result ≡ its_table stmt.now }
 {
     match stmt {
-        Stmt::Select(query) => Some(query.table),
+        Stmt::Select(query) => Some(query.get().table),
         Stmt::Insert(table, _)
         | Stmt::Update(table, _, _)
         | Stmt::Delete(table, _)

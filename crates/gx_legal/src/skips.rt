@@ -33,12 +33,12 @@ fn is_skip(alloc: Global, marks: &[Mark], command: Command, stmt: &Stmt, rid: Ri
         Stmt::Update(table, _, cond) => is_first_skip(
             alloc,
             marks,
-            choice_of(command, *table, cond, rid),
+            choice_of(command, *table, cond.get(), rid),
         ),
         Stmt::Delete(table, cond) => is_first_skip(
             alloc,
             marks,
-            choice_of(command, *table, cond, rid),
+            choice_of(command, *table, cond.get(), rid),
         ),
         _ => Ok(false),
     }

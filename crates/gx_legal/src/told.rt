@@ -41,10 +41,24 @@ fn has_told(
     ensures { IfOk result (λ holds. holds ≡ did_tell script.now marks.now command.level command.gxid command.cid stmt.now answer.now) }
 {
     match stmt {
-        Stmt::Select(query) => tells_rows(alloc, marks, command, query, answer),
+        Stmt::Select(query) => tells_rows(alloc, marks, command, query.get(), answer),
         Stmt::Insert(_, tuples) => tells_inserted(alloc, marks, command, tuples.as_slice(), answer),
-        Stmt::Update(table, _, cond) => tells_updated(alloc, marks, command, *table, cond, answer),
-        Stmt::Delete(table, cond) => tells_deleted(alloc, marks, command, *table, cond, answer),
+        Stmt::Update(table, _, cond) => tells_updated(
+            alloc,
+            marks,
+            command,
+            *table,
+            cond.get(),
+            answer,
+        ),
+        Stmt::Delete(table, cond) => tells_deleted(
+            alloc,
+            marks,
+            command,
+            *table,
+            cond.get(),
+            answer,
+        ),
         Stmt::Lock(table, mode) => Ok(tells_locked(
             marks,
             script.segments,

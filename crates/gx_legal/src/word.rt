@@ -31,7 +31,7 @@ fn is_reply(reply: &Reply, word: Word) -> bool
     match (reply, word) {
         (Reply::Done { cid, .. }, Word::Done(done)) => *cid == done,
         (Reply::Failed { cid, cause }, Word::Failed(failed, why)) => *cid == failed
-            && *cause == why,
+            && *cause.get() == why,
         (Reply::Jfault, Word::Jfault) => true,
         _ => false,
     }

@@ -59,14 +59,14 @@ fn is_write(
             )
         }
         Stmt::Update(table, assigns, cond) => {
-            let choice = choice_of(command, *table, cond, row.rid);
+            let choice = choice_of(command, *table, cond.get(), row.rid);
             Ok(
                 is_next(marks, command, *table, row)
-                    && is_updated(alloc, marks, choice, assigns.as_slice(), image)?,
+                    && is_updated(alloc, marks, choice, assigns.get().as_slice(), image)?,
             )
         }
         Stmt::Delete(table, cond) => {
-            let choice = choice_of(command, *table, cond, row.rid);
+            let choice = choice_of(command, *table, cond.get(), row.rid);
             Ok(is_next(marks, command, *table, row) && is_deleted(alloc, marks, choice, image)?)
         }
         _ => Ok(false),

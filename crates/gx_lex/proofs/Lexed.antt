@@ -1,11 +1,12 @@
 -- What is written is read.
 use Rattle.std.proofs.Common.{◌≡◌, ℕ, ◌+◌, ◌*◌, ◌-◌, Bool, true, false, ◌||◌, if◌then◌else◌, List, [], ◌∷◌, ◌++◌, Option, Some, refl, sym, ◌∙◌, ap, arith, append_assoc, append-nil}
+use Rattle.std.specs.List.{list_any}
 use Rattle.gx_lex.specs.declared.symbol.Symbol.{Symbol}
 use Rattle.gx_lex.specs.declared.symbol.Symbol.TheVariants as symbol
 use Rattle.gx_lex.specs.declared.token.Token.{Token}
 use Rattle.gx_lex.specs.declared.token.Token.TheVariants as token
 use Rattle.gx_lex.specs.Symbols.{bytes_of_symbol}
-use Rattle.gx_lex.specs.Lexing.{is_blank, is_capital, is_letter, is_digit, is_word_byte, is_quote, is_less, is_greater, is_equal, is_either, every, any, Without, small, smalls, doubled, Lexeme, word, digits, text, sign, open_text, stray, bytes_of, IsLexeme, IsSign, token_of, Lexes}
+use Rattle.gx_lex.specs.Lexing.{is_blank, is_capital, is_letter, is_digit, is_word_byte, is_quote, is_less, is_greater, is_equal, is_either, every, Without, small, smalls, doubled, Lexeme, word, digits, text, sign, open_text, stray, bytes_of, IsLexeme, IsSign, token_of, Lexes}
 use Rattle.gx_lex.specs.Reader.{State, Gap, InWord, InNumber, InText, Quoted, BehindLess, BehindGreater, Lost, word_token, grown, put_symbol, next, lex_on, lex}
 use Rattle.gx_lex.proofs.Tools.{if_true, if_false, letter_not_blank, digit_not_blank, not_equal, not_greater, same_number, number_on, number_is, first_digit}
 
@@ -22,12 +23,12 @@ or_assoc a b c = grind arith
 or_false : (a : Bool) → (a || false) ≡ a
 or_false a = grind arith
 
-pub word_more : (w acc rest : List ℕ) (c : Bool) (out : List Token) → every is_word_byte w → lex_on (w ++ rest) out (InWord acc c) ≡ lex_on rest out (InWord (acc ++ smalls w) (c || any is_capital w))
+pub word_more : (w acc rest : List ℕ) (c : Bool) (out : List Token) → every is_word_byte w → lex_on (w ++ rest) out (InWord acc c) ≡ lex_on rest out (InWord (acc ++ smalls w) (c || list_any is_capital w))
 word_more [] acc rest c out e = ap (λ (x : List ℕ). lex_on rest out (InWord x c)) (sym (append-nil acc)) ∙ ap (λ (x : Bool). lex_on rest out (InWord (acc ++ []) x)) (sym (or_false c))
 word_more (b ∷ w) acc rest c out e = step b (w ++ rest) out out (InWord acc c) (InWord (acc ++ small b ∷ []) (c || is_capital b)) (if_true (is_word_byte b) _ _ e.0)
     ∙ word_more w (acc ++ small b ∷ []) rest (c || is_capital b) out e.1
-    ∙ ap (λ (x : List ℕ). lex_on rest out (InWord x ((c || is_capital b) || any is_capital w))) (append_assoc acc (small b ∷ []) (smalls w))
-    ∙ ap (λ (x : Bool). lex_on rest out (InWord (acc ++ smalls (b ∷ w)) x)) (or_assoc c (is_capital b) (any is_capital w))
+    ∙ ap (λ (x : List ℕ). lex_on rest out (InWord x ((c || is_capital b) || list_any is_capital w))) (append_assoc acc (small b ∷ []) (smalls w))
+    ∙ ap (λ (x : Bool). lex_on rest out (InWord (acc ++ smalls (b ∷ w)) x)) (or_assoc c (is_capital b) (list_any is_capital w))
 
 number_more : (w rest : List ℕ) (n : Option ℕ) (out : List Token) → every is_digit w → lex_on (w ++ rest) out (InNumber n) ≡ lex_on rest out (InNumber (number_on n w))
 number_more [] rest n out e = refl
@@ -85,7 +86,7 @@ one_sign symbol.GreaterEqual rest out h = refl
 
 one_lexeme : (x : Lexeme) (rest : List ℕ) (out : List Token) → IsLexeme x rest → lex_on (bytes_of x ++ rest) out Gap ≡ lex_on rest (out ++ token_of x ∷ []) Gap
 one_lexeme (word []) rest out h = absurd h.0
-one_lexeme (word (b ∷ w)) rest out h = step b (w ++ rest) out out Gap (InWord (small b ∷ []) (is_capital b)) (if_false (is_blank b) _ _ (letter_not_blank b h.0.0) ∙ if_true (is_letter b) _ _ h.0.0) ∙ word_more w (small b ∷ []) rest (is_capital b) out h.0.1 ∙ word_end (smalls (b ∷ w)) rest (any is_capital (b ∷ w)) out h.1
+one_lexeme (word (b ∷ w)) rest out h = step b (w ++ rest) out out Gap (InWord (small b ∷ []) (is_capital b)) (if_false (is_blank b) _ _ (letter_not_blank b h.0.0) ∙ if_true (is_letter b) _ _ h.0.0) ∙ word_more w (small b ∷ []) rest (is_capital b) out h.0.1 ∙ word_end (smalls (b ∷ w)) rest (list_any is_capital (b ∷ w)) out h.1
 one_lexeme (digits []) rest out h = absurd h.0
 one_lexeme (digits (b ∷ w)) rest out h =
     let d = digit_not_blank b h.0.0 in

@@ -1,11 +1,12 @@
 -- What is read is written.
 use Rattle.std.proofs.Common.{◌≡◌, ◌⊎◌, inl, inr, ℕ, ◌+◌, ◌*◌, ◌-◌, Bool, true, false, ◌||◌, List, [], ◌∷◌, ◌++◌, Option, Some, None, refl, sym, ◌∙◌, ap, subst, arith, append_assoc, append-nil}
+use Rattle.std.specs.List.{list_any}
 use Rattle.gx_lex.specs.declared.symbol.Symbol.{Symbol}
 use Rattle.gx_lex.specs.declared.symbol.Symbol.TheVariants as symbol
 use Rattle.gx_lex.specs.declared.token.Token.{Token}
 use Rattle.gx_lex.specs.declared.token.Token.TheVariants as token
 use Rattle.gx_lex.specs.Symbols.{symbol_of}
-use Rattle.gx_lex.specs.Lexing.{is_blank, is_capital, is_letter, is_digit, is_word_byte, is_quote, is_less, is_greater, is_equal, every, any, Without, small, smalls, doubled, word, digits, text, sign, open_text, stray, begins_nothing, Lexes}
+use Rattle.gx_lex.specs.Lexing.{is_blank, is_capital, is_letter, is_digit, is_word_byte, is_quote, is_less, is_greater, is_equal, every, Without, small, smalls, doubled, word, digits, text, sign, open_text, stray, begins_nothing, Lexes}
 use Rattle.gx_lex.specs.Reader.{State, Gap, InWord, InNumber, InText, Quoted, BehindLess, BehindGreater, Lost, word_token, grown, put_symbol, begin, next, ended, lex_on, lex}
 use Rattle.gx_lex.proofs.Tools.{if_false, pick, neither, same_number, number_on, number_is, first_digit, symbol_is}
 
@@ -15,7 +16,7 @@ TextFrom w ts bs = ((tail : List ℕ) × (rest : List ℕ) × (us : List Token) 
 -- the tokens that the rest of the bytes makes, from a state on
 abbrev From : State → List Token → List ℕ → Type 0
 From Gap ts bs = Lexes ts bs
-From (InWord w c) ts bs = (tail : List ℕ) × (rest : List ℕ) × (us : List Token) × every is_word_byte tail × Without is_word_byte rest × (bs ≡ tail ++ rest) × (ts ≡ word_token (w ++ smalls tail) (c || any is_capital tail) ∷ us) × Lexes us rest
+From (InWord w c) ts bs = (tail : List ℕ) × (rest : List ℕ) × (us : List Token) × every is_word_byte tail × Without is_word_byte rest × (bs ≡ tail ++ rest) × (ts ≡ word_token (w ++ smalls tail) (c || list_any is_capital tail) ∷ us) × Lexes us rest
 From (InNumber n) ts bs = (tail : List ℕ) × (rest : List ℕ) × (us : List Token) × every is_digit tail × Without is_digit rest × (bs ≡ tail ++ rest) × (ts ≡ token.Number (number_on n tail) ∷ us) × Lexes us rest
 From (InText w) ts bs = TextFrom w ts bs
 From (Quoted w) ts bs = TextFrom w ts (39 ∷ bs)
@@ -90,8 +91,8 @@ word_next b w bs c ts e (tail, rest, us, p, q, z, k, h) = (
   q,
   ap (λ (x : List ℕ). b ∷ x) z,
   k
-      ∙ ap (λ (x : List ℕ). word_token x ((c || is_capital b) || any is_capital tail) ∷ us) (append_assoc w (small b ∷ []) (smalls tail))
-      ∙ ap (λ (x : Bool). word_token (w ++ small b ∷ smalls tail) x ∷ us) (or_assoc c (is_capital b) (any is_capital tail)),
+      ∙ ap (λ (x : List ℕ). word_token x ((c || is_capital b) || list_any is_capital tail) ∷ us) (append_assoc w (small b ∷ []) (smalls tail))
+      ∙ ap (λ (x : Bool). word_token (w ++ small b ∷ smalls tail) x ∷ us) (or_assoc c (is_capital b) (list_any is_capital tail)),
   h,
 )
 

@@ -1,5 +1,6 @@
 -- Which bytes are which tokens.
 use Rattle.std.specs.Prelude.{◌≡◌, ℕ, ◌+◌, ◌-◌, ◌*◌, ◌==◌, nat_le, Bool, true, false, ◌&&◌, ◌||◌, if◌then◌else◌, List, [], ◌∷◌, ◌++◌, Option, Some, None}
+use Rattle.std.specs.List.{list_any}
 use Rattle.gx_lex.specs.declared.word.Word.{Word}
 use Rattle.gx_lex.specs.declared.symbol.Symbol.{Symbol}
 use Rattle.gx_lex.specs.declared.symbol.Symbol.TheVariants.{Less, Greater}
@@ -43,10 +44,6 @@ is_either b = is_equal b || is_greater b
 abbrev pub every : (ℕ → Bool) → List ℕ → Type 0
 every p [] = Unit {0}
 every p (b ∷ bs) = (p b ≡ true) × every p bs
-
-abbrev pub any : (ℕ → Bool) → List ℕ → Bool
-any p [] = false
-any p (b ∷ bs) = p b || any p bs
 
 -- the first byte, where there is one, isn't of the class
 abbrev pub Without : (ℕ → Bool) → List ℕ → Type 0
@@ -124,7 +121,7 @@ word_of None w false = token.Name w
 
 -- the token that a lexeme is
 abbrev pub token_of : Lexeme → Token
-token_of (word w) = word_of (keyword_of (smalls w)) (smalls w) (any is_capital w)
+token_of (word w) = word_of (keyword_of (smalls w)) (smalls w) (list_any is_capital w)
 token_of (digits w) = token.Number (fitting (number_behind 0 w))
 token_of (text t) = token.Text t
 token_of (sign s) = token.Symbol s

@@ -1,5 +1,6 @@
 pub mod Edges
 pub mod Emptied
+pub mod Entered
 pub mod Filed
 pub mod Found
 pub mod Keys

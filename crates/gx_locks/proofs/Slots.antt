@@ -11,7 +11,7 @@ use Rattle.std.specs.declared.cmp.Ordering.TheVariants.{Less, Equal, Greater}
 use Rattle.gx_locks.specs.declared.hold.Hold.{Hold}
 use Rattle.gx_locks.specs.declared.slot.Slot.{Slot}
 use Rattle.gx_locks.specs.Holds.{same_hold, standing}
-use Rattle.gx_locks.specs.Ledger.{AreRising, IsLedger}
+use Rattle.gx_locks.specs.Ledger.{AreBelow, AreRising, IsLedger}
 
 -- holds of other numbers are others
 pub other_number : (h o : Hold) → h.number ≢ o.number → same_hold h o ≡ false
@@ -31,6 +31,10 @@ all_tail P s ss all k d inside = all (suc k) d (omega (arith, inside))
 pub standing-struck_none : (h : Hold) (slots : List Slot) → All (λ s. same_hold h s.hold ≡ false) slots → filter (λ o. not (same_hold h o)) (standing slots) ≡ standing slots
 standing-struck_none h [] none = refl
 standing-struck_none h (s ∷ ss) none = none_struck h s ss s.stands (none 0 s (omega arith)) (standing-struck_none h ss (all_tail (λ s. same_hold h s.hold ≡ false) s ss none))
+
+-- no slot has the next number
+pub standing-fresh : (h : Hold) (slots : List Slot) → AreBelow h.number slots → filter (λ o. not (same_hold h o)) (standing slots) ≡ standing slots
+standing-fresh h slots below = standing-struck_none h slots (λ k d inside. other_number h (get_or slots k d).hold (λ same. omega (arith, same, below k d inside)))
 
 abbrev pub IsAlone : Hold → List Slot → ℕ → Type 0
 IsAlone h slots i = (k : ℕ) (d : Slot) → k < length slots → k ≢ i → same_hold h (get_or slots k d).hold ≡ false

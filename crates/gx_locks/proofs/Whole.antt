@@ -11,7 +11,7 @@ use Rattle.gx_waits.specs.declared.claim.Claim.{Claim}
 use Rattle.gx_locks.specs.declared.book.Book.{Book}
 use Rattle.gx_locks.specs.declared.key.Key.{Key}
 use Rattle.gx_locks.specs.declared.key.Key.TheVariants.{On, Of}
-use Rattle.gx_locks.specs.Book.{IsFiled, IsWhole, claims_in, HasSameHolds, HasPlaceMore, HasPlaceLess, HasPlace}
+use Rattle.gx_locks.specs.Book.{IsFiled, IsWhole, claims_in, HasSameHolds, HasSamePlaces, HasPlaceLess, HasPlace}
 use Rattle.gx_waits.specs.Claim.{meets, same_claim}
 use Rattle.gx_locks.specs.Claims.{is_of}
 use Rattle.gx_locks.specs.Holds.{is_under, claims_of}
@@ -28,6 +28,10 @@ none_passes p xs k d false is none inside = refl
 pub free_is : (b : Bool) → not b ≡ true → b ≡ false
 free_is true free = absurd (cc)
 free_is false free = refl
+
+pub not_false : (b : Bool) → not b ≡ false → b ≡ true
+not_false true e = refl
+not_false false e = absurd (cc)
 
 module _ (p : Claim → Bool) where
   count_kept : (q : Claim → Bool) (x : Claim) (xs : List Claim) (a b : Bool) → p x ≡ b → length (filter p (filter q xs)) ≤ length (filter p xs) → length (filter p (cond a (x ∷ filter q xs) (filter q xs))) ≤ length (cond b (x ∷ filter p xs) (filter p xs))
@@ -89,12 +93,10 @@ IsWhole-held b b' ws ws' c whole once free new filed e places room =
       room = room;
     }
 
--- a place that was made and filled
-pub IsWhole-granted : (b b1 b2 : Book) (ws : List Claim) (c : Claim) → IsWhole b ws → is_free (claims_in b) c ≡ true → list_any (same_claim c) (claims_in b) ≡ false → HasSameHolds b b1 → HasPlaceMore b b1 c → IsFiled b2 → claims_in b2 ≡ claims_in b1 ++ c ∷ [] → HasPlaceLess b1 b2 c → IsWhole b2 ws
-IsWhole-granted b b1 b2 ws c whole free new same more filed e less =
-    IsWhole-held b b2 ws ws c whole whole.once free new filed (e ∙ ap (λ hs. claims_of hs ++ c ∷ []) same.ledger)
-    (omega (arith, whole.places, more.ledger, less.ledger))
-    (λ k. omega (arith, whole.room k, more.index k, less.index k))
+-- a hold beside the places
+pub IsWhole-added : (b b' : Book) (ws : List Claim) (c : Claim) → IsWhole b ws → is_free (claims_in b) c ≡ true → list_any (same_claim c) (claims_in b) ≡ false → IsFiled b' → claims_in b' ≡ claims_in b ++ c ∷ [] → HasSamePlaces b b' → IsWhole b' ws
+IsWhole-added b b' ws c whole free new filed e same =
+    IsWhole-held b b' ws ws c whole whole.once free new filed e (omega (arith, whole.places, same.ledger)) (λ k. omega (arith, whole.room k, same.index k))
 
 -- the waits without a transaction's
 once-without : (g : Gxid) (ws ws' : List Claim) → WaitOnce ws → ws' ≡ without g ws → WaitOnce ws'

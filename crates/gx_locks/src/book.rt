@@ -16,6 +16,13 @@ use gx_ids::{Gxid, Mem};
 use gx_waits::{Claim, Object};
 use std::alloc::Global;
 
+/// Whether a claim meets no hold, and whether it is held.
+#[derive(Clone, Copy)]
+pub struct Standing {
+    pub is_free: bool,
+    pub is_held: bool,
+}
+
 /// The holds, with an index by object and by transaction.
 #[derive(Drop)]
 pub struct Book {
@@ -78,6 +85,19 @@ impl Book {
         is_any_same(self.on(claim.object), claim)
     }
 
+    /// How a claim stands to the holds.
+    pub fn standing(&self, claim: &Claim) -> Standing
+        requires { IsFiled self.now }
+        ensures free { result.is_free ≡ is_free (claims_in self.now) claim.now }
+        ensures held { result.is_held ≡ list_any (same_claim claim.now) (claims_in self.now) }
+    {
+        let holds = self.on(claim.object);
+        Standing {
+            is_free: !is_any_met(holds, claim),
+            is_held: is_any_same(holds, claim),
+        }
+    }
+
     /// The transactions whose holds a claim meets, rising.
     pub fn blockers(&self, alloc: Global, claim: &Claim) -> Mem<Vec<Gxid>>
         requires { IsFiled self.now }
@@ -128,6 +148,22 @@ impl Book {
         self.index.file(hold);
     }
 
+    /// Holds a claim, beside the places that are kept for others.
+    pub fn add(&mut self, claim: Claim) -> Mem<()>
+        requires { IsFiled self.old }
+        ensures filed { IsFiled self.new }
+        ensures ok { OnOk result (claims_in self.new ≡ claims_in self.old ++ claim ∷ []) }
+        ensures err { OnErr result (claims_in self.new ≡ claims_in self.old) }
+        ensures places { HasSamePlaces self.old self.new }
+    {
+        let hold = self.ledger.add(claim)?;
+        if let Err(error) = self.index.enter(hold) {
+            self.ledger.strike(&hold);
+            return Err(error);
+        }
+        Ok(())
+    }
+
     /// Gives a claim back.
     pub fn release(&mut self, claim: &Claim)
         requires filed { IsFiled self.old }
@@ -142,11 +178,12 @@ impl Book {
         }
     }
 
-    /// Gives all claims of a transaction back, for which there are no places any more.
-    pub fn release_all(&mut self, gxid: Gxid)
+    /// Gives all claims of a transaction back, for which there are no places any more, and hands out its holds.
+    pub fn release_all(&mut self, gxid: Gxid) -> Vec<Hold>
         requires filed { IsFiled self.old }
         requires once { AreOnce (claims_in self.old) }
         ensures filed { IsFiled self.new }
+        ensures taken { claims_of result.items ≡ filter (is_of gxid) (claims_in self.old) }
         ensures claims { claims_in self.new ≡ without gxid (claims_in self.old) }
         ensures places { self.new.ledger.places ≡ self.old.ledger.places }
         ensures room { (k : Key) → k ≢ Of gxid → places_at self.new.index k ≡ places_at self.old.index k }
@@ -156,5 +193,6 @@ impl Book {
             self.ledger.strike(hold);
             self.index.strike(Key::On(hold.claim.object), hold);
         }
+        holds
     }
 }

@@ -19,7 +19,7 @@ pub struct Index {
 
 impl Index {
     ghost use Rattle.gx_locks.specs.declared.key.Key.{Key};
-    ghost use Rattle.gx_locks.specs.Index.{holds_at, places_at};
+    ghost use Rattle.gx_locks.specs.Index.{holds_at, places_at, shelf_at};
 
     pub fn new(alloc: Global) -> Index
         ensures holds { (k : Key) → holds_at result k ≡ [] }
@@ -100,6 +100,34 @@ impl Index {
             Some(shelf) => shelf.fill(hold),
             None => unreachable!(),
         }
+    }
+
+    // Adds a hold, beside the room that is kept for others.
+    fn add(&mut self, key: Key, hold: Hold) -> Mem<()>
+        ensures there { OnOk result (holds_at self.new key ≡ holds_at self.old key ++ hold ∷ []) }
+        ensures elsewhere { (k : Key) → k ≢ key → holds_at self.new k ≡ holds_at self.old k }
+        ensures err { OnErr result (holds_at self.new key ≡ holds_at self.old key) }
+        ensures places_there { places_at self.new key ≡ places_at self.old key }
+        ensures places_elsewhere { (k : Key) → k ≢ key → places_at self.new k ≡ places_at self.old k }
+    {
+        match self.shelves.get_mut(&key) {
+            Some(shelf) => shelf.add(hold),
+            None => {
+                let mut shelf = Shelf::new(self.alloc);
+                shelf.add(hold)?;
+                self.put(key, shelf)
+            }
+        }
+    }
+
+    // Puts a shelf under a key.
+    fn put(&mut self, key: Key, shelf: Shelf) -> Mem<()>
+        ensures there { OnOk result (shelf_at self.new key ≡ shelf) }
+        ensures elsewhere { (k : Key) → k ≢ key → shelf_at self.new k ≡ shelf_at self.old k }
+        ensures err { OnErr result (shelf_at self.new key ≡ shelf_at self.old key) }
+    {
+        self.shelves.insert(key, shelf)?;
+        Ok(())
     }
 
     /// Takes out a hold.
@@ -196,6 +224,22 @@ impl Index {
     {
         self.fill(Key::On(hold.claim.object), hold);
         self.fill(Key::Of(hold.claim.gxid), hold);
+    }
+
+    /// Adds a hold that stands nowhere under both its keys, beside the room that is kept for others.
+    pub fn enter(&mut self, hold: Hold) -> Mem<()>
+        requires { (k : Key) → filter (λ other. not (same_hold hold other)) (holds_at self.old k) ≡ holds_at self.old k }
+        ensures there { OnOk result ((k : Key) → is_under k hold.claim ≡ true → holds_at self.new k ≡ holds_at self.old k ++ hold ∷ []) }
+        ensures elsewhere { OnOk result ((k : Key) → is_under k hold.claim ≡ false → holds_at self.new k ≡ holds_at self.old k) }
+        ensures err { OnErr result ((k : Key) → holds_at self.new k ≡ holds_at self.old k) }
+        ensures places { (k : Key) → places_at self.new k ≡ places_at self.old k }
+    {
+        self.add(Key::On(hold.claim.object), hold)?;
+        if let Err(error) = self.add(Key::Of(hold.claim.gxid), hold) {
+            self.strike(Key::On(hold.claim.object), &hold);
+            return Err(error);
+        }
+        Ok(())
     }
 
     /// Takes out a hold under both its keys.

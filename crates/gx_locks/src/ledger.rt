@@ -77,6 +77,7 @@ impl Ledger {
         requires { 0 < self.old.places }
         ensures claim { result.claim ≡ claim }
         ensures holds { self.new.holds ≡ self.old.holds ++ result ∷ [] }
+        ensures fresh { filter (λ other. not (same_hold result other)) self.old.holds ≡ self.old.holds }
         ensures places { self.new.places + 1 ≡ self.old.places }
     {
         let hold = Hold {
@@ -87,6 +88,18 @@ impl Ledger {
         self.next += 1;
         self.places -= 1;
         hold
+    }
+
+    /// Adds a hold under a number of its own, beside the room that is kept for others.
+    pub fn add(&mut self, claim: Claim) -> Mem<Hold>
+        ensures claim { IfOk result (λ hold. hold.claim ≡ claim) }
+        ensures holds { IfOk result (λ hold. self.new.holds ≡ self.old.holds ++ hold ∷ []) }
+        ensures fresh { IfOk result (λ hold. filter (λ other. not (same_hold hold other)) self.old.holds ≡ self.old.holds) }
+        ensures err { OnErr result (self.new.holds ≡ self.old.holds) }
+        ensures places { self.new.places ≡ self.old.places }
+    {
+        self.reserve()?;
+        Ok(self.fill(claim))
     }
 
     /// Takes out a hold.

@@ -17,4 +17,5 @@ pub mod table;
 
 pub use answer::LockAnswer;
 pub use claims::{is_same_claim, is_same_object};
+pub use hold::Hold;
 pub use table::LockTable;

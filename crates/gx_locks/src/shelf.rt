@@ -86,6 +86,17 @@ impl Shelf {
         self.places -= 1;
     }
 
+    /// Adds a hold, beside the room that is kept for others.
+    pub fn add(&mut self, hold: Hold) -> Mem<()>
+        ensures ok { OnOk result (self.new.holds ≡ self.old.holds ++ hold ∷ []) }
+        ensures err { OnErr result (self.new.holds ≡ self.old.holds) }
+        ensures places { self.new.places ≡ self.old.places }
+    {
+        self.reserve()?;
+        self.fill(hold);
+        Ok(())
+    }
+
     /// Takes out a hold.
     pub fn strike(&mut self, hold: &Hold)
         ensures holds { self.new.holds ≡ filter (λ other. not (same_hold hold.now other)) self.old.holds }

@@ -4,6 +4,7 @@ ghost use Rattle.gx_ids.specs.declared.ids.Gxid.{Gxid};
 ghost use Rattle.gx_waits.specs.Claim.{AreEdges, same_claim};
 ghost use Rattle.gx_locks.specs.Claims.{is_of};
 ghost use Rattle.gx_locks.specs.Graphs.{graph_at};
+ghost use Rattle.gx_locks.specs.Holds.{claims_of};
 ghost use Rattle.gx_locks.specs.Locks.{IsAnswer, blockers, is_free, ready_ones, least_with, IsLeast, wait_of, is_ready, resumed, without, without_claim};
 ghost use Rattle.gx_locks.specs.Kept.{AreExclusive, AreOnce, WaitOnce};
 ghost use Rattle.gx_locks.specs.Book.{IsFiled, claims_in};
@@ -12,6 +13,7 @@ use crate::answer::LockAnswer;
 use crate::book::Book;
 use crate::claims::{find_of, is_any_of, put, take_out};
 use crate::graph::graph_of;
+use crate::hold::Hold;
 use gx_ids::{Gxid, Mem, Node, Seq};
 use gx_modes::Mode;
 use gx_waits::{Claim, LocalGraph, Object};
@@ -95,16 +97,16 @@ impl LockTable {
         ensures err { OnErr result (self.new ≡ self.old) }
     {
         let claim = Claim { gxid, object, mode };
-        if !self.book.is_free(&claim) {
+        let standing = self.book.standing(&claim);
+        if !standing.is_free {
             let blockers = self.book.blockers(self.alloc, &claim)?;
             self.waits.reserve(1)?;
             self.book.expect(&claim)?;
             put(&mut self.waits, claim);
             return Ok(LockAnswer::Waits(Seq::from_vec(blockers)));
         }
-        if !self.book.is_held(&claim) {
-            self.book.expect(&claim)?;
-            self.book.hold(claim);
+        if !standing.is_held {
+            self.book.add(claim)?;
         }
         Ok(LockAnswer::Granted)
     }
@@ -154,8 +156,16 @@ impl LockTable {
     pub fn release_all(&mut self, gxid: Gxid)
         ensures { self.new ≡ record self.old { holds = without gxid self.old.holds; waits = without gxid self.old.waits } }
     {
+        drop(self.take_all(gxid));
+    }
+
+    /// Gives back all locks of a transaction, drops its wait, and hands out its holds in the order in which they came.
+    pub fn take_all(&mut self, gxid: Gxid) -> Vec<Hold>
+        ensures table { self.new ≡ record self.old { holds = without gxid self.old.holds; waits = without gxid self.old.waits } }
+        ensures taken { claims_of result.items ≡ filter (is_of gxid) self.old.holds }
+    {
         self.drop_wait(gxid);
-        self.book.release_all(gxid);
+        self.book.release_all(gxid)
     }
 
     // Drops the wait of a transaction, where it has one.

@@ -13,7 +13,7 @@ pub enum Message {
         gxid: Gxid,
         cid: Cid,
         level: Level,
-        snapshot: Option<Snapshot>,
+        snapshot: Shared<Option<Snapshot>>,
         horizon: Gxid,
         slice: Shared<Slice>,
     },

@@ -1,4 +1,4 @@
-use gx_ids::{Cid, Duplicate, Gxid, Mem, Rid};
+use gx_ids::{Cid, Duplicate, Gxid, Mem, Rid, Shared};
 use gx_tree::Part;
 use std::alloc::Global;
 
@@ -20,12 +20,12 @@ pub enum Reply {
         cid: Cid,
         wrote: bool,
         count: u64,
-        part: Part,
+        part: Shared<Part>,
     },
     /// A command can't be done.
     Failed {
         cid: Cid,
-        cause: Cause,
+        cause: Shared<Cause>,
     },
     Prepared,
     Committed,
@@ -54,10 +54,10 @@ impl Duplicate for Reply {
                     part,
                 })
             }
-            Reply::Failed { cid, cause } => Ok(Reply::Failed {
-                cid: *cid,
-                cause: *cause,
-            }),
+            Reply::Failed { cid, cause } => {
+                let cause = cause.copy(alloc)?;
+                Ok(Reply::Failed { cid: *cid, cause })
+            }
             Reply::Prepared => Ok(Reply::Prepared),
             Reply::Committed => Ok(Reply::Committed),
             Reply::Jfault => Ok(Reply::Jfault),

@@ -2,6 +2,7 @@ ghost use Rattle.std.specs.Prelude.{◌≡◌, ◌++◌, ◌∷◌, [], filter, 
 ghost use Rattle.std.specs.Cmp.{IsTotalOrder};
 ghost use Rattle.std.specs.List.{list_any};
 ghost use Rattle.gx_locks.specs.Claims.{is_of};
+ghost use Rattle.gx_locks.specs.Holds.{claims_of};
 ghost use Rattle.gx_locks.specs.Locks.{is_free, is_ready, resumed, wait_of};
 ghost use Rattle.gx_meaning.specs.Order.{in_order};
 ghost use Rattle.gx_rules.specs.Locks as rule;
@@ -11,7 +12,7 @@ ghost use Rattle.gx_waits.specs.Claim.{same_claim};
 ghost use Rattle.gx_node.specs.Locking.{asked_locks, asked_mark, end_marks, granted_locks, granted_marks, resumed_marks, without_end};
 
 use gx_ids::{Gxid, Mem, Node, Table};
-use gx_locks::{LockAnswer, LockTable, is_same_claim};
+use gx_locks::{Hold, LockAnswer, LockTable, is_same_claim};
 use gx_modes::Mode;
 use gx_script::Script;
 use gx_store::Mark;
@@ -33,12 +34,12 @@ fn is_ordered<T: Ord>()
     ensures { IsTotalOrder T.cmp }
 {}
 
-fn sorted_claims(mut claims: Vec<Claim>) -> Mem<Vec<Claim>>
-    ensures { IfOk result (λ sorted. sorted.items ≡ in_order rule.claim_order claims.items) }
+fn sorted_holds(mut holds: Vec<Hold>) -> Mem<Vec<Hold>>
+    ensures { IfOk result (λ sorted. claims_of sorted.items ≡ in_order rule.claim_order (claims_of holds.items)) }
 {
     is_ordered::<Object>();
-    claims.sort_by(|left, right| compare_claims(left, right))?;
-    Ok(claims)
+    holds.sort_by(|left, right| compare_claims(&left.claim, &right.claim))?;
+    Ok(holds)
 }
 
 // GIVEN BACK
@@ -54,28 +55,41 @@ fn waits_of(alloc: Global, waits: &[Claim], gxid: Gxid) -> Mem<Vec<Claim>>
     Ok(claims)
 }
 
-// All that a transaction has.
-fn has_there(alloc: Global, locks: &LockTable, gxid: Gxid) -> Mem<Vec<Claim>>
-    ensures { IfOk result (λ claims. claims.items ≡ rule.has_there locks.now gxid) }
+fn release_mark(node: Node, claim: Claim) -> Mark
+    ensures { result ≡ rule.release_mark node claim }
 {
-    let holds = locks.holds_of(gxid)?;
-    let holds = sorted_claims(holds)?;
-    let mut claims = waits_of(alloc, locks.waits(), gxid)?;
-    claims.extend_from_slice(holds.as_slice())?;
-    Ok(claims)
+    let Claim { gxid, object, mode } = claim;
+    Mark::Release {
+        node,
+        gxid,
+        object,
+        mode,
+    }
 }
 
-fn push_releases(marks: &mut Vec<Mark>, node: Node, claims: &[Claim]) -> Mem<()>
-    ensures { OnOk result (marks.new.items ≡ marks.old.items ++ map (rule.release_mark node) claims.now) }
+fn push_waits(marks: &mut Vec<Mark>, node: Node, waits: &[Claim]) -> Mem<()>
+    ensures { OnOk result (marks.new.items ≡ marks.old.items ++ map (rule.release_mark node) waits.now) }
 {
-    for claim in claims {
-        marks.push(Mark::Release {
-            node,
-            gxid: claim.gxid,
-            object: claim.object,
-            mode: claim.mode,
-        })?;
+    for wait in waits {
+        marks.push(release_mark(node, *wait))?;
     }
+    Ok(())
+}
+
+fn push_holds(marks: &mut Vec<Mark>, node: Node, holds: &[Hold]) -> Mem<()>
+    ensures { OnOk result (marks.new.items ≡ marks.old.items ++ map (rule.release_mark node) (claims_of holds.now)) }
+{
+    for hold in holds {
+        marks.push(release_mark(node, hold.claim))?;
+    }
+    Ok(())
+}
+
+fn push_releases(marks: &mut Vec<Mark>, node: Node, waits: &[Claim], holds: &[Hold]) -> Mem<()>
+    ensures { OnOk result (marks.new.items ≡ marks.old.items ++ map (rule.release_mark node) (waits.now ++ claims_of holds.now)) }
+{
+    push_waits(marks, node, waits)?;
+    push_holds(marks, node, holds)?;
     Ok(())
 }
 
@@ -90,10 +104,9 @@ pub fn give_back(
     ensures locks { OnOk result (locks.new ≡ rule.released locks.old gxid) }
     ensures marks { OnOk result (marks.new.items ≡ marks.old.items ++ rule.release_marks node locks.old gxid) }
 {
-    let claims = has_there(alloc, locks, gxid)?;
-    push_releases(marks, node, claims.as_slice())?;
-    locks.release_all(gxid);
-    Ok(())
+    let dropped = waits_of(alloc, locks.waits(), gxid)?;
+    let given = sorted_holds(locks.take_all(gxid))?;
+    push_releases(marks, node, dropped.as_slice(), given.as_slice())
 }
 
 /// One lock of a transaction at a node is given back, with its mark.

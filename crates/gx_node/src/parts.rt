@@ -40,7 +40,7 @@ pub fn fits_part(stmt: &Stmt, part: &Part) -> bool
     ensures { result ≡ fits.fits_part stmt.now part.now }
 {
     match stmt {
-        Stmt::Select(query) => fits_query(query, part),
+        Stmt::Select(query) => fits_query(query.get(), part),
         _ => is_no_rows(part),
     }
 }

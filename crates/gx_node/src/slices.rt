@@ -13,7 +13,7 @@ fn table_of(slice: &Slice) -> Table
     ensures { result.0 ≡ fits.table_of slice.now }
 {
     match slice {
-        Slice::Select(query) => query.table,
+        Slice::Select(query) => query.get().table,
         Slice::Insert(table, _) => *table,
         Slice::Update(table, _, _) => *table,
         Slice::Delete(table, _) => *table,
@@ -27,10 +27,12 @@ fn is_right_on(schema: &Schema, gxid: Gxid, cid: Cid, slice: &Slice) -> bool
 {
     let columns = schema.columns.as_slice();
     match slice {
-        Slice::Select(query) => is_right_query(columns, query),
-        Slice::Insert(_, rows) => are_right_rows(columns, gxid, cid, rows.as_slice()),
-        Slice::Update(_, assigns, cond) => is_right_change(columns, assigns.as_slice(), cond),
-        Slice::Delete(_, cond) => is_right_condition(columns, cond),
+        Slice::Select(query) => is_right_query(columns, query.get()),
+        Slice::Insert(_, rows) => { are_right_rows(columns, gxid, cid, rows.get().as_slice()) },
+        Slice::Update(_, assigns, cond) => {
+            is_right_change(columns, assigns.get().as_slice(), cond.get())
+        },
+        Slice::Delete(_, cond) => is_right_condition(columns, cond.get()),
         Slice::Lock(_, _) => true,
     }
 }

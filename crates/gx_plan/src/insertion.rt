@@ -1,4 +1,5 @@
 ghost use Rattle.std.specs.Prelude.{◌≡◌, ◌≤◌, ◌<◌, ◌^◌, [], All, IfOk, OnOk, Ok, Err, List, length, vec_len, replicate, ◌+◌, ◌++◌, ◌∷◌};
+ghost use Rattle.gx_tree.specs.declared.slice.Slice.TheVariants.{Insert};
 ghost use Rattle.gx_tree.specs.declared.value.Value.{Value};
 ghost use Rattle.gx_tree.specs.declared.row.KeyedRow.{KeyedRow as Keyed};
 ghost use Rattle.gx_meaning.specs.declared.fault.ArithFault.{ArithFault};
@@ -9,7 +10,7 @@ ghost use Rattle.gx_meaning.specs.Plan.{bucket_pieces, dealt, put_at};
 use crate::placement::place;
 use crate::tuple::tuple_values;
 use gx_eval::EvalFault;
-use gx_ids::{Cid, Gxid, Mem, Node, Rid, Seq, Table};
+use gx_ids::{Cid, Gxid, Mem, Node, Rid, Seq, Shared, Table};
 use gx_meaning::Piece;
 use gx_tree::{Expr, KeyedRow, Schema, Slice};
 use std::alloc::Global;
@@ -80,6 +81,15 @@ fn put(buckets: &mut Vec<Seq<KeyedRow>>, index: usize, row: KeyedRow) -> Mem<()>
     buckets[index].push(row)
 }
 
+fn insert_piece(alloc: Global, number: u8, table: Table, rows: Seq<KeyedRow>) -> Mem<Piece>
+    ensures { IfOk result (λ piece. piece ≡ record { node = record { 0 = number }; slice = Insert table rows }) }
+{
+    Ok(Piece {
+        node: Node(number),
+        slice: Slice::Insert(table, Shared::new(alloc, rows)?),
+    })
+}
+
 // The pieces of an INSERT, from the rows of each segment.
 pub fn insert_pieces(alloc: Global, table: Table, buckets: Vec<Seq<KeyedRow>>) -> Mem<Vec<Piece>>
     requires { vec_len buckets ≤ 16 }
@@ -90,10 +100,8 @@ pub fn insert_pieces(alloc: Global, table: Table, buckets: Vec<Seq<KeyedRow>>) -
     for rows in buckets {
         number += 1;
         if !rows.is_empty() {
-            pieces.push(Piece {
-                node: Node(number),
-                slice: Slice::Insert(table, rows),
-            })?;
+            let piece = insert_piece(alloc, number, table, rows)?;
+            pieces.push(piece)?;
         }
     }
     Ok(pieces)

@@ -47,16 +47,16 @@ fn same_slices(alloc: Global, stmt: &Stmt, schema: &Schema, n: u8) -> Mem<Vec<Pi
     match stmt {
         Stmt::Select(query) => {
             let slice = Slice::Select(query.copy(alloc)?);
-            send(alloc, schema, query.cond.as_ref(), n, slice)
+            send(alloc, schema, query.get().cond.as_ref(), n, slice)
         }
         Stmt::Update(table, assigns, cond) => {
             let assigns = assigns.copy(alloc)?;
             let slice = Slice::Update(*table, assigns, cond.copy(alloc)?);
-            send(alloc, schema, cond.as_ref(), n, slice)
+            send(alloc, schema, cond.get().as_ref(), n, slice)
         }
         Stmt::Delete(table, cond) => {
             let slice = Slice::Delete(*table, cond.copy(alloc)?);
-            send(alloc, schema, cond.as_ref(), n, slice)
+            send(alloc, schema, cond.get().as_ref(), n, slice)
         }
         Stmt::Lock(table, mode) => send_to_all(alloc, n, Slice::Lock(*table, *mode)),
         Stmt::Insert(_, _) | Stmt::Begin(_) | Stmt::Commit | Stmt::Rollback => unreachable!(),

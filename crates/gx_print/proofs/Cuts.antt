@@ -1,7 +1,7 @@
 -- Bytes that are cut into tokens before whatever begins with a break.
 use Rattle.std.proofs.Common.{◌≡◌, ◌⊎◌, inl, inr, ⊎_elim, ℕ, ◌+◌, ◌-◌, ◌*◌, ◌/◌, ◌%◌, ◌<◌, ◌≤◌, ◌^◌, ◌==◌, Bool, true, false, cond, ◌&&◌, ◌||◌, List, [], ◌∷◌, ◌++◌, Option, Some, None, refl, sym, ◌∙◌, ap, subst, arith, append_assoc}
 use Rattle.std.specs.Fmt.{decimal}
-use Rattle.std.specs.List.{flat_map}
+use Rattle.std.specs.List.{list_any, flat_map}
 use Rattle.std.specs.Prelude.{codes}
 use Rattle.std.proofs.lemmas.Fmt.{decimal_by_steps}
 use Rattle.gx_lex.specs.declared.word.Word.{Word}
@@ -10,7 +10,7 @@ use Rattle.gx_lex.specs.declared.symbol.Symbol.TheVariants as symbol
 use Rattle.gx_lex.specs.declared.token.Token.{Token}
 use Rattle.gx_lex.specs.declared.token.Token.TheVariants as token
 use Rattle.gx_lex.specs.Words.{keyword_of}
-use Rattle.gx_lex.specs.Lexing.{is_blank, is_capital, is_letter, is_digit, is_word_byte, is_quote, is_either, is_equal, every, any, Without, Begins, small, smalls, doubled, number_behind, fitting, Lexeme, word, digits, text, sign, bytes_of, IsLexeme, word_of, token_of, Lexes}
+use Rattle.gx_lex.specs.Lexing.{is_blank, is_capital, is_letter, is_digit, is_word_byte, is_quote, is_either, is_equal, every, Without, Begins, small, smalls, doubled, number_behind, fitting, Lexeme, word, digits, text, sign, bytes_of, IsLexeme, word_of, token_of, Lexes}
 use Rattle.gx_print.specs.Shapes.{is_small_letter, is_name_byte, IsName, IsNumber, number_text}
 use Rattle.gx_text.specs.Quoted.{quoted, quoted_byte}
 
@@ -144,7 +144,7 @@ keyword w bs e k = is_token (token_of (word bs)) (token.Word w) bs k (one_cuts (
 -- names
 record Plain (n : List ℕ) : Type 0 where
   same : smalls n ≡ n
-  none : any is_capital n ≡ false
+  none : list_any is_capital n ≡ false
   bytes : every is_word_byte n
 
 name_byte : (b : ℕ) → is_name_byte b ≡ true → (small b ≡ b) × (is_capital b ≡ false) × (is_word_byte b ≡ true)
@@ -163,7 +163,7 @@ plain (b ∷ n) e =
     let r = plain n e.1 in
     record {
       same = ap (λ (x : ℕ). x ∷ smalls n) s ∙ ap (λ (x : List ℕ). b ∷ x) r.same;
-      none = neither (is_capital b) (any is_capital n) c r.none;
+      none = neither (is_capital b) (list_any is_capital n) c r.none;
       bytes = (w, r.bytes);
     }
 
@@ -178,7 +178,7 @@ name_cuts (b ∷ n) i =
     let (l, s) = small_letter b i.0.0 in
     let p = plain (b ∷ n) (s, i.0.1) in
     is_token (token_of (word (b ∷ n))) (token.Name (b ∷ n)) (b ∷ n)
-    (name_token_is (b ∷ n) (smalls (b ∷ n)) (any is_capital (b ∷ n)) (keyword_of (smalls (b ∷ n))) p.same p.none (ap keyword_of p.same ∙ i.1))
+    (name_token_is (b ∷ n) (smalls (b ∷ n)) (list_any is_capital (b ∷ n)) (keyword_of (smalls (b ∷ n))) p.same p.none (ap keyword_of p.same ∙ i.1))
     (one_cuts (word (b ∷ n)) (λ rest e. ((l, p.bytes.1), word_ends rest e)))
 
 -- numbers

@@ -1,13 +1,14 @@
 -- A table that was read has names of the language.
 use Rattle.std.proofs.Common.{◌≡◌, ℕ, nat_le, Bool, true, false, if◌then◌else◌, List, [], ◌∷◌, ◌++◌, length, map, Option, Some, None, Ok, refl, sym, subst, arith}
 use Rattle.gx_tree.specs.declared.schema.Schema.{Schema}
+use Rattle.std.specs.List.{list_any}
 use Rattle.gx_lex.specs.declared.word.Word.{Word}
 use Rattle.gx_lex.specs.declared.word.Word.TheVariants as word_is
 use Rattle.gx_lex.specs.declared.symbol.Symbol.TheVariants as symbol
 use Rattle.gx_lex.specs.declared.token.Token.{Token}
 use Rattle.gx_lex.specs.declared.token.Token.TheVariants as token
 use Rattle.gx_lex.specs.Words.{keyword_of}
-use Rattle.gx_lex.specs.Lexing.{is_capital, is_letter, is_word_byte, every, any, Begins, small, smalls, Lexeme, word, digits, text, sign, open_text, stray, IsLexeme, word_of, token_of, Lexes}
+use Rattle.gx_lex.specs.Lexing.{is_capital, is_letter, is_word_byte, every, Begins, small, smalls, Lexeme, word, digits, text, sign, open_text, stray, IsLexeme, word_of, token_of, Lexes}
 use Rattle.gx_grammar.specs.declared.fault.Limits.{Limits}
 use Rattle.gx_grammar.specs.declared.fault.LineLimit.TheVariants as limit
 use Rattle.gx_grammar.specs.Rules.{Is, Passes, many, made, behind}
@@ -53,7 +54,7 @@ word_proper None w true b e = tt
 word_proper None w false b e = (b, e)
 
 lexeme_proper : (x : Lexeme) (rest : List ℕ) → IsLexeme x rest → IsProper (token_of x)
-lexeme_proper (word w) rest h = word_proper (keyword_of (smalls w)) (smalls w) (any is_capital w) (smalls_begin w h.0) refl
+lexeme_proper (word w) rest h = word_proper (keyword_of (smalls w)) (smalls w) (list_any is_capital w) (smalls_begin w h.0) refl
 lexeme_proper (digits w) rest h = tt
 lexeme_proper (text t) rest h = tt
 lexeme_proper (sign s) rest h = tt

@@ -23,7 +23,7 @@ fn limit_of(stmt: &Stmt) -> Option<u64>
     ensures { HasSize stmt.now }
 {
     match stmt {
-        Stmt::Select(query) => match query.limit {
+        Stmt::Select(query) => match query.get().limit {
             Some(limit) => Some(in_64_bits(limit)),
             None => None,
         },

@@ -144,7 +144,7 @@ fn push_stmt(text: &mut Vec<u8>, tables: &[Schema], stmt: &Stmt) -> Mem<()>
         Stmt::Begin(level) => push_bytes(text, begin_words(*level)),
         Stmt::Commit => push_bytes(text, b"COMMIT"),
         Stmt::Rollback => push_bytes(text, b"ROLLBACK"),
-        Stmt::Select(query) => push_select(text, tables, query),
+        Stmt::Select(query) => push_select(text, tables, query.get()),
         Stmt::Insert(table, tuples) => {
             let columns = columns_of(tables, *table);
             push_insert(text, table_name(tables, *table), columns, tuples.as_slice())
@@ -152,11 +152,11 @@ fn push_stmt(text: &mut Vec<u8>, tables: &[Schema], stmt: &Stmt) -> Mem<()>
         Stmt::Update(table, assigns, cond) => {
             let columns = columns_of(tables, *table);
             let name = table_name(tables, *table);
-            push_update(text, name, columns, assigns.as_slice(), cond)
+            push_update(text, name, columns, assigns.get().as_slice(), cond.get())
         }
         Stmt::Delete(table, cond) => {
             let columns = columns_of(tables, *table);
-            push_delete(text, table_name(tables, *table), columns, cond)
+            push_delete(text, table_name(tables, *table), columns, cond.get())
         }
         Stmt::Lock(table, mode) => {
             push_lock(text, table_name(tables, *table), mode_words(*mode))

@@ -86,7 +86,7 @@ fn push_lock_mark(alloc: Global, text: &mut Vec<u8>, script: &Script, mark: &Mar
             round,
             own,
             verdict,
-        } => push_recheck(alloc, text, *round, own, verdict),
+        } => push_recheck(alloc, text, *round, own.get(), verdict),
         _ => Ok(()),
     }
 }

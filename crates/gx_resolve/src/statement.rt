@@ -11,7 +11,7 @@ use crate::naming::check_names;
 use crate::parts::{resolve_each, where_as};
 use crate::select::query_as;
 use gx_grammar::Syn;
-use gx_ids::{Seq, Table};
+use gx_ids::{Seq, Shared, Table};
 use gx_lines::{AssignSyn, StmtSyn};
 use gx_tree::{Assign, Column, Dist, Schema, Stmt, Txt};
 use std::alloc::Global;
@@ -42,8 +42,8 @@ fn update_as(
     requires { length columns.now ≤ 256 }
     ensures { Says result (of.update_as table columns.now assigns.now cond.now) }
 {
-    let assigns = resolve_each(alloc, columns, assigns)?;
-    let cond = where_as(alloc, columns, cond)?;
+    let assigns = Shared::new(alloc, resolve_each(alloc, columns, assigns)?)?;
+    let cond = Shared::new(alloc, where_as(alloc, columns, cond)?)?;
     Ok(Stmt::Update(table, assigns, cond))
 }
 
@@ -61,7 +61,10 @@ fn kinded(
         StmtSyn::Begin(level) => Ok(Stmt::Begin(*level)),
         StmtSyn::Commit => Ok(Stmt::Commit),
         StmtSyn::Rollback => Ok(Stmt::Rollback),
-        StmtSyn::Select(select) => Ok(Stmt::Select(query_as(alloc, table, columns, select)?)),
+        StmtSyn::Select(select) => {
+            let query = query_as(alloc, table, columns, select)?;
+            Ok(Stmt::Select(Shared::new(alloc, query)?))
+        }
         StmtSyn::Insert(_, tuples) => {
             let tuples = resolve_each(alloc, columns, tuples.as_slice())?;
             Ok(Stmt::Insert(table, tuples))
@@ -69,7 +72,10 @@ fn kinded(
         StmtSyn::Update(_, assigns, cond) => {
             update_as(alloc, table, columns, assigns.as_slice(), cond)
         }
-        StmtSyn::Delete(_, cond) => Ok(Stmt::Delete(table, where_as(alloc, columns, cond)?)),
+        StmtSyn::Delete(_, cond) => {
+            let cond = where_as(alloc, columns, cond)?;
+            Ok(Stmt::Delete(table, Shared::new(alloc, cond)?))
+        }
         StmtSyn::Lock(_, mode) => Ok(Stmt::Lock(table, *mode)),
     }
 }
@@ -85,7 +91,7 @@ fn updates(stmt: &Stmt, key: u8) -> bool
     ensures { result ≡ of.updates stmt.now key }
 {
     match stmt {
-        Stmt::Update(_, assigns, _) => assigns_to(assigns.as_slice(), key),
+        Stmt::Update(_, assigns, _) => assigns_to(assigns.get().as_slice(), key),
         _ => false,
     }
 }

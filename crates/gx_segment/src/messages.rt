@@ -74,11 +74,12 @@ fn just_come(
     alloc: Global,
     cid: Cid,
     level: Level,
-    snapshot: Option<Snapshot>,
+    snapshot: Shared<Option<Snapshot>>,
     slice: Shared<Slice>,
 ) -> Mem<Suspended>
     ensures { IfOk result (λ command. command ≡ record { cid = cid; level = level; snapshot = snapshot; slice = slice; count = 0; row = None; rows = [] }) }
 {
+    let snapshot = snapshot.get().copy(alloc)?;
     let slice = slice.get().copy(alloc)?;
     Ok(Suspended {
         cid,

@@ -35,7 +35,7 @@ fn lock_of(script: &Script, gxid: Gxid, slice: &Slice) -> Claim
     ensures on_table { is_on_transaction result.object ≡ false }
 {
     match slice {
-        Slice::Select(query) => claim_on(gxid, query.table, Mode::AccessShare),
+        Slice::Select(query) => claim_on(gxid, query.get().table, Mode::AccessShare),
         Slice::Insert(table, _) => claim_on(gxid, *table, Mode::RowExclusive),
         Slice::Update(table, _, _) => claim_on(gxid, *table, changing_mode(script)),
         Slice::Delete(table, _) => claim_on(gxid, *table, changing_mode(script)),
@@ -71,7 +71,7 @@ fn room_for(alloc: Global, slice: &Slice) -> Mem<Vec<Mark>>
     ensures { IfOk result (λ marks. marks.items ≡ []) }
 {
     let count = match slice {
-        Slice::Insert(_, rows) => rows.len().saturating_add(3),
+        Slice::Insert(_, rows) => rows.get().len().saturating_add(3),
         _ => 2,
     };
     let marks = Vec::with_capacity(alloc, count)?;

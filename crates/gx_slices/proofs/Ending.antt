@@ -53,8 +53,8 @@ module _ (stage : Stage) (change : Change) (held new : Held) (entry : Entry) (ma
         free = is.waits;
       }
 
-  pub IsAnswered-failing : (cause : Cause) → HasGone stage k g held entry marks turn (rows_end.Failing cause) → IsAnswered stage k g held entry marks turn (Failed change.writer.cid cause)
-  IsAnswered-failing cause is = record { moved = is.moved; at = is.at; is = is.is; free = is.waits }
+  pub IsAnswered-failing : (cause : Cause) (r : Reply) → HasGone stage k g held entry marks turn (rows_end.Failing cause) → r ≡ Failed change.writer.cid cause → IsAnswered stage k g held entry marks turn r
+  IsAnswered-failing cause r is told = subst (λ (a : Reply). IsAnswered stage k g held entry marks turn a) (sym told) (record { moved = is.moved; at = is.at; is = is.is; free = is.waits })
 
   -- IT ANSWERS
   module _ (r : Reply) (is : IsAnswered stage k g held entry marks turn r) (back : IsBack held new g change.writer.cid (answered entry change.writer.cid r)) where

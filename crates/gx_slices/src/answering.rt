@@ -1,14 +1,16 @@
 // The answer of a command is kept.
-ghost use Rattle.std.specs.Prelude.{◌≡◌, OnOk};
+ghost use Rattle.std.specs.Prelude.{◌≡◌, [], IfOk, OnOk};
 ghost use Rattle.gx_node.specs.Phases.{phase_of};
 ghost use Rattle.gx_rules.specs.Slices as rule;
 ghost use Rattle.gx_slices.specs.Apart.{IsBack, answered};
+ghost use Rattle.gx_tree.specs.declared.part.Part.TheVariants as part;
 
 use crate::entries::{put_entry, set_holder};
 use crate::held::{Entry, Held};
-use gx_ids::{Cid, Duplicate, Gxid, Mem};
+use gx_ids::{Cid, Duplicate, Gxid, Mem, Seq, Shared};
 use gx_msg::Reply;
 use gx_node::Phase;
+use gx_tree::Part;
 use std::alloc::Global;
 
 pub(crate) fn has_written(phase: Phase) -> bool
@@ -18,6 +20,13 @@ pub(crate) fn has_written(phase: Phase) -> bool
         Phase::Reading => false,
         _ => true,
     }
+}
+
+// The part of an answer that gives no rows.
+pub(crate) fn no_rows(alloc: Global) -> Mem<Shared<Part>>
+    ensures { IfOk result (λ rows. rows ≡ part.Rows []) }
+{
+    Shared::new(alloc, Part::Rows(Seq::new(alloc)))
 }
 
 // The entry with its last command and the answer to it.

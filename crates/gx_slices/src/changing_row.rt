@@ -125,7 +125,7 @@ fn change_if_true(
         (rule.looks_again stage.moved change.now.writer.gxid (change_in change.now) rid image) end) }
 {
     match image {
-        Some(old) => match is_true(&change.cond, &old) {
+        Some(old) => match is_true(change.cond.get(), &old) {
             Ok(true) => change_row(alloc, change, held, entry, rid, old, marks),
             Ok(false) => skip(change, rid, marks),
             Err(why) => fault(change, rid, old, why, marks),

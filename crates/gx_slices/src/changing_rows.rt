@@ -1,6 +1,6 @@
 // A command that changes rows: it selects them, and then goes through them one behind the other, until it is done, waits or fails.
 ghost use Rattle.std.specs.Prelude.{◌≡◌, ◌+◌, ◌<◌, ◌^◌, ◌∷◌, [], true, false, drop, length, map, IfOk, None, Some};
-ghost use Rattle.gx_msg.specs.declared.reply.Reply.TheVariants.{Done};
+ghost use Rattle.gx_msg.specs.declared.reply.Reply.TheVariants.{Done, Failed};
 ghost use Rattle.gx_node.specs.Phases.{phase_of};
 ghost use Rattle.gx_rules.specs.Changes as rule;
 ghost use Rattle.gx_tree.specs.declared.part.Part.TheVariants as part;
@@ -13,7 +13,7 @@ ghost use Rattle.gx_slices.specs.Picked.{IsPicked};
 ghost use Rattle.gx_slices.specs.Ran.{HasProgressed};
 ghost use Rattle.gx_slices.specs.Waiting.{is_open};
 
-use crate::answering::{has_written, keep_answer};
+use crate::answering::{has_written, keep_answer, no_rows};
 use crate::change::{Change, slice_of};
 use crate::changing::Writer;
 use crate::changing_row::{RowEnd, does_row, is_done};
@@ -24,12 +24,12 @@ use crate::progress::Progress;
 use crate::running::Ran;
 use crate::selecting::faulted;
 use crate::suspending::put_suspended;
-use gx_ids::{Mem, Rid, Seq, copies};
+use gx_ids::{Mem, Rid, Seq, Shared, copies};
 use gx_meaning::ArithFault;
 use gx_msg::{Cause, Reply};
 use gx_node::Suspended;
 use gx_store::Mark;
-use gx_tree::{KeyedRow, Part};
+use gx_tree::KeyedRow;
 use std::alloc::Global;
 
 /// How a command stands behind its rows: it is done with them, with so many written; or it waits at one, with those left; or it
@@ -201,15 +201,24 @@ fn stop(
     })
 }
 
-fn done(alloc: Global, change: &Change, entry: &Entry, count: u64) -> Reply
-    ensures { result ≡ Done change.now.writer.cid (slices.has_written (phase_of entry.now.local.phase)) count (part.Rows []) }
+fn done(alloc: Global, change: &Change, entry: &Entry, count: u64) -> Mem<Reply>
+    ensures { IfOk result (λ reply. reply ≡ Done change.now.writer.cid (slices.has_written (phase_of entry.now.local.phase)) count (part.Rows [])) }
 {
-    Reply::Done {
+    Ok(Reply::Done {
         cid: change.writer.cid,
         wrote: has_written(entry.local.phase),
         count,
-        part: Part::Rows(Seq::new(alloc)),
-    }
+        part: no_rows(alloc)?,
+    })
+}
+
+fn failed(alloc: Global, change: &Change, cause: Cause) -> Mem<Reply>
+    ensures { IfOk result (λ reply. reply ≡ Failed change.now.writer.cid cause) }
+{
+    Ok(Reply::Failed {
+        cid: change.writer.cid,
+        cause: Shared::new(alloc, cause)?,
+    })
 }
 
 // It has gone through all of them.
@@ -227,8 +236,14 @@ fn finish(
     requires gone { HasGone ending.stage (change_in change.now) change.now.writer.gxid held.old entry marks.items ending.turn (RowsEnd.Done count) }
     ensures { IfOk result (λ progress. HasProgressed ending.stage.found.tables held.new change.now.writer.gxid progress ending.turn) }
 {
-    let reply = done(alloc, change, &entry, count);
-    answer(alloc, held, change, entry, reply, marks)
+    match done(alloc, change, &entry, count) {
+        Ok(reply) => answer(alloc, held, change, entry, reply, marks),
+        Err(error) => {
+            drop(entry);
+            drop(marks);
+            Err(error)
+        }
+    }
 }
 
 // It has failed at one.
@@ -246,15 +261,14 @@ fn give_up(
     requires gone { HasGone ending.stage (change_in change.now) change.now.writer.gxid held.old entry marks.items ending.turn (RowsEnd.Failing cause) }
     ensures { IfOk result (λ progress. HasProgressed ending.stage.found.tables held.new change.now.writer.gxid progress ending.turn) }
 {
-    let cid = change.writer.cid;
-    answer(
-        alloc,
-        held,
-        change,
-        entry,
-        Reply::Failed { cid, cause },
-        marks,
-    )
+    match failed(alloc, change, cause) {
+        Ok(reply) => answer(alloc, held, change, entry, reply, marks),
+        Err(error) => {
+            drop(entry);
+            drop(marks);
+            Err(error)
+        }
+    }
 }
 
 fn close(
@@ -429,10 +443,11 @@ fn pick_shown(alloc: Global, held: &Held, change: &Change) -> Mem<Picked>
         table,
         ..
     } = change.writer;
+    let cond = change.cond.get();
     let rows = held
         .store
-        .shown_rows_for(table, &change.cond, &change.snapshot, Some(gxid), cid)?;
-    let picked = pick(alloc, &change.cond, rows)?;
+        .shown_rows_for(table, cond, &change.snapshot, Some(gxid), cid)?;
+    let picked = pick(alloc, cond, rows)?;
     Ok(picked)
 }
 

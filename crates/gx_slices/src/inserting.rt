@@ -13,15 +13,15 @@ ghost use Rattle.gx_slices.specs.Inserts.{IsInserted};
 ghost use Rattle.gx_slices.specs.Ran.{HasRun};
 ghost use Rattle.gx_slices.specs.Waiting.{is_open};
 
-use crate::answering::{has_written, keep_answer};
+use crate::answering::{has_written, keep_answer, no_rows};
 use crate::changing::{Writer, write_row};
 use crate::entries::take_entry;
 use crate::held::{Entry, Held};
 use crate::running::Ran;
-use gx_ids::{Mem, Seq};
+use gx_ids::{Duplicate, Mem, Seq, Shared};
 use gx_msg::Reply;
 use gx_store::Mark;
-use gx_tree::{KeyedRow, Part, Schema};
+use gx_tree::{KeyedRow, Schema};
 use std::alloc::Global;
 
 pub(crate) fn insert(
@@ -29,7 +29,7 @@ pub(crate) fn insert(
     tables: &[Schema],
     held: &mut Held,
     writer: Writer,
-    rows: Seq<KeyedRow>,
+    rows: Shared<Seq<KeyedRow>>,
 ) -> Mem<Ran>
     ghost s: { Seg }
     requires held { IsHeld tables.now held.old s }
@@ -42,6 +42,8 @@ pub(crate) fn insert(
     ensures { IfOk result (λ ran. HasRun tables.now held.new writer.gxid ran (inserts writer.gxid writer.cid (length rows) (inserted s writer.gxid writer.cid writer.table rows))) }
 {
     let Writer { gxid, cid, .. } = writer;
+    let part = no_rows(alloc)?;
+    let rows = own_rows(alloc, &rows)?;
     let count = rows.len() as u64;
     let mut entry = take_entry(alloc, &mut held.entries, gxid);
     let marks = insert_rows(alloc, writer, held, &mut entry, rows.into_vec())?;
@@ -49,13 +51,20 @@ pub(crate) fn insert(
         cid,
         wrote: has_written(entry.local.phase),
         count,
-        part: Part::Rows(Seq::new(alloc)),
+        part,
     };
     keep_answer(alloc, held, gxid, cid, entry, &reply)?;
     Ok(Ran {
         marks: Seq::from_vec(marks),
         reply,
     })
+}
+
+// The slice's rows, to be taken apart.
+fn own_rows(alloc: Global, rows: &Shared<Seq<KeyedRow>>) -> Mem<Seq<KeyedRow>>
+    ensures { IfOk result (λ own. own ≡ rows.now) }
+{
+    rows.get().copy(alloc)
 }
 
 // Adds the rows, in order.

@@ -7,13 +7,13 @@ ghost use Rattle.gx_slices.specs.Agrees.{IsHeld};
 ghost use Rattle.gx_slices.specs.Ran.{HasRun};
 ghost use Rattle.gx_slices.specs.Waiting.{is_open};
 
-use crate::answering::{has_written, keep_answer};
+use crate::answering::{has_written, keep_answer, no_rows};
 use crate::entries::take_entry;
 use crate::held::Held;
 use crate::running::Ran;
 use gx_ids::{Cid, Gxid, Mem, Seq};
 use gx_msg::Reply;
-use gx_tree::{Part, Schema};
+use gx_tree::Schema;
 use std::alloc::Global;
 
 // It answers that it is done.
@@ -32,12 +32,13 @@ pub(crate) fn lock(
     requires new { nat_lt 0 cid.0 ≡ true }
     ensures { IfOk result (λ ran. HasRun tables.now held.new gxid ran (locks s gxid cid)) }
 {
+    let part = no_rows(alloc)?;
     let entry = take_entry(alloc, &mut held.entries, gxid);
     let reply = Reply::Done {
         cid,
         wrote: has_written(entry.local.phase),
         count: 0,
-        part: Part::Rows(Seq::new(alloc)),
+        part,
     };
     keep_answer(alloc, held, gxid, cid, entry, &reply)?;
     let marks = Seq::new(alloc);

@@ -21,7 +21,7 @@ use crate::locked::lock;
 use crate::progress::{Progress, after, answered};
 use crate::selecting::select;
 use gx_dsnap::Snapshot;
-use gx_ids::{Cid, Gxid, Mem, Node, Rid, Seq, Table};
+use gx_ids::{Cid, Gxid, Mem, Node, Rid, Seq, Shared, Table};
 use gx_msg::Reply;
 use gx_node::Suspended;
 use gx_outside::Passed;
@@ -43,8 +43,8 @@ fn change_by(
     writer: Writer,
     level: Level,
     snapshot: Option<Snapshot>,
-    set: Option<Seq<Assign>>,
-    cond: Option<Cond>,
+    set: Option<Shared<Seq<Assign>>>,
+    cond: Shared<Option<Cond>>,
 ) -> Mem<Progress>
     ghost found: { Found }
     requires was { held.old ≡ found.was }
@@ -76,7 +76,7 @@ fn delete_by(
     writer: Writer,
     level: Level,
     snapshot: Option<Snapshot>,
-    cond: Option<Cond>,
+    cond: Shared<Option<Cond>>,
 ) -> Mem<Progress>
     ghost found: { Found }
     requires was { held.old ≡ found.was }
@@ -97,7 +97,7 @@ fn run_select(
     gxid: Gxid,
     cid: Cid,
     snapshot: Option<Snapshot>,
-    query: Query,
+    query: Shared<Query>,
 ) -> Mem<Progress>
     ghost found: { Found }
     requires tables { tables.now ≡ found.tables }
@@ -115,7 +115,7 @@ fn run_insert(
     held: &mut Held,
     writer: Writer,
     snapshot: Option<Snapshot>,
-    rows: Seq<KeyedRow>,
+    rows: Shared<Seq<KeyedRow>>,
 ) -> Mem<Progress>
     ghost found: { Found }
     requires tables { tables.now ≡ found.tables }

@@ -15,7 +15,7 @@ use crate::picking::{Picked, pick};
 use crate::running::Ran;
 use gx_dsnap::Snapshot;
 use gx_gather::partial;
-use gx_ids::{Cid, Gxid, Mem, Seq};
+use gx_ids::{Cid, Gxid, Mem, Seq, Shared};
 use gx_meaning::ArithFault;
 use gx_msg::{Cause, Reply};
 use gx_store::Mark;
@@ -29,7 +29,7 @@ pub(crate) fn select(
     gxid: Gxid,
     cid: Cid,
     snapshot: &Option<Snapshot>,
-    query: Query,
+    query: Shared<Query>,
 ) -> Mem<Ran>
     ghost s: { Seg }
     requires held { IsHeld tables.now held.old s }
@@ -37,7 +37,7 @@ pub(crate) fn select(
     ensures { IfOk result (λ ran. HasRun tables.now held.new gxid ran (reads s gxid cid query snapshot.now)) }
 {
     let ran = match snapshot {
-        Some(snapshot) => select_by(alloc, tables, held, gxid, cid, snapshot, &query),
+        Some(snapshot) => select_by(alloc, tables, held, gxid, cid, snapshot, query.get()),
         None => unreachable!(),
     };
     drop(query);
@@ -107,7 +107,7 @@ fn selection(
 {
     match pick(alloc, &query.cond, rows)? {
         Picked::Rows(kept) => {
-            let part = partial(alloc, query, kept.as_slice())?;
+            let part = Shared::new(alloc, partial(alloc, query, kept.as_slice())?)?;
             Ok(Ran {
                 marks: Seq::new(alloc),
                 reply: Reply::Done {
@@ -139,12 +139,10 @@ pub(crate) fn faulted(
         rid,
         image: Some(row),
     })?;
+    let cause = Shared::new(alloc, cause(fault))?;
     Ok(Ran {
         marks,
-        reply: Reply::Failed {
-            cid,
-            cause: cause(fault),
-        },
+        reply: Reply::Failed { cid, cause },
     })
 }
 

@@ -7,7 +7,7 @@ ghost use Rattle.gx_store.specs.Writes as legal;
 ghost use Rattle.gx_slices.specs.Setting.{AreSettable, IsSettable};
 
 use gx_eval::{EvalFault, eval};
-use gx_ids::{Mem, OutOfMemory, Seq, copies};
+use gx_ids::{Mem, OutOfMemory, Seq, Shared, copies};
 use gx_meaning::ArithFault;
 use gx_tree::{Assign, Expr, Row, Value};
 use std::alloc::Global;
@@ -43,14 +43,14 @@ fn set_row(alloc: Global, assigns: &[Assign], old: &Row) -> Mem<Result<Row, Arit
 // What a command makes of a row: UPDATE the row with its values, DELETE none.
 pub(crate) fn new_image(
     alloc: Global,
-    set: &Option<Seq<Assign>>,
+    set: &Option<Shared<Seq<Assign>>>,
     old: &Row,
 ) -> Mem<Result<Option<Row>, ArithFault>>
     requires { IsSettable old.now set.now }
     ensures { IfOk result (λ image. image ≡ rule.new_image set.now old.now) }
 {
     match set {
-        Some(assigns) => match set_row(alloc, assigns.as_slice(), old)? {
+        Some(assigns) => match set_row(alloc, assigns.get().as_slice(), old)? {
             Ok(row) => Ok(Ok(Some(row))),
             Err(fault) => Ok(Err(fault)),
         },

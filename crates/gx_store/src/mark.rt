@@ -1,6 +1,6 @@
 use crate::answer::StmtAnswer;
 use gx_dsnap::Snapshot;
-use gx_ids::{Cid, Gxid, Node, Rid, SessionId, Table};
+use gx_ids::{Cid, Gxid, Node, Rid, SessionId, Shared, Table};
 use gx_modes::Mode;
 use gx_msg::Message;
 use gx_tree::Row;
@@ -111,7 +111,7 @@ pub enum Mark {
     /// A round ended: the coordinator's own graph, and what is done about all graphs.
     Recheck {
         round: u64,
-        own: LocalGraph,
+        own: Shared<LocalGraph>,
         verdict: Verdict,
     },
 }

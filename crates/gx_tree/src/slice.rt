@@ -2,17 +2,17 @@ use crate::cond::Cond;
 use crate::query::Query;
 use crate::row::KeyedRow;
 use crate::stmt::Assign;
-use gx_ids::{Duplicate, Mem, Seq, Table};
+use gx_ids::{Duplicate, Mem, Seq, Shared, Table};
 use gx_modes::Mode;
 use std::alloc::Global;
 
 /// A statement's part for one segment. INSERT has the rows that are placed there.
 #[derive(Debug, Drop)]
 pub enum Slice {
-    Select(Query),
-    Insert(Table, Seq<KeyedRow>),
-    Update(Table, Seq<Assign>, Option<Cond>),
-    Delete(Table, Option<Cond>),
+    Select(Shared<Query>),
+    Insert(Table, Shared<Seq<KeyedRow>>),
+    Update(Table, Shared<Seq<Assign>>, Shared<Option<Cond>>),
+    Delete(Table, Shared<Option<Cond>>),
     Lock(Table, Mode),
 }
 

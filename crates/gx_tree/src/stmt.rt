@@ -1,7 +1,7 @@
 use crate::cond::Cond;
 use crate::expr::Expr;
 use crate::query::Query;
-use gx_ids::{Duplicate, Mem, Seq, Table};
+use gx_ids::{Duplicate, Mem, Seq, Shared, Table};
 use gx_modes::Mode;
 use std::alloc::Global;
 
@@ -19,16 +19,16 @@ pub struct Assign {
     pub expr: Expr,
 }
 
-/// A statement of a session. INSERT has its tuples.
+/// A statement of a session. INSERT has its tuples. A query, a SET list and a condition are shared with the slices that a command sends.
 #[derive(Debug, Drop, PartialEq, Eq)]
 pub enum Stmt {
     Begin(Level),
     Commit,
     Rollback,
-    Select(Query),
+    Select(Shared<Query>),
     Insert(Table, Seq<Seq<Expr>>),
-    Update(Table, Seq<Assign>, Option<Cond>),
-    Delete(Table, Option<Cond>),
+    Update(Table, Shared<Seq<Assign>>, Shared<Option<Cond>>),
+    Delete(Table, Shared<Option<Cond>>),
     Lock(Table, Mode),
 }
 

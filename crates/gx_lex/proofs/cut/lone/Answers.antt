@@ -1,4 +1,4 @@
-use Rattle.std.proofs.Common.{◌≡◌, Option, sym, ◌∙◌, ap}
+use Rattle.std.proofs.Common.{Option, sym, ◌∙◌, ap}
 use Rattle.gx_lex.specs.declared.symbol.Symbol.{Symbol}
 use Rattle.gx_lex.specs.Reader.{put_symbol, lex_on}
 use Rattle.gx_lex.proofs.Lexed.{lost_stays}

@@ -1,9 +1,9 @@
-use Rattle.std.proofs.Common.{◌≡◌, List, [], ◌∷◌, ◌++◌, ℕ, Bool, sym, ◌∙◌, ap, take, drop, subst}
+use Rattle.std.proofs.Common.{◌≡◌, List, [], ◌∷◌, ◌++◌, ℕ, sym, ◌∙◌, ap, take, drop}
 use Rattle.gx_lex.specs.declared.token.Token.{Token}
 use Rattle.std.specs.List.{list_any, prefix_len}
-use Rattle.gx_lex.specs.Lexing.{is_word_byte, is_capital, any, smalls}
+use Rattle.gx_lex.specs.Lexing.{is_word_byte, is_capital, smalls}
 use Rattle.gx_lex.specs.Reader.{Gap, word_token, lex_on}
-use Rattle.gx_lex.proofs.Runs.{any_is, word_read}
+use Rattle.gx_lex.proofs.Runs.{word_read}
 use Rattle.gx_lex.proofs.cut.word.Goals as goal
 
 pub returns-clause-said : goal.returns-clause-said
@@ -12,7 +12,6 @@ returns-clause-said c out =
     let front : c.split_at.result.0.now ≡ take (prefix_len is_word_byte line) line = c.split_at.ensures.front ∙ ap (λ (n : ℕ). take n line) c.word_len.ensures.value in
     let back : c.split_at.result.1.now ≡ drop (prefix_len is_word_byte line) line = c.split_at.ensures.back ∙ ap (λ (n : ℕ). drop n line) c.word_len.ensures.value in
     word_read line out
-    ∙ ap (λ (w : List ℕ). lex_on (drop (prefix_len is_word_byte line) line) (out ++ word_token (smalls w) (any is_capital w) ∷ []) Gap) (sym front)
-    ∙ ap (λ (capital : Bool). lex_on (drop (prefix_len is_word_byte line) line) (out ++ word_token (smalls c.split_at.result.0.now) capital ∷ []) Gap) (sym (any_is is_capital c.split_at.result.0.now))
+    ∙ ap (λ (w : List ℕ). lex_on (drop (prefix_len is_word_byte line) line) (out ++ word_token (smalls w) (list_any is_capital w) ∷ []) Gap) (sym front)
     ∙ ap (λ (t : Token). lex_on (drop (prefix_len is_word_byte line) line) (out ++ t ∷ []) Gap) (sym c.in_ok-word_token.ensures)
     ∙ ap (λ (rest : List ℕ). lex_on rest (out ++ c.in_ok-word_token.field-0 ∷ []) Gap) (sym back)

@@ -1,4 +1,5 @@
 use Rattle.std.proofs.Common.{◌∙◌, ℕ, Bool, List, [], length, refl, subst, ap}
+use Rattle.gx_tree.specs.declared.part.Part.{Part}
 use Rattle.gx_tree.specs.declared.part.Part.TheVariants.{Rows}
 use Rattle.gx_tree.specs.declared.row.KeyedRow.{KeyedRow}
 use Rattle.gx_msg.specs.declared.reply.Reply.{Reply}
@@ -42,14 +43,14 @@ returns g c =
     let entry = c.insert_rows.new.entry in
     let new = c.keep_answer.new.held in
     let m = inserted g.s gxid cid table rows in
-    let put = subst (λ (l : List KeyedRow). IsInserted g.s gxid cid table l first mid entry c.in_ok-marks.marks.items) c.into_vec.ensures c.in_ok-marks.ensures in
+    let put = subst (λ (l : List KeyedRow). IsInserted g.s gxid cid table l first mid entry c.in_ok-marks.marks.items) (c.into_vec.ensures ∙ c.in_ok-rows.ensures) c.in_ok-marks.ensures in
     let typed = typed-inserted tables gxid cid table g.s rows is.typed (right-insert tables gxid cid table rows right) in
-    let reply : Reply = Done cid c.has_written.result c.len-count.result (Rows c.new.result) in
+    let reply : Reply = Done cid c.has_written.result c.len-count.result c.in_ok-part.part in
     let back = IsHeld-answered tables held first mid new g.s m.seg gxid cid entry is c.requires.1.1.1.1.1.1 put.apart c.take_entry-entry.ensures.others refl typed reply free put.free c.in_ok-keep_answer.ensures in
     let ran : Ran = record { marks = c.from_vec.result; reply = reply } in
     let wrote = c.has_written.ensures ∙ ap (λ (l : Local). has_written l.phase) put.apart.local in
     HasRun-answers tables new gxid cid m.seg ran m.marks (Done cid (has_written (local_of m.seg gxid).phase) (length rows) (Rows [])) back
     (c.from_vec.ensures ∙ put.told)
-    (ap (λ (b : Bool). Done cid b c.len-count.result (Rows c.new.result)) wrote
-    ∙ ap (λ (n : ℕ). Done cid (has_written (local_of m.seg gxid).phase) n (Rows c.new.result)) c.len-count.ensures
-    ∙ ap (λ (l : List KeyedRow). Done cid (has_written (local_of m.seg gxid).phase) (length rows) (Rows l)) c.new.ensures)
+    (ap (λ (b : Bool). Done cid b c.len-count.result c.in_ok-part.part) wrote
+    ∙ ap (λ (n : ℕ). Done cid (has_written (local_of m.seg gxid).phase) n c.in_ok-part.part) (c.len-count.ensures ∙ ap length c.in_ok-rows.ensures)
+    ∙ ap (λ (p : Part). Done cid (has_written (local_of m.seg gxid).phase) (length rows) p) c.in_ok-part.ensures)

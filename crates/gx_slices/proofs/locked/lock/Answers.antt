@@ -1,6 +1,6 @@
-use Rattle.std.proofs.Common.{◌∙◌, Bool, List, [], refl, ap}
+use Rattle.std.proofs.Common.{◌∙◌, Bool, [], refl, ap}
+use Rattle.gx_tree.specs.declared.part.Part.{Part}
 use Rattle.gx_tree.specs.declared.part.Part.TheVariants.{Rows}
-use Rattle.gx_tree.specs.declared.row.KeyedRow.{KeyedRow}
 use Rattle.gx_msg.specs.declared.reply.Reply.{Reply}
 use Rattle.gx_msg.specs.declared.reply.Reply.TheVariants.{Done}
 use Rattle.gx_rules.specs.Segments.{Local, local_of}
@@ -26,10 +26,10 @@ returns g c =
     let new = c.keep_answer.new.held in
     let mid : Held = record held { entries = c.take_entry-entry.new.entries } in
     let apart = IsApart-taken tables held c.take_entry-entry.new.entries g.s gxid entry is alive open_here took.local took.kept in
-    let reply : Reply = Done cid c.has_written.result 0 (Rows c.new.result) in
+    let reply : Reply = Done cid c.has_written.result 0 c.in_ok-part.part in
     let back = IsHeld-answered tables held mid mid new g.s g.s gxid cid entry is c.requires.1.1.1.1 apart took.others refl is.typed reply free (no-wait tables held g.s gxid is free) c.in_ok-keep_answer.ensures in
     let ran : Ran = record { marks = c.new-marks.result; reply = reply } in
     let wrote = c.has_written.ensures ∙ ap (λ (l : Local). has_written l.phase) apart.local in
     HasRun-answers tables new gxid cid g.s ran [] (Done cid (has_written (local_of g.s gxid).phase) 0 (Rows [])) back c.new-marks.ensures
-    (ap (λ (b : Bool). Done cid b 0 (Rows c.new.result)) wrote
-    ∙ ap (λ (l : List KeyedRow). Done cid (has_written (local_of g.s gxid).phase) 0 (Rows l)) c.new.ensures)
+    (ap (λ (b : Bool). Done cid b 0 c.in_ok-part.part) wrote
+    ∙ ap (λ (p : Part). Done cid (has_written (local_of g.s gxid).phase) 0 p) c.in_ok-part.ensures)

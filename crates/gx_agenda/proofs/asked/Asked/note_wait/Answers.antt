@@ -1,6 +1,6 @@
 use Rattle.std.proofs.Common.{[], ◌∷◌, cond, subst, sym}
 use Rattle.gx_store.specs.Journals.{is_same_node}
-use Rattle.gx_store.specs.Waits.{added, waits_from, without}
+use Rattle.gx_store.specs.Waits.{added, waits_from}
 use Rattle.gx_agenda.specs.Awaited.{AreWaits, waits_in}
 use Rattle.gx_agenda.proofs.Oks.{on_ok}
 use Rattle.gx_agenda.proofs.Waiting.{begun-waits, ended-waits}
@@ -15,11 +15,9 @@ returns-in-Wait-clause-waits c = on_ok c.begin.result _ _ c.begin.ensures.waits
 pub returns-in-Hold-clause-waits : goal.returns-in-Hold-clause-waits
 returns-in-Hold-clause-waits c = on_ok c.end.result _ _ c.end.ensures.waits
     (λ set standing were. subst (λ m. AreWaits (λ node. waits_from node (standing node) (m ∷ [])) c.end.new.self) (sym c.in-Hold.is)
-    (subst (λ claim. AreWaits (λ node. cond (is_same_node c.in-Hold.node node) (without claim (standing node)) (standing node)) c.end.new.self) c.claim_of-in-Hold.ensures
-    (ended-waits c.in-Hold.node c.claim_of-in-Hold.result standing (waits_in c.args.self.now.waiting) (waits_in c.end.new.self.waiting) were set)))
+    (ended-waits c.in-Hold.node (record { gxid = c.in-Hold.gxid; object = c.in-Hold.object; mode = c.in-Hold.mode }) standing (waits_in c.args.self.now.waiting) (waits_in c.end.new.self.waiting) were set))
 
 pub returns-in-Release-clause-waits : goal.returns-in-Release-clause-waits
 returns-in-Release-clause-waits c = on_ok c.end-in-Release.result _ _ c.end-in-Release.ensures.waits
     (λ set standing were. subst (λ m. AreWaits (λ node. waits_from node (standing node) (m ∷ [])) c.end-in-Release.new.self) (sym c.in-Release.is)
-    (subst (λ claim. AreWaits (λ node. cond (is_same_node c.in-Release.node node) (without claim (standing node)) (standing node)) c.end-in-Release.new.self) c.claim_of-in-Release.ensures
-    (ended-waits c.in-Release.node c.claim_of-in-Release.result standing (waits_in c.args.self.now.waiting) (waits_in c.end-in-Release.new.self.waiting) were set)))
+    (ended-waits c.in-Release.node (record { gxid = c.in-Release.gxid; object = c.in-Release.object; mode = c.in-Release.mode }) standing (waits_in c.args.self.now.waiting) (waits_in c.end-in-Release.new.self.waiting) were set))

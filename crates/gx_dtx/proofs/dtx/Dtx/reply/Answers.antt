@@ -15,10 +15,10 @@ pub returns-in_err-change-clause-untouched : goal.returns-in_err-change-clause-u
 returns-in_err-change-clause-untouched g c = λ isnt.
     c.reply.ensures.untouched (ap (λ o. decides_found o c.args.node c.args.answer) c.find.ensures ∙ ap (λ (d : Table). is_deciding d c.args.gxid c.args.node c.args.answer) c.self.view_is ∙ isnt)
 
-abbrev table : (g : Over) → goal.Joined-answer-3 g → Table
+abbrev table : (g : Over) → goal.Joined-answer-2 g → Table
 table g c = record { next = c.self.inside.next; latest_ended = c.self.inside.latest_ended; txns = c.self.inside.txns }
 
-change : (g : Over) (c : goal.Joined-answer-3 g) → c.in_ok-change.change ≡ reply_found c.args.gxid c.args.node c.args.answer (is_refused c.in_ok-change.change.out.outcome) (find_txn (table g c) c.args.gxid)
+change : (g : Over) (c : goal.Joined-answer-2 g) → c.in_ok-change.change ≡ reply_found c.args.gxid c.args.node c.args.answer (is_refused c.in_ok-change.change.out.outcome) (find_txn (table g c) c.args.gxid)
 change g c = c.in_ok-change.ensures.value ∙ ap (reply_found c.args.gxid c.args.node c.args.answer (is_refused c.in_ok-change.change.out.outcome)) c.find.ensures
 
 pub invariant_of-self : goal.invariant_of-self

@@ -2,7 +2,9 @@ use Rattle.std.proofs.Common.{◌∙◌, List, subst, refl}
 use Rattle.std.proofs.lemmas.List.{drop_more}
 use Rattle.gx_locks.specs.declared.book.Book.{Book}
 use Rattle.gx_locks.specs.declared.hold.Hold.{Hold}
+use Rattle.gx_locks.specs.declared.key.Key.TheVariants.{Of}
 use Rattle.gx_locks.proofs.Emptied.{IsEmptied, IsEmptied-taken, IsEmptied-more, IsFiled-emptied, claims-emptied, drop_past}
+use Rattle.gx_locks.proofs.Found.{of-filed}
 use Rattle.gx_locks.proofs.book.Book.release_all.Goals as goal
 
 pub loop-hold-init : goal.loop-hold-init
@@ -24,3 +26,6 @@ pub returns-clause-claims : goal.returns-clause-claims
 returns-clause-claims c =
     let start : Book = record { ledger = c.args.self.now.ledger; index = c.take-holds.new.self } in
     claims-emptied c.args.gxid start c.loop-hold.self (subst (λ (rest : List Hold). IsEmptied c.args.gxid start c.loop-hold.self rest) (drop_past _ c.loop-hold.hold-index c.loop-hold-test.false) c.loop-hold.invariant)
+
+pub returns-clause-taken : goal.returns-clause-taken
+returns-clause-taken c = of-filed c.args.gxid c.args.self.now.ledger.holds _ (c.take-holds.ensures.taken ∙ c.requires.filed (Of c.args.gxid))

@@ -1,7 +1,7 @@
 use Rattle.std.proofs.Common.{◌∙◌, ap}
 use Rattle.gx_locks.specs.Locks.{Locks}
 use Rattle.gx_locks.proofs.Whole.{IsWhole-emptied}
-use Rattle.gx_locks.proofs.table.LockTable.release_all.Goals as goal
+use Rattle.gx_locks.proofs.table.LockTable.take_all.Goals as goal
 
 pub invariant_of-self : goal.invariant_of-self
 invariant_of-self c =
