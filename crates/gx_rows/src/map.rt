@@ -1,13 +1,12 @@
-ghost use Rattle.std.specs.Prelude.{◌≡◌, ◌≢◌, ◌+◌, ◌≤◌, [], ◌∷◌, ◌++◌, length, None, Some, IfOk, OnOk, OnErr, IfSome, option_and_then};
-ghost use Rattle.std.specs.BTreeMap.{Updates, IsUnchanged};
+ghost use Rattle.std.specs.Prelude.{◌≡◌, ◌≢◌, ◌+◌, ◌≤◌, [], length, None, Some, IfNone, IfOk, OnOk, OnErr, IfSome, slice_get};
+ghost use Rattle.std.specs.BTreeMap.{IsEmpty, IsLowerBound, IsUnchanged, Updates, get, insert_entry};
 ghost use Rattle.gx_ids.specs.declared.ids.Gxid.{Gxid};
 ghost use Rattle.gx_ids.specs.declared.ids.Lxid.{Lxid};
-ghost use Rattle.gx_rows.specs.Xids.{IsGiven, gxid_of, lxid_of, status_of, kept, assigned, with_status, truncated};
-ghost use Rattle.gx_rows.specs.Keys.{gxid_cmp};
+ghost use Rattle.gx_rows.specs.Xids.{IsGiven, IsTruncated, gxid_cmp, lxid_cmp, gxid_of, lxid_of, status_of, assigned, with_status};
+ghost use Rattle.gx_rows.specs.Keys.{AreLeft, IsInverse};
 
-use crate::below::drop_below;
 use crate::status::LocalStatus;
-use gx_ids::{Gxid, Lxid, Mem};
+use gx_ids::{Gxid, Lxid, Mem, OutOfMemory};
 use std::alloc::Global;
 use std::collections::BTreeMap;
 use std::marker::Model;
@@ -17,9 +16,9 @@ use std::marker::Model;
 #[derive(Drop)]
 pub struct XidMap {
     horizon: Gxid,
-    gxids: Vec<Gxid>,
-    statuses: Vec<LocalStatus>,
     lxids: BTreeMap<Gxid, Lxid>,
+    gxids: BTreeMap<Lxid, Gxid>,
+    statuses: Vec<LocalStatus>,
 }
 
 impl Model for XidMap {
@@ -28,21 +27,21 @@ impl Model for XidMap {
 
     ghost Value = { Xids };
 
-    ghost view = { λ a. record { horizon = a.horizon; gxids = a.gxids.items; statuses = a.statuses.items } };
+    ghost view = { λ a. record { horizon = a.horizon; lxids = a.lxids.entries; gxids = a.gxids.entries; statuses = a.statuses.items } };
 
-    ghost invariant = { λ a. IsWhole a.horizon a.gxids.items a.statuses.items a.lxids };
+    ghost invariant = { λ a. IsWhole a.horizon a.lxids a.gxids a.statuses.items };
 }
 
 impl XidMap {
     /// A map without entries.
     pub fn new(alloc: Global) -> Mem<XidMap>
-        ensures { IfOk result (λ map. map ≡ record { horizon = record { 0 = 0 }; gxids = []; statuses = [] }) }
+        ensures { IfOk result (λ map. map ≡ record { horizon = record { 0 = 0 }; lxids = []; gxids = []; statuses = [] }) }
     {
         Ok(XidMap {
             horizon: Gxid(0),
-            gxids: Vec::new(alloc),
-            statuses: Vec::new(alloc),
             lxids: BTreeMap::new(alloc),
+            gxids: BTreeMap::new(alloc),
+            statuses: Vec::new(alloc),
         })
     }
 
@@ -59,9 +58,6 @@ impl XidMap {
         ensures back { IfSome result (λ lxid. gxid_of self.now lxid ≡ Some gxid) }
         ensures given { IfSome result (IsGiven self.now) }
     {
-        if gxid < self.horizon {
-            return None;
-        }
         self.lxids.get(&gxid).copied()
     }
 
@@ -69,15 +65,9 @@ impl XidMap {
     pub fn gxid_of(&self, lxid: Lxid) -> Option<Gxid>
         ensures value { result ≡ gxid_of self.now lxid }
         ensures back { IfSome result (λ gxid. lxid_of self.now gxid ≡ Some lxid) }
-        ensures given { IfSome result (λ _. IsGiven self.now lxid) }
+        ensures high { IfSome result (λ gxid. self.now.horizon.0 ≤ gxid.0) }
     {
-        let place = lxid.0.checked_sub(1)?;
-        let gxid = self.gxids.get(place as usize).copied()?;
-        if self.horizon <= gxid {
-            Some(gxid)
-        } else {
-            None
-        }
+        self.gxids.get(&lxid).copied()
     }
 
     /// What became of a transaction here. One that never wrote here is running.
@@ -98,10 +88,16 @@ impl XidMap {
         ensures next { IfOk result (λ lxid. lxid.0 ≡ length self.old.statuses + 1) }
         ensures ok { OnOk result (self.new ≡ assigned self.old gxid) }
         ensures found { IfOk result (λ lxid. lxid_of self.new gxid ≡ Some lxid) }
+        ensures back { IfOk result (λ lxid. gxid_of self.new lxid ≡ Some gxid) }
         ensures others { OnOk result ((g : Gxid) → g.0 ≢ gxid.0 → lxid_of self.new g ≡ lxid_of self.old g) }
+        ensures others_back { IfOk result (λ lxid. (l : Lxid) → l.0 ≢ lxid.0 → gxid_of self.new l ≡ gxid_of self.old l) }
         ensures err { OnErr result (self.new ≡ self.old) }
     {
-        add_entry(&mut self.gxids, &mut self.statuses, &mut self.lxids, gxid)
+        self.statuses.reserve(1)?;
+        let lxid = next_lxid(self.statuses.as_slice());
+        add_entry(&mut self.lxids, &mut self.gxids, gxid, lxid)?;
+        self.statuses.push(LocalStatus::Running)?;
+        Ok(lxid)
     }
 
     /// Sets what became of a transaction here.
@@ -116,36 +112,68 @@ impl XidMap {
 
     /// Drops the entries of gxids below the horizon. Every status stays.
     pub fn truncate(&mut self, horizon: Gxid)
-        ensures value { self.new ≡ truncated self.old horizon }
-        ensures entries { (l : Lxid) → gxid_of self.new l ≡ option_and_then (kept horizon) (gxid_of self.old l) }
+        ensures { IsTruncated self.old horizon self.new }
     {
         if self.horizon < horizon {
             self.horizon = horizon;
-            drop_below(&mut self.lxids, horizon);
+            drop_entries(&mut self.lxids, &mut self.gxids, horizon);
         }
     }
 }
 
-// Gives a transaction the next lxid. The room comes first, so that nothing is changed where there is none.
-fn add_entry(
-    gxids: &mut Vec<Gxid>,
-    statuses: &mut Vec<LocalStatus>,
-    lxids: &mut BTreeMap<Gxid, Lxid>,
-    gxid: Gxid,
-) -> Mem<Lxid>
-    ensures next { IfOk result (λ lxid. lxid.0 ≡ length gxids.old.items + 1) }
-    ensures gxids { OnOk result (gxids.new.items ≡ gxids.old.items ++ gxid ∷ []) }
-    ensures statuses { OnOk result (statuses.new.items ≡ statuses.old.items ++ LocalStatus.Running ∷ []) }
-    ensures lxids { IfOk result (λ lxid. Updates gxid_cmp lxids.old lxids.new gxid (Some lxid)) }
-    ensures gxids_stay { OnErr result (gxids.new.items ≡ gxids.old.items) }
-    ensures statuses_stay { OnErr result (statuses.new.items ≡ statuses.old.items) }
-    ensures lxids_stay { OnErr result (IsUnchanged lxids.old lxids.new) }
+fn next_lxid(statuses: &[LocalStatus]) -> Lxid
+    ensures { result.0 ≡ length statuses.now + 1 }
 {
-    gxids.reserve(1)?;
-    statuses.reserve(1)?;
-    let lxid = Lxid(gxids.len() as u64 + 1);
+    Lxid(statuses.len() as u64 + 1)
+}
+
+// Adds the entry of both numbers to both maps, or to none.
+fn add_entry(
+    lxids: &mut BTreeMap<Gxid, Lxid>,
+    gxids: &mut BTreeMap<Lxid, Gxid>,
+    gxid: Gxid,
+    lxid: Lxid,
+) -> Mem<()>
+    requires { get gxid_cmp lxids.old gxid ≡ None }
+    ensures lxids { OnOk result (lxids.new.entries ≡ insert_entry gxid_cmp lxids.old.entries gxid lxid) }
+    ensures gxids { OnOk result (gxids.new.entries ≡ insert_entry lxid_cmp gxids.old.entries lxid gxid) }
+    ensures found { OnOk result (Updates gxid_cmp lxids.old lxids.new gxid (Some lxid)) }
+    ensures back { OnOk result (Updates lxid_cmp gxids.old gxids.new lxid (Some gxid)) }
+    ensures lxids_stay { OnErr result (IsUnchanged lxids.old lxids.new) }
+    ensures gxids_stay { OnErr result (IsUnchanged gxids.old gxids.new) }
+{
     lxids.insert(gxid, lxid)?;
-    gxids.push(gxid)?;
-    statuses.push(LocalStatus::Running)?;
-    Ok(lxid)
+    match gxids.insert(lxid, gxid) {
+        Ok(_) => Ok(()),
+        Err(_) => {
+            lxids.remove(&gxid);
+            Err(OutOfMemory)
+        }
+    }
+}
+
+// Takes the entries of the gxids below the horizon out of both maps, and no other.
+fn drop_entries(lxids: &mut BTreeMap<Gxid, Lxid>, gxids: &mut BTreeMap<Lxid, Gxid>, horizon: Gxid)
+    requires { IsInverse lxids.old gxids.old }
+    ensures inverse { IsInverse lxids.new gxids.new }
+    ensures left { AreLeft lxids.old gxids.old horizon lxids.new gxids.new }
+    ensures high { (g : Gxid) (l : Lxid) → get gxid_cmp lxids.new g ≡ Some l → horizon.0 ≤ g.0 }
+{
+    while let Some((gxid, lxid)) = first_entry(lxids) {
+        if horizon <= gxid {
+            return;
+        }
+        lxids.pop_first();
+        gxids.remove(&lxid);
+    }
+}
+
+fn first_entry(lxids: &BTreeMap<Gxid, Lxid>) -> Option<(Gxid, Lxid)>
+    ensures first { IfSome result (λ e. slice_get lxids.now.entries 0 ≡ Some e) }
+    ensures found { IfSome result (λ e. get gxid_cmp lxids.now e.0 ≡ Some e.1) }
+    ensures least { IfSome result (λ e. IsLowerBound gxid_cmp lxids.now e.0) }
+    ensures empty { IfNone result (IsEmpty lxids.now) }
+{
+    let (gxid, lxid) = lxids.first_key_value()?;
+    Some((*gxid, *lxid))
 }

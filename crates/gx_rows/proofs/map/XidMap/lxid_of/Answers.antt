@@ -1,20 +1,18 @@
-use Rattle.std.proofs.Common.{◌≡◌, ◌∙◌, ◌≤◌, arith}
-use Rattle.std.proofs.lemmas.Bool.Decides.{nat_tests}
-use Rattle.gx_rows.specs.Xids.{Xids, lxid_in}
-use Rattle.gx_rows.proofs.XidEntries.{gxid_of-lxid_in, IsGiven-lxid_in}
+use Rattle.std.proofs.Common.{◌≡◌, ◌∙◌}
+use Rattle.std.specs.Prelude.{Some}
+use Rattle.std.specs.BTreeMap.{get}
+use Rattle.gx_ids.specs.declared.ids.Lxid.{Lxid}
+use Rattle.gx_rows.specs.Xids.{Xids, IsGiven, gxid_cmp, gxid_of}
+use Rattle.gx_rows.proofs.XidEntries.{IfSome-each}
 use Rattle.gx_rows.proofs.map.XidMap.lxid_of.Goals as goal
 
 abbrev xids : goal.After-copied → Xids
-xids c = record { horizon = c.self.inside.horizon; gxids = c.self.inside.gxids.items; statuses = c.self.inside.statuses.items }
-
-is_high : (c : goal.After-copied) → c.self.inside.horizon.0 ≤ c.args.gxid.0
-is_high c = grind (arith, nat_tests, c.if-lt.ensures, c.if-lt.false)
-
-found : (c : goal.After-copied) → c.copied.result ≡ lxid_in c.self.inside.gxids.items c.args.gxid
-found c = c.copied.ensures ∙ c.get.ensures.value ∙ c.self.invariant.found c.args.gxid (is_high c)
+xids c = record { horizon = c.self.inside.horizon; lxids = c.self.inside.lxids.entries; gxids = c.self.inside.gxids.entries; statuses = c.self.inside.statuses.items }
 
 pub returns-clause-back : goal.returns-clause-back
-returns-clause-back c = rw (← c.self.view_is) (gxid_of-lxid_in (xids c) c.args.gxid c.copied.result (is_high c) (found c))
+returns-clause-back c =
+    rw (← c.self.view_is) (IfSome-each (λ (l : Lxid). gxid_of (xids c) l ≡ Some c.args.gxid) c.copied.result (get gxid_cmp c.self.inside.lxids c.args.gxid) (c.copied.ensures ∙ c.get.ensures.value) (λ l at. c.self.invariant.inverse.there c.args.gxid l at))
 
 pub returns-clause-given : goal.returns-clause-given
-returns-clause-given c = rw (← c.self.view_is) (IsGiven-lxid_in (xids c) c.args.gxid c.copied.result c.self.invariant.paired (found c))
+returns-clause-given c =
+    rw (← c.self.view_is) (IfSome-each (IsGiven (xids c)) c.copied.result (get gxid_cmp c.self.inside.lxids c.args.gxid) (c.copied.ensures ∙ c.get.ensures.value) (λ l at. c.self.invariant.given c.args.gxid l at))
