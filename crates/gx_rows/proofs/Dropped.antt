@@ -4,7 +4,7 @@ use Rattle.std.proofs.lemmas.Bool.Decides.{nat_tests}
 use Rattle.std.proofs.lemmas.List.Elements.{All-cons, All-head, All-weaker}
 use Rattle.std.proofs.lemmas.List.Folds.{list_any_none}
 use Rattle.std.proofs.lemmas.Map.Views.{All-after_first}
-use Rattle.std.specs.Prelude.{find, reverse, All, Option, None, Some, option_and_then, unwrap_or}
+use Rattle.std.specs.Prelude.{find, reverse, All, Option, None, Some, option_and_then}
 use Rattle.std.specs.Ordering.{nat_cmp}
 use Rattle.std.specs.declared.cmp.Ordering.TheVariants.{Less}
 use Rattle.gx_ids.specs.declared.ids.Gxid.{Gxid}
@@ -13,11 +13,10 @@ use Rattle.gx_ids.specs.declared.ids.Cid.{Cid}
 use Rattle.gx_dsnap.specs.declared.snapshot.Snapshot.{Snapshot}
 use Rattle.gx_dsnap.specs.Gxids.{gxid_cmp, IsRising, is_listed, is_below, first_or}
 use Rattle.gx_dsnap.specs.Snapshot.{sees}
-use Rattle.gx_rows.specs.Xids.{Xids, IsTruncated, at_lxid, gxid_of, kept, status_of}
+use Rattle.gx_rows.specs.Xids.{Xids, IsTruncated, gxid_of, kept, status_of}
 use Rattle.gx_rows.specs.declared.version.Version.{Version}
 use Rattle.gx_rows.specs.Counts.{is_seen, is_own, is_committed, counts, shown_of}
 use Rattle.gx_rows.specs.declared.status.LocalStatus.{LocalStatus}
-use Rattle.gx_rows.specs.declared.status.LocalStatus.TheVariants.{Running}
 
 apart_first : (g h : ℕ) → g < h → eqb h g ≡ false
 apart_first g h lower = grind (arith, nat_tests)
@@ -62,7 +61,7 @@ at_entry snap (Some g) h below = is_seen-kept snap h g (ltb g.0 h.0) ∙ or_same
 -- a version counts as before
 pub counts-truncated : (v : Version) (x x' : Xids) (h : Gxid) (snap : Snapshot) (own : Option Lxid) (cid : Cid) → IsTruncated x h x' → h.0 ≤ snap.xmin.0 → counts v x' snap own cid ≡ counts v x snap own cid
 counts-truncated v x x' h snap own cid is below =
-    ap (λ (ss : List LocalStatus). is_own v own cid || (is_committed (unwrap_or (at_lxid ss v.lxid) Running) && is_seen snap (gxid_of x' v.lxid))) is.statuses
+    ap (λ (s : LocalStatus). is_own v own cid || (is_committed s && is_seen snap (gxid_of x' v.lxid))) (is.statuses v.lxid)
     ∙ ap (λ (seen : Bool). is_own v own cid || (is_committed (status_of x v.lxid) && seen)) (ap (is_seen snap) (is.gxids v.lxid) ∙ at_entry snap (gxid_of x v.lxid) h below)
 
 find_agree : {X : Type 0} (p q : X → Bool) (xs : List X) → ((x : X) → p x ≡ q x) → find p xs ≡ find q xs

@@ -1,24 +1,48 @@
 -- How the map keeps its entries.
-use Rattle.std.specs.Prelude.{◌≡◌, ◌<◌, ◌≤◌, List, length, Some}
-use Rattle.std.specs.BTreeMap.{BTreeMap, get}
+use Rattle.std.specs.Prelude.{◌≡◌, ℕ, ◌<◌, ◌≤◌, Bool, false, ◌&&◌, if◌then◌else◌, Option, None, Some}
+use Rattle.std.specs.BTreeMap.{BTreeMap, get, is_at}
 use Rattle.gx_ids.specs.declared.ids.Gxid.{Gxid}
 use Rattle.gx_ids.specs.declared.ids.Lxid.{Lxid}
+use Rattle.gx_rows.specs.Counts.{is_committed}
 use Rattle.gx_rows.specs.Xids.{gxid_cmp, lxid_cmp}
+use Rattle.gx_rows.specs.declared.entry.XidEntry.{XidEntry}
 use Rattle.gx_rows.specs.declared.status.LocalStatus.{LocalStatus}
 
--- both maps have the same entries
-pub record IsInverse (lxids : BTreeMap Gxid Lxid) (gxids : BTreeMap Lxid Gxid) : Type 0 where
-  pub there : (g : Gxid) (l : Lxid) → get gxid_cmp lxids g ≡ Some l → get lxid_cmp gxids l ≡ Some g
-  pub back : (g : Gxid) (l : Lxid) → get lxid_cmp gxids l ≡ Some g → get gxid_cmp lxids g ≡ Some l
+-- the entry at an lxid, of this gxid
+pub record HasEntry (entries : BTreeMap Lxid XidEntry) (g : Gxid) (l : Lxid) : Type 0 where
+  pub entry : XidEntry
+  pub there : get lxid_cmp entries l ≡ Some entry
+  pub gxid : entry.gxid ≡ g
 
--- they do, and each entry is of a gxid from the horizon on and of an lxid that was given out
-pub record IsWhole (horizon : Gxid) (lxids : BTreeMap Gxid Lxid) (gxids : BTreeMap Lxid Gxid) (statuses : List LocalStatus) : Type 0 where
-  pub inverse : IsInverse lxids gxids
-  pub given : (g : Gxid) (l : Lxid) → get gxid_cmp lxids g ≡ Some l → (0 < l.0) × (l.0 ≤ length statuses)
+-- Each lxid has its entry, each entry of a gxid from the horizon on its lxid; no lxid is of a gxid below it, and each entry's lxid was
+-- given out.
+pub record IsWhole (horizon : Gxid) (lxids : BTreeMap Gxid Lxid) (entries : BTreeMap Lxid XidEntry) (given : ℕ) : Type 0 where
+  pub there : (g : Gxid) (l : Lxid) → get gxid_cmp lxids g ≡ Some l → HasEntry entries g l
+  pub back : (l : Lxid) (e : XidEntry) → get lxid_cmp entries l ≡ Some e → horizon.0 ≤ e.gxid.0 → get gxid_cmp lxids e.gxid ≡ Some l
   pub high : (g : Gxid) (l : Lxid) → get gxid_cmp lxids g ≡ Some l → horizon.0 ≤ g.0
+  pub inside : (l : Lxid) (e : XidEntry) → get lxid_cmp entries l ≡ Some e → (0 < l.0) × (l.0 ≤ given)
 
--- of the entries those from the horizon on are left, and no other came
-pub record AreLeft (lxids : BTreeMap Gxid Lxid) (gxids : BTreeMap Lxid Gxid) (horizon : Gxid) (lxids' : BTreeMap Gxid Lxid) (gxids' : BTreeMap Lxid Gxid) : Type 0 where
+abbrev pub is_done : Option XidEntry → Bool
+is_done None = false
+is_done (Some e) = is_committed e.status
+
+-- The lxids of gxids from here on are left, and no other. Of the entries, some that have committed and are below it may be gone, and no
+-- other.
+pub record AreLeft (lxids : BTreeMap Gxid Lxid) (entries : BTreeMap Lxid XidEntry) (horizon : Gxid) (lxids' : BTreeMap Gxid Lxid) (entries' : BTreeMap Lxid XidEntry) : Type 0 where
   pub same : (g : Gxid) → horizon.0 ≤ g.0 → get gxid_cmp lxids' g ≡ get gxid_cmp lxids g
-  pub stay : (g : Gxid) (l : Lxid) → horizon.0 ≤ g.0 → get lxid_cmp gxids l ≡ Some g → get lxid_cmp gxids' l ≡ Some g
-  pub old : (g : Gxid) (l : Lxid) → get lxid_cmp gxids' l ≡ Some g → get lxid_cmp gxids l ≡ Some g
+  pub old_lxids : (g : Gxid) (l : Lxid) → get gxid_cmp lxids' g ≡ Some l → get gxid_cmp lxids g ≡ Some l
+  pub old : (l : Lxid) (e : XidEntry) → get lxid_cmp entries' l ≡ Some e → get lxid_cmp entries l ≡ Some e
+  pub high : (l : Lxid) (e : XidEntry) → horizon.0 ≤ e.gxid.0 → get lxid_cmp entries l ≡ Some e → get lxid_cmp entries' l ≡ Some e
+  pub open_there : (l : Lxid) (e : XidEntry) → is_committed e.status ≡ false → get lxid_cmp entries l ≡ Some e → get lxid_cmp entries' l ≡ Some e
+
+-- without the entry of an lxid, if it has committed
+abbrev pub IsForgotten : Lxid → BTreeMap Lxid XidEntry → BTreeMap Lxid XidEntry → Type 0
+IsForgotten l m n = (k : Lxid) → get lxid_cmp n k ≡ (if is_at (lxid_cmp l) k && is_done (get lxid_cmp m l) then None else get lxid_cmp m k)
+
+abbrev pub restated : LocalStatus → Option XidEntry → Option XidEntry
+restated s None = None
+restated s (Some e) = Some (record e { status = s })
+
+-- with this status at an lxid, if it has an entry
+abbrev pub IsRestated : Lxid → LocalStatus → BTreeMap Lxid XidEntry → BTreeMap Lxid XidEntry → Type 0
+IsRestated l s m n = (k : Lxid) → get lxid_cmp n k ≡ (if is_at (lxid_cmp l) k then restated s (get lxid_cmp m l) else get lxid_cmp m k)

@@ -1,5 +1,5 @@
 -- How the store is kept: versions name their writers by lxids.
-use Rattle.std.specs.Prelude.{◌≡◌, List, [], ◌∷◌, length, map, Option, None, Some, unwrap_or, option_and_then, is_some, if◌then◌else◌}
+use Rattle.std.specs.Prelude.{◌≡◌, true, List, [], ◌∷◌, length, map, Option, None, Some, unwrap_or, option_and_then, is_some, if◌then◌else◌}
 use Rattle.std.specs.List.{flat_map, AllByRecursion}
 use Rattle.std.specs.Map.{lookup}
 use Rattle.std.specs.BTreeMap.{is_at, insert_entry}
@@ -12,7 +12,7 @@ use Rattle.gx_tree.specs.declared.row.KeyedRow.{KeyedRow}
 use Rattle.gx_tree.specs.declared.value.Value.{Value}
 use Rattle.gx_dsnap.specs.declared.snapshot.Snapshot.{Snapshot}
 use Rattle.gx_rows.specs.declared.status.LocalStatus.{LocalStatus}
-use Rattle.gx_rows.specs.Xids.{IsGiven, Xids, lxid_of, gxid_of, assigned, status_of, with_status}
+use Rattle.gx_rows.specs.Xids.{Xids, is_given, lxid_of, gxid_of, assigned, status_of, with_status}
 use Rattle.gx_rows.specs.declared.version.Version.{Version}
 use Rattle.gx_rows.specs.Rows.{versions_of, added, rids_of, last_passing, is_unaborted}
 use Rattle.gx_rows.specs.Counts.{shown_of}
@@ -32,13 +32,13 @@ store_of tables x = record {
 
 -- a version stands in its table, and its lxid was given out
 abbrev pub IsFiled : Xids → Table → Version → Type 0
-IsFiled x table v = (v.table.0 ≡ table.0) × IsGiven x v.lxid
+IsFiled x table v = (v.table.0 ≡ table.0) × (is_given x v.lxid ≡ true)
 
 -- entries lead both ways, to gxids from the horizon on and to lxids that were given out, and each version is filed
 pub record IsSound (tables : List (Table × List (Rid × List Version))) (x : Xids) : Type 0 where
   pub there : (g : Gxid) (l : Lxid) → lxid_of x g ≡ Some l → gxid_of x l ≡ Some g
   pub back : (g : Gxid) (l : Lxid) → gxid_of x l ≡ Some g → lxid_of x g ≡ Some l
-  pub given : (g : Gxid) (l : Lxid) → lxid_of x g ≡ Some l → IsGiven x l
+  pub given : (g : Gxid) (l : Lxid) → lxid_of x g ≡ Some l → is_given x l ≡ true
   pub high : (g : Gxid) (l : Lxid) → lxid_of x g ≡ Some l → x.horizon.0 ≤ g.0
   pub filed : (table : Table) (rid : Rid) → AllByRecursion (IsFiled x table) (kept_at tables table rid)
 
