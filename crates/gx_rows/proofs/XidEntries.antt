@@ -36,11 +36,11 @@ same_gxid g q same = grind (arith, nat_tests)
 same_lxid : (l k : Lxid) → eqb l.0 k.0 ≡ true → l ≡ k
 same_lxid l k same = grind (arith, nat_tests)
 
-at_gxid : (g q : Gxid) (b : Bool) → eqb g.0 q.0 ≡ b → is_at (gxid_cmp g) q ≡ b
+pub at_gxid : (g q : Gxid) (b : Bool) → eqb g.0 q.0 ≡ b → is_at (gxid_cmp g) q ≡ b
 at_gxid g q true e = grind (arith, nat_tests)
 at_gxid g q false e = grind (arith, nat_tests)
 
-at_lxid : (l k : Lxid) (b : Bool) → eqb l.0 k.0 ≡ b → is_at (lxid_cmp l) k ≡ b
+pub at_lxid : (l k : Lxid) (b : Bool) → eqb l.0 k.0 ≡ b → is_at (lxid_cmp l) k ≡ b
 at_lxid l k true e = grind (arith, nat_tests)
 at_lxid l k false e = grind (arith, nat_tests)
 
@@ -80,21 +80,28 @@ module _ (l : Lxid) (w : XidEntry) where
     lookup-apart [] = refl
     lookup-apart (e ∷ es) = apart_step e es (eqb l.0 e.0.0) refl (lookup-apart es)
 
-module _ (l : Lxid) (s : LocalStatus) (n n' : BTreeMap Lxid XidEntry) (whole : n'.entries ≡ with_entry l s (get lxid_cmp n l) n.entries) where
-  restated_at : (k : Lxid) (o : Option XidEntry) → get lxid_cmp n l ≡ o → (b : Bool) → eqb l.0 k.0 ≡ b → lookup (is_at (lxid_cmp k)) (with_entry l s o n.entries) ≡ cond (is_at (lxid_cmp l) k) (restated s o) (get lxid_cmp n k)
-  restated_at k None is true e = ap (get lxid_cmp n) (sym (same_lxid l k e)) ∙ is ∙ sym (ap (λ (b : Bool). cond b None (get lxid_cmp n k)) (at_lxid l k true e))
-  restated_at k None is false e = sym (ap (λ (b : Bool). cond b None (get lxid_cmp n k)) (at_lxid l k false e))
+module _ (l : Lxid) (s : LocalStatus) (es : List (Lxid × XidEntry)) where
+  abbrev found_at : Lxid → Option XidEntry
+  found_at k = lookup (is_at (lxid_cmp k)) es
+
+  restated_at : (k : Lxid) (o : Option XidEntry) → found_at l ≡ o → (b : Bool) → eqb l.0 k.0 ≡ b → lookup (is_at (lxid_cmp k)) (with_entry l s o es) ≡ cond (is_at (lxid_cmp l) k) (restated s o) (found_at k)
+  restated_at k None is true e = ap found_at (sym (same_lxid l k e)) ∙ is ∙ sym (ap (λ (b : Bool). cond b None (found_at k)) (at_lxid l k true e))
+  restated_at k None is false e = sym (ap (λ (b : Bool). cond b None (found_at k)) (at_lxid l k false e))
   restated_at k (Some x) is true e =
       let y : XidEntry = record x { status = s } in
-      ap (λ (j : Lxid). lookup (is_at (lxid_cmp j)) (set_value (is_at (lxid_cmp l)) n.entries y)) (sym (same_lxid l k e))
-      ∙ lookup-written l y n.entries x is
-      ∙ sym (ap (λ (b : Bool). cond b (Some y) (get lxid_cmp n k)) (at_lxid l k true e))
+      ap (λ (j : Lxid). lookup (is_at (lxid_cmp j)) (set_value (is_at (lxid_cmp l)) es y)) (sym (same_lxid l k e))
+      ∙ lookup-written l y es x is
+      ∙ sym (ap (λ (b : Bool). cond b (Some y) (found_at k)) (at_lxid l k true e))
   restated_at k (Some x) is false e =
       let y : XidEntry = record x { status = s } in
-      lookup-apart l y k e n.entries ∙ sym (ap (λ (b : Bool). cond b (Some y) (get lxid_cmp n k)) (at_lxid l k false e))
+      lookup-apart l y k e es ∙ sym (ap (λ (b : Bool). cond b (Some y) (found_at k)) (at_lxid l k false e))
 
-  pub IsRestated-whole : IsRestated l s n n'
-  IsRestated-whole k = ap (lookup (is_at (lxid_cmp k))) whole ∙ restated_at k (get lxid_cmp n l) refl (eqb l.0 k.0) refl
+  -- an entry with another status is found where it stood, and the others are as they were
+  pub lookup-with_entry : (k : Lxid) → lookup (is_at (lxid_cmp k)) (with_entry l s (found_at l) es) ≡ cond (is_at (lxid_cmp l) k) (restated s (found_at l)) (found_at k)
+  lookup-with_entry k = restated_at k (found_at l) refl (eqb l.0 k.0) refl
+
+pub IsRestated-whole : (l : Lxid) (s : LocalStatus) (n n' : BTreeMap Lxid XidEntry) → n'.entries ≡ with_entry l s (get lxid_cmp n l) n.entries → IsRestated l s n n'
+IsRestated-whole l s n n' whole k = ap (lookup (is_at (lxid_cmp k))) whole ∙ lookup-with_entry l s n.entries k
 
 module _ (horizon : Gxid) (given : ℕ) (m : BTreeMap Gxid Lxid) (n n' : BTreeMap Lxid XidEntry) (l : Lxid) (s : LocalStatus) (whole : IsWhole horizon m n given) (as_stated : IsRestated l s n n') where
   stated : (k : Lxid) (b : Bool) → eqb l.0 k.0 ≡ b → get lxid_cmp n' k ≡ cond b (restated s (get lxid_cmp n l)) (get lxid_cmp n k)
