@@ -1,5 +1,5 @@
 -- How the store is kept: versions name their writers by lxids.
-use Rattle.std.specs.Prelude.{◌≡◌, true, List, [], ◌∷◌, length, map, Option, None, Some, unwrap_or, option_and_then, is_some, if◌then◌else◌}
+use Rattle.std.specs.Prelude.{◌≡◌, ◌≤◌, true, List, [], ◌∷◌, length, map, Option, None, Some, unwrap_or, option_and_then, is_some, if◌then◌else◌}
 use Rattle.std.specs.List.{flat_map, AllByRecursion}
 use Rattle.std.specs.Map.{lookup}
 use Rattle.std.specs.BTreeMap.{is_at, insert_entry}

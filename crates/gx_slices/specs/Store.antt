@@ -1,5 +1,5 @@
 -- What one segment keeps of rows, told without lxids, and what it shows of them.
-use Rattle.std.specs.Prelude.{Bool, false, not, List, [], ◌==◌, ◌&&◌, ◌||◌, nat_lt, if◌then◌else◌, find, Option, None, Some, option_map, option_and_then, unwrap_or}
+use Rattle.std.specs.Prelude.{◌≡◌, ◌≤◌, map, Bool, false, not, List, [], ◌==◌, ◌&&◌, ◌||◌, nat_lt, if◌then◌else◌, find, Option, None, Some, option_map, option_and_then, unwrap_or}
 use Rattle.std.specs.declared.cmp.Ordering.{Ordering}
 use Rattle.std.specs.Ordering.{nat_cmp}
 use Rattle.std.specs.Map.{lookup}
@@ -94,6 +94,12 @@ with_status g status w = if is_by w.writer g then record w { status = status } e
 -- once the horizon is there
 abbrev pub forgotten : Gxid → Write → Write
 forgotten horizon w = record w { writer = option_and_then (kept horizon) w.writer }
+
+-- the horizon has risen to this one, where it is greater
+pub record IsRaised (old : Store) (horizon : Gxid) (new : Store) : Type 0 where
+  pub horizon_is : new.horizon ≡ greater old.horizon horizon
+  pub writes : (t : Table) (r : Rid) → writes_of new t r ≡ map (forgotten horizon) (writes_of old t r)
+  pub status : (g : Gxid) → horizon.0 ≤ g.0 → status_of new g ≡ status_of old g
 
 -- SWEEPING
 abbrev pub has_aborted : Write → Bool

@@ -6,7 +6,7 @@ ghost use Rattle.gx_ids.specs.declared.rid.Rid.{Rid};
 ghost use Rattle.gx_meaning.specs.Answer.{AreRising};
 ghost use Rattle.gx_store.specs.Rows.{row_at};
 ghost use Rattle.gx_slices.specs.Keyed.{IsShownFor};
-ghost use Rattle.gx_slices.specs.Store.{empty, writes_of, status_of, shown_row, newest_of, current_of, forgotten, greater, swept, with_status};
+ghost use Rattle.gx_slices.specs.Store.{empty, writes_of, status_of, shown_row, newest_of, current_of, swept, with_status, IsRaised};
 
 use crate::current::Current;
 use crate::finding::rows_to_test;
@@ -125,9 +125,7 @@ impl LocalStore {
 
     /// Raises the horizon, where this one is greater, and forgets who the transactions below it are.
     pub fn raise_horizon(&mut self, horizon: Gxid)
-        ensures horizon { self.new.horizon ≡ greater self.old.horizon horizon }
-        ensures writes { (t : Table) (r : Rid) → writes_of self.new t r ≡ map (forgotten horizon) (writes_of self.old t r) }
-        ensures status { (g : Gxid) → horizon.0 ≤ g.0 → status_of self.new g ≡ status_of self.old g }
+        ensures { IsRaised self.old horizon self.new }
     {
         self.xids.truncate(horizon);
     }
@@ -192,7 +190,7 @@ impl LocalStore {
 
     /// The newest write to a row that isn't aborted here, none where there is none.
     pub fn current(&self, table: Table, rid: Rid) -> Option<Current>
-        ensures { result ≡ option_map (current_of self.now) (newest_of self.now table rid) }
+        ensures { result ≡ option_map current_of (newest_of self.now table rid) }
     {
         current_in(&self.tables, &self.xids, table, rid)
     }
