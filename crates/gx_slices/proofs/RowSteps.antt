@@ -26,7 +26,6 @@ use Rattle.gx_rules.specs.Segments.{Version}
 use Rattle.gx_rules.specs.Shown.{counts, current_of, is_current}
 use Rattle.gx_rules.specs.Slices.{Moved, cause_of, noted, own_lock, writes_row}
 use Rattle.gx_slices.specs.Agrees.{AreWriters, is_right_image, is_right_version}
-use Rattle.gx_slices.specs.Left.{write_of}
 use Rattle.gx_slices.specs.Apart.{IsApart}
 use Rattle.gx_slices.specs.Changing.{Came, IsAt, IsFree, IsRightImage, Stage, awaited_in, end_of, is_done_at, newest_as, newest_in, overtaker_in, waits_then}
 use Rattle.gx_slices.specs.Inserts.{IsPut}
