@@ -293,7 +293,7 @@ module _ (tables : List Schema) (held held' : Held) (s : Seg) (g : Gxid) (change
   by-is_by o b e status w at = ap (λ (x : Option Gxid). if is_by x g then record w { status = status } else w) at ∙ ap (λ (c : Bool). if c then record w { status = status } else w) e
 
   told-moved : (w : Write) (v : Version) → IsOf s w v → IsOf now (with_status g (status_in change.now.phase) w) v
-  told-moved w v its = by_mine (eqb v.gxid.0 g.0) refl
+  told-moved w v say = by_mine (eqb v.gxid.0 g.0) refl
     where
       not_below : (h : Gxid) → s.horizon.0 ≤ h.0 → ltb h.0 s.horizon.0 ≡ false
       not_below h up = grind (arith, nat_tests)
@@ -310,11 +310,11 @@ module _ (tables : List Schema) (held held' : Held) (s : Seg) (g : Gxid) (change
 
       by_mine : (b : Bool) → eqb v.gxid.0 g.0 ≡ b → IsOf now (with_status g (status_in change.now.phase) w) v
       by_mine true e =
-          subst (λ (x : Write). IsOf now x v) (sym (by-is_by (kept s.horizon v.gxid) true (mine e) (status_in change.now.phase) w its.writer))
+          subst (λ (x : Write). IsOf now x v) (sym (by-is_by (kept s.horizon v.gxid) true (mine e) (status_in change.now.phase) w say.writer))
           (record {
-            writer = writer_now its.writer;
-            cid = its.cid;
-            image = its.image;
+            writer = writer_now say.writer;
+            cid = say.cid;
+            image = say.image;
             committed = in_phase change.now.phase ∙ ap (λ (l : Local). has_committed l.phase) (sym (its_local e));
             unaborted = unaborted_phase change.now.phase ∙ ap (λ (l : Local). rule.is_unaborted l.phase) (sym (its_local e));
           })
@@ -322,13 +322,13 @@ module _ (tables : List Schema) (held held' : Held) (s : Seg) (g : Gxid) (change
           its_local : eqb v.gxid.0 g.0 ≡ true → now.locals v.gxid.0 ≡ change.now
           its_local e = its v.gxid e
       by_mine false e =
-          subst (λ (x : Write). IsOf now x v) (sym (by-is_by (kept s.horizon v.gxid) false (not_mine (ltb v.gxid.0 s.horizon.0) refl e) (status_in change.now.phase) w its.writer))
+          subst (λ (x : Write). IsOf now x v) (sym (by-is_by (kept s.horizon v.gxid) false (not_mine (ltb v.gxid.0 s.horizon.0) refl e) (status_in change.now.phase) w say.writer))
           (record {
-            writer = writer_now its.writer;
-            cid = its.cid;
-            image = its.image;
-            committed = its.committed ∙ ap (λ (l : Local). has_committed l.phase) (sym (others v.gxid e));
-            unaborted = its.unaborted ∙ ap (λ (l : Local). rule.is_unaborted l.phase) (sym (others v.gxid e));
+            writer = writer_now say.writer;
+            cid = say.cid;
+            image = say.image;
+            committed = say.committed ∙ ap (λ (l : Local). has_committed l.phase) (sym (others v.gxid e));
+            unaborted = say.unaborted ∙ ap (λ (l : Local). rule.is_unaborted l.phase) (sym (others v.gxid e));
           })
 
   left-moved : Lasts (s.locals g.0) change → (table : Table) (rid : Rid) → AreLeft now table rid (writes_of held'.store table rid)

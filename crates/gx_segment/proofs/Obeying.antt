@@ -67,7 +67,7 @@ pub HasMoved-taken : (old : Held) (o : BTreeMap Gxid Entry) (store : Store) (hol
     → HasMoved old (record { store = store; entries = o; holders = holders; locks = old.locks }) g change taken
 HasMoved-taken old o store holders g change taken phase status t status_is set others writes horizon left = record {
   horizon = horizon;
-  writes = λ u r. writes u r ∙ ap (λ (s : LocalStatus). map (with_status g s) (writes_of old.store t r)) (status_is ∙ ap status_in t.phase_is);
+  writes = λ u r. writes u r ∙ ap (λ (s : LocalStatus). map (with_status g s) (writes_of old.store u r)) (status_is ∙ ap status_in t.phase_is);
   locks = refl;
   status = set ∙ ap (λ (s : LocalStatus). option_map (λ _. s) (status_of old.store g)) (status_is ∙ ap status_in t.phase_is);
   statuses = others;
