@@ -1,5 +1,5 @@
 -- Dropping entries below a snapshot's xmin changes nothing that its reader sees.
-use Rattle.std.proofs.Common.{◌≡◌, ℕ, ◌<◌, ◌≤◌, List, [], ◌∷◌, refl, sym, ap, ◌∙◌, Bool, true, false, cond, ltb, eqb, arith, ◌&&◌, ◌||◌, not}
+use Rattle.std.proofs.Common.{◌≡◌, ℕ, ◌<◌, ◌≤◌, List, [], ◌∷◌, refl, ap, ◌∙◌, Bool, true, false, cond, ltb, eqb, arith, ◌&&◌, ◌||◌, not}
 use Rattle.std.proofs.lemmas.Bool.Decides.{nat_tests}
 use Rattle.std.proofs.lemmas.List.Elements.{All-cons, All-head, All-weaker}
 use Rattle.std.proofs.lemmas.List.Folds.{list_any_none}
@@ -13,10 +13,10 @@ use Rattle.gx_ids.specs.declared.ids.Cid.{Cid}
 use Rattle.gx_dsnap.specs.declared.snapshot.Snapshot.{Snapshot}
 use Rattle.gx_dsnap.specs.Gxids.{gxid_cmp, IsRising, is_listed, is_below, first_or}
 use Rattle.gx_dsnap.specs.Snapshot.{sees}
-use Rattle.gx_rows.specs.Xids.{Xids, kept, truncated, at_lxid}
+use Rattle.gx_rows.specs.Xids.{Xids, IsTruncated, gxid_of, kept, status_of}
 use Rattle.gx_rows.specs.declared.version.Version.{Version}
 use Rattle.gx_rows.specs.Counts.{is_seen, is_own, is_committed, counts, shown_of}
-use Rattle.gx_rows.specs.Xids.{status_of}
+use Rattle.gx_rows.specs.declared.status.LocalStatus.{LocalStatus}
 
 apart_first : (g h : ℕ) → g < h → eqb h g ≡ false
 apart_first g h lower = grind (arith, nat_tests)
@@ -47,29 +47,28 @@ sees-below snap g low =
     ap (λ b. b && not (is_listed g snap.running)) (is_below-first g snap.xmax snap.running snap.below lower)
     ∙ ap not (is_listed-below g snap.xmax snap.running snap.rising lower)
 
-or_same : (a h g m : ℕ) (s : Bool) → h ≤ m → (g < m → s ≡ true) → ltb a h ≡ true → (ltb g h || s) ≡ (ltb g a || s)
-or_same a h g m s below seen higher = grind (arith, nat_tests)
+or_same : (h g m : ℕ) (s : Bool) → h ≤ m → (g < m → s ≡ true) → (ltb g h || s) ≡ s
+or_same h g m s below seen = grind (arith, nat_tests)
 
 is_seen-kept : (snap : Snapshot) (h g : Gxid) (b : Bool) → is_seen snap (cond b None (Some g)) ≡ (b || sees snap g)
 is_seen-kept snap h g true = refl
 is_seen-kept snap h g false = refl
 
-at_entry : (snap : Snapshot) (o : Option Gxid) (a h : Gxid) (b : Bool) → ltb a.0 h.0 ≡ b → h.0 ≤ snap.xmin.0 → is_seen snap (option_and_then (kept (cond b h a)) o) ≡ is_seen snap (option_and_then (kept a) o)
-at_entry snap None a h b higher below = refl
-at_entry snap (Some g) a h false higher below = refl
-at_entry snap (Some g) a h true higher below =
-    is_seen-kept snap h g (ltb g.0 h.0) ∙ or_same a.0 h.0 g.0 snap.xmin.0 (sees snap g) below (sees-below snap g) higher ∙ sym (is_seen-kept snap a g (ltb g.0 a.0))
+at_entry : (snap : Snapshot) (o : Option Gxid) (h : Gxid) → h.0 ≤ snap.xmin.0 → is_seen snap (option_and_then (kept h) o) ≡ is_seen snap o
+at_entry snap None h below = refl
+at_entry snap (Some g) h below = is_seen-kept snap h g (ltb g.0 h.0) ∙ or_same h.0 g.0 snap.xmin.0 (sees snap g) below (sees-below snap g)
 
 -- a version counts as before
-pub counts-truncated : (v : Version) (x : Xids) (h : Gxid) (snap : Snapshot) (own : Option Lxid) (cid : Cid) → h.0 ≤ snap.xmin.0 → counts v (truncated x h) snap own cid ≡ counts v x snap own cid
-counts-truncated v x h snap own cid below =
-    ap (λ seen. is_own v own cid || (is_committed (status_of x v.lxid) && seen)) (at_entry snap (at_lxid x.gxids v.lxid) x.horizon h (ltb x.horizon.0 h.0) refl below)
+pub counts-truncated : (v : Version) (x x' : Xids) (h : Gxid) (snap : Snapshot) (own : Option Lxid) (cid : Cid) → IsTruncated x h x' → h.0 ≤ snap.xmin.0 → counts v x' snap own cid ≡ counts v x snap own cid
+counts-truncated v x x' h snap own cid is below =
+    ap (λ (s : LocalStatus). is_own v own cid || (is_committed s && is_seen snap (gxid_of x' v.lxid))) (is.statuses v.lxid)
+    ∙ ap (λ (seen : Bool). is_own v own cid || (is_committed (status_of x v.lxid) && seen)) (ap (is_seen snap) (is.gxids v.lxid) ∙ at_entry snap (gxid_of x v.lxid) h below)
 
 find_agree : {X : Type 0} (p q : X → Bool) (xs : List X) → ((x : X) → p x ≡ q x) → find p xs ≡ find q xs
 find_agree p q [] agree = refl
 find_agree p q (x ∷ xs) agree = ap (λ b. cond b (Some x) (find p xs)) (agree x) ∙ ap (cond (q x) (Some x)) (find_agree p q xs agree)
 
 -- and the same one is shown
-pub shown_of-truncated : (versions : List Version) (x : Xids) (h : Gxid) (snap : Snapshot) (own : Option Lxid) (cid : Cid) → h.0 ≤ snap.xmin.0 → shown_of versions (truncated x h) snap own cid ≡ shown_of versions x snap own cid
-shown_of-truncated versions x h snap own cid below =
-    find_agree (λ v. counts v (truncated x h) snap own cid) (λ v. counts v x snap own cid) (reverse versions) (λ v. counts-truncated v x h snap own cid below)
+pub shown_of-truncated : (versions : List Version) (x x' : Xids) (h : Gxid) (snap : Snapshot) (own : Option Lxid) (cid : Cid) → IsTruncated x h x' → h.0 ≤ snap.xmin.0 → shown_of versions x' snap own cid ≡ shown_of versions x snap own cid
+shown_of-truncated versions x x' h snap own cid is below =
+    find_agree (λ v. counts v x' snap own cid) (λ v. counts v x snap own cid) (reverse versions) (λ v. counts-truncated v x x' h snap own cid is below)

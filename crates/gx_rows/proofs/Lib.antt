@@ -2,5 +2,4 @@ pub mod Entries
 pub mod Rising
 pub mod Dropped
 pub mod XidEntries
-pub mod Places
 pub mod Replaced

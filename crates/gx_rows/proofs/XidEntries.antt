@@ -1,153 +1,431 @@
--- The entries of the map, and what an entry more does to them.
-use Rattle.std.proofs.Common.{◌≡◌, ◌≢◌, ℕ, ◌+◌, ◌<◌, ◌≤◌, List, [], ◌∷◌, ◌++◌, length, refl, sym, ap, ◌∙◌, subst, Bool, true, false, cond, eqb, ltb, arith, length-append, ⊎_elim, zero, suc}
-use Rattle.std.proofs.lemmas.Bool.{cases_lt}
+-- The entries of the map, and what an entry more or less does to them.
+use Rattle.std.proofs.Common.{◌≡◌, ℕ, ◌+◌, ◌<◌, ◌≤◌, List, [], ◌∷◌, length, refl, sym, ap, ◌∙◌, subst, Bool, true, false, cond, eqb, ltb, ◌&&◌, arith}
 use Rattle.std.proofs.lemmas.Bool.Decides.{nat_tests}
-use Rattle.std.proofs.lemmas.Option.{slice_get_within}
-use Rattle.std.specs.Prelude.{Option, None, Some, slice_get, IfSome, option_map, Result, Ok, Err, IfOk, OnOk, OnErr}
-use Rattle.std.specs.List.{position_from}
-use Rattle.std.specs.Map.{lookup}
-use Rattle.std.specs.BTreeMap.{BTreeMap, get, Updates, IsUnchanged, is_at}
+use Rattle.std.specs.Prelude.{Option, None, Some, IfSome, IsSome, is_some, nat_le, nat_lt, option_and_then, slice_get}
+use Rattle.std.specs.declared.cmp.Ordering.{Ordering}
+use Rattle.std.specs.declared.cmp.Ordering.TheVariants.{Less, Equal, Greater}
+use Rattle.std.specs.Ordering.{is_eq, is_gt, match_ordering}
+use Rattle.std.specs.Map.{lookup, remove_entry, set_value}
+use Rattle.std.specs.BTreeMap.{BTreeMap, get, Updates, IsEmpty, IsLowerBound, insert_entry, is_at}
 use Rattle.gx_ids.specs.declared.ids.Gxid.{Gxid}
 use Rattle.gx_ids.specs.declared.ids.Lxid.{Lxid}
-use Rattle.gx_ids.specs.declared.memory.OutOfMemory.{OutOfMemory}
+use Rattle.gx_rows.specs.declared.entry.XidEntry.{XidEntry}
 use Rattle.gx_rows.specs.declared.status.LocalStatus.{LocalStatus}
-use Rattle.gx_rows.specs.declared.status.LocalStatus.TheVariants.{Running}
-use Rattle.gx_rows.specs.Xids.{Xids, gxid_of, lxid_of, lxid_in, IsGiven}
-use Rattle.gx_rows.specs.Keys.{IsWhole, gxid_cmp}
-use Rattle.gx_rows.proofs.Places.{IsPlaced, placed, position_from-push_other, position_from-push_found, position_from-push_new}
+use Rattle.gx_rows.specs.declared.status.LocalStatus.TheVariants.{Running, Prepared, Committed, Aborted}
+use Rattle.gx_rows.specs.Counts.{is_committed}
+use Rattle.gx_rows.specs.Xids.{Xids, IsTruncated, gxid_cmp, lxid_cmp, gxid_of, kept, status_in, with_entry}
+use Rattle.gx_rows.specs.Keys.{AreLeft, HasEntry, IsForgotten, IsRestated, IsWhole, is_done, restated}
 
-gxid_of-placed : (x : Xids) (g : Gxid) (n : ℕ) → x.horizon.0 ≤ g.0 → IsPlaced g x.gxids 1 n → gxid_of x (record { 0 = n }) ≡ Some g
-gxid_of-placed x g n high p =
-    let e : n ≡ 1 + p.place = p.counted in
-    rw e (grind (arith, nat_tests, p.there))
+-- what holds of each value that may stand there holds of the one that does
+pub IfSome-each : {X : Type 0} (P : X → Type 0) (o q : Option X) → o ≡ q → ((x : X) → q ≡ Some x → P x) → IfSome o P
+IfSome-each P None q e each = tt
+IfSome-each P (Some x) q e each = each x (sym e)
 
-back_at : (x : Xids) (g : Gxid) (p : Option ℕ) → x.horizon.0 ≤ g.0 → position_from (λ h. eqb h.0 g.0) 1 x.gxids ≡ p → IfSome (option_map (λ n. record { 0 = n }) p) (λ l. gxid_of x l ≡ Some g)
-back_at x g None high found = tt
-back_at x g (Some n) high found = gxid_of-placed x g n high (placed g x.gxids 1 n found)
+none_some : {X : Type 0} {x : X} → None ≡ Some x → ⊥
+none_some e = cc
 
--- the entry of what was found leads back
-pub gxid_of-lxid_in : (x : Xids) (g : Gxid) (r : Option Lxid) → x.horizon.0 ≤ g.0 → r ≡ lxid_in x.gxids g → IfSome r (λ l. gxid_of x l ≡ Some g)
-gxid_of-lxid_in x g r high e = subst (λ (o : Option Lxid). IfSome o (λ l. gxid_of x l ≡ Some g)) (sym e) (back_at x g (position_from (λ h. eqb h.0 g.0) 1 x.gxids) high refl)
+some_same : {X : Type 0} {x y : X} → Some x ≡ Some y → x ≡ y
+some_same e = cc
 
-given_at : (x : Xids) (g : Gxid) (p : Option ℕ) → length x.statuses ≡ length x.gxids → position_from (λ h. eqb h.0 g.0) 1 x.gxids ≡ p → IfSome (option_map (λ n. record { 0 = n }) p) (IsGiven x)
-given_at x g None paired found = tt
-given_at x g (Some n) paired found =
-    let p = placed g x.gxids 1 n found in
-    (omega (arith, p.counted), omega (arith, p.counted, p.inside, paired))
-
-pub IsGiven-lxid_in : (x : Xids) (g : Gxid) (r : Option Lxid) → length x.statuses ≡ length x.gxids → r ≡ lxid_in x.gxids g → IfSome r (IsGiven x)
-IsGiven-lxid_in x g r paired e = subst (λ (o : Option Lxid). IfSome o (IsGiven x)) (sym e) (given_at x g (position_from (λ h. eqb h.0 g.0) 1 x.gxids) paired refl)
-
-slice_get-push_left : (xs : List Gxid) (y : Gxid) (k : ℕ) → k < length xs → slice_get (xs ++ y ∷ []) k ≡ slice_get xs k
-slice_get-push_left [] y k inside = absurd (omega arith)
-slice_get-push_left (x ∷ xs) y zero inside = refl
-slice_get-push_left (x ∷ xs) y (suc k) inside = slice_get-push_left xs y k (omega arith)
-
-slice_get-push_last : (xs : List Gxid) (y : Gxid) (k : ℕ) → k ≡ length xs → slice_get (xs ++ y ∷ []) k ≡ Some y
-slice_get-push_last [] y k last = rw last refl
-slice_get-push_last (x ∷ xs) y zero last = absurd (omega arith)
-slice_get-push_last (x ∷ xs) y (suc k) last = slice_get-push_last xs y k (omega arith)
-
-last_place : (xs : List Gxid) (y : Gxid) (k : ℕ) (h : Gxid) → length xs ≤ k → slice_get (xs ++ y ∷ []) k ≡ Some h → k ≡ length xs
-last_place xs y k h past there = omega (arith, slice_get_within (xs ++ y ∷ []) k h there, length-append xs (y ∷ []))
-
-is_some_same : {g h : Gxid} → Some g ≡ Some h → g ≡ h
-is_some_same e = cc
-
-missing : (p : Option ℕ) → option_map (λ n. let l : Lxid = record { 0 = n } in l) p ≡ None → p ≡ None
-missing None e = refl
-missing (Some n) e = absurd (cc)
-
--- from the horizon on, what has no entry has no lxid
-pub fresh_in : (x : Xids) (g : Gxid) → lxid_of x g ≡ None → x.horizon.0 ≤ g.0 → lxid_in x.gxids g ≡ None
-fresh_in x g fresh high = grind (arith, nat_tests)
-
-module _ (gxids : List Gxid) (g : Gxid) (l : Lxid) where
-  found_other : (q : Gxid) → eqb g.0 q.0 ≡ false → lxid_in (gxids ++ g ∷ []) q ≡ lxid_in gxids q
-  found_other q other = ap (option_map (λ n. record { 0 = n })) (position_from-push_other (λ h. eqb h.0 q.0) 1 gxids g other)
-
-  found_new : (q : Gxid) → eqb g.0 q.0 ≡ true → lxid_in gxids q ≡ None → l.0 ≡ length gxids + 1 → lxid_in (gxids ++ g ∷ []) q ≡ Some l
-  found_new q same fresh next =
-      let n : 1 + length gxids ≡ l.0 = omega (arith, next) in
-      let absent : position_from (λ h. eqb h.0 q.0) 1 gxids ≡ None = missing (position_from (λ h. eqb h.0 q.0) 1 gxids) fresh in
-      ap (option_map (λ m. record { 0 = m })) (position_from-push_new (λ h. eqb h.0 q.0) 1 gxids g same absent ∙ ap Some n)
+not_both : {b : Bool} → b ≡ true → b ≡ false → ⊥
+not_both e f = cc
 
 same_gxid : (g q : Gxid) → eqb g.0 q.0 ≡ true → g ≡ q
 same_gxid g q same = grind (arith, nat_tests)
 
-same_itself : (g : Gxid) → eqb g.0 g.0 ≡ true
-same_itself g = grind (arith, nat_tests)
+same_lxid : (l k : Lxid) → eqb l.0 k.0 ≡ true → l ≡ k
+same_lxid l k same = grind (arith, nat_tests)
 
-is_at-same : (g q : Gxid) → eqb g.0 q.0 ≡ true → is_at (gxid_cmp g) q ≡ true
-is_at-same g q same = grind (arith, nat_tests)
+pub at_gxid : (g q : Gxid) (b : Bool) → eqb g.0 q.0 ≡ b → is_at (gxid_cmp g) q ≡ b
+at_gxid g q true e = grind (arith, nat_tests)
+at_gxid g q false e = grind (arith, nat_tests)
 
-is_at-other : (g q : Gxid) → eqb g.0 q.0 ≡ false → is_at (gxid_cmp g) q ≡ false
-is_at-other g q other = grind (arith, nat_tests)
+pub at_lxid : (l k : Lxid) (b : Bool) → eqb l.0 k.0 ≡ b → is_at (lxid_cmp l) k ≡ b
+at_lxid l k true e = grind (arith, nat_tests)
+at_lxid l k false e = grind (arith, nat_tests)
 
-module _ (gxids : List Gxid) (g : Gxid) (l : Lxid) (m n : BTreeMap Gxid Lxid) where
-  found_after : (q : Gxid) (b : Bool) → eqb g.0 q.0 ≡ b → get gxid_cmp m q ≡ lxid_in gxids q → lxid_in gxids g ≡ None → l.0 ≡ length gxids + 1 → get gxid_cmp n q ≡ cond (is_at (gxid_cmp g) q) (Some l) (get gxid_cmp m q) → get gxid_cmp n q ≡ lxid_in (gxids ++ g ∷ []) q
-  found_after q true same was fresh next now =
-      now ∙ ap (λ b. cond b (Some l) (get gxid_cmp m q)) (is_at-same g q same) ∙ sym (found_new gxids g l q same (subst (λ h. lxid_in gxids h ≡ None) (same_gxid g q same) fresh) next)
-  found_after q false other was fresh next now =
-      now ∙ ap (λ b. cond b (Some l) (get gxid_cmp m q)) (is_at-other g q other) ∙ was ∙ sym (found_other gxids g l q other)
+-- WITH ANOTHER STATUS
+module _ (l : Lxid) (w : XidEntry) where
+  abbrev written : List (Lxid × XidEntry) → List (Lxid × XidEntry)
+  written es = set_value (is_at (lxid_cmp l)) es w
 
-module _ (gxids : List Gxid) (g : Gxid) where
-  old_place : (k : ℕ) (h : Gxid) → k < length gxids → slice_get (gxids ++ g ∷ []) k ≡ Some h → ((i : ℕ) (q : Gxid) → slice_get gxids i ≡ Some q → position_from (λ t. eqb t.0 q.0) 1 gxids ≡ Some (i + 1)) → position_from (λ t. eqb t.0 h.0) 1 (gxids ++ g ∷ []) ≡ Some (k + 1)
-  old_place k h inside there distinct =
-      position_from-push_found (λ t. eqb t.0 h.0) 1 (k + 1) gxids g (distinct k h (sym (slice_get-push_left gxids g k inside) ∙ there))
+  written_step : (e : Lxid × XidEntry) (es : List (Lxid × XidEntry)) (x : XidEntry) (b : Bool) → is_at (lxid_cmp l) e.0 ≡ b → lookup (is_at (lxid_cmp l)) (e ∷ es) ≡ Some x → (lookup (is_at (lxid_cmp l)) es ≡ Some x → lookup (is_at (lxid_cmp l)) (written es) ≡ Some w) → lookup (is_at (lxid_cmp l)) (written (e ∷ es)) ≡ Some w
+  written_step e es x true is found more =
+      ap (λ (b : Bool). lookup (is_at (lxid_cmp l)) (cond b ((e.0, w) ∷ es) (e ∷ written es))) is
+      ∙ ap (λ (b : Bool). cond b (Some w) (lookup (is_at (lxid_cmp l)) es)) is
+  written_step e es x false is found more =
+      ap (λ (b : Bool). lookup (is_at (lxid_cmp l)) (cond b ((e.0, w) ∷ es) (e ∷ written es))) is
+      ∙ ap (λ (b : Bool). cond b (Some e.1) (lookup (is_at (lxid_cmp l)) (written es))) is
+      ∙ more (sym (ap (λ (b : Bool). cond b (Some e.1) (lookup (is_at (lxid_cmp l)) es)) is) ∙ found)
 
-  new_place : (k : ℕ) (h : Gxid) → k ≡ length gxids → slice_get (gxids ++ g ∷ []) k ≡ Some h → lxid_in gxids g ≡ None → position_from (λ t. eqb t.0 h.0) 1 (gxids ++ g ∷ []) ≡ Some (k + 1)
-  new_place k h last there fresh =
-      let e : g ≡ h = is_some_same (sym (slice_get-push_last gxids g k last) ∙ there) in
-      let n : 1 + length gxids ≡ k + 1 = omega (arith, last) in
-      subst (λ (q : Gxid). position_from (λ t. eqb t.0 q.0) 1 (gxids ++ g ∷ []) ≡ Some (k + 1)) e (position_from-push_new (λ t. eqb t.0 g.0) 1 gxids g (same_itself g) (missing (position_from (λ t. eqb t.0 g.0) 1 gxids) fresh) ∙ ap Some n)
+  lookup-written : (es : List (Lxid × XidEntry)) (x : XidEntry) → lookup (is_at (lxid_cmp l)) es ≡ Some x → lookup (is_at (lxid_cmp l)) (written es) ≡ Some w
+  lookup-written [] x found = absurd (none_some found)
+  lookup-written (e ∷ es) x found = written_step e es x (is_at (lxid_cmp l) e.0) refl found (lookup-written es x)
 
-below_other : (g q horizon : Gxid) → q.0 < horizon.0 → horizon.0 ≤ g.0 → eqb g.0 q.0 ≡ false
-below_other g q horizon low high = grind (arith, nat_tests)
+  module _ (k : Lxid) (apart : eqb l.0 k.0 ≡ false) where
+    other_key : (j : Lxid) → eqb l.0 j.0 ≡ true → eqb k.0 j.0 ≡ false
+    other_key j e = grind (arith, nat_tests, apart)
 
--- an entry more keeps the map whole
-pub IsWhole-assigned : (horizon : Gxid) (gxids : List Gxid) (statuses : List LocalStatus) (m n : BTreeMap Gxid Lxid) (g : Gxid) (l : Lxid) → IsWhole horizon gxids statuses m → lxid_in gxids g ≡ None → horizon.0 ≤ g.0 → l.0 ≡ length gxids + 1 → Updates gxid_cmp m n g (Some l) → IsWhole horizon (gxids ++ g ∷ []) (statuses ++ Running ∷ []) n
-IsWhole-assigned horizon gxids statuses m n g l whole fresh high next updates = record {
-  paired = simp length-append (omega (arith, whole.paired));
-  found = λ q up. found_after gxids g l m n q (eqb g.0 q.0) refl (whole.found q up) fresh next (updates.0 q);
-  gone = λ q low. updates.0 q ∙ ap (λ b. cond b (Some l) (get gxid_cmp m q)) (is_at-other g q (below_other g q horizon low high)) ∙ whole.gone q low;
-  distinct = λ k h there.
-      ⊎_elim
-      (λ (inside : k < length gxids). old_place gxids g k h inside there whole.distinct)
-      (λ (past : length gxids ≤ k). new_place gxids g k h (last_place gxids g k h past there) there fresh)
-      (cases_lt k (length gxids));
-}
+    apart_step : (e : Lxid × XidEntry) (es : List (Lxid × XidEntry)) (b : Bool) → eqb l.0 e.0.0 ≡ b → lookup (is_at (lxid_cmp k)) (written es) ≡ lookup (is_at (lxid_cmp k)) es → lookup (is_at (lxid_cmp k)) (written (e ∷ es)) ≡ lookup (is_at (lxid_cmp k)) (e ∷ es)
+    apart_step e es true is more =
+        let far : is_at (lxid_cmp k) e.0 ≡ false = at_lxid k e.0 false (other_key e.0 is) in
+        ap (λ (b : Bool). lookup (is_at (lxid_cmp k)) (cond b ((e.0, w) ∷ es) (e ∷ written es))) (at_lxid l e.0 true is)
+        ∙ ap (λ (b : Bool). cond b (Some w) (lookup (is_at (lxid_cmp k)) es)) far
+        ∙ sym (ap (λ (b : Bool). cond b (Some e.1) (lookup (is_at (lxid_cmp k)) es)) far)
+    apart_step e es false is more =
+        ap (λ (b : Bool). lookup (is_at (lxid_cmp k)) (cond b ((e.0, w) ∷ es) (e ∷ written es))) (at_lxid l e.0 false is)
+        ∙ ap (cond (is_at (lxid_cmp k) e.0) (Some e.1)) more
 
--- a map with the same entries is as whole
-pub IsWhole-same : (horizon : Gxid) (gxids gxids' : List Gxid) (statuses statuses' : List LocalStatus) (m n : BTreeMap Gxid Lxid) → IsWhole horizon gxids statuses m → gxids' ≡ gxids → statuses' ≡ statuses → IsUnchanged m n → IsWhole horizon gxids' statuses' n
-IsWhole-same horizon gxids gxids' statuses statuses' m n whole e f unchanged = record {
-  paired = ap length f ∙ whole.paired ∙ sym (ap length e);
-  found = λ q high. ap (lookup (is_at (gxid_cmp q))) unchanged ∙ whole.found q high ∙ ap (λ (xs : List Gxid). lxid_in xs q) (sym e);
-  gone = λ q low. ap (lookup (is_at (gxid_cmp q))) unchanged ∙ whole.gone q low;
-  distinct = subst (λ (xs : List Gxid). (k : ℕ) (g : Gxid) → slice_get xs k ≡ Some g → position_from (λ h. eqb h.0 g.0) 1 xs ≡ Some (k + 1)) (sym e) whole.distinct;
-}
+    lookup-apart : (es : List (Lxid × XidEntry)) → lookup (is_at (lxid_cmp k)) (written es) ≡ lookup (is_at (lxid_cmp k)) es
+    lookup-apart [] = refl
+    lookup-apart (e ∷ es) = apart_step e es (eqb l.0 e.0.0) refl (lookup-apart es)
 
--- the map is whole after a try to add an entry, whatever came of it
-pub IsWhole-tried : (horizon : Gxid) (gxids gxids' : List Gxid) (statuses statuses' : List LocalStatus) (m n : BTreeMap Gxid Lxid) (g : Gxid) (r : Result Lxid OutOfMemory) → IsWhole horizon gxids statuses m → lxid_in gxids g ≡ None → horizon.0 ≤ g.0 → IfOk r (λ l. l.0 ≡ length gxids + 1) → OnOk r (gxids' ≡ gxids ++ g ∷ []) → OnOk r (statuses' ≡ statuses ++ Running ∷ []) → IfOk r (λ l. Updates gxid_cmp m n g (Some l)) → OnErr r (gxids' ≡ gxids) → OnErr r (statuses' ≡ statuses) → OnErr r (IsUnchanged m n) → IsWhole horizon gxids' statuses' n
-IsWhole-tried horizon gxids gxids' statuses statuses' m n g (Ok l) whole fresh high next e f updates e' f' same =
-    subst (λ (xs : List Gxid). IsWhole horizon xs statuses' n) (sym e) (subst (λ (ss : List LocalStatus). IsWhole horizon (gxids ++ g ∷ []) ss n) (sym f) (IsWhole-assigned horizon gxids statuses m n g l whole fresh high next updates))
-IsWhole-tried horizon gxids gxids' statuses statuses' m n g (Err o) whole fresh high next e f updates e' f' same = IsWhole-same horizon gxids gxids' statuses statuses' m n whole e' f' same
+module _ (l : Lxid) (s : LocalStatus) (es : List (Lxid × XidEntry)) where
+  abbrev found_at : Lxid → Option XidEntry
+  found_at k = lookup (is_at (lxid_cmp k)) es
 
-lxid_of-high : (x : Xids) (g : Gxid) → x.horizon.0 ≤ g.0 → lxid_of x g ≡ lxid_in x.gxids g
-lxid_of-high x g high = grind (arith, nat_tests)
+  restated_at : (k : Lxid) (o : Option XidEntry) → found_at l ≡ o → (b : Bool) → eqb l.0 k.0 ≡ b → lookup (is_at (lxid_cmp k)) (with_entry l s o es) ≡ cond (is_at (lxid_cmp l) k) (restated s o) (found_at k)
+  restated_at k None is true e = ap found_at (sym (same_lxid l k e)) ∙ is ∙ sym (ap (λ (b : Bool). cond b None (found_at k)) (at_lxid l k true e))
+  restated_at k None is false e = sym (ap (λ (b : Bool). cond b None (found_at k)) (at_lxid l k false e))
+  restated_at k (Some x) is true e =
+      let y : XidEntry = record x { status = s } in
+      ap (λ (j : Lxid). lookup (is_at (lxid_cmp j)) (set_value (is_at (lxid_cmp l)) es y)) (sym (same_lxid l k e))
+      ∙ lookup-written l y es x is
+      ∙ sym (ap (λ (b : Bool). cond b (Some y) (found_at k)) (at_lxid l k true e))
+  restated_at k (Some x) is false e =
+      let y : XidEntry = record x { status = s } in
+      lookup-apart l y k e es ∙ sym (ap (λ (b : Bool). cond b (Some y) (found_at k)) (at_lxid l k false e))
 
-other_test : (g q : Gxid) → q.0 ≢ g.0 → eqb g.0 q.0 ≡ false
-other_test g q other = grind (arith, nat_tests)
+  -- an entry with another status is found where it stood, and the others are as they were
+  pub lookup-with_entry : (k : Lxid) → lookup (is_at (lxid_cmp k)) (with_entry l s (found_at l) es) ≡ cond (is_at (lxid_cmp l) k) (restated s (found_at l)) (found_at k)
+  lookup-with_entry k = restated_at k (found_at l) refl (eqb l.0 k.0) refl
 
-module _ (horizon : Gxid) (gxids gxids' : List Gxid) (statuses statuses' : List LocalStatus) (g : Gxid) where
-  -- after a try to add an entry that came to something, the gxid has the lxid
-  pub lxid_of-tried : (r : Result Lxid OutOfMemory) → lxid_in gxids g ≡ None → horizon.0 ≤ g.0 → IfOk r (λ l. l.0 ≡ length gxids + 1) → OnOk r (gxids' ≡ gxids ++ g ∷ []) → IfOk r (λ l. lxid_of (record { horizon = horizon; gxids = gxids'; statuses = statuses' }) g ≡ Some l)
-  lxid_of-tried (Ok l) fresh high next e =
-      lxid_of-high (record { horizon = horizon; gxids = gxids'; statuses = statuses' }) g high ∙ ap (λ (xs : List Gxid). lxid_in xs g) e ∙ found_new gxids g l g (same_itself g) fresh next
-  lxid_of-tried (Err o) fresh high next e = tt
+pub IsRestated-whole : (l : Lxid) (s : LocalStatus) (n n' : BTreeMap Lxid XidEntry) → n'.entries ≡ with_entry l s (get lxid_cmp n l) n.entries → IsRestated l s n n'
+IsRestated-whole l s n n' whole k = ap (lookup (is_at (lxid_cmp k))) whole ∙ lookup-with_entry l s n.entries k
 
-  -- and the others have what they had
-  pub lxid_of-tried_other : (r : Result Lxid OutOfMemory) → OnOk r (gxids' ≡ gxids ++ g ∷ []) → OnOk r ((q : Gxid) → q.0 ≢ g.0 → lxid_of (record { horizon = horizon; gxids = gxids'; statuses = statuses' }) q ≡ lxid_of (record { horizon = horizon; gxids = gxids; statuses = statuses }) q)
-  lxid_of-tried_other (Ok l) e = λ q other.
-      ap (cond (ltb q.0 horizon.0) None) (ap (λ (xs : List Gxid). lxid_in xs q) e ∙ found_other gxids g l q (other_test g q other))
-  lxid_of-tried_other (Err o) e = tt
+module _ (horizon : Gxid) (given : ℕ) (m : BTreeMap Gxid Lxid) (n n' : BTreeMap Lxid XidEntry) (l : Lxid) (s : LocalStatus) (whole : IsWhole horizon m n given) (as_stated : IsRestated l s n n') where
+  stated : (k : Lxid) (b : Bool) → eqb l.0 k.0 ≡ b → get lxid_cmp n' k ≡ cond b (restated s (get lxid_cmp n l)) (get lxid_cmp n k)
+  stated k b e = as_stated k ∙ ap (λ c. cond c (restated s (get lxid_cmp n l)) (get lxid_cmp n k)) (at_lxid l k b e)
+
+  -- an entry of the same gxid stood there
+  stood : (k : Lxid) (x : XidEntry) (b : Bool) → eqb l.0 k.0 ≡ b → get lxid_cmp n' k ≡ Some x → HasEntry n x.gxid k
+  stood k x false e at = record { entry = x; there = sym (stated k false e) ∙ at; gxid = refl }
+  stood k x true e at = from (get lxid_cmp n l) refl (sym (stated k true e) ∙ at)
+    where
+      from : (o : Option XidEntry) → get lxid_cmp n l ≡ o → restated s o ≡ Some x → HasEntry n x.gxid k
+      from None is was = absurd (none_some was)
+      from (Some y) is was = record { entry = y; there = ap (get lxid_cmp n) (sym (same_lxid l k e)) ∙ is; gxid = ap (λ (z : XidEntry). z.gxid) (some_same was) }
+
+  -- and each that stood there still does
+  stands : (q : Gxid) (k : Lxid) (b : Bool) → eqb l.0 k.0 ≡ b → HasEntry n q k → HasEntry n' q k
+  stands q k false e its = record { entry = its.entry; there = stated k false e ∙ its.there; gxid = its.gxid }
+  stands q k true e its =
+      record { entry = (record its.entry { status = s }); there = stated k true e ∙ ap (restated s) (ap (get lxid_cmp n) (same_lxid l k e) ∙ its.there); gxid = its.gxid }
+
+  pub IsWhole-restated : IsWhole horizon m n' given
+  IsWhole-restated = record {
+    there = λ q k at. stands q k (eqb l.0 k.0) refl (whole.there q k at);
+    back = λ k x at up.
+        let was = stood k x (eqb l.0 k.0) refl at in
+        ap (get gxid_cmp m) (sym was.gxid) ∙ whole.back k was.entry was.there (subst (λ (q : Gxid). horizon.0 ≤ q.0) (sym was.gxid) up);
+    high = whole.high;
+    inside = λ k x at. let was = stood k x (eqb l.0 k.0) refl at in whole.inside k was.entry was.there;
+  }
+
+-- WHAT A LOOK-UP TELLS
+-- a gxid that is kept
+kept_high : (h g : Gxid) → h.0 ≤ g.0 → kept h g ≡ Some g
+kept_high h g up = ap (λ (b : Bool). cond b None (Some g)) (not_below h g up)
+  where
+    not_below : (h g : Gxid) → h.0 ≤ g.0 → ltb g.0 h.0 ≡ false
+    not_below h g up = grind (arith, nat_tests)
+
+module _ (horizon : Gxid) (lxids : BTreeMap Gxid Lxid) (entries : BTreeMap Lxid XidEntry) (given : ℕ) (whole : IsWhole horizon lxids entries given) where
+  abbrev map : Xids
+  map = record { horizon = horizon; lxids = lxids.entries; entries = entries.entries; given = given }
+
+  pub back-lxid_of : (g : Gxid) (l : Lxid) → get gxid_cmp lxids g ≡ Some l → gxid_of map l ≡ Some g
+  back-lxid_of g l at =
+      let e = whole.there g l at in
+      ap (option_and_then (λ (x : XidEntry). kept horizon x.gxid)) e.there ∙ ap (kept horizon) e.gxid ∙ kept_high horizon g (whole.high g l at)
+
+  pub entry-lxid_of : (g : Gxid) (l : Lxid) → get gxid_cmp lxids g ≡ Some l → is_some (get lxid_cmp entries l) ≡ true
+  entry-lxid_of g l at = ap is_some (whole.there g l at).there
+
+  pub given-lxid_of : (g : Gxid) (l : Lxid) → get gxid_cmp lxids g ≡ Some l → (nat_lt 0 l.0 && nat_le l.0 given) ≡ true
+  given-lxid_of g l at =
+      let e = whole.there g l at in
+      let inside = whole.inside l e.entry e.there in
+      grind (arith, nat_tests, inside.0, inside.1)
+
+-- AN ENTRY MORE
+module _ (horizon : Gxid) (given : ℕ) (m m' : BTreeMap Gxid Lxid) (n n' : BTreeMap Lxid XidEntry) (g : Gxid) (l : Lxid) (whole : IsWhole horizon m n given) (fresh : get gxid_cmp m g ≡ None) (high : horizon.0 ≤ g.0) (next : l.0 ≡ given + 1) (there : Updates gxid_cmp m m' g (Some l)) (back : Updates lxid_cmp n n' l (Some (record { gxid = g; status = Running }))) where
+  abbrev new : XidEntry
+  new = record { gxid = g; status = Running }
+
+  by_gxid : (q : Gxid) (b : Bool) → eqb g.0 q.0 ≡ b → get gxid_cmp m' q ≡ cond b (Some l) (get gxid_cmp m q)
+  by_gxid q b e = there.0 q ∙ ap (λ c. cond c (Some l) (get gxid_cmp m q)) (at_gxid g q b e)
+
+  by_lxid : (k : Lxid) (b : Bool) → eqb l.0 k.0 ≡ b → get lxid_cmp n' k ≡ cond b (Some new) (get lxid_cmp n k)
+  by_lxid k b e = back.0 k ∙ ap (λ c. cond c (Some new) (get lxid_cmp n k)) (at_lxid l k b e)
+
+  old_lxid : (k : Lxid) (e : XidEntry) → get lxid_cmp n k ≡ Some e → eqb l.0 k.0 ≡ false
+  old_lxid k e at = let inside = whole.inside k e at in grind (arith, nat_tests, inside.1, next)
+
+  old_gxid : (q : Gxid) (k : Lxid) (b : Bool) → eqb g.0 q.0 ≡ b → get gxid_cmp m q ≡ Some k → b ≡ false
+  old_gxid q k false e at = refl
+  old_gxid q k true e at = absurd (none_some (sym fresh ∙ ap (get gxid_cmp m) (same_gxid g q e) ∙ at))
+
+  has_entry : (q : Gxid) (k : Lxid) (b : Bool) → eqb g.0 q.0 ≡ b → get gxid_cmp m' q ≡ Some k → HasEntry n' q k
+  has_entry q k true e at =
+      let k_is : l ≡ k = some_same (sym (by_gxid q true e) ∙ at) in
+      record { entry = new; there = ap (get lxid_cmp n') (sym k_is) ∙ by_lxid l true (grind (arith, nat_tests)); gxid = same_gxid g q e }
+  has_entry q k false e at =
+      let was = whole.there q k (sym (by_gxid q false e) ∙ at) in
+      record { entry = was.entry; there = by_lxid k false (old_lxid k was.entry was.there) ∙ was.there; gxid = was.gxid }
+
+  has_lxid : (k : Lxid) (x : XidEntry) (b : Bool) → eqb l.0 k.0 ≡ b → get lxid_cmp n' k ≡ Some x → horizon.0 ≤ x.gxid.0 → get gxid_cmp m' x.gxid ≡ Some k
+  has_lxid k x true e at up =
+      let x_is : new ≡ x = some_same (sym (by_lxid k true e) ∙ at) in
+      ap (λ (y : XidEntry). get gxid_cmp m' y.gxid) (sym x_is) ∙ by_gxid g true (grind (arith, nat_tests)) ∙ ap Some (same_lxid l k e)
+  has_lxid k x false e at up =
+      let was : get gxid_cmp m x.gxid ≡ Some k = whole.back k x (sym (by_lxid k false e) ∙ at) up in
+      by_gxid x.gxid false (old_gxid x.gxid k (eqb g.0 x.gxid.0) refl was) ∙ was
+
+  is_high : (q : Gxid) (k : Lxid) (b : Bool) → eqb g.0 q.0 ≡ b → get gxid_cmp m' q ≡ Some k → horizon.0 ≤ q.0
+  is_high q k true e at = subst (λ (h : Gxid). horizon.0 ≤ h.0) (same_gxid g q e) high
+  is_high q k false e at = whole.high q k (sym (by_gxid q false e) ∙ at)
+
+  is_inside : (k : Lxid) (x : XidEntry) (b : Bool) → eqb l.0 k.0 ≡ b → get lxid_cmp n' k ≡ Some x → (0 < k.0) × (k.0 ≤ given + 1)
+  is_inside k x true e at = subst (λ (j : Lxid). (0 < j.0) × (j.0 ≤ given + 1)) (same_lxid l k e) (omega (arith, next), omega (arith, next))
+  is_inside k x false e at = let was = whole.inside k x (sym (by_lxid k false e) ∙ at) in (was.0, omega (arith, was.1))
+
+  -- an entry more keeps the map whole
+  pub IsWhole-assigned : IsWhole horizon m' n' (given + 1)
+  IsWhole-assigned = record {
+    there = λ q k. has_entry q k (eqb g.0 q.0) refl;
+    back = λ k x. has_lxid k x (eqb l.0 k.0) refl;
+    high = λ q k. is_high q k (eqb g.0 q.0) refl;
+    inside = λ k x. is_inside k x (eqb l.0 k.0) refl;
+  }
+
+-- maps with the same entries are as whole
+pub IsWhole-same : (horizon : Gxid) (given : ℕ) (m m' : BTreeMap Gxid Lxid) (n n' : BTreeMap Lxid XidEntry) → IsWhole horizon m n given → m'.entries ≡ m.entries → n'.entries ≡ n.entries → IsWhole horizon m' n' given
+IsWhole-same horizon given m m' n n' whole e f =
+    let lxids : (g : Gxid) → get gxid_cmp m' g ≡ get gxid_cmp m g = λ g. ap (lookup (is_at (gxid_cmp g))) e in
+    let entries : (l : Lxid) → get lxid_cmp n' l ≡ get lxid_cmp n l = λ l. ap (lookup (is_at (lxid_cmp l))) f in
+    record {
+      there = λ g l at. let its = whole.there g l (sym (lxids g) ∙ at) in record { entry = its.entry; there = entries l ∙ its.there; gxid = its.gxid };
+      back = λ l x at up. lxids x.gxid ∙ whole.back l x (sym (entries l) ∙ at) up;
+      high = λ g l at. whole.high g l (sym (lxids g) ∙ at);
+      inside = λ l x at. whole.inside l x (sym (entries l) ∙ at);
+    }
+
+-- what is put in where nothing stood and taken out again
+module _ (g : Gxid) (l : Lxid) where
+  at_itself : is_at (gxid_cmp g) g ≡ true
+  at_itself = at_gxid g g true (grind (arith, nat_tests))
+
+  taken_back : (e : Gxid × Lxid) (es : List (Gxid × Lxid)) (o : Ordering) → gxid_cmp g e.0 ≡ o → lookup (is_at (gxid_cmp g)) (e ∷ es) ≡ None → (lookup (is_at (gxid_cmp g)) es ≡ None → remove_entry (is_at (gxid_cmp g)) (insert_entry gxid_cmp es g l) ≡ es) → remove_entry (is_at (gxid_cmp g)) (insert_entry gxid_cmp (e ∷ es) g l) ≡ e ∷ es
+  taken_back e es Less is none more =
+      ap (λ (o : Ordering). remove_entry (is_at (gxid_cmp g)) (match_ordering o ((g, l) ∷ e ∷ es) ((e.0, l) ∷ es) (e ∷ insert_entry gxid_cmp es g l))) is
+      ∙ ap (λ (b : Bool). cond b (e ∷ es) ((g, l) ∷ remove_entry (is_at (gxid_cmp g)) (e ∷ es))) at_itself
+  taken_back e es Equal is none more = absurd (none_some (sym none ∙ ap (λ (o : Ordering). cond (is_eq o) (Some e.1) (lookup (is_at (gxid_cmp g)) es)) is))
+  taken_back e es Greater is none more =
+      let ins = insert_entry gxid_cmp es g l in
+      ap (λ (o : Ordering). remove_entry (is_at (gxid_cmp g)) (match_ordering o ((g, l) ∷ e ∷ es) ((e.0, l) ∷ es) (e ∷ ins))) is
+      ∙ ap (λ (o : Ordering). cond (is_eq o) ins (e ∷ remove_entry (is_at (gxid_cmp g)) ins)) is
+      ∙ ap (λ (x : List (Gxid × Lxid)). e ∷ x) (more (sym (ap (λ (o : Ordering). cond (is_eq o) (Some e.1) (lookup (is_at (gxid_cmp g)) es)) is) ∙ none))
+
+  pub remove_entry-inserted : (es : List (Gxid × Lxid)) → lookup (is_at (gxid_cmp g)) es ≡ None → remove_entry (is_at (gxid_cmp g)) (insert_entry gxid_cmp es g l) ≡ es
+  remove_entry-inserted [] none = ap (λ (b : Bool). cond b [] ((g, l) ∷ [])) at_itself
+  remove_entry-inserted (e ∷ es) none = taken_back e es (gxid_cmp g e.0) refl none (remove_entry-inserted es)
+
+-- AN ENTRY LESS
+-- what was taken out is the first
+pub popped : (m m' : BTreeMap Gxid Lxid) (r : Option (Gxid × Lxid)) (e : Gxid × Lxid) → slice_get m.entries 0 ≡ Some e → (0 < length m.entries → IsSome r) → IfSome r (λ p. m.entries ≡ p ∷ m'.entries) → IfSome r (λ p. Updates gxid_cmp m m' p.0 None) → Updates gxid_cmp m m' e.0 None
+popped m m' None e first some was updates = absurd (none_not_some (some (not_empty m.entries e first)))
+  where
+    not_empty : (es : List (Gxid × Lxid)) (e : Gxid × Lxid) → slice_get es 0 ≡ Some e → 0 < length es
+    not_empty [] e at = absurd (none_some at)
+    not_empty (d ∷ es) e at = grind arith
+
+    none_not_some : false ≡ true → ⊥
+    none_not_some e = cc
+popped m m' (Some p) e first some was updates =
+    let same : p ≡ e = some_same (sym (ap (λ (es : List (Gxid × Lxid)). slice_get es 0) was) ∙ first) in
+    subst (λ (d : Gxid × Lxid). Updates gxid_cmp m m' d.0 None) same updates
+
+differ : (a b : Gxid) → eqb a.0 b.0 ≡ false → a ≡ b → ⊥
+differ a b other same = let n = ap (λ (h : Gxid). h.0) same in absurd (grind (arith, nat_tests, other, n))
+
+module _ (m m' : BTreeMap Gxid Lxid) (n n' : BTreeMap Lxid XidEntry) (g : Gxid) (l : Lxid) (there : (q : Gxid) (k : Lxid) → get gxid_cmp m q ≡ Some k → HasEntry n q k) (first : get gxid_cmp m g ≡ Some l) (less : Updates gxid_cmp m m' g None) (forgotten : IsForgotten l n n') where
+  less_gxid : (q : Gxid) (b : Bool) → eqb g.0 q.0 ≡ b → get gxid_cmp m' q ≡ cond b None (get gxid_cmp m q)
+  less_gxid q b e = less.0 q ∙ ap (λ c. cond c None (get gxid_cmp m q)) (at_gxid g q b e)
+
+  less_lxid : (k : Lxid) (b : Bool) → eqb l.0 k.0 ≡ b → get lxid_cmp n' k ≡ cond (b && is_done (get lxid_cmp n l)) None (get lxid_cmp n k)
+  less_lxid k b e = forgotten k ∙ ap (λ c. cond (c && is_done (get lxid_cmp n l)) None (get lxid_cmp n k)) (at_lxid l k b e)
+
+  was_gxid : (q : Gxid) (k : Lxid) (b : Bool) → eqb g.0 q.0 ≡ b → get gxid_cmp m' q ≡ Some k → (b ≡ false) × (get gxid_cmp m q ≡ Some k)
+  was_gxid q k true e at = absurd (none_some (sym (less_gxid q true e) ∙ at))
+  was_gxid q k false e at = (refl, sym (less_gxid q false e) ∙ at)
+
+  was_entry : (k : Lxid) (x : XidEntry) (b : Bool) → cond b None (get lxid_cmp n k) ≡ Some x → get lxid_cmp n k ≡ Some x
+  was_entry k x true at = absurd (none_some at)
+  was_entry k x false at = at
+
+  pub old_entry : (k : Lxid) (x : XidEntry) → get lxid_cmp n' k ≡ Some x → get lxid_cmp n k ≡ Some x
+  old_entry k x at = was_entry k x (is_at (lxid_cmp l) k && is_done (get lxid_cmp n l)) (sym (forgotten k) ∙ at)
+
+  -- who isn't the one that went is still there
+  stays_other : (k : Lxid) (x : XidEntry) (b : Bool) → eqb l.0 k.0 ≡ b → eqb g.0 x.gxid.0 ≡ false → get lxid_cmp n k ≡ Some x → get lxid_cmp n' k ≡ Some x
+  stays_other k x false e other at = less_lxid k false e ∙ at
+  stays_other k x true e other at =
+      let its = there g l first in
+      let same : its.entry ≡ x = some_same (sym its.there ∙ ap (get lxid_cmp n) (same_lxid l k e) ∙ at) in
+      absurd (differ g x.gxid other (sym its.gxid ∙ ap (λ (y : XidEntry). y.gxid) same))
+
+  -- and so is who hasn't committed
+  stays_open : (k : Lxid) (x : XidEntry) (b : Bool) → eqb l.0 k.0 ≡ b → is_committed x.status ≡ false → get lxid_cmp n k ≡ Some x → get lxid_cmp n' k ≡ Some x
+  stays_open k x false e undone at = less_lxid k false e ∙ at
+  stays_open k x true e undone at =
+      less_lxid k true e
+      ∙ ap (λ (o : Option XidEntry). cond (is_done o) None (get lxid_cmp n k)) (ap (get lxid_cmp n) (same_lxid l k e) ∙ at)
+      ∙ ap (λ (b : Bool). cond b None (get lxid_cmp n k)) undone
+      ∙ at
+
+  pub there-less : (q : Gxid) (k : Lxid) → get gxid_cmp m' q ≡ Some k → HasEntry n' q k
+  there-less q k at =
+      let was = was_gxid q k (eqb g.0 q.0) refl at in
+      let its = there q k was.1 in
+      record {
+        entry = its.entry;
+        there = stays_other k its.entry (eqb l.0 k.0) refl (ap (λ (h : Gxid). eqb g.0 h.0) its.gxid ∙ was.0) its.there;
+        gxid = its.gxid;
+      }
+
+  apart : (q h : Gxid) → g.0 < h.0 → h.0 ≤ q.0 → eqb g.0 q.0 ≡ false
+  apart q h low high = grind (arith, nat_tests)
+
+  pub AreLeft-less : (m0 : BTreeMap Gxid Lxid) (n0 : BTreeMap Lxid XidEntry) (h : Gxid) → g.0 < h.0 → AreLeft m0 n0 h m n → AreLeft m0 n0 h m' n'
+  AreLeft-less m0 n0 h low left = record {
+    same = λ q high. less_gxid q false (apart q h low high) ∙ left.same q high;
+    old_lxids = λ q k at. left.old_lxids q k (was_gxid q k (eqb g.0 q.0) refl at).1;
+    old = λ k x at. left.old k x (old_entry k x at);
+    high = λ k x up at. stays_other k x (eqb l.0 k.0) refl (apart x.gxid h low up) (left.high k x up at);
+    open_there = λ k x undone at. stays_open k x (eqb l.0 k.0) refl undone (left.open_there k x undone at);
+  }
+
+pub AreLeft-all : (m : BTreeMap Gxid Lxid) (n : BTreeMap Lxid XidEntry) (h : Gxid) → AreLeft m n h m n
+AreLeft-all m n h = record { same = λ q high. refl; old_lxids = λ q k at. at; old = λ k x at. at; high = λ k x up at. at; open_there = λ k x undone at. at }
+
+-- no gxid is below the least
+is_some_of : {X : Type 0} (o : Option X) (x : X) → o ≡ Some x → IsSome o
+is_some_of (Some y) x e = refl
+is_some_of None x e = absurd (none_some e)
+
+not_above : (g q : Gxid) → is_gt (gxid_cmp g q) ≡ false → g.0 ≤ q.0
+not_above g q e = grind (arith, nat_tests)
+
+pub high_from-least : (m : BTreeMap Gxid Lxid) (h g q : Gxid) (k : Lxid) → IsLowerBound gxid_cmp m g → h.0 ≤ g.0 → get gxid_cmp m q ≡ Some k → h.0 ≤ q.0
+high_from-least m h g q k least high at =
+    let above : g.0 ≤ q.0 = not_above g q (least q (is_some_of (get gxid_cmp m q) k at)) in
+    omega (arith, above, high)
+
+pub high_from-empty : (m : BTreeMap Gxid Lxid) (h q : Gxid) (k : Lxid) → IsEmpty m → get gxid_cmp m q ≡ Some k → h.0 ≤ q.0
+high_from-empty m h q k empty at = absurd (none_some (sym (ap (lookup (is_at (gxid_cmp q))) empty) ∙ at))
+
+-- AFTER A TRUNCATION
+module _ (horizon h : Gxid) (m m' : BTreeMap Gxid Lxid) (n n' : BTreeMap Lxid XidEntry) (given : ℕ) (whole : IsWhole horizon m n given) (left : AreLeft m n h m' n') (high : (g : Gxid) (l : Lxid) → get gxid_cmp m' g ≡ Some l → h.0 ≤ g.0) where
+  module _ (lower : horizon.0 ≤ h.0) where
+    has_it : (g : Gxid) (l : Lxid) → get gxid_cmp m' g ≡ Some l → HasEntry n' g l
+    has_it g l at =
+        let its = whole.there g l (left.old_lxids g l at) in
+        record { entry = its.entry; there = left.high l its.entry (subst (λ (q : Gxid). h.0 ≤ q.0) (sym its.gxid) (high g l at)) its.there; gxid = its.gxid }
+
+    pub IsWhole-truncated : IsWhole h m' n' given
+    IsWhole-truncated = record {
+      there = has_it;
+      back = λ l e at up. left.same e.gxid up ∙ whole.back l e (left.old l e at) (omega (arith, lower, up));
+      high = high;
+      inside = λ l e at. whole.inside l e (left.old l e at);
+    }
+
+  -- the gxid of an entry is known where it is from both horizons on
+  kept_twice : (a g : Gxid) → a.0 ≤ h.0 → kept h g ≡ option_and_then (kept h) (kept a g)
+  kept_twice a g low = by (ltb g.0 a.0) refl
+    where
+      below : (a g : Gxid) → a.0 ≤ h.0 → ltb g.0 a.0 ≡ true → ltb g.0 h.0 ≡ true
+      below a g low e = grind (arith, nat_tests)
+
+      by : (b : Bool) → ltb g.0 a.0 ≡ b → kept h g ≡ option_and_then (kept h) (cond b None (Some g))
+      by true e = ap (λ (b : Bool). cond b None (Some g)) (below a g low e)
+      by false e = refl
+
+  gone_low : (l : Lxid) (e : XidEntry) (b : Bool) → ltb e.gxid.0 h.0 ≡ b → get lxid_cmp n l ≡ Some e → get lxid_cmp n' l ≡ None → b ≡ true
+  gone_low l e true is at gone = refl
+  gone_low l e false is at gone = absurd (none_some (sym gone ∙ left.high l e (grind (arith, nat_tests, is)) at))
+
+  gone_done : (l : Lxid) (e : XidEntry) (s : LocalStatus) → e.status ≡ s → get lxid_cmp n l ≡ Some e → get lxid_cmp n' l ≡ None → e.status ≡ Committed
+  gone_done l e Committed is at gone = is
+  gone_done l e Running is at gone = absurd (none_some (sym gone ∙ left.open_there l e (ap is_committed is) at))
+  gone_done l e Prepared is at gone = absurd (none_some (sym gone ∙ left.open_there l e (ap is_committed is) at))
+  gone_done l e Aborted is at gone = absurd (none_some (sym gone ∙ left.open_there l e (ap is_committed is) at))
+
+  module _ (lower : horizon.0 ≤ h.0) where
+    gxids_left : (l : Lxid) (o o' : Option XidEntry) → get lxid_cmp n l ≡ o → get lxid_cmp n' l ≡ o' → option_and_then (λ (e : XidEntry). kept h e.gxid) o' ≡ option_and_then (kept h) (option_and_then (λ (e : XidEntry). kept horizon e.gxid) o)
+    gxids_left l None None is is' = refl
+    gxids_left l None (Some e) is is' = absurd (none_some (sym is ∙ left.old l e is'))
+    gxids_left l (Some e) None is is' =
+        sym (ap (λ (b : Bool). cond b None (Some e.gxid)) (gone_low l e (ltb e.gxid.0 h.0) refl is is')) ∙ kept_twice horizon e.gxid lower
+    gxids_left l (Some e) (Some d) is is' =
+        ap (λ (x : XidEntry). kept h x.gxid) (some_same (sym (left.old l d is') ∙ is)) ∙ kept_twice horizon e.gxid lower
+
+    statuses_left : (l : Lxid) (o o' : Option XidEntry) → get lxid_cmp n l ≡ o → get lxid_cmp n' l ≡ o' → status_in (nat_lt 0 l.0 && nat_le l.0 given) o' ≡ status_in (nat_lt 0 l.0 && nat_le l.0 given) o
+    statuses_left l None None is is' = refl
+    statuses_left l None (Some e) is is' = absurd (none_some (sym is ∙ left.old l e is'))
+    statuses_left l (Some e) None is is' =
+        let inside = whole.inside l e is in
+        let given_out : (nat_lt 0 l.0 && nat_le l.0 given) ≡ true = grind (arith, nat_tests, inside.0, inside.1) in
+        ap (λ (b : Bool). status_in b None) given_out ∙ sym (gone_done l e e.status refl is is')
+    statuses_left l (Some e) (Some d) is is' = ap (λ (x : XidEntry). x.status) (some_same (sym (left.old l d is') ∙ is))
+
+  lxids_left : (g : Gxid) (b : Bool) (o : Option Lxid) → ltb g.0 h.0 ≡ b → get gxid_cmp m' g ≡ o → o ≡ cond b None (get gxid_cmp m g)
+  lxids_left g true None low e = refl
+  lxids_left g true (Some l) low e = let up : h.0 ≤ g.0 = high g l e in absurd (grind (arith, nat_tests, low, up))
+  lxids_left g false o low e = sym e ∙ left.same g (grind (arith, nat_tests, low))
+
+  pub IsTruncated-left : ltb horizon.0 h.0 ≡ true → IsTruncated (record { horizon = horizon; lxids = m.entries; entries = n.entries; given = given }) h (record { horizon = h; lxids = m'.entries; entries = n'.entries; given = given })
+  IsTruncated-left higher =
+      let lower : horizon.0 ≤ h.0 = grind (arith, nat_tests, higher) in
+      record {
+        horizon = sym (ap (λ b. cond b h horizon) higher);
+        gxids = λ l. gxids_left lower l (get lxid_cmp n l) (get lxid_cmp n' l) refl refl;
+        lxids = λ g. lxids_left g (ltb g.0 h.0) (get gxid_cmp m' g) refl refl;
+        statuses = λ l. statuses_left lower l (get lxid_cmp n l) (get lxid_cmp n' l) refl refl;
+        given = refl;
+      }
+
+-- below the horizon nothing is to be forgotten
+pub IsTruncated-same : (horizon h : Gxid) (m : BTreeMap Gxid Lxid) (n : BTreeMap Lxid XidEntry) (given : ℕ) → IsWhole horizon m n given → ltb horizon.0 h.0 ≡ false → IsTruncated (record { horizon = horizon; lxids = m.entries; entries = n.entries; given = given }) h (record { horizon = horizon; lxids = m.entries; entries = n.entries; given = given })
+IsTruncated-same horizon h m n given whole lower =
+    let up : h.0 ≤ horizon.0 = grind (arith, nat_tests, lower) in
+    let high : (g : Gxid) (l : Lxid) → get gxid_cmp m g ≡ Some l → h.0 ≤ g.0 = λ g l at. (let from = whole.high g l at in omega (arith, up, from)) in
+    record {
+      horizon = sym (ap (λ b. cond b h horizon) lower);
+      gxids = λ l. kept_more (get lxid_cmp n l) up;
+      lxids = λ g. lxids_left horizon h m m n n given whole (AreLeft-all m n h) high g (ltb g.0 h.0) (get gxid_cmp m g) refl refl;
+      statuses = λ l. refl;
+      given = refl;
+    }
+  where
+    above : (g : Gxid) → h.0 ≤ horizon.0 → ltb g.0 horizon.0 ≡ false → ltb g.0 h.0 ≡ false
+    above g up e = grind (arith, nat_tests)
+
+    kept_still : (g : Gxid) (b : Bool) → ltb g.0 horizon.0 ≡ b → h.0 ≤ horizon.0 → cond b None (Some g) ≡ option_and_then (kept h) (cond b None (Some g))
+    kept_still g true e up = refl
+    kept_still g false e up = sym (ap (λ (b : Bool). cond b None (Some g)) (above g up e))
+
+    kept_more : (o : Option XidEntry) → h.0 ≤ horizon.0 → option_and_then (λ (e : XidEntry). kept horizon e.gxid) o ≡ option_and_then (kept h) (option_and_then (λ (e : XidEntry). kept horizon e.gxid) o)
+    kept_more None up = refl
+    kept_more (Some e) up = kept_still e.gxid (ltb e.gxid.0 horizon.0) refl up

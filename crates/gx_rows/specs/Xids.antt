@@ -1,54 +1,81 @@
 -- What a segment knows of the transactions that wrote there.
-use Rattle.std.specs.Prelude.{◌-◌, ◌<◌, ◌≤◌, List, [], ◌∷◌, ◌++◌, ◌==◌, nat_lt, length, if◌then◌else◌, Option, None, Some, option_map, option_and_then, unwrap_or, slice_get, slice_set}
-use Rattle.std.specs.List.{position_from}
+use Rattle.std.specs.Prelude.{◌≡◌, ℕ, ◌+◌, List, ◌&&◌, Bool, nat_le, nat_lt, if◌then◌else◌, Option, None, Some, option_and_then}
+use Rattle.std.specs.declared.cmp.Ordering.{Ordering}
+use Rattle.std.specs.Ordering.{nat_cmp}
+use Rattle.std.specs.Map.{lookup, set_value}
+use Rattle.std.specs.BTreeMap.{is_at, insert_entry}
 use Rattle.gx_ids.specs.declared.ids.Gxid.{Gxid}
 use Rattle.gx_ids.specs.declared.ids.Lxid.{Lxid}
+use Rattle.gx_rows.specs.declared.entry.XidEntry.{XidEntry}
 use Rattle.gx_rows.specs.declared.status.LocalStatus.{LocalStatus}
-use Rattle.gx_rows.specs.declared.status.LocalStatus.TheVariants.{Running}
+use Rattle.gx_rows.specs.declared.status.LocalStatus.TheVariants.{Running, Committed}
 
--- the transactions in the order of their lxids, which count from 1, with the status of each; an entry of a gxid
--- below the horizon is dropped
+-- by number
+abbrev pub gxid_cmp : Gxid → Gxid → Ordering
+gxid_cmp g h = nat_cmp g.0 h.0
+
+abbrev pub lxid_cmp : Lxid → Lxid → Ordering
+lxid_cmp l m = nat_cmp l.0 m.0
+
+-- the lxids of the gxids from the horizon on; the entries of those lxids, and of others that haven't committed; and how many lxids
+-- were given out, which count from 1
 pub record Xids : Type 0 where
   pub horizon : Gxid
-  pub gxids : List Gxid
-  pub statuses : List LocalStatus
-
--- what a list has for an lxid
-abbrev pub at_lxid : {X : Type 0} → List X → Lxid → Option X
-at_lxid xs l = if l.0 == 0 then None else slice_get xs (l.0 - 1)
+  pub lxids : List (Gxid × Lxid)
+  pub entries : List (Lxid × XidEntry)
+  pub given : ℕ
 
 -- the lxid was given out
-abbrev pub IsGiven : Xids → Lxid → Type 0
-IsGiven x l = (0 < l.0) × (l.0 ≤ length x.statuses)
+abbrev pub is_given : Xids → Lxid → Bool
+is_given x l = nat_lt 0 l.0 && nat_le l.0 x.given
 
 -- g, unless it is below the horizon
 abbrev pub kept : Gxid → Gxid → Option Gxid
 kept horizon g = if nat_lt g.0 horizon.0 then None else Some g
 
--- the gxid in an lxid's entry
+abbrev pub entry_of : Xids → Lxid → Option XidEntry
+entry_of x l = lookup (is_at (lxid_cmp l)) x.entries
+
+-- the gxid of an lxid, from the horizon on
 abbrev pub gxid_of : Xids → Lxid → Option Gxid
-gxid_of x l = option_and_then (kept x.horizon) (at_lxid x.gxids l)
+gxid_of x l = option_and_then (λ e. kept x.horizon e.gxid) (entry_of x l)
 
--- the lxid of a gxid, dropped or not
-abbrev pub lxid_in : List Gxid → Gxid → Option Lxid
-lxid_in gxids g = option_map (λ n. record { 0 = n }) (position_from (λ h. h.0 == g.0) 1 gxids)
-
--- the lxid in a gxid's entry
+-- the lxid of a gxid, from the horizon on
 abbrev pub lxid_of : Xids → Gxid → Option Lxid
-lxid_of x g = if nat_lt g.0 x.horizon.0 then None else lxid_in x.gxids g
+lxid_of x g = lookup (is_at (gxid_cmp g)) x.lxids
 
--- the status last set, and running before that
+abbrev pub status_in : Bool → Option XidEntry → LocalStatus
+status_in given (Some e) = e.status
+status_in given None = if given then Committed else Running
+
+-- the status last set; who has no entry any more has committed
 abbrev pub status_of : Xids → Lxid → LocalStatus
-status_of x l = unwrap_or (at_lxid x.statuses l) Running
+status_of x l = status_in (is_given x l) (entry_of x l)
+
+-- the next lxid
+abbrev pub next_lxid : Xids → Lxid
+next_lxid x = record { 0 = x.given + 1 }
 
 -- with one transaction more, at the next lxid
 abbrev pub assigned : Xids → Gxid → Xids
-assigned x g = record x { gxids = x.gxids ++ g ∷ []; statuses = x.statuses ++ Running ∷ [] }
+assigned x g = record x {
+  lxids = insert_entry gxid_cmp x.lxids g (next_lxid x);
+  entries = insert_entry lxid_cmp x.entries (next_lxid x) (record { gxid = g; status = Running });
+  given = x.given + 1;
+}
 
--- with this status of an lxid
+abbrev pub with_entry : Lxid → LocalStatus → Option XidEntry → List (Lxid × XidEntry) → List (Lxid × XidEntry)
+with_entry l s None es = es
+with_entry l s (Some e) es = set_value (is_at (lxid_cmp l)) es (record e { status = s })
+
+-- with this status of an lxid that has an entry
 abbrev pub with_status : Xids → Lxid → LocalStatus → Xids
-with_status x l s = record x { statuses = slice_set x.statuses (l.0 - 1) s }
+with_status x l s = record x { entries = with_entry l s (entry_of x l) x.entries }
 
 -- without the entries of gxids below a horizon
-abbrev pub truncated : Xids → Gxid → Xids
-truncated x h = record x { horizon = if nat_lt x.horizon.0 h.0 then h else x.horizon }
+pub record IsTruncated (x : Xids) (h : Gxid) (x' : Xids) : Type 0 where
+  pub horizon : x'.horizon ≡ (if nat_lt x.horizon.0 h.0 then h else x.horizon)
+  pub gxids : (l : Lxid) → gxid_of x' l ≡ option_and_then (kept h) (gxid_of x l)
+  pub lxids : (g : Gxid) → lxid_of x' g ≡ (if nat_lt g.0 h.0 then None else lxid_of x g)
+  pub statuses : (l : Lxid) → status_of x' l ≡ status_of x l
+  pub given : x'.given ≡ x.given

@@ -2,7 +2,7 @@
 ghost use Rattle.std.specs.Prelude.{◌≡◌, ◌<◌, ◌≤◌, None, Some, IfNone, IfSome, slice_get};
 ghost use Rattle.std.specs.BTreeMap.{IsEmpty, IsLowerBound, get, keys};
 ghost use Rattle.gx_ids.specs.declared.ids.Gxid.{Gxid};
-ghost use Rattle.gx_rows.specs.Keys.{gxid_cmp};
+ghost use Rattle.gx_rows.specs.Xids.{gxid_cmp};
 
 use gx_ids::Gxid;
 use std::collections::BTreeMap;

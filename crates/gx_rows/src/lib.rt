@@ -3,6 +3,7 @@
 #![tactic(auto)]
 
 pub mod below;
+pub mod entry;
 pub mod map;
 mod probe;
 pub mod shows;
@@ -12,6 +13,7 @@ pub mod version;
 pub mod versions;
 
 pub use below::drop_below;
+pub use entry::XidEntry;
 pub use map::XidMap;
 pub use shows::{shown, visible};
 pub use status::LocalStatus;

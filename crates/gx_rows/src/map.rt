@@ -1,25 +1,25 @@
-ghost use Rattle.std.specs.Prelude.{◌≡◌, ◌≢◌, ◌+◌, ◌≤◌, [], ◌∷◌, ◌++◌, length, None, Some, IfOk, OnOk, OnErr, IfSome, option_and_then};
-ghost use Rattle.std.specs.BTreeMap.{Updates, IsUnchanged};
+ghost use Rattle.std.specs.Prelude.{◌≡◌, ◌≢◌, ◌+◌, ◌≤◌, [], true, is_some, nat_le, nat_lt, ◌&&◌, if◌then◌else◌, None, Some, IfNone, IfOk, OnOk, OnErr, IfSome, slice_get};
+ghost use Rattle.std.specs.BTreeMap.{IsEmpty, IsLowerBound, IsUnchanged, Updates, get, insert_entry};
 ghost use Rattle.gx_ids.specs.declared.ids.Gxid.{Gxid};
 ghost use Rattle.gx_ids.specs.declared.ids.Lxid.{Lxid};
-ghost use Rattle.gx_rows.specs.Xids.{IsGiven, gxid_of, lxid_of, status_of, kept, assigned, with_status, truncated};
-ghost use Rattle.gx_rows.specs.Keys.{gxid_cmp};
+ghost use Rattle.gx_rows.specs.Xids.{IsTruncated, assigned, entry_of, gxid_cmp, gxid_of, is_given, lxid_cmp, lxid_of, status_of, with_entry, with_status};
+ghost use Rattle.gx_rows.specs.Keys.{AreLeft, HasEntry, IsForgotten, is_done};
 
-use crate::below::drop_below;
+use crate::entry::XidEntry;
 use crate::status::LocalStatus;
-use gx_ids::{Gxid, Lxid, Mem};
+use gx_ids::{Gxid, Lxid, Mem, OutOfMemory};
 use std::alloc::Global;
 use std::collections::BTreeMap;
 use std::marker::Model;
 
-/// The transactions that wrote at a segment. Each gets an lxid at its first write there, and the entry of both numbers
-/// stays until the horizon passes its gxid; its status stays.
+/// The transactions that wrote at a segment. Each gets an lxid at its first write there. From the horizon on each is known by both
+/// numbers; below it, only who hasn't committed is kept, so that what is kept doesn't grow with those that have.
 #[derive(Drop)]
 pub struct XidMap {
     horizon: Gxid,
-    gxids: Vec<Gxid>,
-    statuses: Vec<LocalStatus>,
     lxids: BTreeMap<Gxid, Lxid>,
+    entries: BTreeMap<Lxid, XidEntry>,
+    given: u64,
 }
 
 impl Model for XidMap {
@@ -28,21 +28,21 @@ impl Model for XidMap {
 
     ghost Value = { Xids };
 
-    ghost view = { λ a. record { horizon = a.horizon; gxids = a.gxids.items; statuses = a.statuses.items } };
+    ghost view = { λ a. record { horizon = a.horizon; lxids = a.lxids.entries; entries = a.entries.entries; given = a.given } };
 
-    ghost invariant = { λ a. IsWhole a.horizon a.gxids.items a.statuses.items a.lxids };
+    ghost invariant = { λ a. IsWhole a.horizon a.lxids a.entries a.given };
 }
 
 impl XidMap {
     /// A map without entries.
     pub fn new(alloc: Global) -> Mem<XidMap>
-        ensures { IfOk result (λ map. map ≡ record { horizon = record { 0 = 0 }; gxids = []; statuses = [] }) }
+        ensures { IfOk result (λ map. map ≡ record { horizon = record { 0 = 0 }; lxids = []; entries = []; given = 0 }) }
     {
         Ok(XidMap {
             horizon: Gxid(0),
-            gxids: Vec::new(alloc),
-            statuses: Vec::new(alloc),
             lxids: BTreeMap::new(alloc),
+            entries: BTreeMap::new(alloc),
+            given: 0,
         })
     }
 
@@ -53,28 +53,24 @@ impl XidMap {
         self.horizon
     }
 
-    /// The lxid in a gxid's entry.
+    /// The lxid of a gxid, none below the horizon.
     pub fn lxid_of(&self, gxid: Gxid) -> Option<Lxid>
         ensures value { result ≡ lxid_of self.now gxid }
         ensures back { IfSome result (λ lxid. gxid_of self.now lxid ≡ Some gxid) }
-        ensures given { IfSome result (IsGiven self.now) }
+        ensures entry { IfSome result (λ lxid. is_some (entry_of self.now lxid) ≡ true) }
+        ensures given { IfSome result (λ lxid. is_given self.now lxid ≡ true) }
     {
-        if gxid < self.horizon {
-            return None;
-        }
         self.lxids.get(&gxid).copied()
     }
 
-    /// The gxid in an lxid's entry.
+    /// The gxid of an lxid, none below the horizon.
     pub fn gxid_of(&self, lxid: Lxid) -> Option<Gxid>
         ensures value { result ≡ gxid_of self.now lxid }
         ensures back { IfSome result (λ gxid. lxid_of self.now gxid ≡ Some lxid) }
-        ensures given { IfSome result (λ _. IsGiven self.now lxid) }
     {
-        let place = lxid.0.checked_sub(1)?;
-        let gxid = self.gxids.get(place as usize).copied()?;
-        if self.horizon <= gxid {
-            Some(gxid)
+        let entry = self.entries.get(&lxid)?;
+        if self.horizon <= entry.gxid {
+            Some(entry.gxid)
         } else {
             None
         }
@@ -84,68 +80,135 @@ impl XidMap {
     pub fn status(&self, lxid: Lxid) -> LocalStatus
         ensures { result ≡ status_of self.now lxid }
     {
-        let Some(place) = lxid.0.checked_sub(1) else {
-            return LocalStatus::Running;
-        };
-        let status = self.statuses.get(place as usize).copied();
-        status.unwrap_or(LocalStatus::Running)
+        match self.entries.get(&lxid) {
+            Some(entry) => entry.status,
+            None => status_without(lxid, self.given),
+        }
     }
 
-    /// Gives a transaction the next lxid, at its first write here.
+    /// Gives a transaction the next lxid, at its first write here. Where all numbers are given out it fails as for want of memory.
     pub fn assign(&mut self, gxid: Gxid) -> Mem<Lxid>
         requires fresh { lxid_of self.old gxid ≡ None }
         requires high { self.old.horizon.0 ≤ gxid.0 }
-        ensures next { IfOk result (λ lxid. lxid.0 ≡ length self.old.statuses + 1) }
+        ensures next { IfOk result (λ lxid. lxid.0 ≡ self.old.given + 1) }
         ensures ok { OnOk result (self.new ≡ assigned self.old gxid) }
         ensures found { IfOk result (λ lxid. lxid_of self.new gxid ≡ Some lxid) }
         ensures others { OnOk result ((g : Gxid) → g.0 ≢ gxid.0 → lxid_of self.new g ≡ lxid_of self.old g) }
         ensures err { OnErr result (self.new ≡ self.old) }
     {
-        add_entry(&mut self.gxids, &mut self.statuses, &mut self.lxids, gxid)
+        let Some(given) = self.given.checked_add(1) else {
+            return Err(OutOfMemory);
+        };
+        let lxid = Lxid(given);
+        add_entry(&mut self.lxids, &mut self.entries, gxid, lxid)?;
+        self.given = given;
+        Ok(lxid)
     }
 
-    /// Sets what became of a transaction here.
+    /// Sets what became of a transaction here. Of one without an entry nothing is kept.
     pub fn set_status(&mut self, lxid: Lxid, status: LocalStatus)
-        requires { IsGiven self.old lxid }
-        ensures value { self.new ≡ with_status self.old lxid status }
-        ensures set { status_of self.new lxid ≡ status }
-        ensures others { (l : Lxid) → l.0 ≢ lxid.0 → status_of self.new l ≡ status_of self.old l }
+        ensures { self.new ≡ with_status self.old lxid status }
     {
-        self.statuses[lxid.0 as usize - 1] = status;
+        restate(&mut self.entries, lxid, status);
     }
 
-    /// Drops the entries of gxids below the horizon. Every status stays.
+    /// Forgets the numbers of gxids below the horizon. Every status stays.
     pub fn truncate(&mut self, horizon: Gxid)
-        ensures value { self.new ≡ truncated self.old horizon }
-        ensures entries { (l : Lxid) → gxid_of self.new l ≡ option_and_then (kept horizon) (gxid_of self.old l) }
+        ensures { IsTruncated self.old horizon self.new }
     {
         if self.horizon < horizon {
             self.horizon = horizon;
-            drop_below(&mut self.lxids, horizon);
+            drop_entries(&mut self.lxids, &mut self.entries, horizon);
         }
     }
 }
 
-// Gives a transaction the next lxid. The room comes first, so that nothing is changed where there is none.
-fn add_entry(
-    gxids: &mut Vec<Gxid>,
-    statuses: &mut Vec<LocalStatus>,
-    lxids: &mut BTreeMap<Gxid, Lxid>,
-    gxid: Gxid,
-) -> Mem<Lxid>
-    ensures next { IfOk result (λ lxid. lxid.0 ≡ length gxids.old.items + 1) }
-    ensures gxids { OnOk result (gxids.new.items ≡ gxids.old.items ++ gxid ∷ []) }
-    ensures statuses { OnOk result (statuses.new.items ≡ statuses.old.items ++ LocalStatus.Running ∷ []) }
-    ensures lxids { IfOk result (λ lxid. Updates gxid_cmp lxids.old lxids.new gxid (Some lxid)) }
-    ensures gxids_stay { OnErr result (gxids.new.items ≡ gxids.old.items) }
-    ensures statuses_stay { OnErr result (statuses.new.items ≡ statuses.old.items) }
-    ensures lxids_stay { OnErr result (IsUnchanged lxids.old lxids.new) }
+fn status_without(lxid: Lxid, given: u64) -> LocalStatus
+    ensures { result ≡ (if nat_lt 0 lxid.0 && nat_le lxid.0 given then LocalStatus.Committed else LocalStatus.Running) }
 {
-    gxids.reserve(1)?;
-    statuses.reserve(1)?;
-    let lxid = Lxid(gxids.len() as u64 + 1);
+    if lxid.0 > 0 && lxid.0 <= given {
+        LocalStatus::Committed
+    } else {
+        LocalStatus::Running
+    }
+}
+
+fn restate(entries: &mut BTreeMap<Lxid, XidEntry>, lxid: Lxid, status: LocalStatus)
+    ensures { entries.new.entries ≡ with_entry lxid status (get lxid_cmp entries.old lxid) entries.old.entries }
+{
+    if let Some(entry) = entries.get_mut(&lxid) {
+        entry.status = status;
+    }
+}
+
+// Adds both numbers, or neither.
+fn add_entry(
+    lxids: &mut BTreeMap<Gxid, Lxid>,
+    entries: &mut BTreeMap<Lxid, XidEntry>,
+    gxid: Gxid,
+    lxid: Lxid,
+) -> Mem<()>
+    requires { get gxid_cmp lxids.old gxid ≡ None }
+    ensures lxids { OnOk result (lxids.new.entries ≡ insert_entry gxid_cmp lxids.old.entries gxid lxid) }
+    ensures entries { OnOk result (entries.new.entries ≡ insert_entry lxid_cmp entries.old.entries lxid (record { gxid = gxid; status = LocalStatus.Running })) }
+    ensures found { OnOk result (Updates gxid_cmp lxids.old lxids.new gxid (Some lxid)) }
+    ensures back { OnOk result (Updates lxid_cmp entries.old entries.new lxid (Some (record { gxid = gxid; status = LocalStatus.Running }))) }
+    ensures lxids_stay { OnErr result (IsUnchanged lxids.old lxids.new) }
+    ensures entries_stay { OnErr result (IsUnchanged entries.old entries.new) }
+{
     lxids.insert(gxid, lxid)?;
-    gxids.push(gxid)?;
-    statuses.push(LocalStatus::Running)?;
-    Ok(lxid)
+    let status = LocalStatus::Running;
+    match entries.insert(lxid, XidEntry { gxid, status }) {
+        Ok(_) => Ok(()),
+        Err(_) => {
+            lxids.remove(&gxid);
+            Err(OutOfMemory)
+        }
+    }
+}
+
+// Takes the gxids below the horizon out, and the entries of those that have committed.
+fn drop_entries(
+    lxids: &mut BTreeMap<Gxid, Lxid>,
+    entries: &mut BTreeMap<Lxid, XidEntry>,
+    horizon: Gxid,
+)
+    requires { (g : Gxid) (l : Lxid) → get gxid_cmp lxids.old g ≡ Some l → HasEntry entries.old g l }
+    ensures left { AreLeft lxids.old entries.old horizon lxids.new entries.new }
+    ensures high { (g : Gxid) (l : Lxid) → get gxid_cmp lxids.new g ≡ Some l → horizon.0 ≤ g.0 }
+{
+    while let Some((gxid, lxid)) = first_entry(lxids) {
+        if horizon <= gxid {
+            return;
+        }
+        lxids.pop_first();
+        forget(entries, lxid);
+    }
+}
+
+fn forget(entries: &mut BTreeMap<Lxid, XidEntry>, lxid: Lxid)
+    ensures { IsForgotten lxid entries.old entries.new }
+{
+    if has_committed(entries, lxid) {
+        entries.remove(&lxid);
+    }
+}
+
+fn has_committed(entries: &BTreeMap<Lxid, XidEntry>, lxid: Lxid) -> bool
+    ensures { result ≡ is_done (get lxid_cmp entries.now lxid) }
+{
+    match entries.get(&lxid) {
+        Some(entry) => entry.status == LocalStatus::Committed,
+        None => false,
+    }
+}
+
+fn first_entry(lxids: &BTreeMap<Gxid, Lxid>) -> Option<(Gxid, Lxid)>
+    ensures first { IfSome result (λ e. slice_get lxids.now.entries 0 ≡ Some e) }
+    ensures found { IfSome result (λ e. get gxid_cmp lxids.now e.0 ≡ Some e.1) }
+    ensures least { IfSome result (λ e. IsLowerBound gxid_cmp lxids.now e.0) }
+    ensures empty { IfNone result (IsEmpty lxids.now) }
+{
+    let (gxid, lxid) = lxids.first_key_value()?;
+    Some((*gxid, *lxid))
 }

@@ -1,6 +1,6 @@
 ghost use Rattle.std.specs.Prelude.{◌≡◌, ◌≤◌};
 ghost use Rattle.std.specs.Option.{option_copied};
-ghost use Rattle.gx_rows.specs.Xids.{truncated};
+ghost use Rattle.gx_rows.specs.Xids.{IsTruncated};
 ghost use Rattle.gx_rows.specs.Counts.{counts, shown_of};
 
 use crate::shows::{shown, visible};
@@ -22,7 +22,7 @@ pub fn visible_across(
     ensures before { result.0 ≡ counts v.now map.old snap.now own cid }
     ensures after { result.1 ≡ counts v.now map.new snap.now own cid }
     ensures same { result.1 ≡ result.0 }
-    ensures dropped { map.new ≡ truncated map.old horizon }
+    ensures dropped { IsTruncated map.old horizon map.new }
 {
     let before = visible(v, map, snap, own, cid);
     map.truncate(horizon);
@@ -43,7 +43,7 @@ pub fn shown_across<'a>(
     ensures before { option_copied result.0 ≡ shown_of list.now map.old snap.now own cid }
     ensures after { option_copied result.1 ≡ shown_of list.now map.new snap.now own cid }
     ensures same { option_copied result.1 ≡ option_copied result.0 }
-    ensures dropped { map.new ≡ truncated map.old horizon }
+    ensures dropped { IsTruncated map.old horizon map.new }
 {
     let before = shown(list, map, snap, own, cid);
     map.truncate(horizon);

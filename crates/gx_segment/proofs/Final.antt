@@ -8,7 +8,7 @@ use Rattle.gx_tree.specs.declared.row.KeyedRow.{KeyedRow}
 use Rattle.gx_tree.specs.declared.schema.Schema.{Schema}
 use Rattle.gx_dsnap.specs.declared.snapshot.Snapshot.{Snapshot}
 use Rattle.gx_meaning.specs.Answer.{AreRising}
-use Rattle.gx_slices.specs.Store.{Write, is_shown_from, shown_row_from, writes_of}
+use Rattle.gx_slices.specs.Store.{Write, is_by, is_shown, shown_row, writes_of}
 use Rattle.gx_store.specs.Rows.{row_at}
 use Rattle.gx_rules.specs.Segments.{Seg}
 use Rattle.gx_rules.specs.Shown.{shown}
@@ -33,10 +33,10 @@ module _ (tables : List Schema) (held : Held) (s : Seg) (is : IsHeld tables held
   stored : IsStored held.store s
   stored = record { horizon = is.horizon; writes = is.writes; wrote = is.wrote; committed = is.committed; unaborted = is.unaborted }
 
-  by_nobody : (rid : Rid) → shown_row_from held.store snap None no_command table rid ≡ shown_row_from held.store snap (Some nobody) no_command table rid
+  by_nobody : (rid : Rid) → shown_row held.store snap None no_command table rid ≡ shown_row held.store snap (Some nobody) no_command table rid
   by_nobody rid =
       ap (λ (o : Option Write). option_and_then (λ w. w.image) o)
-      (find-same (is_shown_from held.store snap None no_command) (is_shown_from held.store snap (Some nobody) no_command) (λ w. never_own (eqb w.gxid.0 0) w.cid.0 (is_shown_from held.store snap None no_command w)) (reverse (writes_of held.store table rid)))
+      (find-same (is_shown snap None no_command) (is_shown snap (Some nobody) no_command) (λ w. never_own (is_by w.writer nobody) w.cid.0 (is_shown snap None no_command w)) (reverse (writes_of held.store table rid)))
 
-  pub rows-final : (rows : List KeyedRow) → AreRising rows → ((rid : Rid) → row_at rows rid ≡ shown_row_from held.store snap None no_command table rid) → rows ≡ shown s snap nobody no_command table
-  rows-final rows rising images = rows-shown held.store s stored snap nobody no_command (λ v e. none_before (eqb v.gxid.0 0) v.cid.0) table rows rising (λ rid. images rid ∙ by_nobody rid)
+  pub rows-final : (rows : List KeyedRow) → AreRising rows → ((rid : Rid) → row_at rows rid ≡ shown_row held.store snap None no_command table rid) → rows ≡ shown s snap nobody no_command table
+  rows-final rows rising images = rows-shown held.store s stored snap nobody no_command (λ v e. none_before (eqb v.gxid.0 0) v.cid.0) (λ v e. none_before (eqb v.gxid.0 0) v.cid.0) table rows rising (λ rid. images rid ∙ by_nobody rid)

@@ -1,5 +1,5 @@
 -- What is held after an order was taken.
-use Rattle.std.proofs.Common.{◌≡◌, ◌≢◌, ℕ, ◌<◌, ◌≤◌, Bool, true, false, if◌then◌else◌, Option, Some, None, List, [], ◌∷◌, ◌||◌, map, refl, sym, ap, ◌∙◌, subst, eqb, arith}
+use Rattle.std.proofs.Common.{◌≡◌, ◌≢◌, ℕ, ◌<◌, ◌≤◌, Bool, true, false, if◌then◌else◌, Option, Some, None, List, [], ◌∷◌, ◌||◌, map, refl, sym, ap, ◌∙◌, subst, eqb, ltb, arith}
 use Rattle.std.proofs.lemmas.Bool.Decides.{nat_tests}
 use Rattle.std.specs.BTreeSet.{contains}
 use Rattle.std.specs.List.{list_all, list_any}
@@ -9,7 +9,7 @@ use Rattle.gx_ids.specs.declared.ids.Table.{Table}
 use Rattle.gx_ids.specs.declared.rid.Rid.{Rid}
 use Rattle.gx_tree.specs.declared.schema.Schema.{Schema}
 use Rattle.gx_dsnap.specs.Gxids.{gxid_cmp, is_below}
-use Rattle.gx_slices.specs.Store.{Write, kept_at, passes, status_of, writes_of}
+use Rattle.gx_slices.specs.Store.{Write, is_by, passes, status_of, with_status, writes_of}
 use Rattle.gx_waits.specs.Claim.{same_claim}
 use Rattle.gx_waits.specs.declared.claim.Claim.{Claim}
 use Rattle.gx_locks.specs.Claims.{is_of}
@@ -23,16 +23,17 @@ use Rattle.gx_rules.specs.Shown.{last_images}
 use Rattle.gx_rules.specs.Slices.{own_lock}
 use Rattle.gx_store.specs.Marks.{is_same_gxid}
 use Rattle.gx_slices.specs.Agrees.{AreWriters, IsHeld, entry_at, has_version, is_right_version, local_in}
-use Rattle.gx_slices.specs.Left.{AreLeft, IsLeft, has_aborted, is_of_row, is_settled}
+use Rattle.gx_slices.specs.Left.{AreLeft, IsLeft, IsOf, has_aborted, is_of_row, is_settled}
 use Rattle.gx_slices.specs.Owning.{AreOwn, is_own}
 use Rattle.gx_slices.specs.Waiting.{AreWaits, IsRightWait, is_open}
 use Rattle.gx_slices.specs.declared.held.Held.{Held}
 use Rattle.gx_slices.proofs.Gxids.{itself}
-use Rattle.gx_slices.proofs.Left.{left-weaker}
+use Rattle.gx_slices.proofs.Left.{left-mapped}
 use Rattle.gx_slices.proofs.Owning.{AreOwn-filter}
 use Rattle.gx_slices.proofs.Waiting.{AreWaits-one, find-others, waits-without}
 use Rattle.gx_rows.specs.Counts.{is_committed}
 use Rattle.gx_rows.specs.Rows.{is_unaborted}
+use Rattle.gx_rows.specs.Xids.{kept}
 use Rattle.gx_rows.specs.declared.status.LocalStatus.{LocalStatus}
 use Rattle.gx_segment.specs.Moves.{HasMoved, status_in}
 use Rattle.gx_segment.proofs.Following.{Follows}
@@ -137,14 +138,14 @@ module _ (tables : List Schema) (held held' : Held) (s : Seg) (g : Gxid) (change
   wrote-moved h false e = ap (λ (o : Option LocalStatus). is_some o) (moved.statuses h (apart g h e))
 
   -- what is told of who has written
-  passes-moved : (test : LocalStatus → Bool) (is : Phase → Bool) → ((p : Phase) → test (status_in p) ≡ is p) → ((h : Gxid) → passes test (status_of held.store h) ≡ (has_version s h && is (s.locals h.0).phase)) → (h : Gxid) (b : Bool) → eqb h.0 g.0 ≡ b → passes test (status_of held'.store h) ≡ (has_version s h && is (now.locals h.0).phase)
-  passes-moved test is same before h true e =
+  passes-moved : (test : LocalStatus → Bool) (is : Phase → Bool) → ((p : Phase) → test (status_in p) ≡ is p) → ((h : Gxid) → s.horizon.0 ≤ h.0 → passes test (status_of held.store h) ≡ (has_version s h && is (s.locals h.0).phase)) → (h : Gxid) → s.horizon.0 ≤ h.0 → (b : Bool) → eqb h.0 g.0 ≡ b → passes test (status_of held'.store h) ≡ (has_version s h && is (now.locals h.0).phase)
+  passes-moved test is same before h up true e =
       subst (λ (x : Gxid). passes test (status_of held'.store x) ≡ (is_some (status_of held.store x) && is change.now.phase)) (same_gxid g h e)
       (ap (passes test) moved.status ∙ by_phase test is same change.now.phase (status_of held.store g))
-      ∙ ap (λ (b : Bool). b && is change.now.phase) (was.wrote h)
+      ∙ ap (λ (b : Bool). b && is change.now.phase) (was.wrote h up)
       ∙ ap (λ (l : Local). has_version s h && is l.phase) (sym (its h e))
-  passes-moved test is same before h false e =
-      ap (passes test) (moved.statuses h (apart g h e)) ∙ before h ∙ ap (λ (l : Local). has_version s h && is l.phase) (sym (others h e))
+  passes-moved test is same before h up false e =
+      ap (passes test) (moved.statuses h (apart g h e)) ∙ before h up ∙ ap (λ (l : Local). has_version s h && is l.phase) (sym (others h e))
 
   has_version-moved : (h : Gxid) → has_version s h ≡ has_version now h
   has_version-moved h = ap (λ (x : Seg). has_version x h) (sym makes.others)
@@ -287,11 +288,54 @@ module _ (tables : List Schema) (held held' : Held) (s : Seg) (g : Gxid) (change
       left_part true b c more e = ap (λ (x : Bool). x && c) (more refl) ∙ e
       left_part false b c more e = absurd (cc)
 
+  -- What is left of each row says what it said, but for what became of the one who moved.
+  by-is_by : (o : Option Gxid) → (b : Bool) → is_by o g ≡ b → (status : LocalStatus) → (w : Write) → w.writer ≡ o → with_status g status w ≡ (if b then record w { status = status } else w)
+  by-is_by o b e status w at = ap (λ (x : Option Gxid). if is_by x g then record w { status = status } else w) at ∙ ap (λ (c : Bool). if c then record w { status = status } else w) e
+
+  told-moved : (w : Write) (v : Version) → IsOf s w v → IsOf now (with_status g (status_in change.now.phase) w) v
+  told-moved w v say = by_mine (eqb v.gxid.0 g.0) refl
+    where
+      not_below : (h : Gxid) → s.horizon.0 ≤ h.0 → ltb h.0 s.horizon.0 ≡ false
+      not_below h up = grind (arith, nat_tests)
+
+      mine : eqb v.gxid.0 g.0 ≡ true → is_by (kept s.horizon v.gxid) g ≡ true
+      mine e = ap (λ (b : Bool). is_by (if b then None else Some v.gxid) g) (not_below v.gxid (subst (λ (h : Gxid). s.horizon.0 ≤ h.0) (same_gxid g v.gxid e) alive)) ∙ e
+
+      not_mine : (b : Bool) → ltb v.gxid.0 s.horizon.0 ≡ b → eqb v.gxid.0 g.0 ≡ false → is_by (if b then None else Some v.gxid) g ≡ false
+      not_mine true low e = refl
+      not_mine false low e = e
+
+      writer_now : (w.writer ≡ kept s.horizon v.gxid) → w.writer ≡ kept now.horizon v.gxid
+      writer_now at = at ∙ ap (λ (h : Gxid). kept h v.gxid) (sym horizon)
+
+      by_mine : (b : Bool) → eqb v.gxid.0 g.0 ≡ b → IsOf now (with_status g (status_in change.now.phase) w) v
+      by_mine true e =
+          subst (λ (x : Write). IsOf now x v) (sym (by-is_by (kept s.horizon v.gxid) true (mine e) (status_in change.now.phase) w say.writer))
+          (record {
+            writer = writer_now say.writer;
+            cid = say.cid;
+            image = say.image;
+            committed = in_phase change.now.phase ∙ ap (λ (l : Local). has_committed l.phase) (sym (its_local e));
+            unaborted = unaborted_phase change.now.phase ∙ ap (λ (l : Local). rule.is_unaborted l.phase) (sym (its_local e));
+          })
+        where
+          its_local : eqb v.gxid.0 g.0 ≡ true → now.locals v.gxid.0 ≡ change.now
+          its_local e = its v.gxid e
+      by_mine false e =
+          subst (λ (x : Write). IsOf now x v) (sym (by-is_by (kept s.horizon v.gxid) false (not_mine (ltb v.gxid.0 s.horizon.0) refl e) (status_in change.now.phase) w say.writer))
+          (record {
+            writer = writer_now say.writer;
+            cid = say.cid;
+            image = say.image;
+            committed = say.committed ∙ ap (λ (l : Local). has_committed l.phase) (sym (others v.gxid e));
+            unaborted = say.unaborted ∙ ap (λ (l : Local). rule.is_unaborted l.phase) (sym (others v.gxid e));
+          })
+
   left-moved : Lasts (s.locals g.0) change → (table : Table) (rid : Rid) → AreLeft now table rid (writes_of held'.store table rid)
   left-moved lasts table rid =
-      subst (λ (vs : List Version). IsLeft (has_aborted now) (is_settled now) (writes_of held'.store table rid) (filter (is_of_row table rid) vs)) (sym versions)
-      (subst (λ (ws : List Write). IsLeft (has_aborted now) (is_settled now) ws (filter (is_of_row table rid) s.versions)) (sym (ap (λ ts. kept_at ts table rid) moved.tables))
-      (left-weaker (has_aborted s) (is_settled s) (has_aborted now) (is_settled now) (λ v. aborted-moved lasts v (eqb v.gxid.0 g.0) refl) (settled-moved lasts) (writes_of held.store table rid) (filter (is_of_row table rid) s.versions) (was.writes table rid)))
+      subst (λ (vs : List Version). IsLeft (IsOf now) (has_aborted now) (is_settled now) (writes_of held'.store table rid) (filter (is_of_row table rid) vs)) (sym versions)
+      (subst (λ (ws : List Write). IsLeft (IsOf now) (has_aborted now) (is_settled now) ws (filter (is_of_row table rid) s.versions)) (sym (moved.writes table rid))
+      (left-mapped (IsOf s) (IsOf now) (has_aborted s) (is_settled s) (has_aborted now) (is_settled now) (λ v. aborted-moved lasts v (eqb v.gxid.0 g.0) refl) (settled-moved lasts) (with_status g (status_in change.now.phase)) told-moved (writes_of held.store table rid) (filter (is_of_row table rid) s.versions) (was.writes table rid)))
 
   pub IsHeld-moved : Follows (s.locals g.0) change → Lasts (s.locals g.0) change → (locks : Locks) → locks ≡ left_locks change.ends held'.locks g → IsHeld tables (record held' { locks = locks }) turn.seg
   IsHeld-moved follows lasts locks left = record {
@@ -301,9 +345,9 @@ module _ (tables : List Schema) (held held' : Held) (s : Seg) (g : Gxid) (change
     dropped = λ h under. dropped h (subst (λ (x : Gxid). h.0 < x.0) horizon under);
     holders = λ h. holders-moved follows h (eqb h.0 g.0) refl;
     writes = left-moved lasts;
-    wrote = λ h. wrote-moved h (eqb h.0 g.0) refl ∙ was.wrote h ∙ has_version-moved h;
-    committed = λ h. passes-moved is_committed has_committed in_phase was.committed h (eqb h.0 g.0) refl ∙ ap (λ (b : Bool). b && has_committed (now.locals h.0).phase) (has_version-moved h);
-    unaborted = λ h. passes-moved is_unaborted rule.is_unaborted unaborted_phase was.unaborted h (eqb h.0 g.0) refl ∙ ap (λ (b : Bool). b && rule.is_unaborted (now.locals h.0).phase) (has_version-moved h);
+    wrote = λ h up. wrote-moved h (eqb h.0 g.0) refl ∙ was.wrote h (high h up) ∙ has_version-moved h;
+    committed = λ h up. passes-moved is_committed has_committed in_phase was.committed h (high h up) (eqb h.0 g.0) refl ∙ ap (λ (b : Bool). b && has_committed (now.locals h.0).phase) (has_version-moved h);
+    unaborted = λ h up. passes-moved is_unaborted rule.is_unaborted unaborted_phase was.unaborted h (high h up) (eqb h.0 g.0) refl ∙ ap (λ (b : Bool). b && rule.is_unaborted (now.locals h.0).phase) (has_version-moved h);
     came = λ h there. came-moved follows h (eqb h.0 g.0) refl (has_version-moved h ∙ there);
     writers = writers-moved follows;
     typed = subst (λ (vs : List Version). All (λ v. IsTrue (is_right_version tables v)) vs) (sym versions) was.typed;

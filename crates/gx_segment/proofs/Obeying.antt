@@ -1,13 +1,15 @@
 -- What an order has moved, from what was done with the transaction's entry.
-use Rattle.std.proofs.Common.{◌≡◌, ◌≢◌, Bool, true, false, if◌then◌else◌, Option, Some, List, Result, Ok, Err, IfOk, OnOk, refl, ap, ◌∙◌, subst, sym, eqb}
+use Rattle.std.proofs.Common.{◌≡◌, ◌≢◌, Bool, true, false, if◌then◌else◌, Option, Some, List, Result, Ok, Err, IfOk, OnOk, refl, ap, ◌∙◌, subst, sym, eqb, map}
 use Rattle.std.specs.BTreeMap.{BTreeMap, Updates, get}
 use Rattle.std.specs.BTreeSet.{BTreeSet, contains}
 use Rattle.std.specs.Prelude.{◌&&◌, option_map}
 use Rattle.gx_ids.specs.declared.ids.Gxid.{Gxid}
 use Rattle.gx_ids.specs.declared.ids.Node.{Node}
+use Rattle.gx_ids.specs.declared.ids.Table.{Table}
+use Rattle.gx_ids.specs.declared.rid.Rid.{Rid}
 use Rattle.gx_dtx.specs.declared.order.Order.{Order}
 use Rattle.gx_dsnap.specs.Gxids.{gxid_cmp}
-use Rattle.gx_slices.specs.Store.{Store, status_of}
+use Rattle.gx_slices.specs.Store.{Store, Write, status_of, with_status, writes_of}
 use Rattle.gx_msg.specs.declared.item.Kept.{Kept}
 use Rattle.gx_node.specs.Changes.{Change, Does, change_of}
 use Rattle.gx_node.specs.Phases.{local_of, phase_of}
@@ -60,12 +62,12 @@ HasTaken-there node g order m o e e' phase (Ok t) now was kept is does =
 HasTaken-there node g order m o e e' phase (Err x) now was kept is does = tt
 
 pub HasMoved-taken : (old : Held) (o : BTreeMap Gxid Entry) (store : Store) (holders : BTreeSet Gxid) (g : Gxid) (change : Change) (taken : Taken) (phase : rule.Phase) (status : LocalStatus) → HasTaken old.entries o g change taken phase
-    → status ≡ status_in phase → status_of store g ≡ option_map (λ _. status) (status_of old.store g) → ((h : Gxid) → h.0 ≢ g.0 → status_of store h ≡ status_of old.store h) → store.tables ≡ old.store.tables → store.horizon ≡ old.store.horizon
+    → status ≡ status_in phase → status_of store g ≡ option_map (λ _. status) (status_of old.store g) → ((h : Gxid) → h.0 ≢ g.0 → status_of store h ≡ status_of old.store h) → ((t : Table) (r : Rid) → writes_of store t r ≡ map (with_status g status) (writes_of old.store t r)) → store.horizon ≡ old.store.horizon
     → ((h : Gxid) → contains gxid_cmp holders h ≡ (if has_ended phase && eqb h.0 g.0 then false else contains gxid_cmp old.holders h))
     → HasMoved old (record { store = store; entries = o; holders = holders; locks = old.locks }) g change taken
-HasMoved-taken old o store holders g change taken phase status t status_is set others tables horizon left = record {
+HasMoved-taken old o store holders g change taken phase status t status_is set others writes horizon left = record {
   horizon = horizon;
-  tables = tables;
+  writes = λ u r. writes u r ∙ ap (λ (s : LocalStatus). map (with_status g s) (writes_of old.store u r)) (status_is ∙ ap status_in t.phase_is);
   locks = refl;
   status = set ∙ ap (λ (s : LocalStatus). option_map (λ _. s) (status_of old.store g)) (status_is ∙ ap status_in t.phase_is);
   statuses = others;

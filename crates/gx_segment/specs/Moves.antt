@@ -1,11 +1,13 @@
 -- What an order changes of what is held.
-use Rattle.std.specs.Prelude.{◌≡◌, ◌≢◌, ◌==◌, ◌&&◌, Bool, true, false, if◌then◌else◌, option_map}
+use Rattle.std.specs.Prelude.{◌≡◌, ◌≢◌, ◌==◌, ◌&&◌, Bool, true, false, if◌then◌else◌, map, option_map}
 use Rattle.std.specs.BTreeMap.{BTreeMap, get}
 use Rattle.std.specs.BTreeSet.{contains}
 use Rattle.gx_ids.specs.declared.ids.Gxid.{Gxid}
+use Rattle.gx_ids.specs.declared.ids.Table.{Table}
+use Rattle.gx_ids.specs.declared.rid.Rid.{Rid}
 use Rattle.gx_dsnap.specs.Gxids.{gxid_cmp}
 use Rattle.gx_dtx.specs.declared.order.Order.{Order}
-use Rattle.gx_slices.specs.Store.{status_of}
+use Rattle.gx_slices.specs.Store.{status_of, with_status, writes_of}
 use Rattle.gx_node.specs.Changes.{Change, turn_of}
 use Rattle.gx_node.specs.declared.local.Taken.{Taken}
 use Rattle.gx_rules.specs.AtSegment.{unless_below}
@@ -43,7 +45,7 @@ pub record HasTaken (old new : BTreeMap Gxid Entry) (g : Gxid) (change : Change)
 -- the transaction's record is that of the change, and nothing else has changed
 pub record HasMoved (old new : Held) (g : Gxid) (change : Change) (taken : Taken) : Type 0 where
   pub horizon : new.store.horizon ≡ old.store.horizon
-  pub tables : new.store.tables ≡ old.store.tables
+  pub writes : (t : Table) (r : Rid) → writes_of new.store t r ≡ map (with_status g (status_in change.now.phase)) (writes_of old.store t r)
   pub locks : new.locks ≡ old.locks
   pub status : status_of new.store g ≡ option_map (λ _. status_in change.now.phase) (status_of old.store g)
   pub statuses : (h : Gxid) → h.0 ≢ g.0 → status_of new.store h ≡ status_of old.store h

@@ -3,7 +3,7 @@ ghost use Rattle.std.specs.Prelude.{◌≡◌, ◌<◌, ◌≤◌, None, IfOk};
 ghost use Rattle.std.specs.BTreeMap.{get};
 ghost use Rattle.gx_ids.specs.declared.ids.Gxid.{Gxid};
 ghost use Rattle.gx_dsnap.specs.Gxids.{gxid_cmp};
-ghost use Rattle.gx_slices.specs.Store.{greater};
+ghost use Rattle.gx_slices.specs.Store.{IsRaised, greater};
 ghost use Rattle.gx_rules.specs.AtSegment.{raised};
 ghost use Rattle.gx_node.specs.Phases.{suspended_of};
 ghost use Rattle.gx_rules.specs.Running.{suspended_slice};
@@ -103,7 +103,7 @@ fn raise(held: &mut Held, horizon: &mut Gxid, low: Gxid)
     requires same { horizon.old ≡ held.old.store.horizon }
     requires dropped { (g : Gxid) → g.0 < horizon.old.0 → get gxid_cmp held.old.entries g ≡ None }
     ensures horizon { horizon.new ≡ greater horizon.old low }
-    ensures store { held.new.store ≡ record held.old.store { horizon = greater held.old.store.horizon low } }
+    ensures store { IsRaised held.old.store low held.new.store }
     ensures entries { (g : Gxid) → horizon.new.0 ≤ g.0 → get gxid_cmp held.new.entries g ≡ get gxid_cmp held.old.entries g }
     ensures dropped { (g : Gxid) → g.0 < horizon.new.0 → get gxid_cmp held.new.entries g ≡ None }
     ensures holders { held.new.holders ≡ held.old.holders }

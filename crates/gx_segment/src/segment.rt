@@ -114,7 +114,7 @@ impl Segment {
         let rows = self
             .held
             .store
-            .shown_rows_from(table, snapshot, None, Cid(0))?;
+            .shown_rows(table, snapshot, None, Cid(0))?;
         Ok(rows)
     }
 }

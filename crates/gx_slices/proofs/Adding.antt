@@ -1,5 +1,6 @@
 -- A row is written.
-use Rattle.std.proofs.Common.{◌≡◌, ◌≢◌, Bool, true, false, if◌then◌else◌, eqb, not, ◌&&◌, ◌||◌, List, [], ◌∷◌, ◌++◌, Option, Some, None, map, filter, append-nil, refl, sym, ap, ◌∙◌, subst}
+use Rattle.std.proofs.Common.{◌≡◌, ◌≢◌, ◌≤◌, arith, Bool, true, false, if◌then◌else◌, eqb, ltb, not, ◌&&◌, ◌||◌, List, [], ◌∷◌, ◌++◌, Option, Some, None, map, filter, append-nil, refl, sym, ap, ◌∙◌, subst}
+use Rattle.std.proofs.lemmas.Bool.Decides.{nat_tests}
 use Rattle.std.proofs.lemmas.List.{map-append}
 use Rattle.std.proofs.lemmas.List.Elements.{filter-append}
 use Rattle.std.proofs.lemmas.List.Folds.{list_any-append}
@@ -20,6 +21,7 @@ use Rattle.gx_rows.specs.Counts.{is_committed}
 use Rattle.gx_rows.specs.Rows.{is_unaborted}
 use Rattle.gx_rows.specs.declared.status.LocalStatus.{LocalStatus}
 use Rattle.gx_rows.specs.declared.status.LocalStatus.TheVariants.{Running}
+use Rattle.gx_rows.specs.Xids.{kept}
 use Rattle.gx_slices.specs.Store.{Write, passes, status_of, writes_of}
 use Rattle.gx_node.specs.Phases.{local_of, phase_of}
 use Rattle.gx_store.specs.Marks.{is_same_gxid, is_same_rid}
@@ -31,7 +33,7 @@ use Rattle.gx_rules.specs.Segments.{Phase, Reading, Writing, Prepared, Committed
 use Rattle.gx_rules.specs.Shown.{kept_of, kept_one, last_images}
 use Rattle.gx_rules.specs.Slices.{Moved, adds_version, own_lock, version, writes_row}
 use Rattle.gx_slices.specs.Agrees.{has_version}
-use Rattle.gx_slices.specs.Left.{AreLeft, IsLeft, has_aborted, is_of_row, is_settled, write_of}
+use Rattle.gx_slices.specs.Left.{AreLeft, IsLeft, IsOf, has_aborted, is_of_row, is_settled}
 use Rattle.gx_slices.specs.Apart.{IsApart}
 use Rattle.gx_slices.specs.Inserts.{IsPut}
 use Rattle.gx_slices.specs.Owning.{own_locks, own_marks}
@@ -113,39 +115,39 @@ module _ (start : Seg) (first held held' : Held) (g : Gxid) (c : Cid) (node : No
   has_version-itself = has_version-put g ∙ ap (λ (b : Bool). has_version s g || (b || false)) (itself g.0) ∙ or_true (has_version s g)
 
   -- THE STORE
-  wrote : (h : Gxid) (b : Bool) → eqb h.0 g.0 ≡ b → is_some (status_of held'.store h) ≡ has_version s' h
-  wrote h true e = subst (λ (k : Gxid). is_some (status_of held'.store k) ≡ has_version s' k) (same_gxid g h e) (ap is_some put.status ∙ sym has_version-itself)
-  wrote h false e = ap is_some (put.others h (differ h.0 g.0 e)) ∙ is.stored.wrote h ∙ sym (has_version-other h e)
+  wrote : (h : Gxid) → s.horizon.0 ≤ h.0 → (b : Bool) → eqb h.0 g.0 ≡ b → is_some (status_of held'.store h) ≡ has_version s' h
+  wrote h up true e = subst (λ (k : Gxid). is_some (status_of held'.store k) ≡ has_version s' k) (same_gxid g h e) (ap is_some put.status ∙ sym has_version-itself)
+  wrote h up false e = ap is_some (put.others h (differ h.0 g.0 e)) ∙ is.stored.wrote h up ∙ sym (has_version-other h e)
 
   committed_itself : passes is_committed (status_of held'.store g) ≡ (has_version s' g && has_committed (rule.local_of s' g).phase)
   committed_itself =
       ap (passes is_committed) put.status
       ∙ passes_running (status_of held.store g)
-      ∙ is.stored.committed g
+      ∙ is.stored.committed g is.alive
       ∙ ap (λ (b : Bool). has_version s g && b) (open_uncommitted (rule.local_of s g).phase is.open_here)
       ∙ and_false (has_version s g)
       ∙ sym (and_false (has_version s' g))
       ∙ sym (ap (λ (l : rule.Local). has_version s' g && has_committed l.phase) local_itself)
 
-  committed : (h : Gxid) (b : Bool) → eqb h.0 g.0 ≡ b → passes is_committed (status_of held'.store h) ≡ (has_version s' h && has_committed (rule.local_of s' h).phase)
-  committed h true e = subst (λ (k : Gxid). passes is_committed (status_of held'.store k) ≡ (has_version s' k && has_committed (rule.local_of s' k).phase)) (same_gxid g h e) committed_itself
-  committed h false e =
+  committed : (h : Gxid) → s.horizon.0 ≤ h.0 → (b : Bool) → eqb h.0 g.0 ≡ b → passes is_committed (status_of held'.store h) ≡ (has_version s' h && has_committed (rule.local_of s' h).phase)
+  committed h up true e = subst (λ (k : Gxid). passes is_committed (status_of held'.store k) ≡ (has_version s' k && has_committed (rule.local_of s' k).phase)) (same_gxid g h e) committed_itself
+  committed h up false e =
       ap (passes is_committed) (put.others h (differ h.0 g.0 e))
-      ∙ is.stored.committed h
+      ∙ is.stored.committed h up
       ∙ ap (λ (b : Bool). b && has_committed (rule.local_of s h).phase) (sym (has_version-other h e))
       ∙ ap (λ (l : rule.Local). has_version s' h && has_committed l.phase) (sym (local_other h e))
 
   unaborted_itself : passes is_unaborted (status_of held'.store g) ≡ (has_version s' g && rule.is_unaborted (rule.local_of s' g).phase)
   unaborted_itself =
       ap (passes is_unaborted) put.status
-      ∙ unaborted-running (status_of held.store g) (has_version s g) (is.stored.wrote g) (is.stored.unaborted g ∙ ap (λ (b : Bool). has_version s g && b) (open_unaborted (rule.local_of s g).phase is.open_here))
+      ∙ unaborted-running (status_of held.store g) (has_version s g) (is.stored.wrote g is.alive) (is.stored.unaborted g is.alive ∙ ap (λ (b : Bool). has_version s g && b) (open_unaborted (rule.local_of s g).phase is.open_here))
       ∙ sym (ap (λ (b : Bool). b && rule.is_unaborted (rule.local_of s' g).phase) has_version-itself ∙ ap (λ (l : rule.Local). rule.is_unaborted l.phase) local_itself)
 
-  unaborted : (h : Gxid) (b : Bool) → eqb h.0 g.0 ≡ b → passes is_unaborted (status_of held'.store h) ≡ (has_version s' h && rule.is_unaborted (rule.local_of s' h).phase)
-  unaborted h true e = subst (λ (k : Gxid). passes is_unaborted (status_of held'.store k) ≡ (has_version s' k && rule.is_unaborted (rule.local_of s' k).phase)) (same_gxid g h e) unaborted_itself
-  unaborted h false e =
+  unaborted : (h : Gxid) → s.horizon.0 ≤ h.0 → (b : Bool) → eqb h.0 g.0 ≡ b → passes is_unaborted (status_of held'.store h) ≡ (has_version s' h && rule.is_unaborted (rule.local_of s' h).phase)
+  unaborted h up true e = subst (λ (k : Gxid). passes is_unaborted (status_of held'.store k) ≡ (has_version s' k && rule.is_unaborted (rule.local_of s' k).phase)) (same_gxid g h e) unaborted_itself
+  unaborted h up false e =
       ap (passes is_unaborted) (put.others h (differ h.0 g.0 e))
-      ∙ is.stored.unaborted h
+      ∙ is.stored.unaborted h up
       ∙ ap (λ (b : Bool). b && rule.is_unaborted (rule.local_of s h).phase) (sym (has_version-other h e))
       ∙ ap (λ (l : rule.Local). has_version s' h && rule.is_unaborted l.phase) (sym (local_other h e))
 
@@ -193,8 +195,49 @@ module _ (start : Seg) (first held held' : Held) (g : Gxid) (c : Cid) (node : No
           (sym (ap (λ (b : Bool). b && is_below s.horizon g) (open_uncommitted was is.open_here))
           ∙ subst (λ (h : Gxid). (has_committed (rule.local_of s h).phase && is_below s.horizon h) ≡ true) (sym (same_gxid g u.gxid f)) e))
 
-  weaker : (ws : List Write) (vs : List Version) → IsLeft (has_aborted s) (is_settled s) ws vs → IsLeft (has_aborted s') (is_settled s') ws vs
-  weaker = left-weaker (has_aborted s) (is_settled s) (has_aborted s') (is_settled s') aborted_before settled_before
+  -- who made a write is as before, and so is what became of him
+  told_before : (w : Write) (u : Version) → IsOf s w u → IsOf s' w u
+  told_before w u its = record {
+    writer = its.writer;
+    cid = its.cid;
+    image = its.image;
+    committed = its.committed ∙ by_committed (eqb u.gxid.0 g.0) refl;
+    unaborted = its.unaborted ∙ by_unaborted (eqb u.gxid.0 g.0) refl;
+  }
+    where
+      by_committed : (b : Bool) → eqb u.gxid.0 g.0 ≡ b → has_committed (rule.local_of s u.gxid).phase ≡ has_committed (rule.local_of s' u.gxid).phase
+      by_committed true e = subst (λ (h : Gxid). has_committed (rule.local_of s h).phase ≡ has_committed (rule.local_of s' h).phase) (same_gxid g u.gxid e) (open_uncommitted was is.open_here ∙ sym (ap (λ (l : rule.Local). has_committed l.phase) local_itself))
+      by_committed false e = sym (ap (λ (l : rule.Local). has_committed l.phase) (local_other u.gxid e))
+
+      by_unaborted : (b : Bool) → eqb u.gxid.0 g.0 ≡ b → rule.is_unaborted (rule.local_of s u.gxid).phase ≡ rule.is_unaborted (rule.local_of s' u.gxid).phase
+      by_unaborted true e = subst (λ (h : Gxid). rule.is_unaborted (rule.local_of s h).phase ≡ rule.is_unaborted (rule.local_of s' h).phase) (same_gxid g u.gxid e) (open_unaborted was is.open_here ∙ sym (ap (λ (l : rule.Local). rule.is_unaborted l.phase) local_itself))
+      by_unaborted false e = sym (ap (λ (l : rule.Local). rule.is_unaborted l.phase) (local_other u.gxid e))
+
+  weaker : (ws : List Write) (vs : List Version) → IsLeft (IsOf s) (has_aborted s) (is_settled s) ws vs → IsLeft (IsOf s') (has_aborted s') (is_settled s') ws vs
+  weaker = left-weaker (IsOf s) (IsOf s') (has_aborted s) (is_settled s) (has_aborted s') (is_settled s') aborted_before settled_before told_before
+
+  -- its own write
+  abbrev new_write : Write
+  new_write = record { writer = Some g; cid = c; status = unwrap_or (status_of held.store g) Running; image = image }
+
+  its_own : IsOf s' new_write v
+  its_own = record {
+    writer = sym (kept_up g is.alive);
+    cid = refl;
+    image = refl;
+    committed =
+        passes_running (status_of held.store g) ∙ is.stored.committed g is.alive ∙ ap (λ (b : Bool). has_version s g && b) (open_uncommitted was is.open_here) ∙ and_false (has_version s g)
+        ∙ sym (ap (λ (l : rule.Local). has_committed l.phase) local_itself);
+    unaborted =
+        unaborted-running (status_of held.store g) (has_version s g) (is.stored.wrote g is.alive) (is.stored.unaborted g is.alive ∙ ap (λ (b : Bool). has_version s g && b) (open_unaborted was is.open_here))
+        ∙ sym (ap (λ (l : rule.Local). rule.is_unaborted l.phase) local_itself);
+  }
+    where
+      not_below : (h : Gxid) → s.horizon.0 ≤ h.0 → ltb h.0 s.horizon.0 ≡ false
+      not_below h up = grind (arith, nat_tests)
+
+      kept_up : (h : Gxid) → s.horizon.0 ≤ h.0 → kept s.horizon h ≡ Some h
+      kept_up h up = ap (λ (b : Bool). if b then None else Some h) (not_below h up)
 
   versions_split : (t : Table) (r : Rid) (b : Bool) → is_of_row t r v ≡ b → filter (is_of_row t r) s'.versions ≡ filter (is_of_row t r) s.versions ++ (if b then v ∷ [] else [])
   versions_split t r b e =
@@ -203,14 +246,14 @@ module _ (start : Seg) (first held held' : Held) (g : Gxid) (c : Cid) (node : No
   not_there : (t : Table) (r : Rid) → is_of_row t r v ≡ false → writes_of held'.store t r ≡ writes_of held.store t r → AreLeft s' t r (writes_of held'.store t r)
   not_there t r e same =
       subst (λ (ws : List Write). AreLeft s' t r ws) (sym same)
-      (subst (IsLeft (has_aborted s') (is_settled s') (writes_of held.store t r)) (sym (versions_split t r false e ∙ append-nil (filter (is_of_row t r) s.versions)))
+      (subst (IsLeft (IsOf s') (has_aborted s') (is_settled s') (writes_of held.store t r)) (sym (versions_split t r false e ∙ append-nil (filter (is_of_row t r) s.versions)))
       (weaker (writes_of held.store t r) (filter (is_of_row t r) s.versions) (is.stored.writes t r)))
 
   there : AreLeft s' table rid (writes_of held'.store table rid)
   there =
       subst (λ (ws : List Write). AreLeft s' table rid ws) (sym put.written)
-      (subst (IsLeft (has_aborted s') (is_settled s') (writes_of held.store table rid ++ write_of v ∷ [])) (sym (versions_split table rid true own))
-      (left-push (has_aborted s') (is_settled s') v (writes_of held.store table rid) (filter (is_of_row table rid) s.versions)
+      (subst (IsLeft (IsOf s') (has_aborted s') (is_settled s') (writes_of held.store table rid ++ new_write ∷ [])) (sym (versions_split table rid true own))
+      (left-push (IsOf s') (has_aborted s') (is_settled s') new_write v its_own (writes_of held.store table rid) (filter (is_of_row table rid) s.versions)
       (weaker (writes_of held.store table rid) (filter (is_of_row table rid) s.versions) (is.stored.writes table rid))))
     where
       own : is_of_row table rid v ≡ true
@@ -253,9 +296,9 @@ module _ (start : Seg) (first held held' : Held) (g : Gxid) (c : Cid) (node : No
     stored = record {
       horizon = put.horizon ∙ is.stored.horizon;
       writes = λ t r. writes t r (eqb table.0 t.0) refl (is_same_rid rid r) refl;
-      wrote = λ h. wrote h (eqb h.0 g.0) refl;
-      committed = λ h. committed h (eqb h.0 g.0) refl;
-      unaborted = λ h. unaborted h (eqb h.0 g.0) refl;
+      wrote = λ h up. wrote h up (eqb h.0 g.0) refl;
+      committed = λ h up. committed h up (eqb h.0 g.0) refl;
+      unaborted = λ h up. unaborted h up (eqb h.0 g.0) refl;
     };
     locks = same_locks;
     entries = put.entries ∙ is.entries;

@@ -1,55 +1,50 @@
 -- A row that a command comes to is swept: what is held still stands for the rule's data.
-use Rattle.std.proofs.Common.{◌≡◌, ◌≢◌, ⊎_elim, Bool, true, false, eqb, ltb, not, ◌&&◌, List, Option, Some, None, filter, sym, ap, ◌∙◌, subst}
-use Rattle.std.specs.Prelude.{find, is_some, option_map}
+use Rattle.std.proofs.Common.{◌≡◌, ◌≢◌, ⊎_elim, Bool, true, false, eqb, ltb, not, ◌&&◌, if◌then◌else◌, refl, List, Option, Some, None, filter, sym, ap, ◌∙◌, subst}
+use Rattle.std.specs.Prelude.{is_some}
 use Rattle.gx_dsnap.specs.Gxids.{is_below}
+use Rattle.std.specs.Map.{lookup}
+use Rattle.std.specs.BTreeMap.{is_at}
 use Rattle.gx_ids.specs.declared.ids.Gxid.{Gxid}
 use Rattle.gx_ids.specs.declared.ids.Table.{Table}
 use Rattle.gx_ids.specs.declared.rid.Rid.{Rid}
 use Rattle.gx_rows.specs.Counts.{is_committed}
 use Rattle.gx_rows.specs.Rows.{is_unaborted}
-use Rattle.gx_rows.specs.declared.status.LocalStatus.{LocalStatus}
-use Rattle.gx_rules.specs.Segments as rule
-use Rattle.gx_rules.specs.Segments.{Seg, Version, has_committed, local_of}
+use Rattle.gx_rows.specs.Xids.{gxid_cmp}
+use Rattle.gx_sweep.specs.Swept.{is_past}
+use Rattle.gx_rules.specs.Segments.{Seg, Version}
 use Rattle.gx_store.specs.declared.mark.Mark.{Mark}
-use Rattle.gx_slices.specs.Agrees.{has_version}
 use Rattle.gx_slices.specs.Apart.{IsApart, IsStored}
 use Rattle.gx_slices.specs.Changing.{IsAt, Stage}
 use Rattle.gx_slices.specs.Left as left
-use Rattle.gx_slices.specs.Left.{AreLeft, is_of_row, write_of}
-use Rattle.gx_slices.specs.Store.{Store, Write, Writer, has_aborted, is_settled, passes, status_of, swept, writes_of}
+use Rattle.gx_slices.specs.Left.{AreLeft, IsOf, is_of_row}
+use Rattle.gx_slices.specs.Store.{Store, Write, has_aborted, is_settled, passes, status_of, swept, writes_of}
 use Rattle.gx_slices.specs.declared.held.Entry.{Entry}
 use Rattle.gx_slices.specs.declared.held.Held.{Held}
 use Rattle.gx_slices.proofs.Left.{left-living}
 use Rattle.gx_slices.proofs.Writes.{rid_cases, table_cases}
 
-aborted_status : (o : Option LocalStatus) (there u : Bool) → is_some o ≡ there → passes is_unaborted o ≡ (there && u) → passes (λ s. not (is_unaborted s)) o ≡ true → not u ≡ true
-aborted_status None there u e f g = absurd (cc)
-aborted_status (Some s) true u e f g = ap not (sym f) ∙ g
-aborted_status (Some s) false u e f g = absurd (cc)
-
-committed_part : (there committed below : Bool) → ((there && committed) && below) ≡ true → (committed && below) ≡ true
-committed_part true committed below e = e
-committed_part false committed below e = absurd (cc)
-
 module _ (store store' : Store) (s : Seg) (is : IsStored store s) (table : Table) (rid : Rid) (here : writes_of store' table rid ≡ swept store (writes_of store table rid)) (rows : (r : Rid) → r ≢ rid → writes_of store' table r ≡ writes_of store table r) (others : (t : Table) (r : Rid) → t ≢ table → writes_of store' t r ≡ writes_of store t r) (writers : store'.writers ≡ store.writers) (horizon : store'.horizon ≡ store.horizon) where
   same_status : (g : Gxid) → status_of store' g ≡ status_of store g
-  same_status g = ap (λ (ws : List Writer). option_map (λ w. w.status) (find (λ w. eqb w.gxid.0 g.0) ws)) writers
+  same_status g = ap (lookup (is_at (gxid_cmp g))) writers
 
   -- what is dead by the store is dead by the data
-  gone : (v : Version) → has_aborted store (write_of v) ≡ true → left.has_aborted s v ≡ true
-  gone v e = aborted_status (status_of store v.gxid) (has_version s v.gxid) (rule.is_unaborted (local_of s v.gxid).phase) (is.wrote v.gxid) (is.unaborted v.gxid) e
+  gone : (w : Write) (v : Version) → IsOf s w v → has_aborted w ≡ true → left.has_aborted s v ≡ true
+  gone w v its e = sym (ap not its.unaborted) ∙ e
 
-  past : (v : Version) → is_settled store (write_of v) ≡ true → left.is_settled s v ≡ true
-  past v e =
-      committed_part (has_version s v.gxid) (has_committed (local_of s v.gxid).phase) (is_below s.horizon v.gxid)
-      (ap (λ (b : Bool). b && is_below s.horizon v.gxid) (sym (is.committed v.gxid))
-      ∙ ap (λ (h : Gxid). passes is_committed (status_of store v.gxid) && ltb v.gxid.0 h.0) (sym is.horizon)
-      ∙ e)
+  is_past-kept : (v : Version) (b : Bool) → ltb v.gxid.0 s.horizon.0 ≡ b → is_past s.horizon (if b then None else Some v.gxid) ≡ is_below s.horizon v.gxid
+  is_past-kept v true e = sym e
+  is_past-kept v false e = refl
+
+  past : (w : Write) (v : Version) → IsOf s w v → is_settled store.horizon w ≡ true → left.is_settled s v ≡ true
+  past w v its e =
+      ap (λ (b : Bool). b && is_below s.horizon v.gxid) (sym its.committed)
+      ∙ ap (λ (b : Bool). is_committed w.status && b) (sym (is_past-kept v (ltb v.gxid.0 s.horizon.0) refl) ∙ ap (is_past s.horizon) (sym its.writer) ∙ ap (λ (h : Gxid). is_past h w.writer) (sym is.horizon))
+      ∙ e
 
   swept_here : AreLeft s table rid (writes_of store' table rid)
   swept_here =
       subst (λ (ws : List Write). AreLeft s table rid ws) (sym here)
-      (left-living (left.has_aborted s) (left.is_settled s) (has_aborted store) (is_settled store) gone past (writes_of store table rid) (filter (is_of_row table rid) s.versions) (is.writes table rid))
+      (left-living (IsOf s) (left.has_aborted s) (left.is_settled s) has_aborted (is_settled store.horizon) gone past (writes_of store table rid) (filter (is_of_row table rid) s.versions) (is.writes table rid))
 
   in_table : (r : Rid) → AreLeft s table r (writes_of store' table r)
   in_table r =
@@ -69,9 +64,9 @@ module _ (store store' : Store) (s : Seg) (is : IsStored store s) (table : Table
   IsStored-swept = record {
     horizon = horizon ∙ is.horizon;
     writes = all_left;
-    wrote = λ g. ap is_some (same_status g) ∙ is.wrote g;
-    committed = λ g. ap (passes is_committed) (same_status g) ∙ is.committed g;
-    unaborted = λ g. ap (passes is_unaborted) (same_status g) ∙ is.unaborted g;
+    wrote = λ g up. ap is_some (same_status g) ∙ is.wrote g up;
+    committed = λ g up. ap (passes is_committed) (same_status g) ∙ is.committed g up;
+    unaborted = λ g up. ap (passes is_unaborted) (same_status g) ∙ is.unaborted g up;
   }
 
 module _ (stage : Stage) (g : Gxid) (held : Held) (entry : Entry) (marks : List Mark) (at : IsAt stage g held entry marks) where

@@ -1,5 +1,5 @@
 -- Whom a command awaits at a row, and who has overtaken it, as the rule has it.
-use Rattle.std.proofs.Common.{◌≡◌, ◌<◌, Bool, true, false, cond, if◌then◌else◌, ltb, not, ◌&&◌, ◌||◌, List, [], ◌∷◌, Option, Some, None, refl, sym, ap, ◌∙◌, subst, arith}
+use Rattle.std.proofs.Common.{◌≡◌, ◌<◌, Bool, true, false, cond, if◌then◌else◌, ltb, not, ◌&&◌, ◌||◌, List, [], ◌∷◌, Option, Some, None, refl, sym, ap, ◌∙◌, subst, arith, ◌≤◌}
 use Rattle.std.proofs.lemmas.Bool.Decides.{nat_tests}
 use Rattle.std.specs.List.{AllByRecursion, list_any}
 use Rattle.std.specs.Option.{option_or}
@@ -121,8 +121,11 @@ module _ (store : Store) (s : Seg) (stored : IsStored store s) (writers : AreWri
   uncommitted-own : is_same_gxid v.gxid g ≡ true → has_committed (local_of s v.gxid).phase ≡ false
   uncommitted-own e = subst (λ (h : Gxid). has_committed (local_of s h).phase ≡ false) (same_gxid g v.gxid e) (open-uncommitted (local_of s g).phase open_here)
 
-  committed-there : passes is_committed (status_of store v.gxid) ≡ has_committed (local_of s v.gxid).phase
-  committed-there = stored.committed v.gxid ∙ ap (λ (b : Bool). b && has_committed (local_of s v.gxid).phase) there
+  committed-there : ltb v.gxid.0 s.horizon.0 ≡ false → passes is_committed (status_of store v.gxid) ≡ has_committed (local_of s v.gxid).phase
+  committed-there up = stored.committed v.gxid (from v up) ∙ ap (λ (b : Bool). b && has_committed (local_of s v.gxid).phase) there
+    where
+      from : (v : Version) → ltb v.gxid.0 s.horizon.0 ≡ false → s.horizon.0 ≤ v.gxid.0
+      from v up = grind (arith, nat_tests, up)
 
   plain-or : (a b : Bool) → b ≡ false → a ≡ (a || b)
   plain-or true b e = refl
@@ -135,7 +138,7 @@ module _ (store : Store) (s : Seg) (stored : IsStored store s) (writers : AreWri
       → (if own then ltb v.cid.0 c.0 else passes is_committed (status_of store v.gxid) && sees snap v.gxid) ≡ ((own && ltb v.cid.0 c.0) || seen)
   counted-by true e up = plain-or (ltb v.cid.0 c.0) seen (no-and (has_committed (local_of s v.gxid).phase) _ (uncommitted-own e))
   counted-by false e up =
-      ap (λ (b : Bool). b && sees snap v.gxid) committed-there ∙ ap (λ (b : Bool). has_committed (local_of s v.gxid).phase && (b || sees snap v.gxid)) (sym up)
+      ap (λ (b : Bool). b && sees snap v.gxid) (committed-there up) ∙ ap (λ (b : Bool). has_committed (local_of s v.gxid).phase && (b || sees snap v.gxid)) (sym up)
 
   overtaken-by : (b : Bool) → ltb v.gxid.0 s.horizon.0 ≡ b → overtaker_in store snap g c (if b then None else Some v.gxid) v.cid ≡ (if counts s snap g c v then None else Some v.gxid)
   overtaken-by true low = ap (λ (b : Bool). if b then None else Some v.gxid) (sym (below-counts low))

@@ -12,8 +12,8 @@ use Rattle.gx_locks.specs.Claims.{is_of}
 use Rattle.gx_locks.specs.Locks.{Locks}
 use Rattle.gx_msg.specs.declared.item.Kept.{Kept}
 use Rattle.gx_msg.specs.declared.reply.Reply.{Reply}
-use Rattle.gx_slices.specs.Left.{has_aborted, is_of_row, is_settled}
-use Rattle.gx_slices.specs.Store.{Store, writes_of}
+use Rattle.gx_slices.specs.Left.{IsOf, has_aborted, is_of_row, is_settled}
+use Rattle.gx_slices.specs.Store.{Store, Write, writes_of}
 use Rattle.gx_node.specs.Phases.{local_of}
 use Rattle.gx_rules.specs.Fits.{holds_locks, is_waiting}
 use Rattle.gx_rules.specs.Segments as rule
@@ -137,6 +137,15 @@ module _ (tables : List Schema) (old new : Held) (before s : Seg) (g : Gxid) (lo
   settled_as : (v : Version) → is_settled s v ≡ true → is_settled after v ≡ true
   settled_as v e = ap (λ (p : Phase). has_committed p && is_below s.horizon v.gxid) (phase_at v.gxid (eqb v.gxid.0 g.0) refl) ∙ e
 
+  told_as : (w : Write) (v : Version) → IsOf s w v → IsOf after w v
+  told_as w v its = record {
+    writer = its.writer;
+    cid = its.cid;
+    image = its.image;
+    committed = its.committed ∙ ap has_committed (sym (phase_at v.gxid (eqb v.gxid.0 g.0) refl));
+    unaborted = its.unaborted ∙ ap rule.is_unaborted (sym (phase_at v.gxid (eqb v.gxid.0 g.0) refl));
+  }
+
   pub IsHeld-now : nat_lt 0 local.last ≡ true → new.locks ≡ locks → AreOwn locks.holds → AreWriters (record s { locks = locks }) → AreWaits tables after → All (λ v. IsTrue (is_right_version tables v)) s.versions → IsHeld tables new after
   IsHeld-now new_one locks_are owned writers waits typed = record {
     horizon = stored.horizon;
@@ -144,10 +153,10 @@ module _ (tables : List Schema) (old new : Held) (before s : Seg) (g : Gxid) (lo
     kept = λ h up. rows h up (eqb h.0 g.0) refl;
     dropped = λ h under. dropped h (subst (λ (k : Gxid). h.0 < k.0) horizon under);
     holders = λ h. holds h (eqb h.0 g.0) refl;
-    writes = λ table rid. left-weaker (has_aborted s) (is_settled s) (has_aborted after) (is_settled after) aborted_as settled_as (writes_of new.store table rid) (filter (is_of_row table rid) s.versions) (stored.writes table rid);
+    writes = λ table rid. left-weaker (IsOf s) (IsOf after) (has_aborted s) (is_settled s) (has_aborted after) (is_settled after) aborted_as settled_as told_as (writes_of new.store table rid) (filter (is_of_row table rid) s.versions) (stored.writes table rid);
     wrote = stored.wrote;
-    committed = λ h. stored.committed h ∙ ap (λ (p : Phase). has_version s h && has_committed p) (sym (phase_at h (eqb h.0 g.0) refl));
-    unaborted = λ h. stored.unaborted h ∙ ap (λ (p : Phase). has_version s h && rule.is_unaborted p) (sym (phase_at h (eqb h.0 g.0) refl));
+    committed = λ h up. stored.committed h up ∙ ap (λ (p : Phase). has_version s h && has_committed p) (sym (phase_at h (eqb h.0 g.0) refl));
+    unaborted = λ h up. stored.unaborted h up ∙ ap (λ (p : Phase). has_version s h && rule.is_unaborted p) (sym (phase_at h (eqb h.0 g.0) refl));
     came = λ h there. came new_one h (eqb h.0 g.0) refl there;
     writers = writers_at writers;
     typed = typed;

@@ -20,6 +20,7 @@ pub mod Shown
 pub mod Statuses
 pub mod Writes
 pub mod SweptRows
+pub mod Truncated
 pub mod Keyed
 pub mod Enough
 pub mod Looked

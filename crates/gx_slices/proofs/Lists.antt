@@ -2,7 +2,7 @@
 use Rattle.std.proofs.Common.{◌≡◌, Bool, true, false, cond, ◌&&◌, ◌||◌, List, [], ◌∷◌, Option, Some, None, refl, ap, ◌∙◌}
 use Rattle.std.proofs.lemmas.List.{reverse-append}
 use Rattle.std.proofs.lemmas.List.Folds.{find-append}
-use Rattle.std.specs.Prelude.{find, reverse}
+use Rattle.std.specs.Prelude.{find, option_map, reverse}
 use Rattle.std.specs.List.{AllByRecursion}
 use Rattle.std.specs.Option.{option_or}
 use Rattle.gx_rows.specs.Rows.{last_passing}
@@ -25,3 +25,9 @@ last_passing-cons p x xs = ap (find p) (reverse-append (x ∷ []) xs) ∙ find-a
 pub or_none : {A : Type 0} (o : Option A) → option_or o None ≡ o
 or_none None = refl
 or_none (Some x) = refl
+
+-- the last of a list, mapped
+pub or_mapped : {X Y : Type 0} (f : X → Y) (x : X) (o : Option X) (b : Bool) → option_map f (option_or o (cond b (Some x) None)) ≡ option_or (option_map f o) (cond b (Some (f x)) None)
+or_mapped f x None true = refl
+or_mapped f x None false = refl
+or_mapped f x (Some y) b = refl

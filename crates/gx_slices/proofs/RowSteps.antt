@@ -26,9 +26,8 @@ use Rattle.gx_rules.specs.Segments.{Version}
 use Rattle.gx_rules.specs.Shown.{counts, current_of, is_current}
 use Rattle.gx_rules.specs.Slices.{Moved, cause_of, noted, own_lock, writes_row}
 use Rattle.gx_slices.specs.Agrees.{AreWriters, is_right_image, is_right_version}
-use Rattle.gx_slices.specs.Left.{write_of}
 use Rattle.gx_slices.specs.Apart.{IsApart}
-use Rattle.gx_slices.specs.Changing.{Came, IsAt, IsFree, IsRightImage, Stage, awaited_in, end_of, is_done_at, newest_as, overtaker_in, waits_then}
+use Rattle.gx_slices.specs.Changing.{Came, IsAt, IsFree, IsRightImage, Stage, awaited_in, end_of, is_done_at, newest_as, newest_in, overtaker_in, waits_then}
 use Rattle.gx_slices.specs.Inserts.{IsPut}
 use Rattle.gx_slices.specs.Owning.{AreOwn}
 use Rattle.gx_slices.specs.Stopping.{left_locks, left_marks, locks_after, marks_after, stop_locks, stop_marks}
@@ -72,16 +71,12 @@ module _ (stage : Stage) (g : Gxid) (held : Held) (entry : Entry) (marks : List 
   -- ITS CURRENT VERSION
   module _ (table : Table) (rid : Rid) where
     abbrev newest_at : Version → Newest
-    newest_at v = newest_as held.store (write_of v)
+    newest_at v = newest_in held.store.horizon v
 
-    as_versions : (o : Option Version) → option_map (newest_as held.store) (option_map write_of o) ≡ option_map newest_at o
-    as_versions None = refl
-    as_versions (Some v) = refl
+    newest-current : (o : Option Newest) → o ≡ option_map newest_as (newest_of held.store table rid) → o ≡ option_map newest_at (current_of m.seg table rid)
+    newest-current o e = e ∙ newest_of-current_of held.store m.seg at.apart.stored table rid ∙ ap (λ (h : Gxid). option_map (newest_in h) (current_of m.seg table rid)) (sym at.apart.stored.horizon)
 
-    newest-current : (o : Option Newest) → o ≡ option_map (newest_as held.store) (newest_of held.store table rid) → o ≡ option_map newest_at (current_of m.seg table rid)
-    newest-current o e = e ∙ ap (option_map (newest_as held.store)) (newest_of-current_of held.store m.seg at.apart.stored table rid) ∙ as_versions (current_of m.seg table rid)
-
-    pub no-current : (o : Option Newest) → o ≡ option_map (newest_as held.store) (newest_of held.store table rid) → o ≡ None → current_of m.seg table rid ≡ None
+    pub no-current : (o : Option Newest) → o ≡ option_map newest_as (newest_of held.store table rid) → o ≡ None → current_of m.seg table rid ≡ None
     no-current o e none = either (current_of m.seg table rid) (sym none ∙ newest-current o e)
       where
         either : (c : Option Version) → None ≡ option_map newest_at c → c ≡ None
@@ -93,7 +88,7 @@ module _ (stage : Stage) (g : Gxid) (held : Held) (entry : Entry) (marks : List 
       pub newest : n ≡ newest_at (unwrap_or (current_of m.seg table rid) d)
       pub current : current_of m.seg table rid ≡ Some (unwrap_or (current_of m.seg table rid) d)
 
-    pub one-current : (o : Option Newest) (n : Newest) (d : Version) → o ≡ option_map (newest_as held.store) (newest_of held.store table rid) → o ≡ Some n → IsNewest n d
+    pub one-current : (o : Option Newest) (n : Newest) (d : Version) → o ≡ option_map newest_as (newest_of held.store table rid) → o ≡ Some n → IsNewest n d
     one-current o n d e some = either (current_of m.seg table rid) refl (sym some ∙ newest-current o e)
       where
         same : (a b : Newest) → Some a ≡ Some b → a ≡ b
@@ -129,7 +124,7 @@ module _ (stage : Stage) (g : Gxid) (held : Held) (entry : Entry) (marks : List 
       overtaker-at snap c = overtaker_in-counts held.store m.seg at.apart.stored at.apart.writers snap g c at.apart.open_here table rid v current
 
       -- by what the store knows of it
-      module _ (n : Newest) (is : n ≡ newest_as held.store (write_of v)) where
+      module _ (n : Newest) (is : n ≡ newest_in held.store.horizon v) where
         pub right-newest : IsRightImage stage.found.tables table n.image
         right-newest = subst (IsRightImage stage.found.tables table) (sym (ap (λ (x : Newest). x.image) is)) right-current
 

@@ -68,9 +68,9 @@ module _ (f : Rid → Option (List Value)) where
 pub same_order : (q r : Rid) → is_eq (rid_cmp q r) ≡ is_same_rid r q
 same_order q r = grind (arith, nat_tests)
 
-module _ (gxids : List Gxid) (table : Table) (q : Rid) where
+module _ (x : Xids) (table : Table) (q : Rid) where
   -- versions of the table, of which none is in the table
-  empty : (vs : List Version) → list_any (λ v. eqb v.table.0 table.0) vs ≡ false → AllByRecursion (IsFiled gxids table) vs → vs ≡ []
+  empty : (vs : List Version) → list_any (λ v. eqb v.table.0 table.0) vs ≡ false → AllByRecursion (IsFiled x table) vs → vs ≡ []
   empty [] none all = refl
   empty (v ∷ vs) none all = absurd (first v vs all.0.0 none)
     where
@@ -81,23 +81,23 @@ module _ (gxids : List Gxid) (table : Table) (q : Rid) where
   listed_once e es true = ap (λ (d : Bool). d || list_any (λ p. is_same_rid p q) (rids_of es table)) (sym (same_order q e.0))
   listed_once e es false = refl
 
-  missing_once : (vs : List Version) (es : List (Rid × List Version)) (b c : Bool) → list_any (λ v. eqb v.table.0 table.0) vs ≡ c → AllByRecursion (IsFiled gxids table) (unwrap_or (cond b (Some vs) (lookup (is_at (rid_cmp q)) es)) []) → ((c && b) || list_any (λ p. is_same_rid p q) (rids_of es table)) ≡ false → (AllByRecursion (IsFiled gxids table) (versions_of es q) → list_any (λ p. is_same_rid p q) (rids_of es table) ≡ false → versions_of es q ≡ []) → unwrap_or (cond b (Some vs) (lookup (is_at (rid_cmp q)) es)) [] ≡ []
+  missing_once : (vs : List Version) (es : List (Rid × List Version)) (b c : Bool) → list_any (λ v. eqb v.table.0 table.0) vs ≡ c → AllByRecursion (IsFiled x table) (unwrap_or (cond b (Some vs) (lookup (is_at (rid_cmp q)) es)) []) → ((c && b) || list_any (λ p. is_same_rid p q) (rids_of es table)) ≡ false → (AllByRecursion (IsFiled x table) (versions_of es q) → list_any (λ p. is_same_rid p q) (rids_of es table) ≡ false → versions_of es q ≡ []) → unwrap_or (cond b (Some vs) (lookup (is_at (rid_cmp q)) es)) [] ≡ []
   missing_once vs es true true tests filed missing more = absurd (cc)
   missing_once vs es true false tests filed missing more = empty vs tests filed
   missing_once vs es false true tests filed missing more = more filed missing
   missing_once vs es false false tests filed missing more = more filed missing
 
   -- a row that isn't among the rids of the table has no version
-  pub versions_of-missing : (es : List (Rid × List Version)) → AllByRecursion (IsFiled gxids table) (versions_of es q) → list_any (λ p. is_same_rid p q) (rids_of es table) ≡ false → versions_of es q ≡ []
+  pub versions_of-missing : (es : List (Rid × List Version)) → AllByRecursion (IsFiled x table) (versions_of es q) → list_any (λ p. is_same_rid p q) (rids_of es table) ≡ false → versions_of es q ≡ []
   versions_of-missing [] filed missing = refl
   versions_of-missing (e ∷ es) filed missing =
       missing_once e.1 es (is_eq (rid_cmp q e.0)) (is_of_table table e) refl filed (sym (listed_once e es (is_of_table table e)) ∙ missing) (versions_of-missing es)
 
 -- at each rid stands the row that its versions show
-pub row_at-rows_at : (versions : List (Rid × List Version)) (x : Xids) (table : Table) (snap : Snapshot) (own : Option Lxid) (cid : Cid) (q : Rid) → AllByRecursion (IsFiled x.gxids table) (versions_of versions q) → row_at (rows_at versions x table snap own cid) q ≡ image_at versions x snap own cid q
+pub row_at-rows_at : (versions : List (Rid × List Version)) (x : Xids) (table : Table) (snap : Snapshot) (own : Option Lxid) (cid : Cid) (q : Rid) → AllByRecursion (IsFiled x table) (versions_of versions q) → row_at (rows_at versions x table snap own cid) q ≡ image_at versions x snap own cid q
 row_at-rows_at versions x table snap own cid q filed =
     row_at-keyed (image_at versions x snap own cid) (rids_of versions table) q ∙ either (list_any (λ p. is_same_rid p q) (rids_of versions table)) refl
   where
     either : (b : Bool) → list_any (λ p. is_same_rid p q) (rids_of versions table) ≡ b → cond b (image_at versions x snap own cid q) None ≡ image_at versions x snap own cid q
     either true is = refl
-    either false missing = sym (ap (λ (vs : List Version). option_and_then (λ v. v.image) (shown_of vs x snap own cid)) (versions_of-missing x.gxids table q versions filed missing))
+    either false missing = sym (ap (λ (vs : List Version). option_and_then (λ v. v.image) (shown_of vs x snap own cid)) (versions_of-missing x table q versions filed missing))

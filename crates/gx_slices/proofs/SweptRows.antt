@@ -12,19 +12,16 @@ use Rattle.gx_tree.specs.declared.schema.Dist.{Dist}
 use Rattle.gx_rows.proofs.Entries.{lookup-insert_entry_other, lookup-insert_entry_same, set_value-insert_entry}
 use Rattle.gx_rows.specs.Counts.{is_committed}
 use Rattle.gx_rows.specs.Rows.{is_unaborted, versions_of}
-use Rattle.gx_rows.specs.Xids as xids
-use Rattle.gx_rows.specs.Xids.{Xids, at_lxid, gxid_of, kept}
+use Rattle.gx_rows.specs.Xids.{Xids}
 use Rattle.gx_rows.specs.declared.status.LocalStatus.{LocalStatus}
 use Rattle.gx_rows.specs.declared.version.Version.{Version}
 use Rattle.gx_sweep.specs.Swept as lists
 use Rattle.gx_sweep.specs.Swept.{is_dead, is_past, living}
 use Rattle.gx_sweep.specs.declared.index.KeyIndex.{KeyIndex}
-use Rattle.gx_slices.specs.Filed.{IsFiled, IsSound, gxid_at, store_of, versions_in, write_of}
+use Rattle.gx_slices.specs.Filed.{IsFiled, IsSound, store_of, versions_in, write_of}
 use Rattle.gx_slices.specs.Keyed.{IsIndexed, IsKeyed, IsUnder}
-use Rattle.gx_slices.specs.Store.{Store, Write, has_aborted, is_settled, kept_at, passes, status_of, swept, table_cmp, writes_of}
+use Rattle.gx_slices.specs.Store.{has_aborted, is_settled, kept_at, swept, table_cmp, writes_of}
 use Rattle.gx_slices.proofs.KeptVersions.{kept_at-map, table_cmp-total, tables_apart}
-use Rattle.gx_slices.proofs.Lxids.{at_lxid-lxid_in}
-use Rattle.gx_slices.proofs.Statuses.{status_of-found}
 use Rattle.gx_slices.proofs.Writes.{rid_cases, table_cases}
 
 -- ANY LIST
@@ -54,32 +51,10 @@ module _ {X Y : Type 0} (f : X → Y) (P : X → Type 0) (a s : X → Bool) (a' 
       ∙ ap (λ (b : Bool). if b then living a' s' (map f xs) else f x ∷ living a' s' (map f xs))
       (ap (λ (b : Bool). b || list_any s xs) (same_a x all.0) ∙ ap (λ (b : Bool). a' (f x) || b) (any-mapped xs all.1))
 
--- THE STORE'S TESTS
-module _ (tables : List (Table × List (Rid × List Version))) (x : Xids) (paired : length x.statuses ≡ length x.gxids) (table : Table) where
-  status_at : (v : Version) → IsFiled x.gxids table v → (test : LocalStatus → Bool) → test (xids.status_of x v.lxid) ≡ passes test (status_of (store_of tables x) (gxid_at x.gxids v.lxid))
-  status_at v filed test = sym (ap (passes test) (status_of-found tables x (gxid_at x.gxids v.lxid) v.lxid paired filed.1))
-
-  same-aborted : (v : Version) → IsFiled x.gxids table v → lists.has_aborted x v ≡ has_aborted (store_of tables x) (write_of x.gxids v)
-  same-aborted v filed = status_at v filed (λ s. not (is_unaborted s))
-
-  below_past : (h g : Gxid) (b : Bool) → ltb g.0 h.0 ≡ b → is_past h (if b then None else Some g) ≡ ltb g.0 h.0
-  below_past h g true e = sym e
-  below_past h g false e = refl
-
-  past : (v : Version) → IsFiled x.gxids table v → is_past x.horizon (gxid_of x v.lxid) ≡ ltb (gxid_at x.gxids v.lxid).0 x.horizon.0
-  past v filed =
-      ap (λ (o : Option Gxid). is_past x.horizon (option_and_then (kept x.horizon) o)) (at_lxid-lxid_in x.gxids (gxid_at x.gxids v.lxid) v.lxid filed.1)
-      ∙ below_past x.horizon (gxid_at x.gxids v.lxid) (ltb (gxid_at x.gxids v.lxid).0 x.horizon.0) refl
-
-  same-settled : (v : Version) → IsFiled x.gxids table v → lists.is_settled x x.horizon v ≡ is_settled (store_of tables x) (write_of x.gxids v)
-  same-settled v filed =
-      ap (λ (b : Bool). b && is_past x.horizon (gxid_of x v.lxid)) (status_at v filed is_committed)
-      ∙ ap (λ (b : Bool). passes is_committed (status_of (store_of tables x) (gxid_at x.gxids v.lxid)) && b) (past v filed)
-
-  -- what a sweep leaves, told by gxids
-  pub writes-swept : (vs : List Version) → AllByRecursion (IsFiled x.gxids table) vs → map (write_of x.gxids) (lists.swept x x.horizon vs) ≡ swept (store_of tables x) (map (write_of x.gxids) vs)
-  writes-swept vs all =
-      map-living (write_of x.gxids) (IsFiled x.gxids table) (lists.has_aborted x) (lists.is_settled x x.horizon) (has_aborted (store_of tables x)) (is_settled (store_of tables x)) same-aborted same-settled vs all
+-- what a sweep leaves, told without lxids
+writes-swept : (tables : List (Table × List (Rid × List Version))) (x : Xids) (table : Table) (vs : List Version) → AllByRecursion (IsFiled x table) vs → map (write_of x) (lists.swept x x.horizon vs) ≡ swept (store_of tables x) (map (write_of x) vs)
+writes-swept tables x table vs all =
+    map-living (write_of x) (IsFiled x table) (lists.has_aborted x) (lists.is_settled x x.horizon) has_aborted (is_settled x.horizon) (λ v filed. refl) (λ v filed. refl) vs all
 
 -- ONE TABLE
 module _ (tables tables' : List (Table × List (Rid × List Version))) (table : Table) (rows rows' : List (Rid × List Version)) (sorted : IsStrictlySortedBy table_cmp (keys_of tables)) (found : Some rows ≡ lookup (is_at (table_cmp table)) tables) (written : tables' ≡ set_value (is_at (table_cmp table)) tables rows') where
@@ -121,22 +96,22 @@ module _ (tables tables' : List (Table × List (Rid × List Version))) (x : Xids
 
   pub IsKeyed-swept : (dists : List Dist) (index : KeyIndex) → IsKeyed dists index tables x → IsKeyed dists index tables' x
   IsKeyed-swept dists index was = record {
-    sound = record { paired = was.sound.paired; filed = still (λ t r v. IsFiled x.gxids t v) was.sound.filed };
+    sound = record { there = was.sound.there; back = was.sound.back; given = was.sound.given; high = was.sound.high; filed = still (λ t r v. IsFiled x t v) was.sound.filed };
     indexed = still (λ t r v. IsUnder index (slice_get dists t.0) t r v.image) was.indexed;
   }
 
-  told : (ts : List (Table × List (Rid × List Version))) (t : Table) (r : Rid) → writes_of (store_of ts x) t r ≡ map (write_of x.gxids) (kept_at ts t r)
-  told ts t r = kept_at-map (write_of x.gxids) r ts t
+  told : (ts : List (Table × List (Rid × List Version))) (t : Table) (r : Rid) → writes_of (store_of ts x) t r ≡ map (write_of x) (kept_at ts t r)
+  told ts t r = kept_at-map (write_of x) r ts t
 
   pub writes_of-swept : IsSound tables x → writes_of (store_of tables' x) table rid ≡ swept (store_of tables x) (writes_of (store_of tables x) table rid)
   writes_of-swept sound =
       told tables' table rid
-      ∙ ap (map (write_of x.gxids)) here
-      ∙ writes-swept tables x sound.paired table (kept_at tables table rid) (sound.filed table rid)
+      ∙ ap (map (write_of x)) here
+      ∙ writes-swept tables x table (kept_at tables table rid) (sound.filed table rid)
       ∙ ap (swept (store_of tables x)) (sym (told tables table rid))
 
   pub writes_of-swept_row : (r : Rid) → r ≢ rid → writes_of (store_of tables' x) table r ≡ writes_of (store_of tables x) table r
-  writes_of-swept_row r other = told tables' table r ∙ ap (map (write_of x.gxids)) (rows r other) ∙ sym (told tables table r)
+  writes_of-swept_row r other = told tables' table r ∙ ap (map (write_of x)) (rows r other) ∙ sym (told tables table r)
 
   pub writes_of-swept_table : (t : Table) (r : Rid) → t ≢ table → writes_of (store_of tables' x) t r ≡ writes_of (store_of tables x) t r
-  writes_of-swept_table t r other = told tables' t r ∙ ap (map (write_of x.gxids)) (others t r other) ∙ sym (told tables t r)
+  writes_of-swept_table t r other = told tables' t r ∙ ap (map (write_of x)) (others t r other) ∙ sym (told tables t r)

@@ -1,8 +1,8 @@
 -- What one version more does to the store.
-use Rattle.std.proofs.Common.{◌≡◌, ◌≢◌, ℕ, ◌+◌, List, [], ◌∷◌, ◌++◌, length-append, map, refl, sym, ap, ◌∙◌, subst, Bool, true, false, cond, ◌⊎◌, ⊎_elim, inl, inr}
+use Rattle.std.proofs.Common.{◌≡◌, ◌≢◌, ℕ, ◌≤◌, List, [], ◌∷◌, ◌++◌, map, refl, sym, ap, ◌∙◌, subst, Bool, true, false, cond, ◌⊎◌, ⊎_elim, inl, inr}
 use Rattle.std.proofs.lemmas.Bool.{cases_eq}
 use Rattle.std.proofs.lemmas.List.{map-append}
-use Rattle.std.specs.Prelude.{Option, None, Some, Result, Ok, Err, OnOk, OnErr, is_some, unwrap_or}
+use Rattle.std.specs.Prelude.{Option, None, Some, Result, Ok, Err, OnOk, OnErr, is_some, option_map, unwrap_or}
 use Rattle.std.specs.List.{AllByRecursion}
 use Rattle.gx_ids.specs.declared.ids.Cid.{Cid}
 use Rattle.gx_ids.specs.declared.ids.Gxid.{Gxid}
@@ -13,58 +13,57 @@ use Rattle.gx_ids.specs.declared.memory.OutOfMemory.{OutOfMemory}
 use Rattle.gx_tree.specs.declared.value.Value.{Value}
 use Rattle.gx_rows.specs.declared.status.LocalStatus.{LocalStatus}
 use Rattle.gx_rows.specs.declared.status.LocalStatus.TheVariants.{Running}
-use Rattle.gx_rows.specs.Xids.{Xids, assigned, lxid_in, lxid_of}
+use Rattle.gx_rows.specs.Xids as xids
+use Rattle.gx_rows.specs.Xids.{Xids, assigned, gxid_of, lxid_of}
 use Rattle.gx_rows.specs.declared.version.Version.{Version}
-use Rattle.gx_slices.specs.Store.{Write, Writer, kept_at, status_of, writes_of}
-use Rattle.gx_slices.specs.Filed.{IsFiled, IsSound, IsWritten, filed, gxid_at, store_of, with_writer, write_of}
+use Rattle.gx_slices.specs.Store.{Write, kept_at, status_of, writes_of}
+use Rattle.gx_slices.specs.Filed.{IsFiled, IsSound, IsWritten, filed, store_of, with_writer, write_of}
 use Rattle.gx_slices.proofs.KeptVersions.{kept_at-filed, kept_at-filed_row, kept_at-filed_table, kept_at-map}
-use Rattle.gx_slices.proofs.Lxids.{AllByRecursion-push, IsFiled-push, gxid_at-lxid_in, lxid_in-lxid_of, write_of-push}
-use Rattle.gx_slices.proofs.Statuses.{status_in-entered, status_in-other, status_of-found, writers_of-push}
+use Rattle.gx_slices.proofs.Lxids.{AllByRecursion-push, IsSound-assigned, lxid_of-new, lxid_of-other, status_of-given, status_of-new, test_of, writes-assigned}
+use Rattle.gx_slices.proofs.Statuses.{some_same, status_of-lxid_of}
 
 -- A WRITER MORE
-module _ (tables : List (Table × List (Rid × List Version))) (x : Xids) (g : Gxid) (sound : IsSound tables x) where
-  IsSound-assigned : IsSound tables (assigned x g)
-  IsSound-assigned = record {
-    paired = length-append x.statuses (Running ∷ []) ∙ ap (λ n. n + 1) sound.paired ∙ sym (length-append x.gxids (g ∷ []));
-    filed = λ t r. IsFiled-push x.gxids g t (kept_at tables t r) (sound.filed t r);
-  }
-
-  entered : (b : Bool) → is_some (lxid_of x g) ≡ b → IsSound tables (cond b x (assigned x g))
-  entered true there = sound
-  entered false missing = IsSound-assigned
+module _ (tables : List (Table × List (Rid × List Version))) (x : Xids) (g : Gxid) (high : x.horizon.0 ≤ g.0) (sound : IsSound tables x) where
+  entered : (o : Option Lxid) → lxid_of x g ≡ o → IsSound tables (cond (is_some o) x (assigned x g))
+  entered (Some l) there = sound
+  entered None missing = IsSound-assigned x g tables sound missing high
 
   pub IsSound-with_writer : IsSound tables (with_writer x g)
-  IsSound-with_writer = entered (is_some (lxid_of x g)) refl
+  IsSound-with_writer = entered (lxid_of x g) refl
 
-  same_once : (t : Table) (r : Rid) (b : Bool) → map (write_of (cond b x (assigned x g)).gxids) (kept_at tables t r) ≡ map (write_of x.gxids) (kept_at tables t r)
+  same_once : (t : Table) (r : Rid) (b : Bool) → map (write_of (cond b x (assigned x g))) (kept_at tables t r) ≡ map (write_of x) (kept_at tables t r)
   same_once t r true = refl
-  same_once t r false = write_of-push x.gxids g t (kept_at tables t r) (sound.filed t r)
+  same_once t r false = writes-assigned x g t (kept_at tables t r) (sound.filed t r)
 
   -- the writes are the same
-  pub writes_of-with_writer : (t : Table) (r : Rid) → map (write_of (with_writer x g).gxids) (kept_at tables t r) ≡ map (write_of x.gxids) (kept_at tables t r)
+  pub writes_of-with_writer : (t : Table) (r : Rid) → map (write_of (with_writer x g)) (kept_at tables t r) ≡ map (write_of x) (kept_at tables t r)
   writes_of-with_writer t r = same_once t r (is_some (lxid_of x g))
 
-  some_lxid : (o : Option Lxid) → is_some o ≡ true → (l : Lxid) × (o ≡ Some l)
-  some_lxid None e = absurd (cc)
-  some_lxid (Some l) e = (l, refl)
-
-  status_once : (b : Bool) → is_some (lxid_of x g) ≡ b → status_of (store_of tables (cond b x (assigned x g))) g ≡ Some (unwrap_or (status_of (store_of tables x) g) Running)
-  status_once true there =
-      let found = some_lxid (lxid_of x g) there in
-      let is = status_of-found tables x g found.0 sound.paired (lxid_in-lxid_of x g found.0 found.1) in
+  status_once : (o : Option Lxid) → lxid_of x g ≡ o → status_of (store_of tables (cond (is_some o) x (assigned x g))) g ≡ Some (unwrap_or (status_of (store_of tables x) g) Running)
+  status_once (Some l) there =
+      let is : status_of (store_of tables x) g ≡ Some (xids.status_of x l) = status_of-lxid_of tables x g ∙ ap (option_map (xids.status_of x)) there in
       is ∙ ap (λ (o : Option LocalStatus). Some (unwrap_or o Running)) (sym is)
-  status_once false missing =
-      ap (λ (ws : List Writer). status_of (record { tables = []; writers = ws; horizon = g }) g) (writers_of-push x.gxids x.statuses g Running sound.paired)
-      ∙ status_in-entered (store_of tables x).writers g
+  status_once None missing =
+      let was : status_of (store_of tables x) g ≡ None = status_of-lxid_of tables x g ∙ ap (option_map (xids.status_of x)) missing in
+      status_of-lxid_of tables (assigned x g) g
+      ∙ ap (option_map (xids.status_of (assigned x g))) (lxid_of-new x g)
+      ∙ ap Some (status_of-new x g)
+      ∙ ap (λ (o : Option LocalStatus). Some (unwrap_or o Running)) (sym was)
 
   pub status_of-with_writer : status_of (store_of tables (with_writer x g)) g ≡ Some (unwrap_or (status_of (store_of tables x) g) Running)
-  status_of-with_writer = status_once (is_some (lxid_of x g)) refl
+  status_of-with_writer = status_once (lxid_of x g) refl
+
+  same_status : (q : Gxid) (o : Option Lxid) → lxid_of x q ≡ o → option_map (xids.status_of (assigned x g)) o ≡ option_map (xids.status_of x) o
+  same_status q None missing = refl
+  same_status q (Some l) there = ap Some (status_of-given x g l (sound.given q l there))
 
   other_once : (q : Gxid) → q.0 ≢ g.0 → (b : Bool) → status_of (store_of tables (cond b x (assigned x g))) q ≡ status_of (store_of tables x) q
   other_once q other true = refl
   other_once q other false =
-      ap (λ (ws : List Writer). status_of (record { tables = []; writers = ws; horizon = g }) q) (writers_of-push x.gxids x.statuses g Running sound.paired)
-      ∙ status_in-other (store_of tables x).writers g q other
+      status_of-lxid_of tables (assigned x g) q
+      ∙ ap (option_map (xids.status_of (assigned x g))) (lxid_of-other x g q (test_of g q other))
+      ∙ same_status q (lxid_of x q) refl
+      ∙ sym (status_of-lxid_of tables x q)
 
   pub status_of-with_writer_other : (q : Gxid) → q.0 ≢ g.0 → status_of (store_of tables (with_writer x g)) q ≡ status_of (store_of tables x) q
   status_of-with_writer_other q other = other_once q other (is_some (lxid_of x g))
@@ -100,60 +99,71 @@ rid_cases r q =
         ∙ ap (λ (n : ℕ). let k : Rid = record { gxid = q.gxid; cid = record { 0 = n }; ordinal = r.ordinal } in k) b
         ∙ ap (λ (n : ℕ). let k : Rid = record { gxid = q.gxid; cid = q.cid; ordinal = n } in k) c
 
-module _ (tables : List (Table × List (Rid × List Version))) (x : Xids) (table : Table) (rid : Rid) (v : Version) (sound : IsSound tables x) (new : IsFiled x.gxids table v) where
-  in_table : (r : Rid) → AllByRecursion (IsFiled x.gxids table) (kept_at (filed tables table rid v) table r)
+module _ (tables : List (Table × List (Rid × List Version))) (x : Xids) (table : Table) (rid : Rid) (v : Version) (sound : IsSound tables x) (new : IsFiled x table v) where
+  in_table : (r : Rid) → AllByRecursion (IsFiled x table) (kept_at (filed tables table rid v) table r)
   in_table r =
       ⊎_elim
       (λ (e : r ≡ rid).
       subst
-      (λ (q : Rid). AllByRecursion (IsFiled x.gxids table) (kept_at (filed tables table rid v) table q))
+      (λ (q : Rid). AllByRecursion (IsFiled x table) (kept_at (filed tables table rid v) table q))
       (sym e)
-      (subst (AllByRecursion (IsFiled x.gxids table)) (sym (kept_at-filed tables table rid v)) (AllByRecursion-push (IsFiled x.gxids table) (kept_at tables table rid) v (sound.filed table rid) new)))
-      (λ (other : r ≢ rid). subst (AllByRecursion (IsFiled x.gxids table)) (sym (kept_at-filed_row tables table rid v r other)) (sound.filed table r))
+      (subst (AllByRecursion (IsFiled x table)) (sym (kept_at-filed tables table rid v)) (AllByRecursion-push (IsFiled x table) (kept_at tables table rid) v (sound.filed table rid) new)))
+      (λ (other : r ≢ rid). subst (AllByRecursion (IsFiled x table)) (sym (kept_at-filed_row tables table rid v r other)) (sound.filed table r))
       (rid_cases r rid)
 
-  all_filed : (t : Table) (r : Rid) → AllByRecursion (IsFiled x.gxids t) (kept_at (filed tables table rid v) t r)
+  all_filed : (t : Table) (r : Rid) → AllByRecursion (IsFiled x t) (kept_at (filed tables table rid v) t r)
   all_filed t r =
       ⊎_elim
-      (λ (e : t ≡ table). subst (λ (u : Table). AllByRecursion (IsFiled x.gxids u) (kept_at (filed tables table rid v) u r)) (sym e) (in_table r))
-      (λ (other : t ≢ table). subst (AllByRecursion (IsFiled x.gxids t)) (sym (kept_at-filed_table tables table rid v t r other)) (sound.filed t r))
+      (λ (e : t ≡ table). subst (λ (u : Table). AllByRecursion (IsFiled x u) (kept_at (filed tables table rid v) u r)) (sym e) (in_table r))
+      (λ (other : t ≢ table). subst (AllByRecursion (IsFiled x t)) (sym (kept_at-filed_table tables table rid v t r other)) (sound.filed t r))
       (table_cases t table)
 
   IsSound-filed : IsSound (filed tables table rid v) x
-  IsSound-filed = record { paired = sound.paired; filed = all_filed }
+  IsSound-filed = record { there = sound.there; back = sound.back; given = sound.given; high = sound.high; filed = all_filed }
 
 -- A WRITE
-module _ (tables tables' : List (Table × List (Rid × List Version))) (x x' : Xids) (g : Gxid) (c : Cid) (table : Table) (rid : Rid) (image : Option (List Value)) (sound : IsSound tables x) where
-  told : (x' : Xids) (t : Table) (r : Rid) → writes_of (store_of tables x') t r ≡ map (write_of x'.gxids) (kept_at tables t r)
-  told x' t r = kept_at-map (write_of x'.gxids) r tables t
+module _ (tables tables' : List (Table × List (Rid × List Version))) (x x' : Xids) (g : Gxid) (c : Cid) (table : Table) (rid : Rid) (image : Option (List Value)) (high : x.horizon.0 ≤ g.0) (sound : IsSound tables x) where
+  told : (x' : Xids) (t : Table) (r : Rid) → writes_of (store_of tables x') t r ≡ map (write_of x') (kept_at tables t r)
+  told x' t r = kept_at-map (write_of x') r tables t
 
   -- what a writer more leaves as it was
   module _ (writer : x' ≡ with_writer x g) where
     pub writes_of-writer : (t : Table) (r : Rid) → writes_of (store_of tables x') t r ≡ writes_of (store_of tables x) t r
     writes_of-writer t r =
-        told x' t r ∙ ap (λ (y : Xids). map (write_of y.gxids) (kept_at tables t r)) writer ∙ writes_of-with_writer tables x g sound t r ∙ sym (told x t r)
+        told x' t r ∙ ap (λ (y : Xids). map (write_of y) (kept_at tables t r)) writer ∙ writes_of-with_writer tables x g high sound t r ∙ sym (told x t r)
 
     pub status_of-writer : status_of (store_of tables' x') g ≡ Some (unwrap_or (status_of (store_of tables x) g) Running)
-    status_of-writer = ap (λ (y : Xids). status_of (store_of tables y) g) writer ∙ status_of-with_writer tables x g sound
+    status_of-writer = ap (λ (y : Xids). status_of (store_of tables y) g) writer ∙ status_of-with_writer tables x g high sound
 
     pub status_of-writer_other : (q : Gxid) → q.0 ≢ g.0 → status_of (store_of tables' x') q ≡ status_of (store_of tables x) q
-    status_of-writer_other q other = ap (λ (y : Xids). status_of (store_of tables y) q) writer ∙ status_of-with_writer_other tables x g sound q other
+    status_of-writer_other q other = ap (λ (y : Xids). status_of (store_of tables y) q) writer ∙ status_of-with_writer_other tables x g high sound q other
 
     pub horizon-writer : (store_of tables' x').horizon ≡ (store_of tables x).horizon
     horizon-writer = ap (λ (y : Xids). y.horizon) writer ∙ horizon-with_writer x g
 
     pub IsSound-writer : IsSound tables x'
-    IsSound-writer = subst (IsSound tables) (sym writer) (IsSound-with_writer tables x g sound)
+    IsSound-writer = subst (IsSound tables) (sym writer) (IsSound-with_writer tables x g high sound)
 
   module _ (w : IsWritten tables tables' x x' g c table rid image) where
-    its_lxid : lxid_in x'.gxids g ≡ Some w.lxid
-    its_lxid = lxid_in-lxid_of x' g w.lxid w.found
+    sound' : IsSound tables x'
+    sound' = IsSound-writer w.writer
 
-    its_gxid : gxid_at x'.gxids w.lxid ≡ g
-    its_gxid = gxid_at-lxid_in x'.gxids g w.lxid its_lxid
+    its_gxid : gxid_of x' w.lxid ≡ Some g
+    its_gxid = sound'.there g w.lxid w.found
 
-    new_filed : IsFiled x'.gxids table (record { image = image; table = table; lxid = w.lxid; cid = c })
-    new_filed = (refl, ap (lxid_in x'.gxids) its_gxid ∙ its_lxid)
+    its_status : xids.status_of x' w.lxid ≡ unwrap_or (status_of (store_of tables x) g) Running
+    its_status = some_same (sym (ap (option_map (xids.status_of x')) w.found) ∙ sym (status_of-lxid_of tables x' g) ∙ status_of-writer w.writer)
+
+    new_filed : IsFiled x' table (record { image = image; table = table; lxid = w.lxid; cid = c })
+    new_filed = (refl, sound'.given g w.lxid w.found)
+
+    abbrev new_write : Write
+    new_write = record { writer = Some g; cid = c; status = unwrap_or (status_of (store_of tables x) g) Running; image = image }
+
+    its_write : write_of x' (record { image = image; table = table; lxid = w.lxid; cid = c }) ≡ new_write
+    its_write =
+        ap (λ (o : Option Gxid). let v : Write = record { writer = o; cid = c; status = xids.status_of x' w.lxid; image = image } in v) its_gxid
+        ∙ ap (λ (s : LocalStatus). let v : Write = record { writer = Some g; cid = c; status = s; image = image } in v) its_status
 
     -- the store stays sound
     pub IsSound-written : IsSound tables' x'
@@ -163,63 +173,63 @@ module _ (tables tables' : List (Table × List (Rid × List Version))) (x x' : X
         (sym w.version)
         (IsSound-filed tables x' table rid (record { image = image; table = table; lxid = w.lxid; cid = c }) (IsSound-writer w.writer) new_filed)
 
-    told_new : (t : Table) (r : Rid) → writes_of (store_of tables' x') t r ≡ map (write_of x'.gxids) (kept_at (filed tables table rid (record { image = image; table = table; lxid = w.lxid; cid = c })) t r)
-    told_new t r = kept_at-map (write_of x'.gxids) r tables' t ∙ ap (λ (ts : List (Table × List (Rid × List Version))). map (write_of x'.gxids) (kept_at ts t r)) w.version
+    told_new : (t : Table) (r : Rid) → writes_of (store_of tables' x') t r ≡ map (write_of x') (kept_at (filed tables table rid (record { image = image; table = table; lxid = w.lxid; cid = c })) t r)
+    told_new t r = kept_at-map (write_of x') r tables' t ∙ ap (λ (ts : List (Table × List (Rid × List Version))). map (write_of x') (kept_at ts t r)) w.version
 
     -- the row has the write more, and the others have what they had
-    pub writes_of-written : writes_of (store_of tables' x') table rid ≡ writes_of (store_of tables x) table rid ++ (record { gxid = g; cid = c; image = image }) ∷ []
+    pub writes_of-written : writes_of (store_of tables' x') table rid ≡ writes_of (store_of tables x) table rid ++ new_write ∷ []
     writes_of-written =
         told_new table rid
-        ∙ ap (map (write_of x'.gxids)) (kept_at-filed tables table rid (record { image = image; table = table; lxid = w.lxid; cid = c }))
-        ∙ map-append (write_of x'.gxids) (kept_at tables table rid) ((record { image = image; table = table; lxid = w.lxid; cid = c }) ∷ [])
-        ∙ ap (λ (ws : List Write). ws ++ (record { gxid = gxid_at x'.gxids w.lxid; cid = c; image = image }) ∷ []) (sym (told x' table rid) ∙ writes_of-writer w.writer table rid)
-        ∙ ap (λ (h : Gxid). writes_of (store_of tables x) table rid ++ (record { gxid = h; cid = c; image = image }) ∷ []) its_gxid
+        ∙ ap (map (write_of x')) (kept_at-filed tables table rid (record { image = image; table = table; lxid = w.lxid; cid = c }))
+        ∙ map-append (write_of x') (kept_at tables table rid) ((record { image = image; table = table; lxid = w.lxid; cid = c }) ∷ [])
+        ∙ ap (λ (ws : List Write). ws ++ write_of x' (record { image = image; table = table; lxid = w.lxid; cid = c }) ∷ []) (sym (told x' table rid) ∙ writes_of-writer w.writer table rid)
+        ∙ ap (λ (v : Write). writes_of (store_of tables x) table rid ++ v ∷ []) its_write
 
     pub writes_of-written_row : (r : Rid) → r ≢ rid → writes_of (store_of tables' x') table r ≡ writes_of (store_of tables x) table r
     writes_of-written_row r other =
         told_new table r
-        ∙ ap (map (write_of x'.gxids)) (kept_at-filed_row tables table rid (record { image = image; table = table; lxid = w.lxid; cid = c }) r other)
+        ∙ ap (map (write_of x')) (kept_at-filed_row tables table rid (record { image = image; table = table; lxid = w.lxid; cid = c }) r other)
         ∙ sym (told x' table r)
         ∙ writes_of-writer w.writer table r
 
     pub writes_of-written_table : (t : Table) (r : Rid) → t ≢ table → writes_of (store_of tables' x') t r ≡ writes_of (store_of tables x) t r
     writes_of-written_table t r other =
         told_new t r
-        ∙ ap (map (write_of x'.gxids)) (kept_at-filed_table tables table rid (record { image = image; table = table; lxid = w.lxid; cid = c }) t r other)
+        ∙ ap (map (write_of x')) (kept_at-filed_table tables table rid (record { image = image; table = table; lxid = w.lxid; cid = c }) t r other)
         ∙ sym (told x' t r)
         ∙ writes_of-writer w.writer t r
 
 -- A TRY TO WRITE
-module _ (tables tables' : List (Table × List (Rid × List Version))) (x x' : Xids) (g : Gxid) (c : Cid) (table : Table) (rid : Rid) (image : Option (List Value)) (sound : IsSound tables x) where
+module _ (tables tables' : List (Table × List (Rid × List Version))) (x x' : Xids) (g : Gxid) (c : Cid) (table : Table) (rid : Rid) (image : Option (List Value)) (high : x.horizon.0 ≤ g.0) (sound : IsSound tables x) where
   module _ (unchanged : tables' ≡ tables) (tried : (x' ≡ x) ⊎ (x' ≡ with_writer x g)) where
     same_sound : IsSound tables x'
-    same_sound = ⊎_elim (λ (e : x' ≡ x). subst (IsSound tables) (sym e) sound) (λ (e : x' ≡ with_writer x g). IsSound-writer tables tables x x' g c table rid image sound e) tried
+    same_sound = ⊎_elim (λ (e : x' ≡ x). subst (IsSound tables) (sym e) sound) (λ (e : x' ≡ with_writer x g). IsSound-writer tables tables x x' g c table rid image high sound e) tried
 
     same_writes : (t : Table) (r : Rid) → writes_of (store_of tables' x') t r ≡ writes_of (store_of tables x) t r
     same_writes t r =
         ap (λ (ts : List (Table × List (Rid × List Version))). writes_of (store_of ts x') t r) unchanged
-        ∙ ⊎_elim (λ (e : x' ≡ x). ap (λ (y : Xids). writes_of (store_of tables y) t r) e) (λ (e : x' ≡ with_writer x g). writes_of-writer tables tables x x' g c table rid image sound e t r) tried
+        ∙ ⊎_elim (λ (e : x' ≡ x). ap (λ (y : Xids). writes_of (store_of tables y) t r) e) (λ (e : x' ≡ with_writer x g). writes_of-writer tables tables x x' g c table rid image high sound e t r) tried
 
     maybe_status : (status_of (store_of tables' x') g ≡ status_of (store_of tables x) g) ⊎ (status_of (store_of tables' x') g ≡ Some (unwrap_or (status_of (store_of tables x) g) Running))
     maybe_status =
         ⊎_elim
         (λ (e : x' ≡ x). inl (ap (λ (y : Xids). status_of (store_of tables y) g) e))
-        (λ (e : x' ≡ with_writer x g). inr (status_of-writer tables tables' x x' g c table rid image sound e))
+        (λ (e : x' ≡ with_writer x g). inr (status_of-writer tables tables' x x' g c table rid image high sound e))
         tried
 
     same_others : (q : Gxid) → q.0 ≢ g.0 → status_of (store_of tables' x') q ≡ status_of (store_of tables x) q
     same_others q other =
         ⊎_elim
         (λ (e : x' ≡ x). ap (λ (y : Xids). status_of (store_of tables y) q) e)
-        (λ (e : x' ≡ with_writer x g). status_of-writer_other tables tables' x x' g c table rid image sound e q other)
+        (λ (e : x' ≡ with_writer x g). status_of-writer_other tables tables' x x' g c table rid image high sound e q other)
         tried
 
   pub IsSound-tried : (o : Result (Unit {0}) OutOfMemory) → OnOk o (IsWritten tables tables' x x' g c table rid image) → OnErr o (tables' ≡ tables) → OnErr o ((x' ≡ x) ⊎ (x' ≡ with_writer x g)) → IsSound tables' x'
-  IsSound-tried (Ok u) w unchanged tried = IsSound-written tables tables' x x' g c table rid image sound w
+  IsSound-tried (Ok u) w unchanged tried = IsSound-written tables tables' x x' g c table rid image high sound w
   IsSound-tried (Err e) w unchanged tried = subst (λ (ts : List (Table × List (Rid × List Version))). IsSound ts x') (sym unchanged) (same_sound unchanged tried)
 
   pub status_of-tried_other : (o : Result (Unit {0}) OutOfMemory) → OnOk o (IsWritten tables tables' x x' g c table rid image) → OnErr o (tables' ≡ tables) → OnErr o ((x' ≡ x) ⊎ (x' ≡ with_writer x g)) → (q : Gxid) → q.0 ≢ g.0 → status_of (store_of tables' x') q ≡ status_of (store_of tables x) q
-  status_of-tried_other (Ok u) w unchanged tried q other = status_of-writer_other tables tables' x x' g c table rid image sound w.writer q other
+  status_of-tried_other (Ok u) w unchanged tried q other = status_of-writer_other tables tables' x x' g c table rid image high sound w.writer q other
   status_of-tried_other (Err e) w unchanged tried q other = same_others unchanged tried q other
 
   pub OnErr-writes : (o : Result (Unit {0}) OutOfMemory) → OnErr o (tables' ≡ tables) → OnErr o ((x' ≡ x) ⊎ (x' ≡ with_writer x g)) → OnErr o ((t : Table) (r : Rid) → writes_of (store_of tables' x') t r ≡ writes_of (store_of tables x) t r)

@@ -1,5 +1,5 @@
--- What a segment holds, against the data of its rule. Of transactions below the horizon only versions and who has committed are
--- kept; their records are dropped. Of a row's versions those may be gone that nobody is shown any more.
+-- What a segment holds, against the data of its rule. Of transactions below the horizon only versions are kept, each with what became
+-- of its transaction; their records are dropped. Of a row's versions those may be gone that nobody is shown any more.
 use Rattle.std.specs.Prelude.{◌≡◌, ◌<◌, ◌≤◌, ◌==◌, Bool, true, false, not, ◌&&◌, nat_lt, is_some, List, [], filter, map, All, IsTrue, slice_get, Some, None}
 use Rattle.std.specs.declared.option.Option.{Option}
 use Rattle.std.specs.List.{list_any}
@@ -70,9 +70,9 @@ pub record IsHeld (tables : List Schema) (held : Held) (s : Seg) : Type 0 where
   pub dropped : (g : Gxid) → g.0 < s.horizon.0 → entry_at held g ≡ None
   pub holders : (g : Gxid) → contains gxid_cmp held.holders g ≡ holds_locks (rule.local_of s g)
   pub writes : (table : Table) (rid : Rid) → AreLeft s table rid (writes_of held.store table rid)
-  pub wrote : (g : Gxid) → is_some (status_of held.store g) ≡ has_version s g
-  pub committed : (g : Gxid) → passes is_committed (status_of held.store g) ≡ (has_version s g && has_committed (rule.local_of s g).phase)
-  pub unaborted : (g : Gxid) → passes is_unaborted (status_of held.store g) ≡ (has_version s g && rule.is_unaborted (rule.local_of s g).phase)
+  pub wrote : (g : Gxid) → s.horizon.0 ≤ g.0 → is_some (status_of held.store g) ≡ has_version s g
+  pub committed : (g : Gxid) → s.horizon.0 ≤ g.0 → passes is_committed (status_of held.store g) ≡ (has_version s g && has_committed (rule.local_of s g).phase)
+  pub unaborted : (g : Gxid) → s.horizon.0 ≤ g.0 → passes is_unaborted (status_of held.store g) ≡ (has_version s g && rule.is_unaborted (rule.local_of s g).phase)
   pub came : (g : Gxid) → has_version s g ≡ true → nat_lt 0 (rule.local_of s g).last ≡ true
   pub writers : AreWriters s
   pub typed : All (λ v. IsTrue (is_right_version tables v)) s.versions

@@ -27,9 +27,9 @@ use Rattle.gx_slices.specs.declared.held.Held.{Held}
 pub record IsStored (store : Store) (s : Seg) : Type 0 where
   pub horizon : store.horizon ≡ s.horizon
   pub writes : (table : Table) (rid : Rid) → AreLeft s table rid (writes_of store table rid)
-  pub wrote : (g : Gxid) → is_some (status_of store g) ≡ has_version s g
-  pub committed : (g : Gxid) → passes is_committed (status_of store g) ≡ (has_version s g && has_committed (rule.local_of s g).phase)
-  pub unaborted : (g : Gxid) → passes is_unaborted (status_of store g) ≡ (has_version s g && rule.is_unaborted (rule.local_of s g).phase)
+  pub wrote : (g : Gxid) → s.horizon.0 ≤ g.0 → is_some (status_of store g) ≡ has_version s g
+  pub committed : (g : Gxid) → s.horizon.0 ≤ g.0 → passes is_committed (status_of store g) ≡ (has_version s g && has_committed (rule.local_of s g).phase)
+  pub unaborted : (g : Gxid) → s.horizon.0 ≤ g.0 → passes is_unaborted (status_of store g) ≡ (has_version s g && rule.is_unaborted (rule.local_of s g).phase)
 
 -- The store, the locks and the entry are as the data, which differ from those before by this transaction alone; all else is held as
 -- at first, without the entry.

@@ -77,8 +77,11 @@ IsTypedFor None row = Unit {0}
 IsTypedFor (Some cond) row = IsTyped (kinds_of row) cond
 
 -- A ROW'S NEWEST VERSION
-abbrev pub newest_as : Store → Write → Newest
-newest_as store w = record { writer = kept store.horizon w.gxid; cid = w.cid; image = w.image }
+abbrev pub newest_as : Write → Newest
+newest_as w = record { writer = w.writer; cid = w.cid; image = w.image }
+
+abbrev pub newest_in : Gxid → Version → Newest
+newest_in horizon v = record { writer = kept horizon v.gxid; cid = v.cid; image = v.image }
 
 -- who wrote it is awaited, unless it is the command's own transaction or doesn't hold itself any more
 abbrev pub awaited_in : List Claim → Gxid → Option Gxid → Option Gxid

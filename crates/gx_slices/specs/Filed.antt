@@ -1,5 +1,5 @@
 -- How the store is kept: versions name their writers by lxids.
-use Rattle.std.specs.Prelude.{◌≡◌, List, [], ◌∷◌, length, map, Option, None, Some, unwrap_or, option_and_then, is_some, if◌then◌else◌}
+use Rattle.std.specs.Prelude.{◌≡◌, ◌≤◌, true, List, [], ◌∷◌, length, map, Option, None, Some, unwrap_or, option_and_then, is_some, if◌then◌else◌}
 use Rattle.std.specs.List.{flat_map, AllByRecursion}
 use Rattle.std.specs.Map.{lookup}
 use Rattle.std.specs.BTreeMap.{is_at, insert_entry}
@@ -12,41 +12,35 @@ use Rattle.gx_tree.specs.declared.row.KeyedRow.{KeyedRow}
 use Rattle.gx_tree.specs.declared.value.Value.{Value}
 use Rattle.gx_dsnap.specs.declared.snapshot.Snapshot.{Snapshot}
 use Rattle.gx_rows.specs.declared.status.LocalStatus.{LocalStatus}
-use Rattle.gx_rows.specs.Xids.{Xids, at_lxid, lxid_in, lxid_of, gxid_of, assigned, status_of, with_status}
+use Rattle.gx_rows.specs.Xids.{Xids, is_given, lxid_of, gxid_of, assigned, status_of, with_status}
 use Rattle.gx_rows.specs.declared.version.Version.{Version}
 use Rattle.gx_rows.specs.Rows.{versions_of, added, rids_of, last_passing, is_unaborted}
 use Rattle.gx_rows.specs.Counts.{shown_of}
-use Rattle.gx_slices.specs.Store.{Store, Write, Writer, kept_at, table_cmp}
+use Rattle.gx_slices.specs.Store.{Store, Write, kept_at, table_cmp}
 use Rattle.gx_slices.specs.declared.current.Current.{Current}
 
--- the gxid of an lxid, dropped or not
-abbrev pub gxid_at : List Gxid → Lxid → Gxid
-gxid_at gxids l = unwrap_or (at_lxid gxids l) (record { 0 = 0 })
-
-abbrev pub write_of : List Gxid → Version → Write
-write_of gxids v = record { gxid = gxid_at gxids v.lxid; cid = v.cid; image = v.image }
-
-abbrev pub writers_of : List Gxid → List LocalStatus → List Writer
-writers_of [] statuses = []
-writers_of (g ∷ gxids) [] = []
-writers_of (g ∷ gxids) (s ∷ statuses) = (record { gxid = g; status = s }) ∷ writers_of gxids statuses
+abbrev pub write_of : Xids → Version → Write
+write_of x v = record { writer = gxid_of x v.lxid; cid = v.cid; status = status_of x v.lxid; image = v.image }
 
 -- the store of these versions
 abbrev pub store_of : List (Table × List (Rid × List Version)) → Xids → Store
 store_of tables x = record {
-  tables = map (λ t. (t.0, map (λ r. (r.0, map (write_of x.gxids) r.1)) t.1)) tables;
-  writers = writers_of x.gxids x.statuses;
+  tables = map (λ t. (t.0, map (λ r. (r.0, map (write_of x) r.1)) t.1)) tables;
+  writers = map (λ e. (e.0, status_of x e.1)) x.lxids;
   horizon = x.horizon;
 }
 
--- a version stands in its table, and its lxid is that of its writer
-abbrev pub IsFiled : List Gxid → Table → Version → Type 0
-IsFiled gxids table v = (v.table.0 ≡ table.0) × (lxid_in gxids (gxid_at gxids v.lxid) ≡ Some v.lxid)
+-- a version stands in its table, and its lxid was given out
+abbrev pub IsFiled : Xids → Table → Version → Type 0
+IsFiled x table v = (v.table.0 ≡ table.0) × (is_given x v.lxid ≡ true)
 
--- each transaction has a status, and each version is filed
+-- entries lead both ways, to gxids from the horizon on and to lxids that were given out, and each version is filed
 pub record IsSound (tables : List (Table × List (Rid × List Version))) (x : Xids) : Type 0 where
-  pub paired : length x.statuses ≡ length x.gxids
-  pub filed : (table : Table) (rid : Rid) → AllByRecursion (IsFiled x.gxids table) (kept_at tables table rid)
+  pub there : (g : Gxid) (l : Lxid) → lxid_of x g ≡ Some l → gxid_of x l ≡ Some g
+  pub back : (g : Gxid) (l : Lxid) → gxid_of x l ≡ Some g → lxid_of x g ≡ Some l
+  pub given : (g : Gxid) (l : Lxid) → lxid_of x g ≡ Some l → is_given x l ≡ true
+  pub high : (g : Gxid) (l : Lxid) → lxid_of x g ≡ Some l → x.horizon.0 ≤ g.0
+  pub filed : (table : Table) (rid : Rid) → AllByRecursion (IsFiled x table) (kept_at tables table rid)
 
 -- the versions of the rows of a table
 abbrev pub versions_in : List (Table × List (Rid × List Version)) → Table → List (Rid × List Version)

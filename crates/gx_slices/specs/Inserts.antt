@@ -32,7 +32,7 @@ IsRight tables table row = IsTrue (is_right_image (slice_get tables table.0) (So
 
 -- what giving a row an image does to what is held, the transaction's entry and the marks
 pub record IsPut (g : Gxid) (c : Cid) (node : Node) (table : Table) (rid : Rid) (image : Option (List Value)) (held held' : Held) (entry entry' : Entry) (marks marks' : List Mark) : Type 0 where
-  pub written : writes_of held'.store table rid ≡ writes_of held.store table rid ++ record { gxid = g; cid = c; image = image } ∷ []
+  pub written : writes_of held'.store table rid ≡ writes_of held.store table rid ++ record { writer = Some g; cid = c; status = unwrap_or (status_of held.store g) Running; image = image } ∷ []
   pub rows : (r : Rid) → r ≢ rid → writes_of held'.store table r ≡ writes_of held.store table r
   pub tables : (t : Table) (r : Rid) → t ≢ table → writes_of held'.store t r ≡ writes_of held.store t r
   pub status : status_of held'.store g ≡ Some (unwrap_or (status_of held.store g) Running)

@@ -8,8 +8,7 @@ ghost use Rattle.gx_rules.specs.Shown.{current_of};
 ghost use Rattle.gx_rules.specs.Slices as slices;
 ghost use Rattle.gx_slices.specs.Stopping.{has_row, left_locks, left_marks, locks_after, marks_after, row_locks, row_marks, stop_locks, stop_marks};
 ghost use Rattle.gx_store.specs.Commands.{condition_on};
-ghost use Rattle.gx_slices.specs.Left.{write_of};
-ghost use Rattle.gx_slices.specs.Changing.{Came, IsAt, IsFree, IsRightImage, IsTypedFor, MayChange, Spot, Stage, awaited_in, change_in, end_of, is_done_at, newest_as};
+ghost use Rattle.gx_slices.specs.Changing.{Came, IsAt, IsFree, IsRightImage, IsTypedFor, MayChange, Spot, Stage, awaited_in, change_in, end_of, is_done_at, newest_in};
 
 use crate::change::Change;
 use crate::changing::{Writer, write_row};
@@ -172,7 +171,7 @@ fn process(
     requires may { MayChange spot.stage.found.tables spot.stage.found.start change.now }
     requires at { IsAt spot.stage change.now.writer.gxid held.old entry.old marks.old.items }
     requires free { IsFree spot.stage change.now.writer.gxid }
-    requires newest { newest ≡ newest_as held.old.store (write_of spot.version) }
+    requires newest { newest ≡ newest_in held.old.store.horizon spot.version }
     requires current { current_of spot.stage.moved.seg change.now.writer.table rid ≡ Some spot.version }
     ensures { IfOk result (λ end. Came spot.stage change.now.writer.gxid held.new entry.new marks.new.items
         (rule.processes spot.stage.moved change.now.writer.gxid (change_in change.now) rid spot.version change.now.level) end) }
@@ -282,7 +281,7 @@ fn come_to(
     requires may { MayChange spot.stage.found.tables spot.stage.found.start change.now }
     requires at { IsAt spot.stage change.now.writer.gxid held.old entry.old marks.old.items }
     requires free { IsFree spot.stage change.now.writer.gxid }
-    requires newest { newest ≡ newest_as held.old.store (write_of spot.version) }
+    requires newest { newest ≡ newest_in held.old.store.horizon spot.version }
     requires current { current_of spot.stage.moved.seg change.now.writer.table rid ≡ Some spot.version }
     ensures { IfOk result (λ end. Came spot.stage change.now.writer.gxid held.new entry.new marks.new.items
         (rule.at_current spot.stage.moved change.now.writer.gxid (change_in change.now) rid (Some spot.version)) end) }

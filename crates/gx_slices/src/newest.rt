@@ -29,7 +29,7 @@ pub(crate) fn newest_version(
     table: Table,
     rid: Rid,
 ) -> Mem<Option<Newest>>
-    ensures { IfOk result (λ newest. newest ≡ option_map (newest_as store.now) (newest_of store.now table rid)) }
+    ensures { IfOk result (λ newest. newest ≡ option_map newest_as (newest_of store.now table rid)) }
 {
     let image = match store.current_row(table, rid) {
         Some(row) => Some(row.copy(alloc)?),

@@ -1,4 +1,4 @@
-ghost use Rattle.std.specs.Prelude.{◌≡◌, ◌≢◌, ◌≤◌, ◌⊎◌, ◌++◌, ◌∷◌, [], Some, IfOk, OnOk, OnErr, unwrap_or, is_some, option_map, option_and_then};
+ghost use Rattle.std.specs.Prelude.{◌≡◌, ◌≢◌, ◌≤◌, ◌⊎◌, ◌++◌, ◌∷◌, [], Some, IfOk, OnOk, OnErr, unwrap_or, is_some, map, option_map, option_and_then};
 ghost use Rattle.std.specs.Option.{ForSome, option_copied};
 ghost use Rattle.gx_ids.specs.declared.ids.Gxid.{Gxid};
 ghost use Rattle.gx_ids.specs.declared.ids.Table.{Table};
@@ -6,7 +6,7 @@ ghost use Rattle.gx_ids.specs.declared.rid.Rid.{Rid};
 ghost use Rattle.gx_meaning.specs.Answer.{AreRising};
 ghost use Rattle.gx_store.specs.Rows.{row_at};
 ghost use Rattle.gx_slices.specs.Keyed.{IsShownFor};
-ghost use Rattle.gx_slices.specs.Store.{empty, writes_of, status_of, shown_row, shown_row_from, newest_of, current_of, greater, swept};
+ghost use Rattle.gx_slices.specs.Store.{empty, writes_of, status_of, shown_row, newest_of, current_of, swept, with_status, IsRaised};
 
 use crate::current::Current;
 use crate::finding::rows_to_test;
@@ -24,7 +24,7 @@ use std::marker::Model;
 
 /// What one segment keeps of rows: the writes to each row of each table that no sweep has dropped, what became here of each transaction that wrote
 /// here, and the horizon, below which nobody asks for a transaction any more (Lyu et al., SIGMOD 2021). Contracts see all
-/// of it by gxids. How the tables are distributed, and which rows stand under which value of the distribution column, is kept besides,
+/// of it without lxids. How the tables are distributed, and which rows stand under which value of the distribution column, is kept besides,
 /// so that rows are found by it; nobody sees that.
 #[derive(Drop)]
 pub struct LocalStore {
@@ -73,7 +73,7 @@ impl LocalStore {
         image: Option<Row>,
     ) -> Mem<()>
         requires { self.old.horizon.0 ≤ gxid.0 }
-        ensures written { OnOk result (writes_of self.new table rid ≡ writes_of self.old table rid ++ (record { gxid = gxid; cid = cid; image = image }) ∷ []) }
+        ensures written { OnOk result (writes_of self.new table rid ≡ writes_of self.old table rid ++ (record { writer = Some gxid; cid = cid; status = unwrap_or (status_of self.old gxid) LocalStatus.Running; image = image }) ∷ []) }
         ensures rows { OnOk result ((r : Rid) → r ≢ rid → writes_of self.new table r ≡ writes_of self.old table r) }
         ensures tables { OnOk result ((t : Table) (r : Rid) → t ≢ table → writes_of self.new t r ≡ writes_of self.old t r) }
         ensures status { OnOk result (status_of self.new gxid ≡ Some (unwrap_or (status_of self.old gxid) LocalStatus.Running)) }
@@ -117,7 +117,7 @@ impl LocalStore {
         requires { self.old.horizon.0 ≤ gxid.0 }
         ensures set { status_of self.new gxid ≡ option_map (λ _. status) (status_of self.old gxid) }
         ensures others { (g : Gxid) → g.0 ≢ gxid.0 → status_of self.new g ≡ status_of self.old g }
-        ensures writes { self.new.tables ≡ self.old.tables }
+        ensures writes { (t : Table) (r : Rid) → writes_of self.new t r ≡ map (with_status gxid status) (writes_of self.old t r) }
         ensures horizon { self.new.horizon ≡ self.old.horizon }
     {
         set_status_in(&mut self.xids, gxid, status);
@@ -125,7 +125,7 @@ impl LocalStore {
 
     /// Raises the horizon, where this one is greater, and forgets who the transactions below it are.
     pub fn raise_horizon(&mut self, horizon: Gxid)
-        ensures { self.new ≡ record self.old { horizon = greater self.old.horizon horizon } }
+        ensures { IsRaised self.old horizon self.new }
     {
         self.xids.truncate(horizon);
     }
@@ -143,7 +143,8 @@ impl LocalStore {
     }
 
     /// The rows of a table that a reader is shown, rising by their identities (PostgreSQL manual 13.2): `own` is its
-    /// transaction, where it has one, and `cid` its command. The horizon has to be low enough for it.
+    /// transaction, where it has one, and `cid` its command. Who is below the horizon counts as seen, so a snapshot may be
+    /// older than it, as that of a command which comes late for a transaction that has ended elsewhere.
     pub fn shown_rows(
         &self,
         table: Table,
@@ -151,27 +152,9 @@ impl LocalStore {
         own: Option<Gxid>,
         cid: Cid,
     ) -> Mem<Vec<KeyedRow>>
-        requires low { self.now.horizon.0 ≤ snap.now.xmin.0 }
         requires alive { ForSome own (λ g. self.now.horizon.0 ≤ g.0) }
         ensures rising { IfOk result (λ rows. AreRising rows.items) }
         ensures images { IfOk result (λ rows. (rid : Rid) → row_at rows.items rid ≡ shown_row self.now snap.now own cid table rid) }
-    {
-        let own = own_lxid(&self.xids, own);
-        rows_in(self.alloc, &self.tables, &self.xids, table, snap, own, cid)
-    }
-
-    /// The same for a reader whose snapshot may be older than the horizon, as that of a command which comes late for a
-    /// transaction that has ended elsewhere.
-    pub fn shown_rows_from(
-        &self,
-        table: Table,
-        snap: &Snapshot,
-        own: Option<Gxid>,
-        cid: Cid,
-    ) -> Mem<Vec<KeyedRow>>
-        requires alive { ForSome own (λ g. self.now.horizon.0 ≤ g.0) }
-        ensures rising { IfOk result (λ rows. AreRising rows.items) }
-        ensures images { IfOk result (λ rows. (rid : Rid) → row_at rows.items rid ≡ shown_row_from self.now snap.now own cid table rid) }
     {
         let own = own_lxid(&self.xids, own);
         rows_in(self.alloc, &self.tables, &self.xids, table, snap, own, cid)
@@ -188,7 +171,7 @@ impl LocalStore {
     ) -> Mem<Vec<KeyedRow>>
         requires alive { ForSome own (λ g. self.now.horizon.0 ≤ g.0) }
         ensures rising { IfOk result (λ rows. AreRising rows.items) }
-        ensures images { IfOk result (λ rows. (rid : Rid) → IsShownFor cond.now (shown_row_from self.now snap.now own cid table rid) (row_at rows.items rid)) }
+        ensures images { IfOk result (λ rows. (rid : Rid) → IsShownFor cond.now (shown_row self.now snap.now own cid table rid) (row_at rows.items rid)) }
     {
         let own = own_lxid(&self.xids, own);
         rows_to_test(
@@ -207,7 +190,7 @@ impl LocalStore {
 
     /// The newest write to a row that isn't aborted here, none where there is none.
     pub fn current(&self, table: Table, rid: Rid) -> Option<Current>
-        ensures { result ≡ option_map (current_of self.now) (newest_of self.now table rid) }
+        ensures { result ≡ option_map current_of (newest_of self.now table rid) }
     {
         current_in(&self.tables, &self.xids, table, rid)
     }

@@ -1,7 +1,7 @@
 use Rattle.std.proofs.Common.{◌≡◌, ◌≤◌}
 use Rattle.std.specs.BTreeMap.{get, btree_map_len}
 use Rattle.gx_ids.specs.declared.ids.Gxid.{Gxid}
-use Rattle.gx_rows.specs.Keys.{gxid_cmp}
+use Rattle.gx_rows.specs.Xids.{gxid_cmp}
 use Rattle.gx_rows.proofs.below.drop_below.Given as goal
 
 abbrev pub invariant-loop-first : goal.invariant-loop-first

@@ -7,7 +7,7 @@ use Rattle.gx_slices.specs.Picked.{AreEnough, select_marks, select_reply}
 use Rattle.gx_slices.specs.Ran.{HasRun}
 use Rattle.gx_slices.specs.declared.held.Held.{Held}
 use Rattle.gx_slices.specs.declared.running.Ran.{Ran}
-use Rattle.gx_slices.proofs.Counting.{HasNoDead-open}
+use Rattle.gx_slices.proofs.Counting.{HasNoDead-open, HasNoneBelow-alive}
 use Rattle.gx_slices.proofs.Closing.{IsApart-taken, IsHeld-answered, IsStored-held, no-wait}
 use Rattle.gx_slices.proofs.Enough.{select_reply-enough}
 use Rattle.gx_slices.proofs.Looked.{enough-shown}
@@ -21,7 +21,7 @@ selection-requires g c =
     let may = c.requires.1 in
     let query = c.args.query.now in
     let typed = typed-select c.args.tables.now c.args.gxid c.args.cid query may.right (shown g.s c.args.snapshot.now c.args.gxid c.args.cid query.table) (right-shown c.args.tables.now query.table g.s c.args.snapshot.now c.args.gxid c.args.cid is.typed) in
-    (enough-shown c.args.held.now.store g.s (IsStored-held c.args.tables.now c.args.held.now g.s is) c.args.snapshot.now c.args.gxid c.args.cid (HasNoDead-open g.s c.args.gxid c.args.cid may.open_here) query.table query.cond c.in_ok-rows.rows.items c.in_ok-rows.ensures.rising c.in_ok-rows.ensures.images typed).typed
+    (enough-shown c.args.held.now.store g.s (IsStored-held c.args.tables.now c.args.held.now g.s is) c.args.snapshot.now c.args.gxid c.args.cid (HasNoDead-open g.s c.args.gxid c.args.cid may.open_here) (HasNoneBelow-alive g.s c.args.gxid c.args.cid may.alive) query.table query.cond c.in_ok-rows.rows.items c.in_ok-rows.ensures.rising c.in_ok-rows.ensures.images typed).typed
 
 pub returns-in-Ok : goal.returns-in-Ok
 returns-in-Ok g c =
@@ -35,7 +35,7 @@ returns-in-Ok g c =
     let all = shown g.s c.args.snapshot.now c.args.gxid c.args.cid query.table in
     let typed = typed-select c.args.tables.now c.args.gxid c.args.cid query may.right all (right-shown c.args.tables.now query.table g.s c.args.snapshot.now c.args.gxid c.args.cid is.typed) in
     let rows = c.in_ok-rows.rows.items in
-    let enough : AreEnough query.cond all rows = enough-shown held.store g.s (IsStored-held c.args.tables.now held g.s is) c.args.snapshot.now c.args.gxid c.args.cid (HasNoDead-open g.s c.args.gxid c.args.cid may.open_here) query.table query.cond rows c.in_ok-rows.ensures.rising c.in_ok-rows.ensures.images typed in
+    let enough : AreEnough query.cond all rows = enough-shown held.store g.s (IsStored-held c.args.tables.now held g.s is) c.args.snapshot.now c.args.gxid c.args.cid (HasNoDead-open g.s c.args.gxid c.args.cid may.open_here) (HasNoneBelow-alive g.s c.args.gxid c.args.cid may.alive) query.table query.cond rows c.in_ok-rows.ensures.rising c.in_ok-rows.ensures.images typed in
     let apart = IsApart-taken c.args.tables.now held c.take_entry-entry.new.entries g.s c.args.gxid entry is may.alive may.open_here took.local took.kept in
     let chosen = c.in-Ok.ensures in
     let wrote = c.has_written-wrote.ensures ∙ ap (λ (l : Local). has_written l.phase) apart.local in

@@ -1,32 +1,22 @@
-use Rattle.std.proofs.Common.{◌≡◌, ◌≢◌, ◌≤◌, sym, subst}
-use Rattle.std.specs.Prelude.{None, OnOk}
-use Rattle.gx_ids.specs.declared.ids.Gxid.{Gxid}
-use Rattle.gx_rows.specs.Xids.{Xids, lxid_in, lxid_of}
-use Rattle.gx_rows.proofs.XidEntries.{IsWhole-tried, fresh_in, lxid_of-tried, lxid_of-tried_other}
+use Rattle.std.proofs.Common.{◌≡◌, ℕ, ◌+◌, ◌≤◌, sym, subst, arith}
+use Rattle.std.specs.Prelude.{None}
+use Rattle.std.specs.BTreeMap.{get}
+use Rattle.gx_rows.specs.Xids.{Xids, gxid_cmp, lxid_of}
+use Rattle.gx_rows.specs.Keys.{IsWhole}
+use Rattle.gx_rows.proofs.XidEntries.{IsWhole-assigned, IsWhole-same}
 use Rattle.gx_rows.proofs.map.XidMap.assign.Goals as goal
-
-abbrev xids : goal.After-add_entry → Xids
-xids c = record { horizon = c.self.inside.horizon; gxids = c.self.inside.gxids.items; statuses = c.self.inside.statuses.items }
-
-is_high : (c : goal.After-add_entry) → c.self.inside.horizon.0 ≤ c.args.gxid.0
-is_high c = subst (λ (x : Xids). x.horizon.0 ≤ c.args.gxid.0) (sym c.self.view_is) c.requires.high
-
-is_fresh : (c : goal.After-add_entry) → lxid_in c.self.inside.gxids.items c.args.gxid ≡ None
-is_fresh c = fresh_in (xids c) c.args.gxid (subst (λ (x : Xids). lxid_of x c.args.gxid ≡ None) (sym c.self.view_is) c.requires.fresh) (is_high c)
 
 pub invariant_of-self : goal.invariant_of-self
 invariant_of-self c =
-    let e = c.add_entry.ensures in
-    IsWhole-tried _ _ _ _ _ _ _ c.args.gxid c.add_entry.result c.self.invariant (is_fresh c) (is_high c) e.next e.gxids e.statuses e.lxids e.gxids_stay e.statuses_stay e.lxids_stay
+    IsWhole-same c.self.inside.horizon c.self.inside.given c.self.inside.lxids c.add_entry.new.lxids c.self.inside.entries c.add_entry.new.entries c.self.invariant c.in_err-add_entry.ensures.lxids_stay c.in_err-add_entry.ensures.entries_stay
 
-pub returns-clause-found : goal.returns-clause-found
-returns-clause-found c =
-    let e = c.add_entry.ensures in
-    lxid_of-tried c.self.inside.horizon c.self.inside.gxids.items c.add_entry.new.gxids.items c.self.inside.statuses.items c.add_entry.new.statuses.items c.args.gxid c.add_entry.result (is_fresh c) (is_high c) e.next e.gxids
-
-pub returns-clause-others : goal.returns-clause-others
-returns-clause-others c =
+pub invariant_of-self-2 : goal.invariant_of-self-2
+invariant_of-self-2 c =
+    let m = c.self.inside.lxids in
+    let fresh : get gxid_cmp m c.args.gxid ≡ None = subst (λ (x : Xids). lxid_of x c.args.gxid ≡ None) (sym c.self.view_is) c.requires.fresh in
+    let high : c.self.inside.horizon.0 ≤ c.args.gxid.0 = subst (λ (x : Xids). x.horizon.0 ≤ c.args.gxid.0) (sym c.self.view_is) c.requires.high in
+    let next : c.in-Some.given ≡ c.self.inside.given + 1 = grind (arith, c.checked_add.ensures, c.in-Some.is) in
     subst
-    (λ (x : Xids). OnOk c.add_entry.result ((q : Gxid) → q.0 ≢ c.args.gxid.0 → lxid_of (record { horizon = c.self.inside.horizon; gxids = c.add_entry.new.gxids.items; statuses = c.add_entry.new.statuses.items }) q ≡ lxid_of x q))
-    c.self.view_is
-    (lxid_of-tried_other c.self.inside.horizon c.self.inside.gxids.items c.add_entry.new.gxids.items c.self.inside.statuses.items c.add_entry.new.statuses.items c.args.gxid c.add_entry.result c.add_entry.ensures.gxids)
+    (λ (n : ℕ). IsWhole c.self.inside.horizon c.add_entry.new.lxids c.add_entry.new.entries n)
+    (sym next)
+    (IsWhole-assigned c.self.inside.horizon c.self.inside.given m c.add_entry.new.lxids c.self.inside.entries c.add_entry.new.entries c.args.gxid (record { 0 = c.in-Some.given }) c.self.invariant fresh high next c.in_ok-add_entry.ensures.found c.in_ok-add_entry.ensures.back)

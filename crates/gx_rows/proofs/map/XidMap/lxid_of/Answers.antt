@@ -1,20 +1,26 @@
-use Rattle.std.proofs.Common.{◌≡◌, ◌∙◌, ◌≤◌, arith}
-use Rattle.std.proofs.lemmas.Bool.Decides.{nat_tests}
-use Rattle.gx_rows.specs.Xids.{Xids, lxid_in}
-use Rattle.gx_rows.proofs.XidEntries.{gxid_of-lxid_in, IsGiven-lxid_in}
+use Rattle.std.proofs.Common.{◌≡◌, ◌∙◌, true}
+use Rattle.std.specs.Prelude.{IfSome, Some, is_some}
+use Rattle.std.specs.BTreeMap.{get}
+use Rattle.gx_ids.specs.declared.ids.Lxid.{Lxid}
+use Rattle.gx_rows.specs.Xids.{Xids, entry_of, gxid_cmp, gxid_of, is_given}
+use Rattle.gx_rows.proofs.XidEntries.{IfSome-each, back-lxid_of, entry-lxid_of, given-lxid_of}
 use Rattle.gx_rows.proofs.map.XidMap.lxid_of.Goals as goal
 
 abbrev xids : goal.After-copied → Xids
-xids c = record { horizon = c.self.inside.horizon; gxids = c.self.inside.gxids.items; statuses = c.self.inside.statuses.items }
+xids c = record { horizon = c.self.inside.horizon; lxids = c.self.inside.lxids.entries; entries = c.self.inside.entries.entries; given = c.self.inside.given }
 
-is_high : (c : goal.After-copied) → c.self.inside.horizon.0 ≤ c.args.gxid.0
-is_high c = grind (arith, nat_tests, c.if-lt.ensures, c.if-lt.false)
-
-found : (c : goal.After-copied) → c.copied.result ≡ lxid_in c.self.inside.gxids.items c.args.gxid
-found c = c.copied.ensures ∙ c.get.ensures.value ∙ c.self.invariant.found c.args.gxid (is_high c)
+module _ (c : goal.After-copied) where
+  each : (P : Lxid → Type 0) → ((l : Lxid) → get gxid_cmp c.self.inside.lxids c.args.gxid ≡ Some l → P l) → IfSome c.copied.result P
+  each P holds = IfSome-each P c.copied.result (get gxid_cmp c.self.inside.lxids c.args.gxid) (c.copied.ensures ∙ c.get.ensures.value) holds
 
 pub returns-clause-back : goal.returns-clause-back
-returns-clause-back c = rw (← c.self.view_is) (gxid_of-lxid_in (xids c) c.args.gxid c.copied.result (is_high c) (found c))
+returns-clause-back c =
+    rw (← c.self.view_is) (each c (λ (l : Lxid). gxid_of (xids c) l ≡ Some c.args.gxid) (λ l at. back-lxid_of c.self.inside.horizon c.self.inside.lxids c.self.inside.entries c.self.inside.given c.self.invariant c.args.gxid l at))
+
+pub returns-clause-entry : goal.returns-clause-entry
+returns-clause-entry c =
+    rw (← c.self.view_is) (each c (λ (l : Lxid). is_some (entry_of (xids c) l) ≡ true) (λ l at. entry-lxid_of c.self.inside.horizon c.self.inside.lxids c.self.inside.entries c.self.inside.given c.self.invariant c.args.gxid l at))
 
 pub returns-clause-given : goal.returns-clause-given
-returns-clause-given c = rw (← c.self.view_is) (IsGiven-lxid_in (xids c) c.args.gxid c.copied.result c.self.invariant.paired (found c))
+returns-clause-given c =
+    rw (← c.self.view_is) (each c (λ (l : Lxid). is_given (xids c) l ≡ true) (λ l at. given-lxid_of c.self.inside.horizon c.self.inside.lxids c.self.inside.entries c.self.inside.given c.self.invariant c.args.gxid l at))

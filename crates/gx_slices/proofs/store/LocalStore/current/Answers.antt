@@ -8,4 +8,4 @@ pub returns : goal.returns
 returns c =
     c.current_in.ensures
     ∙ current_of-newest c.self.inside.tables.entries c.self.inside.xids c.self.invariant.sound c.args.table c.args.rid
-    ∙ ap (λ (s : Store). option_map (current_of s) (newest_of s c.args.table c.args.rid)) c.self.view_is
+    ∙ ap (λ (s : Store). option_map current_of (newest_of s c.args.table c.args.rid)) c.self.view_is

@@ -1,4 +1,4 @@
-use Rattle.std.proofs.Common.{◌∙◌, ◌≤◌, sym, ap, subst}
+use Rattle.std.proofs.Common.{◌∙◌, sym, ap}
 use Rattle.std.specs.Prelude.{is_some}
 use Rattle.gx_slices.specs.Store.{Store, status_of}
 use Rattle.gx_slices.proofs.Statuses.{status_of-lxid_of}
@@ -10,5 +10,5 @@ returns c =
     ∙ ap
     is_some
     (c.status_in.ensures
-    ∙ sym (status_of-lxid_of c.self.inside.tables.entries c.self.inside.xids c.args.gxid c.self.invariant.sound.paired (subst (λ (s : Store). s.horizon.0 ≤ c.args.gxid.0) (sym c.self.view_is) c.requires))
+    ∙ sym (status_of-lxid_of c.self.inside.tables.entries c.self.inside.xids c.args.gxid)
     ∙ ap (λ (s : Store). status_of s c.args.gxid) c.self.view_is)

@@ -1,6 +1,5 @@
-use Rattle.std.proofs.Common.{◌∙◌, ◌≤◌, sym, ap, subst}
+use Rattle.std.proofs.Common.{◌∙◌, ap}
 use Rattle.std.proofs.lemmas.Result.{IfOk-weaker}
-use Rattle.std.specs.Option.{ForSome}
 use Rattle.std.specs.Prelude.{Option}
 use Rattle.gx_ids.specs.declared.ids.Lxid.{Lxid}
 use Rattle.gx_store.specs.Rows.{row_at}
@@ -23,7 +22,5 @@ returns-clause-images c =
     ∙ row_at-rows_at (versions_in tables c.args.table) x c.args.table c.args.snap.now c.own_lxid-own.result c.args.cid rid (c.self.invariant.sound.filed c.args.table rid)
     ∙ ap (λ (own : Option Lxid). image_at (versions_in tables c.args.table) x c.args.snap.now own c.args.cid rid) c.own_lxid-own.ensures
     ∙ shown_row-shown_of tables x c.self.invariant.sound c.args.table rid c.args.snap.now c.args.own c.args.cid
-    (subst (λ (s : Store). s.horizon.0 ≤ c.args.snap.now.xmin.0) (sym c.self.view_is) c.requires.low)
-    (subst (λ (s : Store). ForSome c.args.own (λ g. s.horizon.0 ≤ g.0)) (sym c.self.view_is) c.requires.alive)
     ∙ ap (λ (s : Store). shown_row s c.args.snap.now c.args.own c.args.cid c.args.table rid) c.self.view_is)
     c.rows_in.ensures.whole

@@ -1,0 +1,9 @@
+use crate::LocalStatus;
+use gx_ids::Gxid;
+
+/// A transaction that wrote at a segment, and what became of it there.
+#[derive(Clone, Copy, Debug)]
+pub struct XidEntry {
+    pub gxid: Gxid,
+    pub status: LocalStatus,
+}
