@@ -45,7 +45,12 @@ fn is_answer_made_up(from: Node, told: Option<&Message>, marks: &[Mark]) -> bool
 fn do_ask(segment: Node, gxid: Gxid, marks: &[Mark]) -> bool
     ensures { result ≡ list_any (λ m. is_some (asked_by segment gxid None (m ∷ []))) marks.now }
 {
-    marks.iter().any(|mark| asks(segment, gxid, mark))
+    for mark in marks {
+        if asks(segment, gxid, mark) {
+            return true;
+        }
+    }
+    false
 }
 
 fn asks(segment: Node, gxid: Gxid, mark: &Mark) -> bool

@@ -1,7 +1,8 @@
 // Rows that are computed: of a SET list, and of constants.
-ghost use Rattle.std.specs.Prelude.{◌≡◌, IfOk, slice_set};
+ghost use Rattle.std.specs.Prelude.{◌≡◌, [], Ok, IfOk, slice_set};
 ghost use Rattle.gx_meaning.specs.Constants.{values_of};
-ghost use Rattle.gx_store.specs.Writes.{set_row as set_row_of};
+ghost use Rattle.gx_meaning.specs.Expressions.{and_then};
+ghost use Rattle.gx_store.specs.Writes.{set_from, set_row as set_row_of};
 
 use crate::evaluation::value;
 use gx_ids::{Mem, copies};
@@ -22,13 +23,31 @@ pub fn constants(alloc: Global, tuple: &[Expr]) -> Mem<Result<Row, ArithFault>>
     ensures { IfOk result (λ outcome. outcome ≡ values_of tuple.now) }
 {
     let mut values = Vec::new(alloc);
+    match push_constants(alloc, tuple, &mut values) {
+        Ok(went) => row_of(alloc, values, went),
+        Err(fault) => {
+            drop(values);
+            Err(fault)
+        }
+    }
+}
+
+// The constants join the values, up to the first fault.
+fn push_constants(
+    alloc: Global,
+    tuple: &[Expr],
+    values: &mut Vec<Value>,
+) -> Mem<Result<(), ArithFault>>
+    requires { values.old.items ≡ [] }
+    ensures { IfOk result (λ outcome. values_of tuple.now ≡ and_then outcome (λ _. Ok values.new.items)) }
+{
     for expr in tuple {
         match value(alloc, expr, &[])? {
             Ok(value) => values.push(value)?,
             Err(fault) => return Ok(Err(fault)),
         }
     }
-    Ok(Ok(Row::from_vec(alloc, values)?))
+    Ok(Ok(()))
 }
 
 /// The row that a SET list makes of an old one, or its first fault.
@@ -40,11 +59,46 @@ pub(crate) fn set_row(
     ensures { IfOk result (λ outcome. outcome ≡ set_row_of assigns.now old.now) }
 {
     let mut new = copies(alloc, old)?;
+    match set_all(alloc, assigns, old, &mut new) {
+        Ok(went) => row_of(alloc, new, went),
+        Err(fault) => {
+            drop(new);
+            Err(fault)
+        }
+    }
+}
+
+// Sets what a SET list does, up to its first fault.
+fn set_all(
+    alloc: Global,
+    assigns: &[Assign],
+    old: &[Value],
+    new: &mut Vec<Value>,
+) -> Mem<Result<(), ArithFault>>
+    ensures { IfOk result (λ outcome. set_from old.now new.old.items assigns.now ≡ and_then outcome (λ _. Ok new.new.items)) }
+{
     for assign in assigns {
         match value(alloc, &assign.expr, old)? {
-            Ok(value) => put(&mut new, assign.col, value),
+            Ok(value) => put(new, assign.col, value),
             Err(fault) => return Ok(Err(fault)),
         }
     }
-    Ok(Ok(Row::from_vec(alloc, new)?))
+    Ok(Ok(()))
+}
+
+// The row of these values, if all went well.
+fn row_of(
+    alloc: Global,
+    values: Vec<Value>,
+    went: Result<(), ArithFault>,
+) -> Mem<Result<Row, ArithFault>>
+    ensures { IfOk result (λ made. made ≡ and_then went (λ _. Ok values.items)) }
+{
+    match went {
+        Ok(()) => Ok(Ok(Row::from_vec(alloc, values)?)),
+        Err(fault) => {
+            drop(values);
+            Ok(Err(fault))
+        }
+    }
 }

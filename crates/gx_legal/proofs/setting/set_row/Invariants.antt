@@ -1,6 +1,0 @@
-use Rattle.std.proofs.Common.{◌≡◌, drop}
-use Rattle.gx_store.specs.Writes.{set_from, set_row}
-use Rattle.gx_legal.proofs.setting.set_row.Given as goal
-
-abbrev pub invariant-loop-assign : goal.invariant-loop-assign
-invariant-loop-assign l = set_from l.old l.new.items (drop l.assign-index l.assigns) ≡ set_row l.assigns l.old
