@@ -13,7 +13,8 @@ use Rattle.gx_ids.specs.declared.ids.Cid.{Cid}
 use Rattle.gx_dsnap.specs.declared.snapshot.Snapshot.{Snapshot}
 use Rattle.gx_dsnap.specs.Gxids.{gxid_cmp, IsRising, is_listed, is_below, first_or}
 use Rattle.gx_dsnap.specs.Snapshot.{sees}
-use Rattle.gx_rows.specs.Xids.{Xids, IsTruncated, gxid_of, kept, status_of}
+use Rattle.gx_rows.specs.Truncated.{IsTruncated}
+use Rattle.gx_rows.specs.Xids.{Xids, gxid_of, kept, status_of}
 use Rattle.gx_rows.specs.declared.version.Version.{Version}
 use Rattle.gx_rows.specs.Counts.{is_seen, is_own, is_committed, counts, shown_of}
 use Rattle.gx_rows.specs.declared.status.LocalStatus.{LocalStatus}

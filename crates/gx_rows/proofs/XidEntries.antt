@@ -13,7 +13,8 @@ use Rattle.gx_rows.specs.declared.entry.XidEntry.{XidEntry}
 use Rattle.gx_rows.specs.declared.status.LocalStatus.{LocalStatus}
 use Rattle.gx_rows.specs.declared.status.LocalStatus.TheVariants.{Running, Prepared, Committed, Aborted}
 use Rattle.gx_rows.specs.Counts.{is_committed}
-use Rattle.gx_rows.specs.Xids.{Xids, IsTruncated, gxid_cmp, lxid_cmp, gxid_of, kept, status_in, with_entry}
+use Rattle.gx_rows.specs.Truncated.{IsTruncated, goes, unless_it_goes}
+use Rattle.gx_rows.specs.Xids.{Xids, gxid_cmp, lxid_cmp, gxid_of, kept, status_in, with_entry}
 use Rattle.gx_rows.specs.Keys.{AreLeft, HasEntry, IsForgotten, IsRestated, IsWhole, is_done, restated}
 
 -- what holds of each value that may stand there holds of the one that does
@@ -43,6 +44,13 @@ at_gxid g q false e = grind (arith, nat_tests)
 pub at_lxid : (l k : Lxid) (b : Bool) → eqb l.0 k.0 ≡ b → is_at (lxid_cmp l) k ≡ b
 at_lxid l k true e = grind (arith, nat_tests)
 at_lxid l k false e = grind (arith, nat_tests)
+
+pub other_lxid : (l k : Lxid) → (k.0 ≡ l.0 → ⊥) → eqb l.0 k.0 ≡ false
+other_lxid l k other = by (eqb l.0 k.0) refl
+  where
+    by : (b : Bool) → eqb l.0 k.0 ≡ b → b ≡ false
+    by false e = refl
+    by true e = absurd (other (grind (arith, nat_tests, e)))
 
 -- WITH ANOTHER STATUS
 module _ (l : Lxid) (w : XidEntry) where
@@ -99,6 +107,21 @@ module _ (l : Lxid) (s : LocalStatus) (es : List (Lxid × XidEntry)) where
   -- an entry with another status is found where it stood, and the others are as they were
   pub lookup-with_entry : (k : Lxid) → lookup (is_at (lxid_cmp k)) (with_entry l s (found_at l) es) ≡ cond (is_at (lxid_cmp l) k) (restated s (found_at l)) (found_at k)
   lookup-with_entry k = restated_at k (found_at l) refl (eqb l.0 k.0) refl
+
+  restated_there : lookup (is_at (lxid_cmp l)) (with_entry l s (found_at l) es) ≡ restated s (found_at l)
+  restated_there = lookup-with_entry l ∙ ap (λ (b : Bool). cond b (restated s (found_at l)) (found_at l)) (at_lxid l l true (grind (arith, nat_tests)))
+
+  status_set : (given : Bool) (o : Option XidEntry) → given ≡ true → (status_in given o ≡ Committed → s ≡ Committed) → status_in given (restated s o) ≡ s
+  status_set true None is stays = sym (stays refl)
+  status_set false None is stays = absurd (not_both is refl)
+  status_set given (Some e) is stays = refl
+
+  -- the status is the one that was set, and who has no entry stays committed
+  pub status_in-set : (given : Bool) → given ≡ true → (status_in given (found_at l) ≡ Committed → s ≡ Committed) → status_in given (lookup (is_at (lxid_cmp l)) (with_entry l s (found_at l) es)) ≡ s
+  status_in-set given is stays = ap (status_in given) restated_there ∙ status_set given (found_at l) is stays
+
+  pub status_in-others : (given : Bool) (k : Lxid) → eqb l.0 k.0 ≡ false → status_in given (lookup (is_at (lxid_cmp k)) (with_entry l s (found_at l) es)) ≡ status_in given (found_at k)
+  status_in-others given k other = ap (status_in given) (lookup-with_entry k ∙ ap (λ (b : Bool). cond b (restated s (found_at l)) (found_at k)) (at_lxid l k false other))
 
 pub IsRestated-whole : (l : Lxid) (s : LocalStatus) (n n' : BTreeMap Lxid XidEntry) → n'.entries ≡ with_entry l s (get lxid_cmp n l) n.entries → IsRestated l s n n'
 IsRestated-whole l s n n' whole k = ap (lookup (is_at (lxid_cmp k))) whole ∙ lookup-with_entry l s n.entries k
@@ -294,6 +317,25 @@ module _ (m m' : BTreeMap Gxid Lxid) (n n' : BTreeMap Lxid XidEntry) (g : Gxid) 
       ∙ ap (λ (b : Bool). cond b None (get lxid_cmp n k)) undone
       ∙ at
 
+  -- and so is an entry of no lxid
+  stays_unlisted : (k : Lxid) (x : XidEntry) (b : Bool) → eqb l.0 k.0 ≡ b → (get gxid_cmp m x.gxid ≡ Some k → ⊥) → get lxid_cmp n k ≡ Some x → get lxid_cmp n' k ≡ Some x
+  stays_unlisted k x false e none at = less_lxid k false e ∙ at
+  stays_unlisted k x true e none at =
+      let its = there g l first in
+      let same : its.entry ≡ x = some_same (sym its.there ∙ ap (get lxid_cmp n) (same_lxid l k e) ∙ at) in
+      absurd (none (ap (λ (y : XidEntry). get gxid_cmp m y.gxid) (sym same) ∙ ap (get gxid_cmp m) its.gxid ∙ first ∙ ap Some (same_lxid l k e)))
+
+  -- the one that went is gone, if it has committed, and who was gone before still is
+  is_gone : (k : Lxid) → get lxid_cmp n k ≡ None → get lxid_cmp n' k ≡ None
+  is_gone k gone = forgotten k ∙ by (is_at (lxid_cmp l) k && is_done (get lxid_cmp n l))
+    where
+      by : (b : Bool) → cond b None (get lxid_cmp n k) ≡ None
+      by true = refl
+      by false = gone
+
+  goes_now : is_done (get lxid_cmp n l) ≡ true → get lxid_cmp n' l ≡ None
+  goes_now done = less_lxid l true (grind (arith, nat_tests)) ∙ ap (λ (b : Bool). cond b None (get lxid_cmp n l)) done
+
   pub there-less : (q : Gxid) (k : Lxid) → get gxid_cmp m' q ≡ Some k → HasEntry n' q k
   there-less q k at =
       let was = was_gxid q k (eqb g.0 q.0) refl at in
@@ -307,6 +349,21 @@ module _ (m m' : BTreeMap Gxid Lxid) (n n' : BTreeMap Lxid XidEntry) (g : Gxid) 
   apart : (q h : Gxid) → g.0 < h.0 → h.0 ≤ q.0 → eqb g.0 q.0 ≡ false
   apart q h low high = grind (arith, nat_tests)
 
+  module _ (m0 : BTreeMap Gxid Lxid) (n0 : BTreeMap Lxid XidEntry) (h : Gxid) (left : AreLeft m0 n0 h m n) where
+    -- its entry is the first one's, or was gone
+    was_done : (o : Option XidEntry) → get lxid_cmp n l ≡ o → is_done (get lxid_cmp n0 l) ≡ true → get lxid_cmp n' l ≡ None
+    was_done None is done = is_gone l is
+    was_done (Some x) is done = goes_now (ap is_done (is ∙ sym (left.old l x is)) ∙ done)
+
+    gone_still : (q : Gxid) (k : Lxid) (b : Bool) → eqb g.0 q.0 ≡ b → get gxid_cmp m0 q ≡ Some k → get gxid_cmp m' q ≡ None → is_done (get lxid_cmp n0 k) ≡ true → get lxid_cmp n' k ≡ None
+    gone_still q k false e at out done = is_gone k (left.gone q k at (sym (less_gxid q false e) ∙ out) done)
+    gone_still q k true e at out done =
+        let k_is : l ≡ k = some_same (sym (left.old_lxids g l first) ∙ ap (get gxid_cmp m0) (same_gxid g q e) ∙ at) in
+        subst (λ (j : Lxid). get lxid_cmp n' j ≡ None) k_is (was_done (get lxid_cmp n l) refl (subst (λ (j : Lxid). is_done (get lxid_cmp n0 j) ≡ true) (sym k_is) done))
+
+    unlisted_still : (k : Lxid) (x : XidEntry) → (get gxid_cmp m0 x.gxid ≡ Some k → ⊥) → get lxid_cmp n0 k ≡ Some x → get lxid_cmp n' k ≡ Some x
+    unlisted_still k x none at = stays_unlisted k x (eqb l.0 k.0) refl (λ still. none (left.old_lxids x.gxid k still)) (left.unlisted k x none at)
+
   pub AreLeft-less : (m0 : BTreeMap Gxid Lxid) (n0 : BTreeMap Lxid XidEntry) (h : Gxid) → g.0 < h.0 → AreLeft m0 n0 h m n → AreLeft m0 n0 h m' n'
   AreLeft-less m0 n0 h low left = record {
     same = λ q high. less_gxid q false (apart q h low high) ∙ left.same q high;
@@ -314,10 +371,20 @@ module _ (m m' : BTreeMap Gxid Lxid) (n n' : BTreeMap Lxid XidEntry) (g : Gxid) 
     old = λ k x at. left.old k x (old_entry k x at);
     high = λ k x up at. stays_other k x (eqb l.0 k.0) refl (apart x.gxid h low up) (left.high k x up at);
     open_there = λ k x undone at. stays_open k x (eqb l.0 k.0) refl undone (left.open_there k x undone at);
+    unlisted = unlisted_still m0 n0 h left;
+    gone = λ q k. gone_still m0 n0 h left q k (eqb g.0 q.0) refl;
   }
 
 pub AreLeft-all : (m : BTreeMap Gxid Lxid) (n : BTreeMap Lxid XidEntry) (h : Gxid) → AreLeft m n h m n
-AreLeft-all m n h = record { same = λ q high. refl; old_lxids = λ q k at. at; old = λ k x at. at; high = λ k x up at. at; open_there = λ k x undone at. at }
+AreLeft-all m n h = record {
+  same = λ q high. refl;
+  old_lxids = λ q k at. at;
+  old = λ k x at. at;
+  high = λ k x up at. at;
+  open_there = λ k x undone at. at;
+  unlisted = λ k x none at. at;
+  gone = λ q k at out done. absurd (none_some (sym out ∙ at));
+}
 
 -- no gxid is below the least
 is_some_of : {X : Type 0} (o : Option X) (x : X) → o ≡ Some x → IsSome o
@@ -373,6 +440,44 @@ module _ (horizon h : Gxid) (m m' : BTreeMap Gxid Lxid) (n n' : BTreeMap Lxid Xi
   gone_done l e Aborted is at gone = absurd (none_some (sym gone ∙ left.open_there l e (ap is_committed is) at))
 
   module _ (lower : horizon.0 ≤ h.0) where
+    abbrev before : Xids
+    before = record { horizon = horizon; lxids = m.entries; entries = n.entries; given = given }
+
+    -- an entry that is gone was passed
+    passed : (l : Lxid) (e : XidEntry) (b : Bool) → nat_le horizon.0 e.gxid.0 ≡ b → get lxid_cmp n l ≡ Some e → get lxid_cmp n' l ≡ None → b ≡ true
+    passed l e true is at gone = refl
+    passed l e false is at gone =
+        absurd (none_some (sym gone ∙ left.unlisted l e (λ listed. let up = whole.high e.gxid l listed in absurd (grind (arith, nat_tests, is, up))) at))
+
+    -- one that is there wasn't
+    no_lxid : (g : Gxid) (o : Option Lxid) → get gxid_cmp m' g ≡ o → ltb g.0 h.0 ≡ true → o ≡ None
+    no_lxid g None is low = refl
+    no_lxid g (Some k) is low = let up : h.0 ≤ g.0 = high g k is in absurd (grind (arith, nat_tests, low, up))
+
+    stayed : (l : Lxid) (e : XidEntry) (a b c : Bool) → nat_le horizon.0 e.gxid.0 ≡ a → ltb e.gxid.0 h.0 ≡ b → is_committed e.status ≡ c → get lxid_cmp n l ≡ Some e → get lxid_cmp n' l ≡ Some e → (a && (b && c)) ≡ false
+    stayed l e false b c from low done at there = refl
+    stayed l e true false c from low done at there = refl
+    stayed l e true true false from low done at there = refl
+    stayed l e true true true from low done at there =
+        let up : horizon.0 ≤ e.gxid.0 = grind (arith, nat_tests, from) in
+        absurd (none_some (sym (left.gone e.gxid l (whole.back l e at up) (no_lxid e.gxid (get gxid_cmp m' e.gxid) refl low) (ap is_done at ∙ done)) ∙ there))
+
+    entries_left : (l : Lxid) (o o' : Option XidEntry) → get lxid_cmp n l ≡ o → get lxid_cmp n' l ≡ o' → o' ≡ unless_it_goes before h o
+    entries_left l None None is is' = refl
+    entries_left l None (Some e) is is' = absurd (none_some (sym is ∙ left.old l e is'))
+    entries_left l (Some e) None is is' =
+        let low : ltb e.gxid.0 h.0 ≡ true = gone_low l e (ltb e.gxid.0 h.0) refl is is' in
+        let done : is_committed e.status ≡ true = ap is_committed (gone_done l e e.status refl is is') in
+        sym (
+          ap (λ (b : Bool). cond (b && (ltb e.gxid.0 h.0 && is_committed e.status)) None (Some e)) (passed l e (nat_le horizon.0 e.gxid.0) refl is is')
+          ∙ ap (λ (b : Bool). cond (b && is_committed e.status) None (Some e)) low
+          ∙ ap (λ (b : Bool). cond b None (Some e)) done
+        )
+    entries_left l (Some e) (Some d) is is' =
+        let same : d ≡ e = some_same (sym (left.old l d is') ∙ is) in
+        ap Some same
+        ∙ sym (ap (λ (b : Bool). cond b None (Some e)) (stayed l e (nat_le horizon.0 e.gxid.0) (ltb e.gxid.0 h.0) (is_committed e.status) refl refl refl is (is' ∙ ap Some same)))
+
     gxids_left : (l : Lxid) (o o' : Option XidEntry) → get lxid_cmp n l ≡ o → get lxid_cmp n' l ≡ o' → option_and_then (λ (e : XidEntry). kept h e.gxid) o' ≡ option_and_then (kept h) (option_and_then (λ (e : XidEntry). kept horizon e.gxid) o)
     gxids_left l None None is is' = refl
     gxids_left l None (Some e) is is' = absurd (none_some (sym is ∙ left.old l e is'))
@@ -400,6 +505,7 @@ module _ (horizon h : Gxid) (m m' : BTreeMap Gxid Lxid) (n n' : BTreeMap Lxid Xi
       let lower : horizon.0 ≤ h.0 = grind (arith, nat_tests, higher) in
       record {
         horizon = sym (ap (λ b. cond b h horizon) higher);
+        entries = λ l. entries_left lower l (get lxid_cmp n l) (get lxid_cmp n' l) refl refl;
         gxids = λ l. gxids_left lower l (get lxid_cmp n l) (get lxid_cmp n' l) refl refl;
         lxids = λ g. lxids_left g (ltb g.0 h.0) (get gxid_cmp m' g) refl refl;
         statuses = λ l. statuses_left lower l (get lxid_cmp n l) (get lxid_cmp n' l) refl refl;
@@ -413,6 +519,7 @@ IsTruncated-same horizon h m n given whole lower =
     let high : (g : Gxid) (l : Lxid) → get gxid_cmp m g ≡ Some l → h.0 ≤ g.0 = λ g l at. (let from = whole.high g l at in omega (arith, up, from)) in
     record {
       horizon = sym (ap (λ b. cond b h horizon) lower);
+      entries = λ l. none_goes (get lxid_cmp n l) up;
       gxids = λ l. kept_more (get lxid_cmp n l) up;
       lxids = λ g. lxids_left horizon h m m n n given whole (AreLeft-all m n h) high g (ltb g.0 h.0) (get gxid_cmp m g) refl refl;
       statuses = λ l. refl;
@@ -421,6 +528,15 @@ IsTruncated-same horizon h m n given whole lower =
   where
     above : (g : Gxid) → h.0 ≤ horizon.0 → ltb g.0 horizon.0 ≡ false → ltb g.0 h.0 ≡ false
     above g up e = grind (arith, nat_tests)
+
+    stays : (e : XidEntry) (a b : Bool) → h.0 ≤ horizon.0 → nat_le horizon.0 e.gxid.0 ≡ a → ltb e.gxid.0 h.0 ≡ b → (a && (b && is_committed e.status)) ≡ false
+    stays e false b up from low = refl
+    stays e true false up from low = refl
+    stays e true true up from low = absurd (grind (arith, nat_tests, up, from, low))
+
+    none_goes : (o : Option XidEntry) → h.0 ≤ horizon.0 → o ≡ unless_it_goes (record { horizon = horizon; lxids = m.entries; entries = n.entries; given = given }) h o
+    none_goes None up = refl
+    none_goes (Some e) up = sym (ap (λ (b : Bool). cond b None (Some e)) (stays e (nat_le horizon.0 e.gxid.0) (ltb e.gxid.0 h.0) up refl refl))
 
     kept_still : (g : Gxid) (b : Bool) → ltb g.0 horizon.0 ≡ b → h.0 ≤ horizon.0 → cond b None (Some g) ≡ option_and_then (kept h) (cond b None (Some g))
     kept_still g true e up = refl

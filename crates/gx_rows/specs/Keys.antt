@@ -1,5 +1,5 @@
 -- How the map keeps its entries.
-use Rattle.std.specs.Prelude.{◌≡◌, ℕ, ◌<◌, ◌≤◌, Bool, false, ◌&&◌, if◌then◌else◌, Option, None, Some}
+use Rattle.std.specs.Prelude.{◌≡◌, ℕ, ◌<◌, ◌≤◌, Bool, true, false, ◌&&◌, if◌then◌else◌, Option, None, Some}
 use Rattle.std.specs.BTreeMap.{BTreeMap, get, is_at}
 use Rattle.gx_ids.specs.declared.ids.Gxid.{Gxid}
 use Rattle.gx_ids.specs.declared.ids.Lxid.{Lxid}
@@ -26,14 +26,15 @@ abbrev pub is_done : Option XidEntry → Bool
 is_done None = false
 is_done (Some e) = is_committed e.status
 
--- The lxids of gxids from here on are left, and no other. Of the entries, some that have committed and are below it may be gone, and no
--- other.
+-- The lxids of gxids from here on are left. The entries of those whose lxids are gone and that have committed are gone too, and no others.
 pub record AreLeft (lxids : BTreeMap Gxid Lxid) (entries : BTreeMap Lxid XidEntry) (horizon : Gxid) (lxids' : BTreeMap Gxid Lxid) (entries' : BTreeMap Lxid XidEntry) : Type 0 where
   pub same : (g : Gxid) → horizon.0 ≤ g.0 → get gxid_cmp lxids' g ≡ get gxid_cmp lxids g
   pub old_lxids : (g : Gxid) (l : Lxid) → get gxid_cmp lxids' g ≡ Some l → get gxid_cmp lxids g ≡ Some l
   pub old : (l : Lxid) (e : XidEntry) → get lxid_cmp entries' l ≡ Some e → get lxid_cmp entries l ≡ Some e
   pub high : (l : Lxid) (e : XidEntry) → horizon.0 ≤ e.gxid.0 → get lxid_cmp entries l ≡ Some e → get lxid_cmp entries' l ≡ Some e
   pub open_there : (l : Lxid) (e : XidEntry) → is_committed e.status ≡ false → get lxid_cmp entries l ≡ Some e → get lxid_cmp entries' l ≡ Some e
+  pub unlisted : (l : Lxid) (e : XidEntry) → (get gxid_cmp lxids e.gxid ≡ Some l → ⊥) → get lxid_cmp entries l ≡ Some e → get lxid_cmp entries' l ≡ Some e
+  pub gone : (g : Gxid) (l : Lxid) → get gxid_cmp lxids g ≡ Some l → get gxid_cmp lxids' g ≡ None → is_done (get lxid_cmp entries l) ≡ true → get lxid_cmp entries' l ≡ None
 
 -- without the entry of an lxid, if it has committed
 abbrev pub IsForgotten : Lxid → BTreeMap Lxid XidEntry → BTreeMap Lxid XidEntry → Type 0

@@ -3,3 +3,4 @@ pub mod Rids
 pub mod Counts
 pub mod Keys
 pub mod Xids
+pub mod Truncated

@@ -17,8 +17,8 @@ gxid_cmp g h = nat_cmp g.0 h.0
 abbrev pub lxid_cmp : Lxid → Lxid → Ordering
 lxid_cmp l m = nat_cmp l.0 m.0
 
--- the lxids of the gxids from the horizon on; the entries of those lxids, and of others that haven't committed; and how many lxids
--- were given out, which count from 1
+-- the lxids of the gxids from the horizon on; the entries of those lxids, and of others that hadn't committed when the horizon passed
+-- them; and how many lxids were given out, which count from 1
 pub record Xids : Type 0 where
   pub horizon : Gxid
   pub lxids : List (Gxid × Lxid)
@@ -48,7 +48,7 @@ abbrev pub status_in : Bool → Option XidEntry → LocalStatus
 status_in given (Some e) = e.status
 status_in given None = if given then Committed else Running
 
--- the status last set; who has no entry any more has committed
+-- the status last set; who was given out and has no entry any more has committed
 abbrev pub status_of : Xids → Lxid → LocalStatus
 status_of x l = status_in (is_given x l) (entry_of x l)
 
@@ -71,11 +71,3 @@ with_entry l s (Some e) es = set_value (is_at (lxid_cmp l)) es (record e { statu
 -- with this status of an lxid that has an entry
 abbrev pub with_status : Xids → Lxid → LocalStatus → Xids
 with_status x l s = record x { entries = with_entry l s (entry_of x l) x.entries }
-
--- without the entries of gxids below a horizon
-pub record IsTruncated (x : Xids) (h : Gxid) (x' : Xids) : Type 0 where
-  pub horizon : x'.horizon ≡ (if nat_lt x.horizon.0 h.0 then h else x.horizon)
-  pub gxids : (l : Lxid) → gxid_of x' l ≡ option_and_then (kept h) (gxid_of x l)
-  pub lxids : (g : Gxid) → lxid_of x' g ≡ (if nat_lt g.0 h.0 then None else lxid_of x g)
-  pub statuses : (l : Lxid) → status_of x' l ≡ status_of x l
-  pub given : x'.given ≡ x.given

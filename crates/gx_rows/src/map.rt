@@ -2,7 +2,8 @@ ghost use Rattle.std.specs.Prelude.{◌≡◌, ◌≢◌, ◌+◌, ◌≤◌, []
 ghost use Rattle.std.specs.BTreeMap.{IsEmpty, IsLowerBound, IsUnchanged, Updates, get, insert_entry};
 ghost use Rattle.gx_ids.specs.declared.ids.Gxid.{Gxid};
 ghost use Rattle.gx_ids.specs.declared.ids.Lxid.{Lxid};
-ghost use Rattle.gx_rows.specs.Xids.{IsTruncated, assigned, entry_of, gxid_cmp, gxid_of, is_given, lxid_cmp, lxid_of, status_of, with_entry, with_status};
+ghost use Rattle.gx_rows.specs.Truncated.{IsTruncated};
+ghost use Rattle.gx_rows.specs.Xids.{assigned, entry_of, gxid_cmp, gxid_of, is_given, lxid_cmp, lxid_of, status_of, with_entry, with_status};
 ghost use Rattle.gx_rows.specs.Keys.{AreLeft, HasEntry, IsForgotten, is_done};
 
 use crate::entry::XidEntry;
@@ -12,8 +13,9 @@ use std::alloc::Global;
 use std::collections::BTreeMap;
 use std::marker::Model;
 
-/// The transactions that wrote at a segment. Each gets an lxid at its first write there. From the horizon on each is known by both
-/// numbers; below it, only who hasn't committed is kept, so that what is kept doesn't grow with those that have.
+/// The transactions that wrote at a segment. Each gets an lxid at its first write there, by which its status is known for good. From the
+/// horizon on each is known by both numbers. Of those that the horizon passes only who hasn't committed keeps an entry, so that what is
+/// kept doesn't grow with those that have.
 #[derive(Drop)]
 pub struct XidMap {
     horizon: Gxid,
@@ -46,7 +48,7 @@ impl XidMap {
         })
     }
 
-    /// The gxid below which entries are dropped.
+    /// The gxid below which no gxid is known any more.
     pub fn horizon(&self) -> Gxid
         ensures { result ≡ self.now.horizon }
     {
@@ -105,14 +107,17 @@ impl XidMap {
         Ok(lxid)
     }
 
-    /// Sets what became of a transaction here. Of one without an entry nothing is kept.
+    /// Sets what became of a transaction here. Who has committed stays so once the horizon has passed it; of one that was never given out
+    /// nothing is kept.
     pub fn set_status(&mut self, lxid: Lxid, status: LocalStatus)
-        ensures { self.new ≡ with_status self.old lxid status }
+        ensures value { self.new ≡ with_status self.old lxid status }
+        ensures set { is_given self.old lxid ≡ true → (status_of self.old lxid ≡ LocalStatus.Committed → status ≡ LocalStatus.Committed) → status_of self.new lxid ≡ status }
+        ensures others { (l : Lxid) → l.0 ≢ lxid.0 → status_of self.new l ≡ status_of self.old l }
     {
         restate(&mut self.entries, lxid, status);
     }
 
-    /// Forgets the numbers of gxids below the horizon. Every status stays.
+    /// Raises the horizon, where this one is greater, and forgets who the transactions below it are. Every status stays.
     pub fn truncate(&mut self, horizon: Gxid)
         ensures { IsTruncated self.old horizon self.new }
     {

@@ -1,6 +1,6 @@
 ghost use Rattle.std.specs.Prelude.{◌≡◌, ◌≤◌};
 ghost use Rattle.std.specs.Option.{option_copied};
-ghost use Rattle.gx_rows.specs.Xids.{IsTruncated};
+ghost use Rattle.gx_rows.specs.Truncated.{IsTruncated};
 ghost use Rattle.gx_rows.specs.Counts.{counts, shown_of};
 
 use crate::shows::{shown, visible};

@@ -10,7 +10,8 @@ use Rattle.gx_ids.specs.declared.rid.Rid.{Rid}
 use Rattle.gx_rows.specs.declared.status.LocalStatus.{LocalStatus}
 use Rattle.gx_rows.specs.declared.version.Version.{Version}
 use Rattle.gx_rows.specs.Xids as xids
-use Rattle.gx_rows.specs.Xids.{IsTruncated, Xids, gxid_of, is_given, kept, lxid_of}
+use Rattle.gx_rows.specs.Truncated.{IsTruncated}
+use Rattle.gx_rows.specs.Xids.{Xids, gxid_of, is_given, kept, lxid_of}
 use Rattle.gx_slices.specs.Store.{Write, forgotten, kept_at, status_of, writes_of}
 use Rattle.gx_slices.specs.Filed.{IsFiled, IsSound, store_of, write_of}
 use Rattle.gx_slices.proofs.KeptVersions.{kept_at-map}

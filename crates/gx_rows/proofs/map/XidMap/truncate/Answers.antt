@@ -1,6 +1,7 @@
 use Rattle.std.proofs.Common.{subst, arith}
 use Rattle.std.proofs.lemmas.Bool.Decides.{nat_tests}
-use Rattle.gx_rows.specs.Xids.{Xids, IsTruncated}
+use Rattle.gx_rows.specs.Truncated.{IsTruncated}
+use Rattle.gx_rows.specs.Xids.{Xids}
 use Rattle.gx_rows.proofs.XidEntries.{IsTruncated-left, IsTruncated-same, IsWhole-truncated}
 use Rattle.gx_rows.proofs.map.XidMap.truncate.Goals as goal
 
