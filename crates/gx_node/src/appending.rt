@@ -9,11 +9,13 @@ use gx_outside::{AppendFault, Journal};
 use std::alloc::Global;
 
 // Appends an item, and says whether the journal failed.
-pub(crate) fn append<J: Journal>(alloc: Global, item: &JournalItem, journal: &mut J) -> Mem<bool>
-    ensures took { IfOk result (λ fails. Took (J.shelf journal.old) (J.shelf journal.new) fails (Some item.now)) }
+pub(crate) fn append<J: Journal>(alloc: Global, item: JournalItem, journal: &mut J) -> Mem<bool>
+    ensures took { IfOk result (λ fails. Took (J.shelf journal.old) (J.shelf journal.new) fails (Some item)) }
     ensures kept { OnErr result (HasKept (J.shelf journal.old) (J.shelf journal.new)) }
 {
-    let bytes = item_bytes(alloc, item)?;
+    let bytes = item_bytes(alloc, &item);
+    drop(item);
+    let bytes = bytes?;
     match journal.append(bytes.as_slice()) {
         Ok(()) => Ok(false),
         Err(AppendFault::Failed) => Ok(true),

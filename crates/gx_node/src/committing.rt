@@ -52,6 +52,21 @@ fn refuse(node: Node, gxid: Gxid, local: &mut Local) -> Taken
     }
 }
 
+// The journal has taken it.
+fn agree(local: &mut Local, phase: Phase, vote: Vote, mark: Mark) -> Taken
+    ensures local { local.new ≡ record local.old { phase = phase; vote = Some vote } }
+    ensures taken { result ≡ record { mark = Some mark; reply = Some (reply_of vote); fails = false; ends = false } }
+{
+    local.phase = phase;
+    local.vote = Some(vote);
+    Taken {
+        mark: Some(mark),
+        reply: Some(vote.reply()),
+        fails: false,
+        ends: false,
+    }
+}
+
 // What a transaction takes on once the journal has its item.
 struct Pledge {
     item: JournalItem,
@@ -101,17 +116,17 @@ fn take_on<J: Journal>(
         vote,
         mark,
     } = pledge;
-    if append(alloc, &item, journal)? {
-        return Ok(refuse(node, gxid, local));
+    match append(alloc, item, journal) {
+        Ok(false) => Ok(agree(local, phase, vote, mark)),
+        Ok(true) => {
+            drop(mark);
+            Ok(refuse(node, gxid, local))
+        }
+        Err(fault) => {
+            drop(mark);
+            Err(fault)
+        }
     }
-    local.phase = phase;
-    local.vote = Some(vote);
-    Ok(Taken {
-        mark: Some(mark),
-        reply: Some(vote.reply()),
-        fails: false,
-        ends: false,
-    })
 }
 
 // PREPARE is answered once, and then always with what was answered then.
@@ -130,27 +145,22 @@ pub(crate) fn take_prepare<J: Journal>(
     ensures err { OnErr result ((local.new ≡ local.old) × HasKept (J.shelf journal.old) (J.shelf journal.new)) }
 {
     if local.is_waiting() {
+        drop(kept);
         return Ok(nothing());
     }
     match (local.phase, local.vote) {
-        (Phase::Reading, None) => take_on(
-            alloc,
-            node,
-            gxid,
-            local,
-            promise(node, gxid, kept),
-            journal,
-        ),
-        (Phase::Writing, None) => take_on(
-            alloc,
-            node,
-            gxid,
-            local,
-            promise(node, gxid, kept),
-            journal,
-        ),
-        (Phase::Aborted, _) => Ok(nothing()),
-        _ => Ok(tell_vote(local)),
+        (Phase::Reading, None) | (Phase::Writing, None) => {
+            let pledge = promise(node, gxid, kept);
+            take_on(alloc, node, gxid, local, pledge, journal)
+        }
+        (Phase::Aborted, _) => {
+            drop(kept);
+            Ok(nothing())
+        }
+        _ => {
+            drop(kept);
+            Ok(tell_vote(local))
+        }
     }
 }
 
@@ -181,30 +191,26 @@ pub(crate) fn take_commit<J: Journal>(
     ensures err { OnErr result ((local.new ≡ local.old) × HasKept (J.shelf journal.old) (J.shelf journal.new)) }
 {
     if local.is_waiting() {
+        drop(kept);
         return Ok(nothing());
     }
     match (local.phase, local.vote) {
-        (Phase::Reading, None) => take_on(
-            alloc,
-            node,
-            gxid,
-            local,
-            commitment(node, gxid, kept),
-            journal,
-        ),
-        (Phase::Writing, None) => take_on(
-            alloc,
-            node,
-            gxid,
-            local,
-            commitment(node, gxid, kept),
-            journal,
-        ),
-        (Phase::Reading, Some(_)) => Ok(tell_vote(local)),
-        (Phase::Writing, Some(_)) => Ok(tell_vote(local)),
-        (Phase::Committed, _) => Ok(tell_commit(local)),
-        (Phase::Forgotten(_), _) => Ok(tell_commit(local)),
-        _ => Ok(nothing()),
+        (Phase::Reading, None) | (Phase::Writing, None) => {
+            let pledge = commitment(node, gxid, kept);
+            take_on(alloc, node, gxid, local, pledge, journal)
+        }
+        (Phase::Reading, Some(_)) | (Phase::Writing, Some(_)) => {
+            drop(kept);
+            Ok(tell_vote(local))
+        }
+        (Phase::Committed, _) | (Phase::Forgotten(_), _) => {
+            drop(kept);
+            Ok(tell_commit(local))
+        }
+        _ => {
+            drop(kept);
+            Ok(nothing())
+        }
     }
 }
 
@@ -220,7 +226,7 @@ fn finish<J: Journal>(
     ensures took { IfOk result (λ taken. Took (J.shelf journal.old) (J.shelf journal.new) taken.fails (finishes_now node gxid taken.fails (local_of local.old)).item) }
     ensures err { OnErr result ((local.new ≡ local.old) × HasKept (J.shelf journal.old) (J.shelf journal.new)) }
 {
-    if append(alloc, &JournalItem::Finish(gxid), journal)? {
+    if append(alloc, JournalItem::Finish(gxid), journal)? {
         return Ok(Taken {
             mark: Some(Mark::JournalFailed { node, gxid }),
             reply: Some(Reply::Again),
