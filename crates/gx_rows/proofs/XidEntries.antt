@@ -469,9 +469,9 @@ module _ (horizon h : Gxid) (m m' : BTreeMap Gxid Lxid) (n n' : BTreeMap Lxid Xi
         let low : ltb e.gxid.0 h.0 ≡ true = gone_low l e (ltb e.gxid.0 h.0) refl is is' in
         let done : is_committed e.status ≡ true = ap is_committed (gone_done l e e.status refl is is') in
         sym (
-          ap (λ (b : Bool). cond (b && (ltb e.gxid.0 h.0 && is_committed e.status)) None (Some e)) (passed l e (nat_le horizon.0 e.gxid.0) refl is is')
-          ∙ ap (λ (b : Bool). cond (b && is_committed e.status) None (Some e)) low
-          ∙ ap (λ (b : Bool). cond b None (Some e)) done
+        ap (λ (b : Bool). cond (b && (ltb e.gxid.0 h.0 && is_committed e.status)) None (Some e)) (passed l e (nat_le horizon.0 e.gxid.0) refl is is')
+        ∙ ap (λ (b : Bool). cond (b && is_committed e.status) None (Some e)) low
+        ∙ ap (λ (b : Bool). cond b None (Some e)) done
         )
     entries_left l (Some e) (Some d) is is' =
         let same : d ≡ e = some_same (sym (left.old l d is') ∙ is) in

@@ -22,7 +22,7 @@ is_committed Prepared = false
 is_committed Committed = true
 is_committed Aborted = false
 
--- the snapshot sees the gxid in an entry; without an entry the local status alone decides
+-- the snapshot sees the gxid; where that isn't known any more the local status alone decides
 abbrev pub is_seen : Snapshot → Option Gxid → Bool
 is_seen snap None = true
 is_seen snap (Some g) = sees snap g

@@ -27,7 +27,7 @@ fn is_own(v: &Version, own: Option<Lxid>, cid: Cid) -> bool
     }
 }
 
-// Whether the transaction is seen. One without an entry ended below each horizon, and is.
+// Whether the transaction is seen. One whose gxid isn't known any more ended below the horizon, and is.
 fn is_seen(map: &XidMap, snap: &Snapshot, lxid: Lxid) -> bool
     ensures { result ≡ is_seen snap.now (gxid_of map.now lxid) }
 {

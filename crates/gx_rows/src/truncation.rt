@@ -8,8 +8,8 @@ use crate::{Version, XidMap};
 use gx_dsnap::Snapshot;
 use gx_ids::{Cid, Gxid, Lxid};
 
-/// Whether a version counts before and after the entries below a horizon are dropped. A horizon at or below the
-/// snapshot's `xmin` changes nothing: it drops only transactions that the snapshot sees.
+/// Whether a version counts before and after the horizon is raised. One at or below the snapshot's `xmin` changes nothing: only
+/// transactions that the snapshot sees are forgotten.
 pub fn visible_across(
     v: &Version,
     map: &mut XidMap,
@@ -29,7 +29,7 @@ pub fn visible_across(
     (before, visible(v, map, snap, own, cid))
 }
 
-/// The version that a row shows before and after the entries below a horizon are dropped, which is the same where the
+/// The version that a row shows before and after the horizon is raised, which is the same where the
 /// horizon is at or below the snapshot's `xmin`.
 pub fn shown_across<'a>(
     list: &'a [Version],

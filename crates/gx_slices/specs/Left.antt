@@ -21,7 +21,7 @@ IsLeft Of aborted settled (w ∷ ws) (v ∷ vs) =
     (Of w v × IsLeft Of aborted settled ws vs) ⊎ ((is_dead aborted settled v vs ≡ true) × IsLeft Of aborted settled (w ∷ ws) vs)
 
 -- AT A SEGMENT
--- The write is the version's: who made it is known from this horizon on, and what became of that transaction here is the same.
+-- The write is the version's: who made it is known from this horizon on, and it has committed or aborted here where that transaction has.
 pub record IsTold (horizon : Gxid) (phase : Phase) (w : Write) (v : Version) : Type 0 where
   pub writer : w.writer ≡ kept horizon v.gxid
   pub cid : w.cid ≡ v.cid

@@ -51,7 +51,7 @@ writes_of store table rid = kept_at store.tables table rid
 abbrev pub status_of : Store → Gxid → Option LocalStatus
 status_of store g = lookup (is_at (gxid_cmp g)) store.writers
 
--- a test of what became of it here, which fails where it never wrote here
+-- a test of what became of it here, which fails where it never wrote here, or is below the horizon
 abbrev pub passes : (LocalStatus → Bool) → Option LocalStatus → Bool
 passes test None = false
 passes test (Some status) = test status

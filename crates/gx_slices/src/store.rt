@@ -22,10 +22,10 @@ use std::alloc::Global;
 use std::collections::BTreeMap;
 use std::marker::Model;
 
-/// What one segment keeps of rows: the writes to each row of each table that no sweep has dropped, what became here of each transaction that wrote
-/// here, and the horizon, below which nobody asks for a transaction any more (Lyu et al., SIGMOD 2021). Contracts see all
-/// of it without lxids. How the tables are distributed, and which rows stand under which value of the distribution column, is kept besides,
-/// so that rows are found by it; nobody sees that.
+/// What one segment keeps of rows: the writes to each row of each table that no sweep has dropped, each with what became here of its
+/// transaction; which transactions from the horizon on have written here; and the horizon, below which nobody asks for a transaction any
+/// more (Lyu et al., SIGMOD 2021). Contracts see all of it without lxids. How the tables are distributed, and which rows stand under which
+/// value of the distribution column, is kept besides, so that rows are found by it; nobody sees that.
 #[derive(Drop)]
 pub struct LocalStore {
     alloc: Global,
@@ -144,7 +144,7 @@ impl LocalStore {
 
     /// The rows of a table that a reader is shown, rising by their identities (PostgreSQL manual 13.2): `own` is its
     /// transaction, where it has one, and `cid` its command. Who is below the horizon counts as seen, so a snapshot may be
-    /// older than it, as that of a command which comes late for a transaction that has ended elsewhere.
+    /// older than it.
     pub fn shown_rows(
         &self,
         table: Table,

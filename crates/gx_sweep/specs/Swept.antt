@@ -21,7 +21,7 @@ living aborted settled (x ∷ later) = if is_dead aborted settled x later then l
 abbrev pub has_aborted : Xids → Version → Bool
 has_aborted x v = not (is_unaborted (status_of x v.lxid))
 
--- below the horizon; who has no entry any more was
+-- below the horizon; so is who isn't known any more
 abbrev pub is_past : Gxid → Option Gxid → Bool
 is_past horizon None = true
 is_past horizon (Some g) = nat_lt g.0 horizon.0

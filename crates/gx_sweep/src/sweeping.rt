@@ -14,7 +14,7 @@ use gx_ids::{Gxid, Rid, Seq};
 use gx_rows::{LocalStatus, Version, Versions, XidMap};
 
 /// Drops the dead versions of a row: those of transactions that have aborted here, and those that a later version of the row has
-/// overtaken which is committed here by a transaction below the horizon, or by one that has no entry any more. The row's newest version
+/// overtaken which is committed here by a transaction below the horizon, or by one whose gxid isn't known any more. The row's newest version
 /// stays, and so does what it shows to each snapshot from the horizon on, but to a reader that has aborted here itself.
 pub fn sweep(rows: &mut Versions, rid: Rid, map: &XidMap, horizon: Gxid)
     ensures swept { versions_of rows.new rid ≡ swept map.now horizon (versions_of rows.old rid) }

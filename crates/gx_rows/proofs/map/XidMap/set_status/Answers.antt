@@ -20,10 +20,10 @@ returns-clause-set c =
     let l = c.args.lxid in
     subst
     (λ (x : Xids). is_given x l ≡ true → (status_of x l ≡ Committed → c.args.status ≡ Committed)
-        → status_of (record { horizon = map.horizon; lxids = map.lxids.entries; entries = c.restate.new.entries.entries; given = map.given }) l ≡ c.args.status)
+    → status_of (record { horizon = map.horizon; lxids = map.lxids.entries; entries = c.restate.new.entries.entries; given = map.given }) l ≡ c.args.status)
     c.self.view_is
     (λ given stays. ap (λ (es : List (Lxid × XidEntry)). status_in (nat_lt 0 l.0 && nat_le l.0 map.given) (lookup (is_at (lxid_cmp l)) es)) c.restate.ensures
-        ∙ status_in-set l c.args.status map.entries.entries (nat_lt 0 l.0 && nat_le l.0 map.given) given stays)
+    ∙ status_in-set l c.args.status map.entries.entries (nat_lt 0 l.0 && nat_le l.0 map.given) given stays)
 
 pub returns-clause-others : goal.returns-clause-others
 returns-clause-others c k other =
@@ -32,4 +32,4 @@ returns-clause-others c k other =
     (λ (x : Xids). status_of (record { horizon = map.horizon; lxids = map.lxids.entries; entries = c.restate.new.entries.entries; given = map.given }) k ≡ status_of x k)
     c.self.view_is
     (ap (λ (es : List (Lxid × XidEntry)). status_in (nat_lt 0 k.0 && nat_le k.0 map.given) (lookup (is_at (lxid_cmp k)) es)) c.restate.ensures
-        ∙ status_in-others c.args.lxid c.args.status map.entries.entries (nat_lt 0 k.0 && nat_le k.0 map.given) k (other_lxid c.args.lxid k other))
+    ∙ status_in-others c.args.lxid c.args.status map.entries.entries (nat_lt 0 k.0 && nat_le k.0 map.given) k (other_lxid c.args.lxid k other))
