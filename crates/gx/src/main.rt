@@ -13,7 +13,7 @@ mod top;
 use gx_drive::empty_journals;
 use gx_outside::{PassGate, StdinSource, StdoutSink};
 use std::process::ExitCode;
-use std::{env, io};
+use std::{env, io, mem};
 use top::run_gx;
 
 fn main(rt: HostRuntime) -> ExitCode {
@@ -37,5 +37,9 @@ fn main(rt: HostRuntime) -> ExitCode {
         &mut journals,
         &PassGate,
     );
-    ExitCode::from(report.status)
+    let status = report.status;
+    // The process ends here, and its memory with it.
+    mem::forget(report);
+    mem::forget(journals);
+    ExitCode::from(status)
 }
