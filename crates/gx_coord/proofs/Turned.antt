@@ -1,9 +1,10 @@
 -- Turns that begin with a smaller change.
-use Rattle.std.proofs.Common.{◌≡◌, ◌++◌, ◌∙◌, List, Result, Ok, Err, OnOk, ap, refl}
+use Rattle.std.proofs.Common.{◌≡◌, ◌++◌, ◌∙◌, List, Result, Ok, Err, IfOk, OnOk, ap, refl}
 use Rattle.std.proofs.lemmas.List.{append_assoc}
 use Rattle.gx_ids.specs.declared.ids.Gxid.{Gxid}
 use Rattle.gx_dtx.specs.Rules.{Turn}
 use Rattle.gx_dtx.specs.declared.outcome.DtxOut.{DtxOut}
+use Rattle.gx_msg.specs.declared.message.Out.{Out}
 use Rattle.gx_store.specs.declared.mark.Mark.{Mark}
 use Rattle.gx_rules.specs.AtCoordinator.{behind, follows}
 use Rattle.gx_rules.specs.Coordinators as rule
@@ -21,6 +22,11 @@ turn-from old mid new before after t u f e h = record { framed = framed-trans ol
 pub on_turn-from : {A B : Type 0} (r : Result A B) (old mid new : Coord) (before after : List Mark) (t u : rule.CoordTurn) → IsFramed old mid → t ≡ u → OnOk r (IsTurn mid new before after t) → OnOk r (IsTurn old new before after u)
 on_turn-from (Ok x) old mid new before after t u f e h = turn-from old mid new before after t u f e h
 on_turn-from (Err x) old mid new before after t u f e h = tt
+
+-- what goes out is what an equal turn sends
+pub outs-from : {B : Type 0} (r : Result (List Out) B) (t u : rule.CoordTurn) → t ≡ u → IfOk r (λ outs. outs ≡ t.outs) → IfOk r (λ outs. outs ≡ u.outs)
+outs-from (Ok x) t u e h = h ∙ ap (λ (x : rule.CoordTurn). x.outs) e
+outs-from (Err x) t u e h = tt
 
 pub commits-from : (c k : rule.Coord) (g : Gxid) (turn : Turn) (out : DtxOut) → k ≡ record c { table = turn.table } → out ≡ turn.out → follows k g (record { table = k.table; out = out }) out.outcome ≡ follows c g turn turn.out.outcome
 commits-from c k g turn out e h =

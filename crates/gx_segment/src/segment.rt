@@ -111,10 +111,7 @@ impl Segment {
         requires { IsSegment self.now s }
         ensures rows { IfOk result (λ rows. rows.items ≡ shown s snapshot.now nobody no_command table) }
     {
-        let rows = self
-            .held
-            .store
-            .shown_rows(table, snapshot, None, Cid(0))?;
+        let rows = self.held.store.shown_rows(table, snapshot, None, Cid(0))?;
         Ok(rows)
     }
 }

@@ -1,6 +1,6 @@
 // What a SET list makes of a row.
-ghost use Rattle.std.specs.Prelude.{◌≡◌, IsSome, IfOk};
-ghost use Rattle.gx_meaning.specs.Expressions.{value_of};
+ghost use Rattle.std.specs.Prelude.{◌≡◌, length, Ok, IsSome, IfOk};
+ghost use Rattle.gx_meaning.specs.Expressions.{and_then, value_of};
 ghost use Rattle.gx_meaning.specs.Kinds.{kind_of, kinds_of};
 ghost use Rattle.gx_rules.specs.Changes as rule;
 ghost use Rattle.gx_store.specs.Writes as legal;
@@ -31,13 +31,37 @@ fn set_row(alloc: Global, assigns: &[Assign], old: &Row) -> Mem<Result<Row, Arit
     ensures { IfOk result (λ row. row ≡ legal.set_row assigns.now old.now) }
 {
     let mut values = copies(alloc, old.as_slice())?;
+    match set_all(alloc, assigns, old, &mut values) {
+        Ok(Ok(())) => Ok(Ok(Row::from_vec(alloc, values)?)),
+        Ok(Err(fault)) => {
+            drop(values);
+            Ok(Err(fault))
+        }
+        Err(fault) => {
+            drop(values);
+            Err(fault)
+        }
+    }
+}
+
+// Sets what a SET list does, up to its first fault.
+fn set_all(
+    alloc: Global,
+    assigns: &[Assign],
+    old: &Row,
+    values: &mut Vec<Value>,
+) -> Mem<Result<(), ArithFault>>
+    requires settable { AreSettable old.now assigns.now }
+    requires whole { length values.old.items ≡ length old.now }
+    ensures { IfOk result (λ went. legal.set_from old.now values.old.items assigns.now ≡ and_then went (λ _. Ok values.new.items)) }
+{
     for assign in assigns {
         match value(alloc, &assign.expr, old)? {
             Ok(value) => values[usize::from(assign.col)] = value,
             Err(fault) => return Ok(Err(fault)),
         }
     }
-    Ok(Ok(Row::from_vec(alloc, values)?))
+    Ok(Ok(()))
 }
 
 // What a command makes of a row: UPDATE the row with its values, DELETE none.

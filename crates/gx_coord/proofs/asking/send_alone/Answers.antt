@@ -1,15 +1,15 @@
-use Rattle.std.proofs.Common.{◌≡◌, false, ap, ◌+◌, ◌<◌, ◌^◌, ◌∙◌, subst, sym}
-use Rattle.std.proofs.lemmas.Result.{IfOk-weaker}
+use Rattle.std.proofs.Common.{◌≡◌, [], ◌∷◌, false, ◌+◌, ◌<◌, ◌^◌, subst, sym}
 use Rattle.std.specs.List.{list_any}
 use Rattle.gx_ids.specs.declared.ids.Gxid.{Gxid}
 use Rattle.gx_locks.specs.Claims.{is_of}
 use Rattle.gx_tree.specs.declared.stmt.Level.TheVariants.{ReadCommitted}
-use Rattle.gx_rules.specs.AtCoordinator.{begins}
-use Rattle.gx_rules.specs.Coordinators.{Coord, CoordTurn}
-use Rattle.gx_coord.specs.Books.{coord_of}
+use Rattle.gx_store.specs.declared.mark.Mark.TheVariants.{Start}
+use Rattle.gx_rules.specs.AtCoordinator.{begins, dispatches}
+use Rattle.gx_rules.specs.Coordinators.{Coord}
+use Rattle.gx_coord.specs.Books.{coord_of, stmt_at}
 use Rattle.gx_coord.specs.Turns.{IsBusy}
 use Rattle.gx_coord.proofs.Asked.{dispatches-from}
-use Rattle.gx_coord.proofs.Turned.{on_behind-turn, script-same}
+use Rattle.gx_coord.proofs.Turned.{on_behind-turn, outs-from, script-same}
 use Rattle.gx_coord.proofs.asking.send_alone.Goals as goal
 
 pub dispatch-requires-clause-room : goal.dispatch-requires-clause-room
@@ -31,7 +31,9 @@ pub returns-clause-turn : goal.returns-clause-turn
 returns-clause-turn c =
     let old = c.args.coord.now in
     let mid = c.begin.new.coord in
-    on_behind-turn c.dispatch.result old mid c.dispatch.new.coord c.args.marks.now.items c.begin.new.marks.items _ _ _ _ c.in_ok-gxid.ensures.framed
+    let asked = dispatches mid.script.value (coord_of mid) c.in_ok-gxid.gxid (stmt_at mid.script.value.lines c.args.place) in
+    let turn = dispatches old.script.value (begins (coord_of old) c.args.id ReadCommitted) old.dtx.next (stmt_at old.script.value.lines c.args.place) in
+    on_behind-turn c.dispatch.result old mid c.dispatch.new.coord c.args.marks.now.items c.begin.new.marks.items c.dispatch.new.marks.items (Start old.dtx.next c.args.id ∷ []) asked turn c.in_ok-gxid.ensures.framed
     (dispatches-from mid.script.value old.script.value (coord_of mid) (begins (coord_of old) c.args.id ReadCommitted) c.in_ok-gxid.gxid old.dtx.next c.args.place (script-same old mid c.in_ok-gxid.ensures.framed) c.in_ok-gxid.ensures.coord c.in_ok-gxid.ensures.gxid)
     c.in_ok-gxid.ensures.marks c.dispatch.ensures.turn
 
@@ -39,6 +41,8 @@ pub returns-clause-outs : goal.returns-clause-outs
 returns-clause-outs c =
     let old = c.args.coord.now in
     let mid = c.begin.new.coord in
-    IfOk-weaker c.dispatch.result _ _ (λ outs h. h ∙ ap (λ (t : CoordTurn). t.outs)
-    (dispatches-from mid.script.value old.script.value (coord_of mid) (begins (coord_of old) c.args.id ReadCommitted) c.in_ok-gxid.gxid old.dtx.next c.args.place (script-same old mid c.in_ok-gxid.ensures.framed) c.in_ok-gxid.ensures.coord c.in_ok-gxid.ensures.gxid))
+    outs-from c.dispatch.result
+    (dispatches mid.script.value (coord_of mid) c.in_ok-gxid.gxid (stmt_at mid.script.value.lines c.args.place))
+    (dispatches old.script.value (begins (coord_of old) c.args.id ReadCommitted) old.dtx.next (stmt_at old.script.value.lines c.args.place))
+    (dispatches-from mid.script.value old.script.value (coord_of mid) (begins (coord_of old) c.args.id ReadCommitted) c.in_ok-gxid.gxid old.dtx.next c.args.place (script-same old mid c.in_ok-gxid.ensures.framed) c.in_ok-gxid.ensures.coord c.in_ok-gxid.ensures.gxid)
     c.dispatch.ensures.outs
