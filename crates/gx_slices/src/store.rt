@@ -73,7 +73,8 @@ impl LocalStore {
         image: Option<Row>,
     ) -> Mem<()>
         requires { self.old.horizon.0 ≤ gxid.0 }
-        ensures written { OnOk result (writes_of self.new table rid ≡ writes_of self.old table rid ++ (record { writer = Some gxid; cid = cid; status = unwrap_or (status_of self.old gxid) LocalStatus.Running; image = image }) ∷ []) }
+        ensures written { OnOk result (writes_of self.new table rid ≡ writes_of self.old table rid
+            ++ (record { writer = Some gxid; cid = cid; status = unwrap_or (status_of self.old gxid) LocalStatus.Running; image = image }) ∷ []) }
         ensures rows { OnOk result ((r : Rid) → r ≢ rid → writes_of self.new table r ≡ writes_of self.old table r) }
         ensures tables { OnOk result ((t : Table) (r : Rid) → t ≢ table → writes_of self.new t r ≡ writes_of self.old t r) }
         ensures status { OnOk result (status_of self.new gxid ≡ Some (unwrap_or (status_of self.old gxid) LocalStatus.Running)) }
