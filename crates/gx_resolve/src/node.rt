@@ -1,6 +1,7 @@
 // What one node of an expression is, by what its parts are.
 ghost use Rattle.std.specs.Prelude.{◌≡◌, IfOk, IfErr};
 ghost use Rattle.gx_tree.specs.declared.schema.Kind.TheVariants as kind;
+ghost use Rattle.gx_tree.specs.declared.value.Value.TheVariants as value;
 ghost use Rattle.gx_tree.specs.declared.expr.Expr.TheVariants as expr;
 ghost use Rattle.gx_tree.specs.declared.cond.Cond.TheVariants as cond;
 ghost use Rattle.gx_resolve.specs.declared.typed.Typed.TheVariants as typed;
@@ -8,8 +9,8 @@ ghost use Rattle.gx_resolve.specs.Typing as of;
 
 use crate::typed::Typed;
 use gx_grammar::Op;
-use gx_ids::{Boxed, Mem};
-use gx_tree::{ArithOp, CmpOp, Cond, Expr, Kind, Value};
+use gx_ids::{Boxed, Duplicate, Mem};
+use gx_tree::{ArithOp, CmpOp, Cond, Expr, Kind, Txt, Value};
 use std::alloc::Global;
 
 /// A number, which is of 64 bits with its sign.
@@ -42,6 +43,13 @@ fn negative_number(size: u64) -> Typed
     }
 }
 
+pub fn text(alloc: Global, content: &Txt) -> Mem<Typed>
+    ensures { IfOk result (λ t. t ≡ typed.Value kind.Text (expr.Lit (value.Text content.now))) }
+{
+    let content = content.copy(alloc)?;
+    Ok(Typed::Value(Kind::Text, Expr::Lit(Value::Text(content))))
+}
+
 pub fn column(found: Option<(u8, Kind)>) -> Typed
     ensures { result ≡ of.column_typed found }
 {
@@ -58,10 +66,7 @@ pub fn negation(alloc: Global, inner: Typed) -> Mem<Typed>
         Typed::Value(Kind::Int, expr) => {
             Ok(Typed::Value(Kind::Int, Expr::Neg(Boxed::new(alloc, expr)?)))
         }
-        Typed::Value(Kind::Text, _expr) => Ok(Typed::Mismatch),
-        Typed::Cond(_cond) => Ok(Typed::Mismatch),
-        Typed::Unknown => Ok(Typed::Unknown),
-        Typed::Mismatch => Ok(Typed::Mismatch),
+        other => Ok(beside(other)),
     }
 }
 
@@ -70,9 +75,7 @@ pub fn opposite(alloc: Global, inner: Typed) -> Mem<Typed>
 {
     match inner {
         Typed::Cond(cond) => Ok(Typed::Cond(Cond::Not(Boxed::new(alloc, cond)?))),
-        Typed::Value(_kind, _expr) => Ok(Typed::Mismatch),
-        Typed::Unknown => Ok(Typed::Unknown),
-        Typed::Mismatch => Ok(Typed::Mismatch),
+        other => Ok(beside(other)),
     }
 }
 
@@ -82,17 +85,27 @@ fn beside(other: Typed) -> Typed
 {
     match other {
         Typed::Unknown => Typed::Unknown,
-        Typed::Value(_kind, _expr) => Typed::Mismatch,
-        Typed::Cond(_cond) => Typed::Mismatch,
-        Typed::Mismatch => Typed::Mismatch,
+        other => {
+            drop(other);
+            Typed::Mismatch
+        }
     }
 }
 
-// An unknown column comes before whatever stands to its right.
-fn unknown(_right: Typed) -> Typed
-    ensures { result ≡ typed.Unknown }
+// What two parts are that no operator takes together: an unknown column comes before whatever stands to its right.
+fn wrong(left: Typed, right: Typed) -> Typed
+    ensures { result ≡ of.wrong left right }
 {
-    Typed::Unknown
+    match left {
+        Typed::Unknown => {
+            drop(right);
+            Typed::Unknown
+        }
+        other => {
+            drop(other);
+            beside(right)
+        }
+    }
 }
 
 fn arithmetic(alloc: Global, op: ArithOp, left: Typed, right: Typed) -> Mem<Typed>
@@ -100,10 +113,7 @@ fn arithmetic(alloc: Global, op: ArithOp, left: Typed, right: Typed) -> Mem<Type
 {
     match left {
         Typed::Value(Kind::Int, a) => number_beside(alloc, op, a, right),
-        Typed::Value(Kind::Text, _a) => Ok(beside(right)),
-        Typed::Cond(_a) => Ok(beside(right)),
-        Typed::Unknown => Ok(unknown(right)),
-        Typed::Mismatch => Ok(beside(right)),
+        other => Ok(wrong(other, right)),
     }
 }
 
@@ -113,18 +123,32 @@ fn number_beside(alloc: Global, op: ArithOp, a: Expr, right: Typed) -> Mem<Typed
 {
     match right {
         Typed::Value(Kind::Int, b) => Ok(Typed::Value(Kind::Int, binary(alloc, op, a, b)?)),
-        Typed::Value(Kind::Text, _b) => Ok(Typed::Mismatch),
-        Typed::Cond(_b) => Ok(Typed::Mismatch),
-        Typed::Unknown => Ok(Typed::Unknown),
-        Typed::Mismatch => Ok(Typed::Mismatch),
+        other => {
+            drop(a);
+            Ok(beside(other))
+        }
+    }
+}
+
+fn boxes<T: Drop>(alloc: Global, left: T, right: T) -> Mem<(Boxed<T>, Boxed<T>)>
+    ensures { IfOk result (λ both. (both.0 ≡ left) × (both.1 ≡ right)) }
+{
+    match Boxed::new(alloc, left) {
+        Ok(left) => {
+            let right = Boxed::new(alloc, right)?;
+            Ok((left, right))
+        }
+        Err(out) => {
+            drop(right);
+            Err(out)
+        }
     }
 }
 
 fn binary(alloc: Global, op: ArithOp, left: Expr, right: Expr) -> Mem<Expr>
     ensures { IfOk result (λ e. e ≡ expr.Bin op left right) }
 {
-    let left = Boxed::new(alloc, left)?;
-    let right = Boxed::new(alloc, right)?;
+    let (left, right) = boxes(alloc, left, right)?;
     Ok(Expr::Bin(op, left, right))
 }
 
@@ -133,10 +157,10 @@ fn number_compared(op: CmpOp, a: Expr, right: Typed) -> Typed
 {
     match right {
         Typed::Value(Kind::Int, b) => Typed::Cond(Cond::Cmp(op, a, b)),
-        Typed::Value(Kind::Text, _b) => Typed::Mismatch,
-        Typed::Cond(_b) => Typed::Mismatch,
-        Typed::Unknown => Typed::Unknown,
-        Typed::Mismatch => Typed::Mismatch,
+        other => {
+            drop(a);
+            beside(other)
+        }
     }
 }
 
@@ -144,11 +168,11 @@ fn text_compared(op: CmpOp, a: Expr, right: Typed) -> Typed
     ensures { result ≡ of.text_compared op a right }
 {
     match right {
-        Typed::Value(Kind::Int, _b) => Typed::Mismatch,
         Typed::Value(Kind::Text, b) => Typed::Cond(Cond::Cmp(op, a, b)),
-        Typed::Cond(_b) => Typed::Mismatch,
-        Typed::Unknown => Typed::Unknown,
-        Typed::Mismatch => Typed::Mismatch,
+        other => {
+            drop(a);
+            beside(other)
+        }
     }
 }
 
@@ -158,9 +182,7 @@ fn comparison(op: CmpOp, left: Typed, right: Typed) -> Typed
     match left {
         Typed::Value(Kind::Int, a) => number_compared(op, a, right),
         Typed::Value(Kind::Text, a) => text_compared(op, a, right),
-        Typed::Cond(_a) => beside(right),
-        Typed::Unknown => unknown(right),
-        Typed::Mismatch => beside(right),
+        other => wrong(other, right),
     }
 }
 
@@ -171,9 +193,7 @@ fn conditions(left: Typed, right: Typed) -> Result<(Cond, Cond), Typed>
 {
     match left {
         Typed::Cond(a) => condition_beside(a, right),
-        Typed::Value(_kind, _a) => Err(beside(right)),
-        Typed::Unknown => Err(unknown(right)),
-        Typed::Mismatch => Err(beside(right)),
+        other => Err(wrong(other, right)),
     }
 }
 
@@ -183,25 +203,24 @@ fn condition_beside(a: Cond, right: Typed) -> Result<(Cond, Cond), Typed>
 {
     match right {
         Typed::Cond(b) => Ok((a, b)),
-        Typed::Value(_kind, _b) => Err(Typed::Mismatch),
-        Typed::Unknown => Err(Typed::Unknown),
-        Typed::Mismatch => Err(Typed::Mismatch),
+        other => {
+            drop(a);
+            Err(beside(other))
+        }
     }
 }
 
 fn and(alloc: Global, left: Cond, right: Cond) -> Mem<Cond>
     ensures { IfOk result (λ c. c ≡ cond.And left right) }
 {
-    let left = Boxed::new(alloc, left)?;
-    let right = Boxed::new(alloc, right)?;
+    let (left, right) = boxes(alloc, left, right)?;
     Ok(Cond::And(left, right))
 }
 
 fn or(alloc: Global, left: Cond, right: Cond) -> Mem<Cond>
     ensures { IfOk result (λ c. c ≡ cond.Or left right) }
 {
-    let left = Boxed::new(alloc, left)?;
-    let right = Boxed::new(alloc, right)?;
+    let (left, right) = boxes(alloc, left, right)?;
     Ok(Cond::Or(left, right))
 }
 

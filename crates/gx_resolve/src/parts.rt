@@ -58,12 +58,14 @@ fn value_as(kind: Kind, typed: Typed) -> Result<Expr, NameFault>
             if found == kind {
                 Ok(expr)
             } else {
+                drop(expr);
                 Err(NameFault::TypeMismatch)
             }
         }
-        Typed::Cond(_cond) => Err(NameFault::TypeMismatch),
-        Typed::Unknown => Err(NameFault::TypeMismatch),
-        Typed::Mismatch => Err(NameFault::TypeMismatch),
+        other => {
+            drop(other);
+            Err(NameFault::TypeMismatch)
+        }
     }
 }
 
@@ -72,9 +74,10 @@ fn cond_as(typed: Typed) -> Result<Cond, NameFault>
 {
     match typed {
         Typed::Cond(cond) => Ok(cond),
-        Typed::Value(_kind, _expr) => Err(NameFault::TypeMismatch),
-        Typed::Unknown => Err(NameFault::TypeMismatch),
-        Typed::Mismatch => Err(NameFault::TypeMismatch),
+        other => {
+            drop(other);
+            Err(NameFault::TypeMismatch)
+        }
     }
 }
 
