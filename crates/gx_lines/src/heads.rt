@@ -1,14 +1,18 @@
 // Reads heads and lines.
 ghost use Rattle.std.specs.Prelude.{◌≡◌, List};
 ghost use Rattle.gx_grammar.specs.Code.{Gives};
-ghost use Rattle.gx_grammar.specs.Rules.{starts};
+ghost use Rattle.gx_lex.specs.declared.symbol.Symbol.TheVariants as sign;
+ghost use Rattle.gx_grammar.specs.Rules.{starts, behind_at, both_at};
+ghost use Rattle.gx_grammar.specs.Tokens as class;
 ghost use Rattle.gx_grammar.specs.Tokens.{enclosed_at, listed_at};
+ghost use Rattle.gx_lines.specs.Statements.{stmt_at};
 ghost use Rattle.gx_lines.specs.Heads as of;
 
 use crate::classes::{Segments, read_number};
+use crate::joining::{before_sign, paired};
 use crate::query::{Reading, enclosed_name};
 use crate::stmts::stmt;
-use crate::syn::{ColumnSyn, DistSyn, LineSyn, LinkSyn, TableSyn};
+use crate::syn::{ColumnSyn, DistSyn, LineSyn, LinkSyn, StmtSyn, TableSyn};
 use gx_grammar::{
     Limits, Part, ReadError, begins_with_word, is_sign, is_word, read_list, read_one, read_sign,
     read_word,
@@ -55,8 +59,7 @@ fn columns<'a>(alloc: Global, limits: Limits, tokens: &'a [Token]) -> Reading<'a
 {
     let rest = read_sign(Symbol::Open, tokens)?;
     let (columns, rest) = read_list(alloc, limits, rest)?;
-    let rest = read_sign(Symbol::Close, rest)?;
-    Ok((columns, rest))
+    before_sign(columns, Symbol::Close, rest)
 }
 
 fn dist<'a>(alloc: Global, limits: Limits, tokens: &'a [Token]) -> Reading<'a, DistSyn>
@@ -130,14 +133,25 @@ fn end<'a>(tokens: &'a [Token]) -> Reading<'a, Option<()>>
     }
 }
 
+// The statement behind the name of a session.
+fn command<'a>(
+    alloc: Global,
+    limits: Limits,
+    tokens: &'a [Token],
+) -> Reading<'a, (StmtSyn, Option<()>)>
+    ensures { Gives (λ r. (r.0, r.1.now)) result (both_at (behind_at (class.is_sign sign.Colon) (stmt_at limits)) of.end_at tokens.now) }
+{
+    let rest = read_sign(Symbol::Colon, tokens)?;
+    let (stmt, rest) = stmt(alloc, limits, rest)?;
+    paired(stmt, end(rest))
+}
+
 /// Reads the session's line that stands first.
 pub fn session<'a>(alloc: Global, limits: Limits, tokens: &'a [Token]) -> Reading<'a, LineSyn>
     ensures { Gives (λ r. (r.0, r.1.now)) result (of.session_at limits tokens.now) }
 {
     let (name, rest) = read_one(alloc, limits, tokens)?;
-    let rest = read_sign(Symbol::Colon, rest)?;
-    let (stmt, rest) = stmt(alloc, limits, rest)?;
-    let (_end, rest) = end(rest)?;
+    let ((name, (stmt, _end)), rest) = paired(name, command(alloc, limits, rest))?;
     Ok((LineSyn::Session(name, stmt), rest))
 }
 

@@ -3,6 +3,7 @@
 
 pub mod classes;
 pub mod heads;
+mod joining;
 pub mod lines;
 pub mod query;
 pub mod stmts;

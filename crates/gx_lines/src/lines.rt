@@ -36,6 +36,7 @@ fn whole_head(
     if rest.is_empty() {
         Ok(line)
     } else {
+        drop(line);
         Err(ReadError::Fault(Fault::Syntax))
     }
 }
@@ -47,6 +48,7 @@ fn whole_session(alloc: Global, limits: Limits, tokens: &[Token]) -> Result<Line
     if rest.is_empty() {
         Ok(line)
     } else {
+        drop(line);
         Err(ReadError::Fault(Fault::Syntax))
     }
 }

@@ -5,15 +5,16 @@ ghost use Rattle.gx_lex.specs.declared.word.Word.TheVariants as keyword;
 ghost use Rattle.gx_grammar.specs.Code.{Gives};
 ghost use Rattle.gx_grammar.specs.Tokens as class;
 ghost use Rattle.gx_grammar.specs.Tokens.{enclosed_at, listed_at};
-ghost use Rattle.gx_grammar.specs.Rules.{starts, made_at, maybe_at, behind_at, one_at};
+ghost use Rattle.gx_grammar.specs.Rules.{starts, made_at, maybe_at, behind_at, both_at, one_at};
 ghost use Rattle.gx_lines.specs.Classes.{direction_of};
 ghost use Rattle.gx_lines.specs.declared.syn.ItemSyn.TheVariants as item_syn;
 ghost use Rattle.gx_lines.specs.Queries as of;
 
 use crate::classes::{Direction, Size};
+use crate::joining::{before_sign, paired};
 use crate::syn::{ItemSyn, ItemsSyn, KeySyn, SelectSyn};
 use gx_grammar::{
-    Limits, Part, ReadError, begins_with_sign, begins_with_word, is_word, read_list, read_one,
+    Limits, Part, ReadError, Syn, begins_with_sign, begins_with_word, is_word, read_list, read_one,
     read_sign, read_word,
 };
 use gx_ids::Seq;
@@ -29,8 +30,7 @@ pub fn enclosed_name<'a>(alloc: Global, limits: Limits, tokens: &'a [Token]) -> 
 {
     let rest = read_sign(Symbol::Open, tokens)?;
     let (name, rest) = read_one(alloc, limits, rest)?;
-    let rest = read_sign(Symbol::Close, rest)?;
-    Ok((name, rest))
+    before_sign(name, Symbol::Close, rest)
 }
 
 /// `COUNT(*)`.
@@ -217,18 +217,55 @@ fn list_by<'a, T: Part>(
     }
 }
 
+type Ending = (Option<Seq<KeySyn>>, Option<Size>);
+
+type Grouping = (Option<Seq<Txt>>, Ending);
+
+type Filter = (Option<Syn>, Grouping);
+
+type Source = (Txt, Filter);
+
+// ORDER BY and LIMIT.
+fn ending<'a>(alloc: Global, limits: Limits, tokens: &'a [Token]) -> Reading<'a, Ending>
+    ensures { Gives (λ r. (r.0, r.1.now)) result (both_at (of.order_at limits) of.limit_at tokens.now) }
+{
+    let (order, rest) = list_by(Word::Order, alloc, limits, tokens)?;
+    paired(order, part_behind(Word::Limit, alloc, limits, rest))
+}
+
+// GROUP BY and what stands behind it.
+fn grouping<'a>(alloc: Global, limits: Limits, tokens: &'a [Token]) -> Reading<'a, Grouping>
+    ensures { Gives (λ r. (r.0, r.1.now)) result (both_at (of.group_at limits) (both_at (of.order_at limits) of.limit_at) tokens.now) }
+{
+    let (group, rest) = list_by(Word::Group, alloc, limits, tokens)?;
+    paired(group, ending(alloc, limits, rest))
+}
+
+// WHERE and what stands behind it.
+fn filter<'a>(alloc: Global, limits: Limits, tokens: &'a [Token]) -> Reading<'a, Filter>
+    ensures { Gives (λ r. (r.0, r.1.now)) result (both_at (of.where_at limits) (both_at (of.group_at limits) (both_at (of.order_at limits) of.limit_at)) tokens.now) }
+{
+    let (cond, rest) = part_behind(Word::Where, alloc, limits, tokens)?;
+    paired(cond, grouping(alloc, limits, rest))
+}
+
+// FROM and what stands behind it.
+fn source<'a>(alloc: Global, limits: Limits, tokens: &'a [Token]) -> Reading<'a, Source>
+    ensures { Gives (λ r. (r.0, r.1.now)) result (both_at (behind_at (class.is_word keyword.From) (of.name_at limits)) (both_at (of.where_at limits) (both_at (of.group_at limits) (both_at (of.order_at limits) of.limit_at))) tokens.now) }
+{
+    let rest = read_word(Word::From, tokens)?;
+    let (table, rest) = read_one(alloc, limits, rest)?;
+    paired(table, filter(alloc, limits, rest))
+}
+
 /// Reads the SELECT that stands first, and hands back the tokens behind it.
 pub fn select<'a>(alloc: Global, limits: Limits, tokens: &'a [Token]) -> Reading<'a, SelectSyn>
     ensures { Gives (λ r. (r.0, r.1.now)) result (of.select_at limits tokens.now) }
 {
     let rest = read_word(Word::Select, tokens)?;
     let (items, rest) = items(alloc, limits, rest)?;
-    let rest = read_word(Word::From, rest)?;
-    let (table, rest) = read_one(alloc, limits, rest)?;
-    let (cond, rest) = part_behind(Word::Where, alloc, limits, rest)?;
-    let (group, rest) = list_by(Word::Group, alloc, limits, rest)?;
-    let (order, rest) = list_by(Word::Order, alloc, limits, rest)?;
-    let (limit, rest) = part_behind(Word::Limit, alloc, limits, rest)?;
+    let ((items, source), rest) = paired(items, source(alloc, limits, rest))?;
+    let (table, (cond, (group, (order, limit)))) = source;
     Ok((
         SelectSyn {
             items,

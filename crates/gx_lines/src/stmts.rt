@@ -7,6 +7,7 @@ ghost use Rattle.gx_lines.specs.Queries as queries;
 ghost use Rattle.gx_lines.specs.declared.syn.StmtSyn.TheVariants as stmt_syn;
 
 use crate::classes::Strength;
+use crate::joining::before_sign;
 use crate::query::{Reading, part_behind, select};
 use crate::syn::{AssignSyn, StmtSyn, TupleSyn};
 use gx_grammar::{
@@ -100,8 +101,7 @@ impl Part for TupleSyn {
     ) -> Result<(TupleSyn, &'a [Token]), ReadError> {
         let rest = read_sign(Symbol::Open, tokens)?;
         let (values, rest) = read_list(alloc, limits, rest)?;
-        let rest = read_sign(Symbol::Close, rest)?;
-        Ok((TupleSyn { values }, rest))
+        before_sign(TupleSyn { values }, Symbol::Close, rest)
     }
 }
 
