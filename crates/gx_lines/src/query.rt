@@ -251,7 +251,8 @@ fn filter<'a>(alloc: Global, limits: Limits, tokens: &'a [Token]) -> Reading<'a,
 
 // FROM and what stands behind it.
 fn source<'a>(alloc: Global, limits: Limits, tokens: &'a [Token]) -> Reading<'a, Source>
-    ensures { Gives (λ r. (r.0, r.1.now)) result (both_at (behind_at (class.is_word keyword.From) (of.name_at limits)) (both_at (of.where_at limits) (both_at (of.group_at limits) (both_at (of.order_at limits) of.limit_at))) tokens.now) }
+    ensures { Gives (λ r. (r.0, r.1.now)) result (both_at (behind_at (class.is_word keyword.From) (of.name_at limits))
+        (both_at (of.where_at limits) (both_at (of.group_at limits) (both_at (of.order_at limits) of.limit_at))) tokens.now) }
 {
     let rest = read_word(Word::From, tokens)?;
     let (table, rest) = read_one(alloc, limits, rest)?;
