@@ -70,3 +70,18 @@ module _ (g : Gxid) (from to : Node) (steps : List Step) (event : Event) (b : Bo
 -- A SEGMENT'S WORD
 pub sender-same : (a b x y : Node) (m n : ℕ) → event.Receive a b m ≡ event.Receive x y n → a ≡ x
 sender-same a b x y m n e = cc
+
+pub word-noted : (point : Point) (g : Gxid) (c : Cid) (rid : Rid) (image : Option (List Value)) (reason : Cause) (from : Node) → Receives point.steps point.event from the_coordinator (message.Answer g (reply.Failed c reason))
+    → ((place : ℕ) × NotesInStep g c rid image from point.steps place) → IsWord point g c rid image reason
+word-noted point g c rid image reason from said (place, (step, at, (node, (p, (found, there, is))))) = record {
+  segment = from;
+  said = said;
+  place = place;
+  step = step;
+  at = at;
+  node = node;
+  noted = stands-contains step.marks (Fault g c rid image) p (there ∙ ap Some is);
+}
+
+pub noted-by : (point : Point) (g : Gxid) (c : Cid) (rid : Rid) (image : Option (List Value)) (reason : Cause) (from : Node) (w : IsWord point g c rid image reason) → w.segment ≡ from → (place : ℕ) × NotesInStep g c rid image from point.steps place
+noted-by point g c rid image reason from w same = let s = contains-stands w.step.marks (Fault g c rid image) w.noted in (w.place, (w.step, w.at, (w.node ∙ same, (s.0, (Fault g c rid image, s.1, refl)))))

@@ -4,11 +4,9 @@ use Rattle.std.specs.List.{list_any}
 use Rattle.std.specs.Prelude.{unwrap_or}
 use Rattle.gx_ids.specs.declared.ids.Gxid.{Gxid}
 use Rattle.gx_ids.specs.declared.ids.Cid.{Cid}
-use Rattle.gx_ids.specs.declared.ids.Node.{Node}
 use Rattle.gx_ids.specs.declared.ids.Table.{Table}
 use Rattle.gx_ids.specs.declared.rid.Rid.{Rid}
 use Rattle.gx_lemmas.proofs.Numbers.{same-plus-none}
-use Rattle.gx_tree.specs.declared.value.Value.{Value}
 use Rattle.gx_store.proofs.Marks as marks
 use Rattle.gx_store.specs.declared.mark.Mark.{Mark}
 use Rattle.gx_store.specs.declared.mark.Mark.TheVariants.{Hold, Release, Write}
@@ -19,7 +17,7 @@ use Rattle.gx_store.specs.Waits.{claim}
 use Rattle.gx_waits.specs.Claim.{same_claim}
 use Rattle.gx_waits.specs.declared.claim.Claim.{Claim}
 use Rattle.gx_legal.specs.Places.{places_from}
-use Rattle.gx_legal.proofs.Turned.{and-across, and-turned, or-across, or-turned}
+use Rattle.gx_legal.proofs.Turned.{or-across, or-turned}
 use Rattle.gx_legal.specs.Told.{held_after, held_by, held_from}
 
 -- WHO HAS ENDED, AND WHO READS
@@ -35,14 +33,9 @@ snapped-last xs m g c = marks.is_snapped-append xs (m ∷ []) g c ∙ or-turned 
 pub snapshot-last : (xs : List Mark) (m : Mark) (g : Gxid) → has_snapshot (xs ++ m ∷ []) g ≡ (has_snapshot (m ∷ []) g || has_snapshot xs g)
 snapshot-last xs m g = marks.has_snapshot-append xs (m ∷ []) g ∙ or-turned (has_snapshot xs g) (has_snapshot (m ∷ []) g)
 
-pub ruleset tests = (committed-last, aborted-last, snapped-last, snapshot-last)
-
 -- THE WRITES TO A ROW
 pub image-last : (shown : Gxid → Cid → Bool) (table : Table) (rid : Rid) (xs : List Mark) (m : Mark) → image_after shown table rid None (xs ++ m ∷ []) ≡ image_after shown table rid (image_after shown table rid None xs) (m ∷ [])
 image-last shown table rid xs m = marks.image_after-append shown table rid None xs (m ∷ [])
-
-pub image-write : (shown : Gxid → Cid → Bool) (table : Table) (rid : Rid) (image : Option (List Value)) (g : Gxid) (c : Cid) (n : Node) (t : Table) (r : Rid) (written : Option (List Value)) → image_after shown table rid image (Write g c n t r written ∷ []) ≡ (if is_same_rid r rid && ((t.0 == table.0) && shown g c) then written else image)
-image-write shown table rid image g c n t r written = ap (λ (b : Bool). if b then written else image) (and-across (shown g c) (t.0 == table.0) (is_same_rid r rid))
 
 next-place : (k n : ℕ) → k + 1 + n ≡ k + suc n
 next-place k n = omega arith
@@ -57,11 +50,6 @@ last_write-append counts rid k last (m ∷ xs) ys =
 
 pub written-last : (counts : Gxid → Cid → Bool) (rid : Rid) (k : ℕ) (xs : List Mark) (m : Mark) → last_write counts rid k None (xs ++ m ∷ []) ≡ last_write counts rid (k + length xs) (last_write counts rid k None xs) (m ∷ [])
 written-last counts rid k xs m = last_write-append counts rid k None xs (m ∷ [])
-
-pub written-write : (counts : Gxid → Cid → Bool) (rid : Rid) (k : ℕ) (last : Option Written) (g : Gxid) (c : Cid) (n : Node) (t : Table) (r : Rid) (written : Option (List Value)) → last_write counts rid k last (Write g c n t r written ∷ []) ≡ (if is_same_rid r rid && counts g c then Some (record { place = k; gxid = g; cid = c; image = written }) else last)
-written-write counts rid k last g c n t r written = ap (λ (b : Bool). if b then Some (record { place = k; gxid = g; cid = c; image = written }) else last) (and-turned (counts g c) (is_same_rid r rid))
-
-pub ruleset writes = (image-last, image-write, written-last, written-write)
 
 -- SNAPSHOTS
 module _ (q : ℕ → Bool) (test : Mark → Bool) where
@@ -79,8 +67,6 @@ module _ (q : ℕ → Bool) (test : Mark → Bool) where
       by_test : (b : Bool) → found (k + 1) (xs ++ m ∷ []) ≡ ((test m && q (k + suc (length xs))) || found (k + 1) xs) → list_any q (if b then k ∷ places_from test (k + 1) (xs ++ m ∷ []) else places_from test (k + 1) (xs ++ m ∷ [])) ≡ ((test m && q (k + suc (length xs))) || list_any q (if b then k ∷ places_from test (k + 1) xs else places_from test (k + 1) xs))
       by_test true e = ap (λ b. q k || b) e ∙ or-across (q k) (test m && q (k + suc (length xs))) (found (k + 1) xs)
       by_test false e = e
-
-pub ruleset snapshots = (any-places)
 
 -- LOCKS
 held_from-append : (node : ℕ) (wanted : Claim) (held : Bool) (xs ys : List Mark) → held_from node wanted held (xs ++ ys) ≡ held_from node wanted (held_from node wanted held xs) ys
@@ -106,5 +92,3 @@ held-after node wanted held _ = refl
 
 pub held-last : (node : ℕ) (wanted : Claim) (xs : List Mark) (m : Mark) → held_from node wanted false (xs ++ m ∷ []) ≡ unwrap_or (held_by node wanted m) (held_from node wanted false xs)
 held-last node wanted xs m = held_from-append node wanted false xs (m ∷ []) ∙ held-after node wanted (held_from node wanted false xs) m
-
-pub ruleset holds = (held-last)

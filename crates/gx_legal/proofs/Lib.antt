@@ -3,6 +3,8 @@ pub mod Equal
 pub mod Views
 pub mod Turned
 pub mod Lasts
+pub mod Backward
+pub mod Along
 pub mod Gathered
 pub mod Snapshots
 pub mod Selections

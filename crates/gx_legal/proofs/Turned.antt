@@ -1,5 +1,5 @@
 -- Tests in another order; each lemma by its left side.
-use Rattle.std.proofs.Common.{◌≡◌, ◌&&◌, ◌||◌, Bool, true, false, refl, sym, ap}
+use Rattle.std.proofs.Common.{◌≡◌, ◌||◌, Bool, true, false, refl, sym, ap}
 
 pub or-turned : (a b : Bool) → (a || b) ≡ (b || a)
 or-turned true true = refl
@@ -16,20 +16,3 @@ or-across false b c = refl
 pub or-twice : (a b c : Bool) → a ≡ b → (a || (b || c)) ≡ (a || c)
 or-twice true b c e = refl
 or-twice false b c e = ap (λ t. t || c) (sym e)
-
-pub and-turned : (a b : Bool) → (a && b) ≡ (b && a)
-and-turned true true = refl
-and-turned true false = refl
-and-turned false true = refl
-and-turned false false = refl
-
--- the first and the last of three change places
-pub and-across : (a b c : Bool) → (a && (b && c)) ≡ (c && (b && a))
-and-across true true true = refl
-and-across true true false = refl
-and-across true false true = refl
-and-across true false false = refl
-and-across false true true = refl
-and-across false true false = refl
-and-across false false true = refl
-and-across false false false = refl

@@ -32,7 +32,6 @@ pub fn changes(
     Ok(holds)
 }
 
-#[tactic(auto, using(crate::proofs::Lasts::snapshots))]
 pub(crate) fn has_changed(
     alloc: Global,
     marks: &[Mark],
@@ -46,8 +45,10 @@ pub(crate) fn has_changed(
     if count != write_count(marks, command.gxid, command.cid) as u128 {
         return Ok(false);
     }
-    for (place, mark) in marks.iter().enumerate().rev() {
-        if is_snapshot(mark, command) && is_done_at(alloc, marks, command, table, cond, place)? {
+    for place in (0..marks.len()).rev() {
+        if is_snapshot(&marks[place], command)
+            && is_done_at(alloc, marks, command, table, cond, place)?
+        {
             return Ok(true);
         }
     }

@@ -118,7 +118,6 @@ fn is_condition_fault(
 }
 
 // Whether the condition faults on what the command sees of the row, by one of its snapshots.
-#[tactic(auto, using(crate::proofs::Lasts::snapshots))]
 fn is_seen_fault(
     alloc: Global,
     marks: &[Mark],
@@ -129,8 +128,8 @@ fn is_seen_fault(
     ensures { IfOk result (λ holds. holds ≡ may_be_seen marks.now choice.entry.command.level choice.entry.command.gxid choice.entry.command.cid
         choice.entry.table choice.entry.cond.now choice.entry.rid image.now fault) }
 {
-    for (place, mark) in marks.iter().enumerate().rev() {
-        if is_snapshot(mark, choice.command)
+    for place in (0..marks.len()).rev() {
+        if is_snapshot(&marks[place], choice.command)
             && is_fault_at(alloc, marks, choice, image, fault, place)?
         {
             return Ok(true);

@@ -28,12 +28,11 @@ fn is_held_below(marks: &[Mark], wanted: &Claim, nodes: usize) -> bool
     held
 }
 
-#[tactic(auto, using(crate::proofs::Lasts::holds))]
 fn is_held(marks: &[Mark], node: usize, wanted: &Claim) -> bool
     ensures { result ≡ held_from node wanted.now false marks.now }
 {
-    for mark in marks.iter().rev() {
-        if let Some(held) = held_by(node, wanted, mark) {
+    for place in (0..marks.len()).rev() {
+        if let Some(held) = held_by(node, wanted, &marks[place]) {
             return held;
         }
     }

@@ -10,12 +10,11 @@ use gx_store::Mark;
 use gx_tree::Level;
 
 /// Whether the transaction has committed.
-#[tactic(auto, using(crate::proofs::Lasts::tests))]
 pub fn is_committed(marks: &[Mark], gxid: Gxid) -> bool
     ensures { result ≡ has_committed marks.now gxid }
 {
-    for mark in marks.iter().rev() {
-        if is_commit(mark, gxid) {
+    for place in (0..marks.len()).rev() {
+        if is_commit(&marks[place], gxid) {
             return true;
         }
     }
@@ -32,12 +31,11 @@ fn is_commit(mark: &Mark, gxid: Gxid) -> bool
 }
 
 /// Whether the transaction has aborted.
-#[tactic(auto, using(crate::proofs::Lasts::tests))]
 pub fn is_aborted(marks: &[Mark], gxid: Gxid) -> bool
     ensures { result ≡ has_aborted marks.now gxid }
 {
-    for mark in marks.iter().rev() {
-        if is_abort(mark, gxid) {
+    for place in (0..marks.len()).rev() {
+        if is_abort(&marks[place], gxid) {
             return true;
         }
     }
@@ -63,12 +61,11 @@ pub fn has_own_snapshot(marks: &[Mark], command: Command) -> bool
     }
 }
 
-#[tactic(auto, using(crate::proofs::Lasts::tests))]
 fn is_snapped(marks: &[Mark], gxid: Gxid, cid: Cid) -> bool
     ensures { result ≡ was_snapped marks.now gxid cid }
 {
-    for mark in marks.iter().rev() {
-        if is_own_snap(mark, gxid, cid) {
+    for place in (0..marks.len()).rev() {
+        if is_own_snap(&marks[place], gxid, cid) {
             return true;
         }
     }
@@ -88,12 +85,11 @@ fn is_own_snap(mark: &Mark, gxid: Gxid, cid: Cid) -> bool
     }
 }
 
-#[tactic(auto, using(crate::proofs::Lasts::tests))]
 fn has_snapshot(marks: &[Mark], gxid: Gxid) -> bool
     ensures { result ≡ is_read_by marks.now gxid }
 {
-    for mark in marks.iter().rev() {
-        if is_snap(mark, gxid) {
+    for place in (0..marks.len()).rev() {
+        if is_snap(&marks[place], gxid) {
             return true;
         }
     }

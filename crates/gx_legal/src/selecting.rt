@@ -81,13 +81,14 @@ pub(crate) fn image_at<'a>(marks: &'a [Mark], choice: Choice<'_>, place: usize) 
 }
 
 /// Whether the command has selected the row by one of its snapshots.
-#[tactic(auto, using(crate::proofs::Lasts::snapshots))]
 pub(crate) fn is_selected(alloc: Global, marks: &[Mark], choice: Choice<'_>) -> Mem<bool>
     ensures { IfOk result (λ holds. holds ≡ has_selected marks.now choice.entry.command.level choice.entry.command.gxid choice.entry.command.cid
         choice.entry.table choice.entry.cond.now choice.entry.rid) }
 {
-    for (place, mark) in marks.iter().enumerate().rev() {
-        if is_snapshot(mark, choice.command) && is_chosen_at(alloc, marks, choice, place)? {
+    for place in (0..marks.len()).rev() {
+        if is_snapshot(&marks[place], choice.command)
+            && is_chosen_at(alloc, marks, choice, place)?
+        {
             return Ok(true);
         }
     }
@@ -95,7 +96,6 @@ pub(crate) fn is_selected(alloc: Global, marks: &[Mark], choice: Choice<'_>) -> 
 }
 
 /// Whether the command has selected the row by a snapshot by which it may change it from this current write and its image.
-#[tactic(auto, using(crate::proofs::Lasts::snapshots))]
 pub(crate) fn is_changeable(
     alloc: Global,
     marks: &[Mark],
@@ -106,8 +106,8 @@ pub(crate) fn is_changeable(
     ensures { IfOk result (λ holds. holds ≡ may_change marks.now choice.entry.command.level choice.entry.command.gxid choice.entry.command.cid
         choice.entry.table choice.entry.cond.now choice.entry.rid (written_of write.entry) old.now) }
 {
-    for (place, mark) in marks.iter().enumerate().rev() {
-        if is_snapshot(mark, choice.command)
+    for place in (0..marks.len()).rev() {
+        if is_snapshot(&marks[place], choice.command)
             && is_changeable_at(alloc, marks, choice, write, old, place)?
         {
             return Ok(true);
@@ -171,7 +171,6 @@ fn is_write(shown: Option<Writing<'_>>, write: Writing<'_>) -> bool
 }
 
 /// Whether the command has selected the row by a snapshot that doesn't see that the transaction has committed.
-#[tactic(auto, using(crate::proofs::Lasts::snapshots))]
 pub(crate) fn is_unseen(
     alloc: Global,
     marks: &[Mark],
@@ -181,8 +180,10 @@ pub(crate) fn is_unseen(
     ensures { IfOk result (λ holds. holds ≡ was_unseen marks.now choice.entry.command.level choice.entry.command.gxid choice.entry.command.cid
         choice.entry.table choice.entry.cond.now choice.entry.rid writer) }
 {
-    for (place, mark) in marks.iter().enumerate().rev() {
-        if is_snapshot(mark, choice.command) && is_unseen_at(alloc, marks, choice, writer, place)? {
+    for place in (0..marks.len()).rev() {
+        if is_snapshot(&marks[place], choice.command)
+            && is_unseen_at(alloc, marks, choice, writer, place)?
+        {
             return Ok(true);
         }
     }

@@ -15,7 +15,6 @@ use gx_tree::{Cell, Cond, KeyedRow, OutRow, Query};
 use std::alloc::Global;
 
 /// Whether by one of the command's snapshots the query has this answer, and its condition faults on none of the rows.
-#[tactic(auto, using(crate::proofs::Lasts::snapshots))]
 pub(crate) fn has_shown(
     alloc: Global,
     marks: &[Mark],
@@ -25,8 +24,10 @@ pub(crate) fn has_shown(
 ) -> Mem<bool>
     ensures { IfOk result (λ holds. holds ≡ did_show marks.now command.level command.gxid command.cid query.now answer.now) }
 {
-    for (place, mark) in marks.iter().enumerate().rev() {
-        if is_snapshot(mark, command) && is_shown_at(alloc, marks, command, query, answer, place)? {
+    for place in (0..marks.len()).rev() {
+        if is_snapshot(&marks[place], command)
+            && is_shown_at(alloc, marks, command, query, answer, place)?
+        {
             return Ok(true);
         }
     }

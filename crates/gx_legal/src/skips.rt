@@ -33,13 +33,12 @@ fn is_skip(alloc: Global, marks: &[Mark], command: Command, stmt: &Stmt, rid: Ri
         Stmt::Update(table, _, cond) => is_first_skip(
             alloc,
             marks,
-            choice_of(command, *table, cond.get(), rid),
+            command,
+            *table,
+            cond.get(),
+            rid,
         ),
-        Stmt::Delete(table, cond) => is_first_skip(
-            alloc,
-            marks,
-            choice_of(command, *table, cond.get(), rid),
-        ),
+        Stmt::Delete(table, cond) => is_first_skip(alloc, marks, command, *table, cond.get(), rid),
         _ => Ok(false),
     }
 }
@@ -58,13 +57,26 @@ pub(crate) fn choice_of(command: Command, table: Table, cond: &Option<Cond>, rid
     }
 }
 
-fn is_first_skip(alloc: Global, marks: &[Mark], choice: Choice<'_>) -> Mem<bool>
-    ensures { IfOk result (λ holds. holds ≡ (not (was_processed marks.now choice.entry.command.gxid choice.entry.command.cid choice.entry.rid)
-        && was_skipped marks.now choice.entry.command.level choice.entry.command.gxid choice.entry.command.cid choice.entry.table choice.entry.cond.now choice.entry.rid)) }
+fn is_first_skip(
+    alloc: Global,
+    marks: &[Mark],
+    command: Command,
+    table: Table,
+    cond: &Option<Cond>,
+    rid: Rid,
+) -> Mem<bool>
+    ensures { IfOk result (λ holds. holds ≡ (not (was_processed marks.now command.gxid command.cid rid)
+        && was_skipped marks.now command.level command.gxid command.cid table cond.now rid)) }
 {
-    if is_processed(marks, choice.command.gxid, choice.command.cid, choice.rid) {
+    if is_processed(marks, command.gxid, command.cid, rid) {
         return Ok(false);
     }
+    let choice = Choice {
+        command,
+        table,
+        cond,
+        rid,
+    };
     is_skipped(alloc, marks, choice)
 }
 

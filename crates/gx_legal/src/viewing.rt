@@ -1,5 +1,5 @@
 // The rows that a reader is shown.
-ghost use Rattle.std.specs.Prelude.{◌≡◌, [], IfOk};
+ghost use Rattle.std.specs.Prelude.{◌≡◌, ◌++◌, [], IfOk, OnOk};
 ghost use Rattle.gx_store.specs.View.{IsView};
 ghost use Rattle.gx_legal.specs.Viewed.{images_from, is_seen_by, listed, view_rows};
 
@@ -38,6 +38,26 @@ fn last_images(
     ensures { IfOk result (λ images. images.entries ≡ images_from (is_seen_by reader committed.now) table [] marks.now) }
 {
     let mut images = BTreeMap::new(alloc);
+    match add_images(alloc, marks, committed, reader, table, &mut images) {
+        Ok(()) => Ok(images),
+        Err(fault) => {
+            drop(images);
+            Err(fault)
+        }
+    }
+}
+
+// What the marks leave of the rows, in place of what earlier ones left.
+fn add_images(
+    alloc: Global,
+    marks: &[Mark],
+    committed: &BTreeSet<Gxid>,
+    reader: Option<(Gxid, Cid)>,
+    table: Table,
+    images: &mut BTreeMap<Rid, Option<Row>>,
+) -> Mem<()>
+    ensures { OnOk result (images.new.entries ≡ images_from (is_seen_by reader committed.now) table images.old.entries marks.now) }
+{
     for mark in marks {
         if let Mark::Write {
             gxid,
@@ -49,11 +69,11 @@ fn last_images(
         } = mark
         {
             if *written == table && is_seen(committed, reader, *gxid, *cid) {
-                images.insert(*rid, image.copy(alloc)?)?;
+                drop(images.insert(*rid, image.copy(alloc)?)?);
             }
         }
     }
-    Ok(images)
+    Ok(())
 }
 
 // Whether a reader that sees who has committed is shown the writes of a command.
@@ -70,6 +90,22 @@ fn rows_of(alloc: Global, images: &BTreeMap<Rid, Option<Row>>) -> Mem<Vec<KeyedR
     ensures { IfOk result (λ rows. rows.items ≡ listed images.now.entries) }
 {
     let mut rows = Vec::new(alloc);
+    match push_rows(alloc, images, &mut rows) {
+        Ok(()) => Ok(rows),
+        Err(fault) => {
+            drop(rows);
+            Err(fault)
+        }
+    }
+}
+
+fn push_rows(
+    alloc: Global,
+    images: &BTreeMap<Rid, Option<Row>>,
+    rows: &mut Vec<KeyedRow>,
+) -> Mem<()>
+    ensures { OnOk result (rows.new.items ≡ rows.old.items ++ listed images.now.entries) }
+{
     for (rid, image) in images {
         if let Some(row) = image {
             rows.push(KeyedRow {
@@ -78,5 +114,5 @@ fn rows_of(alloc: Global, images: &BTreeMap<Rid, Option<Row>>) -> Mem<Vec<KeyedR
             })?;
         }
     }
-    Ok(rows)
+    Ok(())
 }

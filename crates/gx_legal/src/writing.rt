@@ -1,8 +1,9 @@
 // The writes to a row: the image that a reader is shown, and the last write that counts.
-ghost use Rattle.std.specs.Prelude.{◌≡◌, None, Some, take};
+ghost use Rattle.std.specs.Prelude.{◌≡◌, ◌∷◌, [], List, Option, None, Some, take, unwrap_or};
 ghost use Rattle.std.specs.Option.{option_copied, option_map};
-ghost use Rattle.gx_store.specs.View.{image as image_of, is_shown_to};
-ghost use Rattle.gx_store.specs.Writes.{current as current_of, last_write as last_of};
+ghost use Rattle.gx_tree.specs.declared.value.Value.{Value as OneValue};
+ghost use Rattle.gx_store.specs.View.{image as image_of, image_after, is_shown_to};
+ghost use Rattle.gx_store.specs.Writes.{Written, current as current_of, last_write as last_of};
 ghost use Rattle.gx_legal.specs.Selected.{free_write as free_of, if_free as filtered, is_same_write as same_writes};
 ghost use Rattle.gx_legal.specs.Written.{counts_for, written_of};
 
@@ -43,7 +44,6 @@ fn is_shown(before: &[Mark], reader: Option<(Gxid, Cid)>, gxid: Gxid, cid: Cid) 
 }
 
 /// The row's image for a reader whose point has the marks `before`.
-#[tactic(auto, using(crate::proofs::Lasts::writes))]
 pub(crate) fn image<'a>(
     marks: &'a [Mark],
     before: &[Mark],
@@ -53,22 +53,38 @@ pub(crate) fn image<'a>(
 ) -> Option<&'a Row>
     ensures { option_copied result ≡ image_of marks.now before.now reader table rid }
 {
-    for mark in marks.iter().rev() {
-        if let Mark::Write {
+    for place in (0..marks.len()).rev() {
+        if let Some(image) = shown_image(&marks[place], before, reader, table, rid) {
+            return image.as_ref();
+        }
+    }
+    None
+}
+
+// The image that the mark leaves of the row, where it writes it and the reader is shown that.
+fn shown_image<'a>(
+    mark: &'a Mark,
+    before: &[Mark],
+    reader: Option<(Gxid, Cid)>,
+    table: Table,
+    rid: Rid,
+) -> Option<&'a Option<Row>>
+    ensures { (last : Option (List OneValue)) → image_after (is_shown_to reader before.now) table rid last (mark.now ∷ []) ≡ unwrap_or (option_copied result) last }
+{
+    match mark {
+        Mark::Write {
             gxid,
             cid,
             table: written,
             rid: row,
             image,
             ..
-        } = mark
-        {
-            if *row == rid && *written == table && is_shown(before, reader, *gxid, *cid) {
-                return image.as_ref();
-            }
+        } => {
+            let shown = *row == rid && *written == table && is_shown(before, reader, *gxid, *cid);
+            shown.then_some(image)
         }
+        _ => None,
     }
-    None
 }
 
 /// The row's current write.
@@ -79,7 +95,6 @@ pub(crate) fn current(marks: &[Mark], rid: Rid) -> Option<Writing<'_>>
 }
 
 /// The last of the writes to the row that the reader is shown; with no reader, of those whose transactions haven't aborted.
-#[tactic(auto, using(crate::proofs::Lasts::writes))]
 pub(crate) fn last_write<'a>(
     marks: &'a [Mark],
     before: &[Mark],
@@ -88,26 +103,42 @@ pub(crate) fn last_write<'a>(
 ) -> Option<Writing<'a>>
     ensures { option_map written_of result ≡ last_of (counts_for reader before.now) rid 0 None marks.now }
 {
-    for (place, mark) in marks.iter().enumerate().rev() {
-        if let Mark::Write {
+    for place in (0..marks.len()).rev() {
+        if let Some(write) = write_at(&marks[place], place, before, reader, rid) {
+            return Some(write);
+        }
+    }
+    None
+}
+
+// The mark at the place as a write, where it writes the row and counts.
+fn write_at<'a>(
+    mark: &'a Mark,
+    place: usize,
+    before: &[Mark],
+    reader: Option<(Gxid, Cid)>,
+    rid: Rid,
+) -> Option<Writing<'a>>
+    ensures { (last : Option Written) → last_of (counts_for reader before.now) rid place last (mark.now ∷ []) ≡ unwrap_or (option_map (λ w. Some (written_of w)) result) last }
+{
+    match mark {
+        Mark::Write {
             gxid,
             cid,
             rid: row,
             image,
             ..
-        } = mark
-        {
-            if *row == rid && counts(before, reader, *gxid, *cid) {
-                return Some(Writing {
-                    place,
-                    gxid: *gxid,
-                    cid: *cid,
-                    image,
-                });
-            }
+        } => {
+            let counted = *row == rid && counts(before, reader, *gxid, *cid);
+            counted.then_some(Writing {
+                place,
+                gxid: *gxid,
+                cid: *cid,
+                image,
+            })
         }
+        _ => None,
     }
-    None
 }
 
 fn counts(before: &[Mark], reader: Option<(Gxid, Cid)>, gxid: Gxid, cid: Cid) -> bool

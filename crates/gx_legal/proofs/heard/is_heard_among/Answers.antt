@@ -9,6 +9,11 @@ use Rattle.gx_legal.proofs.Sessions.{no-longer}
 use Rattle.gx_legal.specs.Words.{IsHeardAt, IsHeardOf}
 use Rattle.gx_legal.proofs.heard.is_heard_among.Goals as goal
 
+pub returns-then-is_heard_of : goal.returns-then-is_heard_of
+returns-then-is_heard_of c =
+    let at = slice_get_read c.args.marks.now (length c.args.marks.now) c.loop-mark.mark-index c.mark-item.result refl c.loop-mark-test.true c.mark-item.is in
+    (λ t. (c.loop-mark.mark-index, (c.mark-item.result, at, c.is_heard_of.ensures.0 c.if-is_heard_of.true)), λ by. refl)
+
 pub loop-mark-preserved : goal.loop-mark-preserved
 loop-mark-preserved c =
     let r = c.args.report in

@@ -10,6 +10,11 @@ use Rattle.gx_legal.proofs.Sessions.{no-longer}
 use Rattle.gx_legal.specs.Words.{ReceivesAt}
 use Rattle.gx_legal.proofs.heard.is_received.Goals as goal
 
+pub returns-then-is_receipt : goal.returns-then-is_receipt
+returns-then-is_receipt c =
+    let at = slice_get_read c.args.steps.now (length c.args.steps.now) c.loop-step.step-index c.step-item.result refl c.loop-step-test.true c.step-item.is in
+    (λ t. (c.loop-step.step-index, (c.step-item.result, at, c.is_receipt.ensures.0 c.if-is_receipt.true)), λ by. refl)
+
 pub loop-step-preserved : goal.loop-step-preserved
 loop-step-preserved c =
     let r = c.args.report in

@@ -1,6 +1,6 @@
-use Rattle.std.proofs.Common.{◌≡◌}
+use Rattle.std.proofs.Common.{◌≡◌, take}
 use Rattle.gx_store.specs.Marks.{is_committed}
 use Rattle.gx_legal.proofs.marks.is_committed.Given as goal
 
-abbrev pub invariant-loop-mark : goal.invariant-loop-mark
-invariant-loop-mark l = is_committed l.mark-iterator.iter.rest.now l.gxid ≡ is_committed l.marks l.gxid
+abbrev pub invariant-loop-place : goal.invariant-loop-place
+invariant-loop-place l = is_committed (take l.place l.marks) l.gxid ≡ is_committed l.marks l.gxid

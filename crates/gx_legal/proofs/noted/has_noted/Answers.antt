@@ -9,6 +9,11 @@ use Rattle.gx_legal.proofs.Sessions.{no-longer}
 use Rattle.gx_legal.specs.Causes.{NotesIn, NotesInStep}
 use Rattle.gx_legal.proofs.noted.has_noted.Goals as goal
 
+pub returns-then-is_note_in : goal.returns-then-is_note_in
+returns-then-is_note_in c =
+    let at = slice_get_read c.args.steps.now (length c.args.steps.now) c.loop-step.step-index c.step-item.result refl c.loop-step-test.true c.step-item.is in
+    (λ t. (c.loop-step.step-index, (c.step-item.result, at, c.is_note_in.ensures.0 c.if-is_note_in.true)), λ by. refl)
+
 pub loop-step-preserved : goal.loop-step-preserved
 loop-step-preserved c =
     let Q : Step → Type 0 = NotesIn c.args.evaluation.gxid c.args.evaluation.cid c.args.evaluation.rid c.args.evaluation.image.now c.args.node in

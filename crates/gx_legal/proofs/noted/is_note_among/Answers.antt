@@ -10,6 +10,11 @@ use Rattle.gx_store.specs.declared.mark.Mark.TheVariants.{Fault}
 use Rattle.gx_legal.specs.Causes.{StandsAt}
 use Rattle.gx_legal.proofs.noted.is_note_among.Goals as goal
 
+pub returns-then-is_note : goal.returns-then-is_note
+returns-then-is_note c =
+    let at = slice_get_read c.args.marks.now (length c.args.marks.now) c.loop-mark.mark-index c.mark-item.result refl c.loop-mark-test.true c.mark-item.is in
+    (λ t. (c.loop-mark.mark-index, (c.mark-item.result, at, c.is_note.ensures.0 c.if-is_note.true)), λ by. refl)
+
 pub loop-mark-preserved : goal.loop-mark-preserved
 loop-mark-preserved c =
     let Q : Mark → Type 0 = λ m. m ≡ Fault c.args.evaluation.gxid c.args.evaluation.cid c.args.evaluation.rid c.args.evaluation.image.now in

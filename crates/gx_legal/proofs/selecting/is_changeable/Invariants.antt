@@ -1,4 +1,4 @@
-use Rattle.std.proofs.Common.{◌≡◌}
+use Rattle.std.proofs.Common.{◌≡◌, take}
 use Rattle.std.specs.List.{list_any}
 use Rattle.gx_legal.specs.Places.{is_snapshot, places_from}
 use Rattle.gx_legal.specs.Selected.{is_changeable, is_changeable_at}
@@ -9,5 +9,5 @@ abbrev pub invariant-loop-place : goal.invariant-loop-place
 invariant-loop-place l =
     let k = l.choice.command in
     let c = l.choice in
-    list_any (is_changeable_at l.marks k.level k.gxid k.cid c.table c.cond.now c.rid (written_of l.write) l.old) (places_from (is_snapshot k.level k.gxid k.cid) l.place-iterator.iter.count l.place-iterator.iter.iter.rest.now)
+    list_any (is_changeable_at l.marks k.level k.gxid k.cid c.table c.cond.now c.rid (written_of l.write) l.old) (places_from (is_snapshot k.level k.gxid k.cid) 0 (take l.place l.marks))
     ≡ is_changeable l.marks k.level k.gxid k.cid c.table c.cond.now c.rid (written_of l.write) l.old

@@ -8,6 +8,14 @@ use Rattle.gx_legal.proofs.Sessions.{no-longer}
 use Rattle.gx_legal.specs.Words.{SendsIn, SendsInStep}
 use Rattle.gx_legal.proofs.word.is_sent.Goals as goal
 
+pub returns-then-is_sent_in : goal.returns-then-is_sent_in
+returns-then-is_sent_in c =
+    let ss = c.args.steps.now in
+    let k = c.loop-place.place - 1 in
+    let s = c.index-steps-place.result in
+    let at : slice_get ss k ≡ Some s = slice_get_read ss (length ss) k s refl (omega (arith, c.loop-place-test.true, c.loop-place.auto.place)) c.index-steps-place.is in
+    (λ t. (k, (s, at, c.is_sent_in.ensures.0 c.if-is_sent_in.true)), λ by. refl)
+
 pub loop-place-preserved : goal.loop-place-preserved
 loop-place-preserved c =
     let r = c.args.report in

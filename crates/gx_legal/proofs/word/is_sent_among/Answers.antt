@@ -9,6 +9,11 @@ use Rattle.gx_legal.proofs.Sessions.{no-longer}
 use Rattle.gx_legal.specs.Words.{Sends, SendsAt}
 use Rattle.gx_legal.proofs.word.is_sent_among.Goals as goal
 
+pub returns-then-sends : goal.returns-then-sends
+returns-then-sends c =
+    let at = slice_get_read c.args.marks.now (length c.args.marks.now) c.loop-mark.mark-index c.mark-item.result refl c.loop-mark-test.true c.mark-item.is in
+    (λ t. (c.loop-mark.mark-index, (c.mark-item.result, at, c.sends.ensures.0 c.if-sends.true)), λ by. refl)
+
 pub loop-mark-preserved : goal.loop-mark-preserved
 loop-mark-preserved c =
     let Q : Mark → Type 0 = Sends c.args.report.gxid c.args.report.word c.args.report.to c.args.number in

@@ -1,7 +1,0 @@
-use Rattle.std.proofs.Common.{◌≡◌, [], drop}
-use Rattle.gx_legal.specs.Viewed.{images_from, is_seen_by}
-use Rattle.gx_legal.proofs.viewing.last_images.Given as goal
-
-abbrev pub invariant-loop-mark : goal.invariant-loop-mark
-invariant-loop-mark l =
-    images_from (is_seen_by l.reader l.committed) l.table l.images.entries (drop l.mark-index l.marks) ≡ images_from (is_seen_by l.reader l.committed) l.table [] l.marks

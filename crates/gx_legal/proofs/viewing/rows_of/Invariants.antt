@@ -1,6 +1,0 @@
-use Rattle.std.proofs.Common.{◌≡◌, ◌++◌}
-use Rattle.gx_legal.specs.Viewed.{listed}
-use Rattle.gx_legal.proofs.viewing.rows_of.Given as goal
-
-abbrev pub invariant-loop-rid : goal.invariant-loop-rid
-invariant-loop-rid l = l.rows.items ++ listed l.rid-iterator ≡ listed l.images.entries
