@@ -19,8 +19,8 @@ returns-in-Core-clause-freed c =
     ok_then c.free-in-Core.result (λ still there. λ p needs none.
     ⊎_elim
     (λ (n : need_of c.args.edge.now ≡ p).
-      let is = c.needed_by.ensures ∙ n in
-      still p (subst (λ q. Contains c.free.new.self.freed.items q) is (c.in_ok-free.ensures.there (subst (λ q. count_at c.args.self.now.tally q ≡ 0) (sym is) none))))
+    let is = c.needed_by.ensures ∙ n in
+    still p (subst (λ q. Contains c.free.new.self.freed.items q) is (c.in_ok-free.ensures.there (subst (λ q. count_at c.args.self.now.tally q ≡ 0) (sym is) none))))
     (λ s. subst (λ q. Contains c.free-in-Core.new.self.freed.items q) s (there (ap (λ t. count_at t awaited) c.free.ensures.tally ∙ subst (λ q. count_at c.args.self.now.tally q ≡ 0) (sym s) none)))
     (subst (λ a. Needs a c.args.edge.now p) c.in-Core.is needs))
     c.free-in-Core.ensures.still_freed c.free-in-Core.ensures.there
