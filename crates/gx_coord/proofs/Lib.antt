@@ -31,5 +31,6 @@ pub mod Started
 pub mod Unfinished
 pub mod Sent
 pub mod Graphs
+pub mod Quiet
 pub mod Cancelled
 pub mod Stepped

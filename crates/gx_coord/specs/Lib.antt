@@ -1,6 +1,7 @@
 pub mod Books
 pub mod Steps
 pub mod Turns
+pub mod Own
 pub mod Locking
 pub mod Sound
 pub mod Faults

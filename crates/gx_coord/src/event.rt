@@ -1,11 +1,12 @@
 // One event, before its messages are numbered.
-ghost use Rattle.std.specs.Prelude.{◌≡◌, ◌≤◌, ◌<◌, ◌∷◌, ◌^◌, [], length, true, IfOk, OnOk};
+ghost use Rattle.std.specs.Prelude.{◌≡◌, ◌≤◌, ◌<◌, ◌∷◌, ◌^◌, [], length, true, false, IfOk, OnOk};
 ghost use Rattle.gx_store.specs.Language.{IsScript};
 ghost use Rattle.gx_outside.specs.Shelves.{IsLater};
 ghost use Rattle.gx_node.specs.Orders.{Took};
 ghost use Rattle.gx_rules.specs.AtCoordinator as turns;
 ghost use Rattle.gx_rules.specs.Rounds.{victims_at};
 ghost use Rattle.gx_coord.specs.Books.{coord_of};
+ghost use Rattle.gx_coord.specs.Own.{IsOwn};
 ghost use Rattle.gx_coord.specs.Places.{AreIndexed};
 ghost use Rattle.gx_coord.specs.Sound.{IsSmall, IsSound};
 ghost use Rattle.gx_coord.specs.Turns.{CanEnd, IsTurn};
@@ -73,6 +74,38 @@ pub(crate) fn end(
     }
 }
 
+// What doesn't come in an envelope leaves the journal alone and names nobody.
+fn take_own(
+    alloc: Global,
+    script: &Script,
+    coord: &mut Coord,
+    event: &NodeEvent,
+    marks: &mut Vec<Mark>,
+) -> Mem<Seq<Out>>
+    requires same { coord.old.script.value ≡ script.now }
+    requires language { IsScript script.now }
+    requires places { AreIndexed script.now.lines (length script.now.sessions) coord.old.places.items }
+    requires sound { IsSound script.now (coord_of coord.old) }
+    requires drawn { coord.old.dtx.next.0 ≤ 2 ^ 62 }
+    requires sessions { length coord.old.sessions.items ≡ length script.now.sessions }
+    requires segments { coord.old.detector.segments ≡ script.now.segments }
+    requires rounds { coord.old.detector.begun < 2 ^ 62 }
+    requires admitted { turns.coord_can script.now (coord_of coord.old) event.now ≡ true }
+    requires own { IsOwn event.now }
+    ensures turn { OnOk result (IsTurn coord.old coord.new marks.old.items marks.new.items (turns.on_event script.now (coord_of coord.old) event.now false)) }
+    ensures outs { IfOk result (λ outs. outs ≡ (turns.on_event script.now (coord_of coord.old) event.now false).outs) }
+{
+    match event {
+        NodeEvent::Deliver { .. } => unreachable!(),
+        NodeEvent::Start(id) => start(alloc, script, coord, *id, marks),
+        NodeEvent::End(id) => end(alloc, coord, *id, marks),
+        NodeEvent::Resend(node, Some(gxid)) => resend(alloc, coord, *node, *gxid),
+        NodeEvent::Resend(node, None) => collect_again(alloc, coord, *node),
+        NodeEvent::Resume(gxid) => resume(alloc, script, coord, *gxid, marks),
+        NodeEvent::Round => begin_round(script, coord),
+    }
+}
+
 // An event by its kind. What comes in an envelope isn't told by its number or its clock.
 pub(crate) fn take_event<J: Journal>(
     alloc: Global,
@@ -103,33 +136,10 @@ pub(crate) fn take_event<J: Journal>(
             let Envelope { message, .. } = envelope;
             take_message(alloc, script, coord, from, message, journal, marks)
         }
-        NodeEvent::Start(id) => {
-            drop(event);
-            let outs = start(alloc, script, coord, id, marks)?;
-            Ok(plain(alloc, outs))
-        }
-        NodeEvent::End(id) => {
-            drop(event);
-            let outs = end(alloc, coord, id, marks)?;
-            Ok(plain(alloc, outs))
-        }
-        NodeEvent::Resend(node, of) => {
-            drop(event);
-            let outs = match of {
-                Some(gxid) => resend(alloc, coord, node, gxid)?,
-                None => collect_again(alloc, coord, node)?,
-            };
-            Ok(plain(alloc, outs))
-        }
-        NodeEvent::Resume(gxid) => {
-            drop(event);
-            let outs = resume(alloc, script, coord, gxid, marks)?;
-            Ok(plain(alloc, outs))
-        }
-        NodeEvent::Round => {
-            drop(event);
-            let outs = begin_round(script, coord)?;
-            Ok(plain(alloc, outs))
+        own => {
+            let outs = take_own(alloc, script, coord, &own, marks);
+            drop(own);
+            Ok(plain(alloc, outs?))
         }
     }
 }

@@ -15,7 +15,7 @@ use crate::coord::Coord;
 use crate::rechecking::hear;
 use crate::replies::{Done, is_asked, is_done, is_taken, note_done, refuse};
 use crate::statuses::{Turned, take_status};
-use gx_ids::{Cid, Gxid, Mem, Node, Seq, Shared};
+use gx_ids::{Cid, Gxid, Mem, Node, Seq};
 use gx_msg::{Cause, Message, Out, Reply};
 use gx_outside::Journal;
 use gx_script::Script;
@@ -52,21 +52,20 @@ fn take_done(
     gxid: Gxid,
     node: Node,
     done: Done,
-    part: Shared<Part>,
+    part: &Part,
     marks: &mut Vec<Mark>,
 ) -> Mem<Seq<Out>>
     requires same { coord.old.script.value ≡ script.now }
     requires sound { IsSound script.now (coord_of coord.old) }
     ensures turn { OnOk result (IsTurn coord.old coord.new marks.old.items marks.new.items
-        (turns.on_done (coord_of coord.old) gxid node done.cid done.wrote done.count part ((coord_of coord.old).works gxid.0).command)) }
-    ensures outs { IfOk result (λ outs. outs ≡ (turns.on_done (coord_of coord.old) gxid node done.cid done.wrote done.count part ((coord_of coord.old).works gxid.0).command).outs) }
+        (turns.on_done (coord_of coord.old) gxid node done.cid done.wrote done.count part.now ((coord_of coord.old).works gxid.0).command)) }
+    ensures outs { IfOk result (λ outs. outs ≡ (turns.on_done (coord_of coord.old) gxid node done.cid done.wrote done.count part.now ((coord_of coord.old).works gxid.0).command).outs) }
     ensures small { done.count < 2 ^ 64 }
 {
-    if is_taken(script, coord, gxid, node, done.cid, part.get()) {
+    if is_taken(script, coord, gxid, node, done.cid, part) {
         note_done(alloc, coord, gxid, node, done, part)?;
         go_on(alloc, script, coord, gxid, marks)
     } else {
-        drop(part);
         Ok(Seq::new(alloc))
     }
 }
@@ -143,8 +142,9 @@ fn take_reply<J: Journal>(
             part,
         } => {
             let done = Done { cid, wrote, count };
-            let outs = take_done(alloc, script, coord, gxid, node, done, part, marks)?;
-            Ok(plain(alloc, outs))
+            let outs = take_done(alloc, script, coord, gxid, node, done, part.get(), marks);
+            drop(part);
+            Ok(plain(alloc, outs?))
         }
         Reply::Failed { cid, cause } => {
             let why = *cause.get();

@@ -14,7 +14,7 @@ use crate::ends::refuse_line;
 use crate::work::{Command, Work};
 use gx_dtx::DtxOut;
 use gx_dtx::nodes::{has, with_node, without};
-use gx_ids::{Cid, Duplicate, Gxid, Mem, Node, Seq, Shared};
+use gx_ids::{Cid, Duplicate, Gxid, Mem, Node, Seq};
 use gx_msg::Out;
 use gx_node::fits_part;
 use gx_script::Script;
@@ -80,19 +80,13 @@ pub(crate) fn is_taken(
     }
 }
 
-fn add_part(
-    alloc: Global,
-    command: &mut Command,
-    node: Node,
-    count: u64,
-    part: Shared<Part>,
-) -> Mem<()>
+fn add_part(alloc: Global, command: &mut Command, node: Node, count: u64, part: &Part) -> Mem<()>
     requires { command.old.count ≤ 2 ^ 64 * length command.old.parts }
-    ensures { OnOk result (command.new ≡ add_to node count part command.old) }
+    ensures { OnOk result (command.new ≡ add_to node count part.now command.old) }
 {
     let _parts = command.parts.len();
     command.count += u128::from(count);
-    command.parts.push(part.get().copy(alloc)?)?;
+    command.parts.push(part.copy(alloc)?)?;
     command.awaited = without(alloc, node, command.awaited.as_slice())?;
     Ok(())
 }
@@ -106,9 +100,9 @@ fn add_writer(alloc: Global, work: &mut Work, wrote: bool, node: Node) -> Mem<()
     Ok(())
 }
 
-fn add_done(alloc: Global, work: &mut Work, node: Node, done: Done, part: Shared<Part>) -> Mem<()>
+fn add_done(alloc: Global, work: &mut Work, node: Node, done: Done, part: &Part) -> Mem<()>
     requires { IfSome work.old.command (λ k. k.count ≤ 2 ^ 64 * length k.parts) }
-    ensures { OnOk result (work.new ≡ record work.old { writers = turns.writers_with done.wrote node work.old.writers; command = option_map (add_to node done.count part) work.old.command }) }
+    ensures { OnOk result (work.new ≡ record work.old { writers = turns.writers_with done.wrote node work.old.writers; command = option_map (add_to node done.count part.now) work.old.command }) }
 {
     add_writer(alloc, work, done.wrote, node)?;
     if let Some(command) = &mut work.command {
@@ -124,12 +118,12 @@ pub(crate) fn note_done(
     gxid: Gxid,
     node: Node,
     done: Done,
-    part: Shared<Part>,
+    part: &Part,
 ) -> Mem<()>
     requires there { is_some ((coord_of coord.old).works gxid.0).command ≡ true }
     requires counted { AreCounted ((coord_of coord.old).works gxid.0).command }
     ensures framed { OnOk result (IsFramed coord.old coord.new) }
-    ensures coord { OnOk result (coord_of coord.new ≡ with_work (coord_of coord.old) gxid (done_work ((coord_of coord.old).works gxid.0) node done.wrote done.count part)) }
+    ensures coord { OnOk result (coord_of coord.new ≡ with_work (coord_of coord.old) gxid (done_work ((coord_of coord.old).works gxid.0) node done.wrote done.count part.now)) }
 {
     if let Some(work) = coord.works.get_mut(&gxid) {
         add_done(alloc, work, node, done, part)?;

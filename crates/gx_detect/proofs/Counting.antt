@@ -23,6 +23,10 @@ pub always-ok : {A E : Type 0} (r : Result A E) (P : Type 0) → P → OnOk r P
 always-ok (Ok a) P p = p
 always-ok (Err e) P p = tt
 
+pub ok_then : {A E P Q R : Type 0} (r : Result A E) → (P → Q → R) → OnOk r P → OnOk r Q → OnOk r R
+ok_then (Ok a) f p q = f p q
+ok_then (Err e) f p q = tt
+
 pub itself : (n : ℕ) → IsTrue (n == n)
 itself n = grind (arith, nat_tests)
 

@@ -1,6 +1,6 @@
 -- The edges of graphs, and what a reduction leaves of them.
-use Rattle.std.proofs.Common.{◌≡◌, ◌<◌, ◌≤◌, ◌+◌, ℕ, List, [], ◌∷◌, ◌++◌, Bool, true, false, cond, filter, map, take, length, get_or, sym, refl, ap, subst, ◌∙◌, append-nil}
-use Rattle.std.proofs.lemmas.List.{take_more, take_all}
+use Rattle.std.proofs.Common.{◌≡◌, ◌<◌, ◌+◌, ℕ, List, [], ◌∷◌, ◌++◌, Bool, true, false, cond, filter, map, take, length, get_or, sym, refl, ap, subst, ◌∙◌, append-nil}
+use Rattle.std.proofs.lemmas.List.{take_more}
 use Rattle.std.proofs.lemmas.List.Concat.{flat_map-append}
 use Rattle.std.proofs.lemmas.List.Elements.{filter-append}
 use Rattle.std.specs.List.{count_by, Contains}
@@ -49,10 +49,6 @@ edges_of-kept_edges test (g ∷ gs) =
     ap (λ l. l ++ edges_of (map (kept_edges test) gs)) (map-filter test g.node g.edges)
     ∙ ap (λ l. filter test (placed g) ++ l) (edges_of-kept_edges test gs)
     ∙ sym (filter-append test (placed g) (edges_of gs))
-
--- all graphs were gone through
-pub all_kept : (test : PlacedEdge → Bool) (graphs rest : List LocalGraph) (i : ℕ) → rest ≡ map (kept_edges test) (take i graphs) → length graphs ≤ i → edges_of rest ≡ filter test (edges_of graphs)
-all_kept test graphs rest i r l = ap edges_of r ∙ ap (λ g. edges_of (map (kept_edges test) g)) (take_all i graphs l) ∙ edges_of-kept_edges test graphs
 
 -- what is left of the edges by their counts is what is stuck
 module _ (edges rest part : List PlacedEdge) (count : Place → ℕ) (largest : IsLargest Stuck edges part)

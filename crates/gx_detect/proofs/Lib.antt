@@ -8,6 +8,7 @@ pub mod Marks
 pub mod Removing
 pub mod Counting
 pub mod Stuck
+pub mod Gathered
 pub mod Graphs
 pub mod Listed
 pub mod Following

@@ -21,7 +21,9 @@ pub fn core(alloc: Global, graphs: &[LocalGraph]) -> Mem<Vec<Gxid>>
     ensures { IfOk result (λ names. (core : List PlacedEdge) × IsCore (edges_of graphs.now) core × AreNamed core names.items) }
 {
     let core = Reduced::new(alloc, Aim::Core, all_edges(alloc, graphs)?)?;
-    names_of(alloc, &core)
+    let names = names_of(alloc, &core);
+    drop(core);
+    names
 }
 
 fn names_of(alloc: Global, core: &Reduced) -> Mem<Vec<Gxid>>
@@ -38,7 +40,9 @@ pub(crate) fn stuck_of(alloc: Global, edges: Vec<PlacedEdge>) -> Mem<Vec<PlacedE
     ensures { IfOk result (λ stuck. (e : PlacedEdge) → Contains stuck.items e ↔ IsStuck edges.items e) }
 {
     let reduced = Reduced::new(alloc, Aim::Stuck, edges)?;
-    left_edges(alloc, &reduced.edges, &reduced.rest.tally)
+    let left = left_edges(alloc, &reduced.edges, &reduced.rest.tally);
+    drop(reduced);
+    left
 }
 
 /// The transactions to abort so that nobody is stuck, in the order in which they are chosen: the greatest of the core,
@@ -56,18 +60,19 @@ pub(crate) fn victims_in(alloc: Global, edges: Vec<PlacedEdge>) -> Mem<Vec<Gxid>
     ensures victims { IfOk result (λ victims. (all : List PlacedEdge) → HasStuck all edges.items → AreVictims all victims.items) }
     ensures cores { IfOk result (λ victims. (all : List PlacedEdge) → HasStuck all edges.items → HaveClosedCores all victims.items) }
 {
-    let core = Reduced::new(alloc, Aim::Core, edges)?;
-    let names = names_of(alloc, &core)?;
-    in_turn(alloc, core, names)
+    let mut core = Reduced::new(alloc, Aim::Core, edges)?;
+    let victims = in_turn(alloc, &mut core);
+    drop(core);
+    victims
 }
 
 // Once a core shrinks its names go, and none comes: so the next victim is the greatest that is left of the first names.
-fn in_turn(alloc: Global, mut core: Reduced, mut names: Vec<Gxid>) -> Mem<Vec<Gxid>>
-    requires settled { IsSettled Core core }
-    requires names { AreNamed (left_in core) names.items }
-    ensures victims { IfOk result (λ victims. (edges : List PlacedEdge) → IsLargest Core edges (left_in core) → AreVictims edges victims.items) }
-    ensures cores { IfOk result (λ victims. (edges : List PlacedEdge) → IsLargest Core edges (left_in core) → HaveClosedCores edges victims.items) }
+fn in_turn(alloc: Global, core: &mut Reduced) -> Mem<Vec<Gxid>>
+    requires { IsSettled Core core.old }
+    ensures victims { IfOk result (λ victims. (edges : List PlacedEdge) → IsLargest Core edges (left_in core.old) → AreVictims edges victims.items) }
+    ensures cores { IfOk result (λ victims. (edges : List PlacedEdge) → IsLargest Core edges (left_in core.old) → HaveClosedCores edges victims.items) }
 {
+    let mut names = names_of(alloc, core)?;
     let mut victims = Vec::new(alloc);
     while let Some(name) = next_name(&mut names) {
         if core.is_named(name) {

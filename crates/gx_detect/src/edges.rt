@@ -31,8 +31,18 @@ fn add_edges(edges: &mut Vec<PlacedEdge>, graph: &LocalGraph) -> Mem<()>
     Ok(())
 }
 
-/// The graph with those of its edges that are left by the counts.
-pub fn left_in_graph(alloc: Global, graph: &LocalGraph, tally: &Tally) -> Mem<LocalGraph>
+/// The graphs with those of their edges that are left by the counts.
+pub fn left_in_graphs(alloc: Global, graphs: &[LocalGraph], tally: &Tally) -> Mem<Vec<LocalGraph>>
+    ensures { IfOk result (λ left. left.items ≡ map (kept_edges (is_left (count_at tally.now))) graphs.now) }
+{
+    let mut left = Vec::new(alloc);
+    for graph in graphs {
+        left.push(left_in_graph(alloc, graph, tally)?)?;
+    }
+    Ok(left)
+}
+
+fn left_in_graph(alloc: Global, graph: &LocalGraph, tally: &Tally) -> Mem<LocalGraph>
     ensures { IfOk result (λ left. left ≡ kept_edges (is_left (count_at tally.now)) graph.now) }
 {
     let node = graph.node;

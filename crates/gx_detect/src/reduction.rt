@@ -6,7 +6,7 @@ ghost use Rattle.gx_waits.specs.Finish.{CanFinish};
 ghost use Rattle.gx_waits.specs.LocalGraph.{edges_of};
 ghost use Rattle.gx_detect.specs.Reduce.{kept_edges};
 
-use crate::edges::{all_edges, left_in_graph};
+use crate::edges::{all_edges, left_in_graphs};
 use crate::place::Aim;
 use crate::reduced::Reduced;
 use gx_ids::Mem;
@@ -25,9 +25,7 @@ pub fn reduce(alloc: Global, graphs: &[LocalGraph]) -> Mem<Vec<LocalGraph>>
     ensures finish { IfOk result (λ rest. (v : Gxid) → (IsNamed (edges_of rest.items) v → ⊥) → CanFinish (edges_of graphs.now) v) }
 {
     let reduced = Reduced::new(alloc, Aim::Stuck, all_edges(alloc, graphs)?)?;
-    let mut rest = Vec::new(alloc);
-    for graph in graphs {
-        rest.push(left_in_graph(alloc, graph, &reduced.rest.tally)?)?;
-    }
-    Ok(rest)
+    let rest = left_in_graphs(alloc, graphs, &reduced.rest.tally);
+    drop(reduced);
+    rest
 }

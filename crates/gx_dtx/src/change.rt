@@ -50,11 +50,16 @@ impl Change {
     ) -> Mem<Change>
         ensures { IfOk result (λ change. change ≡ goes_to phase (messages (message_of order gxid) nodes.now) outcome) }
     {
-        let outs = order.to_each(alloc, gxid, nodes)?;
-        Ok(Change {
-            step: Step::GoesTo(phase),
-            out: DtxOut { outs, outcome },
-        })
+        match order.to_each(alloc, gxid, nodes) {
+            Ok(outs) => Ok(Change {
+                step: Step::GoesTo(phase),
+                out: DtxOut { outs, outcome },
+            }),
+            Err(fault) => {
+                drop(phase);
+                Err(fault)
+            }
+        }
     }
 
     /// The transaction goes on to a phase, and waits for more answers.

@@ -1,12 +1,13 @@
 // What a call makes of one transaction.
 ghost use Rattle.std.specs.Prelude.{◌≡◌, ◌∷◌, [], false, IfOk};
 ghost use Rattle.gx_dtx.specs.Rules.{commits, aborts, ends_committed, refuses, goes_to, decides, finishes, forgets, gives_up};
-ghost use Rattle.gx_dtx.specs.Nodes.{to_each as messages};
+ghost use Rattle.gx_dtx.specs.Nodes.{to_each as messages, without as all_but};
 ghost use Rattle.gx_dtx.specs.declared.outcome.Outcome.TheVariants as outcome;
 ghost use Rattle.gx_dtx.specs.declared.phase.Phase.TheVariants as phase;
 ghost use Rattle.gx_msg.specs.declared.message.Message.TheVariants as message;
 
 use crate::change::Change;
+use crate::nodes::without;
 use crate::order::Order;
 use crate::outcome::Outcome;
 use crate::phase::Phase;
@@ -132,40 +133,47 @@ pub(crate) fn decide(alloc: Global, gxid: Gxid, writers: &Seq<Node>) -> Mem<Chan
     )
 }
 
-// A writer has committed as promised; these haven't yet.
+// A writer has committed as promised; of those that were awaited the others haven't yet.
 pub(crate) fn finish(
     alloc: Global,
     gxid: Gxid,
     participants: &Seq<Node>,
-    rest: Seq<Node>,
+    node: Node,
+    awaited: &Seq<Node>,
 ) -> Mem<Change>
-    ensures { IfOk result (λ change. change ≡ finishes gxid participants.now rest) }
+    ensures { IfOk result (λ change. change ≡ finishes gxid participants.now (all_but node awaited.now)) }
 {
+    let rest = without(alloc, node, awaited.as_slice())?;
     if rest.is_empty() {
+        drop(rest);
         end_committed(alloc, gxid, participants)
     } else {
         Ok(Change::waits(alloc, Phase::CommittingTwo(rest)))
     }
 }
 
-// A participant has forgotten the transaction; these haven't yet.
-pub(crate) fn forget(alloc: Global, rest: Seq<Node>) -> Change
-    ensures { result ≡ forgets rest }
+// A participant has forgotten the transaction; of those that were awaited the others haven't yet.
+pub(crate) fn forget(alloc: Global, node: Node, awaited: &Seq<Node>) -> Mem<Change>
+    ensures { IfOk result (λ change. change ≡ forgets (all_but node awaited.now)) }
 {
+    let rest = without(alloc, node, awaited.as_slice())?;
     if rest.is_empty() {
-        Change::leaves(alloc, Outcome::Pending)
+        drop(rest);
+        Ok(Change::leaves(alloc, Outcome::Pending))
     } else {
-        Change::waits(alloc, Phase::Ended(rest))
+        Ok(Change::waits(alloc, Phase::Ended(rest)))
     }
 }
 
-// A participant has aborted the transaction; these haven't yet.
-pub(crate) fn give_up(alloc: Global, rest: Seq<Node>) -> Change
-    ensures { result ≡ gives_up rest }
+// A participant has aborted the transaction; of those that were awaited the others haven't yet.
+pub(crate) fn give_up(alloc: Global, node: Node, awaited: &Seq<Node>) -> Mem<Change>
+    ensures { IfOk result (λ change. change ≡ gives_up (all_but node awaited.now)) }
 {
+    let rest = without(alloc, node, awaited.as_slice())?;
     if rest.is_empty() {
-        Change::leaves(alloc, Outcome::Ended)
+        drop(rest);
+        Ok(Change::leaves(alloc, Outcome::Ended))
     } else {
-        Change::waits(alloc, Phase::Aborting(rest))
+        Ok(Change::waits(alloc, Phase::Aborting(rest)))
     }
 }

@@ -17,6 +17,7 @@ use gx_dsnap::{Snapshot, take};
 use gx_ids::{Gxid, Mem, Node, Seq};
 use std::alloc::Global;
 use std::collections::BTreeMap;
+use std::mem;
 
 // The transactions by gxid.
 pub(crate) type Map = BTreeMap<Gxid, Txn>;
@@ -71,8 +72,9 @@ pub(crate) fn set_live(txns: &mut Map, gxid: Gxid, live: Option<Gxid>)
 fn set_participants(txns: &mut Map, gxid: Gxid, participants: Seq<Node>)
     ensures { txns.new.entries ≡ with_txn txns.old.entries gxid (λ t. record t { participants = participants }) }
 {
-    if let Some(txn) = txns.get_mut(&gxid) {
-        txn.participants = participants;
+    match txns.get_mut(&gxid) {
+        Some(txn) => drop(mem::replace(&mut txn.participants, participants)),
+        None => drop(participants),
     }
 }
 
@@ -92,8 +94,9 @@ pub(crate) fn enlist(alloc: Global, txns: &mut Map, gxid: Gxid, node: Node) -> M
 pub(crate) fn set_phase(txns: &mut Map, gxid: Gxid, phase: Phase)
     ensures { txns.new.entries ≡ with_txn txns.old.entries gxid (moved phase) }
 {
-    if let Some(txn) = txns.get_mut(&gxid) {
-        txn.go_to(phase);
+    match txns.get_mut(&gxid) {
+        Some(txn) => txn.go_to(phase),
+        None => drop(phase),
     }
 }
 
@@ -102,7 +105,7 @@ pub(crate) fn remove(txns: &mut Map, gxid: Gxid)
     ensures entries { txns.new.entries ≡ with_step txns.old.entries gxid Leaves }
     ensures finds { Updates gxid_cmp txns.old txns.new gxid None }
 {
-    txns.remove(&gxid);
+    drop(txns.remove(&gxid));
 }
 
 // Adds a transaction that begins.
@@ -111,7 +114,7 @@ pub(crate) fn add(alloc: Global, txns: &mut Map, gxid: Gxid) -> Mem<()>
     ensures finds { OnOk result (Updates gxid_cmp txns.old txns.new gxid (Some new_txn)) }
     ensures err { OnErr result (IsUnchanged txns.old txns.new) }
 {
-    txns.insert(gxid, Txn::new(alloc))?;
+    drop(txns.insert(gxid, Txn::new(alloc))?);
     Ok(())
 }
 

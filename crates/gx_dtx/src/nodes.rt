@@ -1,5 +1,5 @@
 // Lists of nodes.
-ghost use Rattle.std.specs.Prelude.{◌≡◌, ◌++◌, ◌∷◌, [], nat_lt, filter, IfOk};
+ghost use Rattle.std.specs.Prelude.{◌≡◌, ◌++◌, ◌∷◌, [], nat_lt, filter, IfOk, OnOk};
 ghost use Rattle.gx_dtx.specs.Nodes.{has as is_one_of, without as all_but, with_node as all_with};
 
 use gx_ids::{Duplicate, Mem, Node, Seq};
@@ -16,12 +16,20 @@ pub fn has(node: Node, nodes: &[Node]) -> bool
 pub fn without(alloc: Global, node: Node, nodes: &[Node]) -> Mem<Seq<Node>>
     ensures { IfOk result (λ rest. rest ≡ all_but node nodes.now) }
 {
-    let rest: Vec<Node> = nodes
-        .iter()
-        .copied()
-        .filter(|other| *other != node)
-        .collect(alloc)?;
+    let mut rest = Vec::new(alloc);
+    push_others(node, nodes, &mut rest)?;
     Ok(Seq::from_vec(rest))
+}
+
+fn push_others(node: Node, nodes: &[Node], others: &mut Vec<Node>) -> Mem<()>
+    ensures { OnOk result (others.new.items ≡ others.old.items ++ all_but node nodes.now) }
+{
+    for other in nodes {
+        if *other != node {
+            others.push(*other)?;
+        }
+    }
+    Ok(())
 }
 
 /// The nodes with one among them, in their order.
@@ -39,31 +47,31 @@ pub fn with_node(alloc: Global, node: Node, nodes: &Seq<Node>) -> Mem<Seq<Node>>
 fn put_in(alloc: Global, node: Node, nodes: &[Node]) -> Mem<Seq<Node>>
     ensures { IfOk result (λ all. all ≡ filter (λ j. nat_lt j.0 node.0) nodes.now ++ node ∷ [] ++ filter (λ j. nat_lt node.0 j.0) nodes.now) }
 {
-    let mut all = below(alloc, node, nodes)?;
+    let mut all = Vec::new(alloc);
+    push_below(node, nodes, &mut all)?;
     all.push(node)?;
-    let above = above(alloc, node, nodes)?;
-    all.extend_from_slice(above.as_slice())?;
+    push_above(node, nodes, &mut all)?;
     Ok(Seq::from_vec(all))
 }
 
-fn below(alloc: Global, node: Node, nodes: &[Node]) -> Mem<Vec<Node>>
-    ensures { IfOk result (λ below. below.items ≡ filter (λ j. nat_lt j.0 node.0) nodes.now) }
+fn push_below(node: Node, nodes: &[Node], below: &mut Vec<Node>) -> Mem<()>
+    ensures { OnOk result (below.new.items ≡ below.old.items ++ filter (λ j. nat_lt j.0 node.0) nodes.now) }
 {
-    let below: Vec<Node> = nodes
-        .iter()
-        .copied()
-        .filter(|other| *other < node)
-        .collect(alloc)?;
-    Ok(below)
+    for other in nodes {
+        if *other < node {
+            below.push(*other)?;
+        }
+    }
+    Ok(())
 }
 
-fn above(alloc: Global, node: Node, nodes: &[Node]) -> Mem<Vec<Node>>
-    ensures { IfOk result (λ above. above.items ≡ filter (λ j. nat_lt node.0 j.0) nodes.now) }
+fn push_above(node: Node, nodes: &[Node], above: &mut Vec<Node>) -> Mem<()>
+    ensures { OnOk result (above.new.items ≡ above.old.items ++ filter (λ j. nat_lt node.0 j.0) nodes.now) }
 {
-    let above: Vec<Node> = nodes
-        .iter()
-        .copied()
-        .filter(|other| *other > node)
-        .collect(alloc)?;
-    Ok(above)
+    for other in nodes {
+        if *other > node {
+            above.push(*other)?;
+        }
+    }
+    Ok(())
 }

@@ -4,7 +4,7 @@ use crate::status::Status;
 use gx_ids::{Node, Seq};
 
 /// Where a transaction stands, with those whose answers the coordinator awaits.
-#[derive(Debug, Drop)]
+#[derive(Drop)]
 pub enum Phase {
     /// Its commands run.
     Active,

@@ -1,10 +1,11 @@
 // Answers of participants.
 ghost use Rattle.std.specs.Prelude.{◌≡◌, [], true, false, IfOk, OnErr};
-ghost use Rattle.gx_outside.specs.Shelves.{HasKept};
+ghost use Rattle.gx_outside.specs.Shelves.{HasKept, IsAppended};
 ghost use Rattle.gx_msg.specs.ItemBytes.{bytes_of_item};
 ghost use Rattle.gx_msg.specs.declared.item.JournalItem.TheVariants as item;
 ghost use Rattle.gx_dtx.specs.Rules.{is_awaited as is_awaited_in, takes, prepares, decides, decides_in, is_refused, is_last, goes_to};
 ghost use Rattle.gx_dtx.specs.Deciding.{HasDecided};
+ghost use Rattle.gx_dtx.specs.Nodes.{without as all_but};
 ghost use Rattle.gx_dtx.specs.declared.outcome.Outcome.TheVariants as outcome;
 ghost use Rattle.gx_dtx.specs.declared.phase.Phase.TheVariants as phase;
 
@@ -64,41 +65,38 @@ pub(crate) fn take_answer<J: Journal>(
     let participants = &txn.participants;
     match (&txn.phase, answer) {
         (Phase::Preparing { writers, awaited }, Reply::Prepared) => {
-            let rest = without(alloc, node, awaited.as_slice())?;
-            prepare(alloc, gxid, writers, participants, rest, journal)
+            prepare(alloc, gxid, writers, participants, node, awaited, journal)
         }
         (Phase::Preparing { .. }, Reply::Jfault) => refuse(alloc, gxid, participants, node),
         (Phase::CommittingOne(_), Reply::Committed) => end_committed(alloc, gxid, participants),
         (Phase::CommittingOne(_), Reply::Jfault) => refuse(alloc, gxid, participants, node),
         (Phase::CommittingTwo(awaited), Reply::Committed) => {
-            let rest = without(alloc, node, awaited.as_slice())?;
-            finish(alloc, gxid, participants, rest)
+            finish(alloc, gxid, participants, node, awaited)
         }
-        (Phase::Ended(awaited), Reply::Forgotten) => {
-            Ok(forget(alloc, without(alloc, node, awaited.as_slice())?))
-        }
-        (Phase::Aborting(awaited), Reply::Aborted) => {
-            Ok(give_up(alloc, without(alloc, node, awaited.as_slice())?))
-        }
+        (Phase::Ended(awaited), Reply::Forgotten) => forget(alloc, node, awaited),
+        (Phase::Aborting(awaited), Reply::Aborted) => give_up(alloc, node, awaited),
         _ => Ok(Change::stays(alloc)),
     }
 }
 
-// A writer has prepared; these haven't yet.
+// A writer has prepared; of those that were awaited the others haven't yet.
 fn prepare<J: Journal>(
     alloc: Global,
     gxid: Gxid,
     writers: &Seq<Node>,
     participants: &Seq<Node>,
-    rest: Seq<Node>,
+    node: Node,
+    awaited: &Seq<Node>,
     journal: &mut J,
 ) -> Mem<Change>
-    ensures value { IfOk result (λ change. change ≡ prepares gxid writers.now participants.now rest (is_refused change.out.outcome)) }
+    ensures value { IfOk result (λ change. change ≡ prepares gxid writers.now participants.now (all_but node awaited.now) (is_refused change.out.outcome)) }
     ensures decided { IfOk result (λ change. HasDecided (J.shelf journal.old) (J.shelf journal.new) gxid true change.out.outcome) }
-    ensures untouched { is_last rest ≡ false → journal.new ≡ journal.old }
+    ensures untouched { is_last (all_but node awaited.now) ≡ false → journal.new ≡ journal.old }
     ensures kept { OnErr result (HasKept (J.shelf journal.old) (J.shelf journal.new)) }
 {
+    let rest = without(alloc, node, awaited.as_slice())?;
     if rest.is_empty() {
+        drop(rest);
         decide_now(alloc, gxid, writers, participants, journal)
     } else {
         wait_for(alloc, writers, rest)
@@ -126,11 +124,29 @@ fn decide_now<J: Journal>(
     ensures kept { OnErr result (HasKept (J.shelf journal.old) (J.shelf journal.new)) }
 {
     let decided = decide(alloc, gxid, writers)?;
-    let item = decide_item(alloc, gxid)?;
-    match journal.append(item.as_slice()) {
+    match append_decide(alloc, gxid, journal) {
         Ok(()) => Ok(decided),
-        Err(AppendFault::Failed) => refuse(alloc, gxid, participants, Node(0)),
-        Err(AppendFault::OutOfMemory) => Err(OutOfMemory),
+        Err(AppendFault::Failed) => {
+            drop(decided);
+            refuse(alloc, gxid, participants, Node(0))
+        }
+        Err(AppendFault::OutOfMemory) => {
+            drop(decided);
+            Err(OutOfMemory)
+        }
+    }
+}
+
+fn append_decide<J: Journal>(alloc: Global, gxid: Gxid, journal: &mut J) -> Result<(), AppendFault>
+    ensures { IsAppended (J.shelf journal.old) (J.shelf journal.new) (bytes_of_item (item.Decide gxid)) result }
+{
+    match decide_item(alloc, gxid) {
+        Ok(item) => {
+            let appended = journal.append(item.as_slice());
+            drop(item);
+            appended
+        }
+        Err(OutOfMemory) => Err(AppendFault::OutOfMemory),
     }
 }
 

@@ -3,9 +3,10 @@ ghost use Rattle.std.specs.Prelude.{◌≡◌};
 use crate::phase::Phase;
 use gx_ids::{Gxid, Node, Seq};
 use std::alloc::Global;
+use std::mem;
 
 /// What the coordinator keeps of a transaction until every participant has forgotten it.
-#[derive(Debug, Drop)]
+#[derive(Drop)]
 pub struct Txn {
     pub phase: Phase,
     /// The segments that a command was sent to, rising.
@@ -36,6 +37,6 @@ impl Txn {
         if matches!(phase, Phase::Ended(_) | Phase::Aborting(_)) {
             self.live = None;
         }
-        self.phase = phase;
+        drop(mem::replace(&mut self.phase, phase));
     }
 }

@@ -1,5 +1,5 @@
 -- A hold that is new is entered, and taken out again.
-use Rattle.std.proofs.Common.{◌≡◌, ◌≢◌, List, [], ◌∷◌, ◌++◌, sym, ap, subst, ◌∙◌, Bool, true, false, not, ⊎_elim, ◌⊎◌}
+use Rattle.std.proofs.Common.{◌≡◌, ◌≢◌, List, [], ◌∷◌, ◌++◌, sym, ap, subst, ◌∙◌, true, false, not, ⊎_elim}
 use Rattle.std.specs.Prelude.{filter}
 use Rattle.gx_locks.specs.declared.hold.Hold.{Hold}
 use Rattle.gx_locks.specs.declared.key.Key.{Key}

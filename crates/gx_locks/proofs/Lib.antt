@@ -11,3 +11,4 @@ pub mod Risen
 pub mod Runs
 pub mod Slots
 pub mod Whole
+pub mod Written

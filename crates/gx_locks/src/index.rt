@@ -62,8 +62,7 @@ impl Index {
             None => {
                 let mut shelf = Shelf::new(self.alloc);
                 shelf.reserve()?;
-                self.shelves.insert(key, shelf)?;
-                Ok(())
+                self.put(key, shelf)
             }
         }
     }
@@ -126,7 +125,7 @@ impl Index {
         ensures elsewhere { (k : Key) → k ≢ key → shelf_at self.new k ≡ shelf_at self.old k }
         ensures err { OnErr result (shelf_at self.new key ≡ shelf_at self.old key) }
     {
-        self.shelves.insert(key, shelf)?;
+        drop(self.shelves.insert(key, shelf)?);
         Ok(())
     }
 
@@ -166,7 +165,7 @@ impl Index {
         ensures places { (k : Key) → places_at self.new k ≡ places_at self.old k }
     {
         if self.is_idle(key) {
-            self.shelves.remove(&key);
+            drop(self.shelves.remove(&key));
         }
     }
 

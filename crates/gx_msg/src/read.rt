@@ -15,7 +15,10 @@ fn ended(mid: Mid, place: u64) -> Result<JournalItem, ItemFault>
 {
     match mid {
         Mid::Done(item) => Ok(item),
-        _ => Err(ItemFault::NotAnItem(place)),
+        other => {
+            drop(other);
+            Err(ItemFault::NotAnItem(place))
+        }
     }
 }
 

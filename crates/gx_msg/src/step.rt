@@ -1,5 +1,5 @@
 // One byte of a journal item.
-ghost use Rattle.std.specs.Prelude.{◌≡◌, ◌+◌, ◌*◌, IfOk, true};
+ghost use Rattle.std.specs.Prelude.{◌≡◌, ◌+◌, ◌*◌, ◌++◌, ◌∷◌, [], IfOk, Some, true};
 ghost use Rattle.gx_msg.specs.Steps as of;
 ghost use Rattle.gx_msg.specs.declared.mid.Field.TheVariants as field;
 ghost use Rattle.gx_msg.specs.declared.mid.Mid.TheVariants as mid;
@@ -67,8 +67,25 @@ fn line_ended(spot: Spot, image: Option<Row>) -> Mem<Mid>
         mut kept,
         others,
     } = rows;
-    kept.push(Kept { rid, table, image })?;
-    Ok(rows_from(listed, gxid, kept, others))
+    match kept.push(Kept { rid, table, image }) {
+        Ok(()) => Ok(rows_from(listed, gxid, kept, others)),
+        Err(fault) => {
+            drop(kept);
+            Err(fault)
+        }
+    }
+}
+
+fn row_ended(alloc: Global, spot: Spot, values: Seq<Value>) -> Mem<Option<Mid>>
+    ensures { IfOk result (λ mid. mid ≡ Some (of.line_ended spot (Some values))) }
+{
+    match Row::from_vec(alloc, values.into_vec()) {
+        Ok(row) => Ok(Some(line_ended(spot, Some(row))?)),
+        Err(fault) => {
+            drop(spot);
+            Err(fault)
+        }
+    }
 }
 
 fn value_ended(alloc: Global, spot: Spot, values: Seq<Value>, byte: u8) -> Mem<Option<Mid>>
@@ -77,10 +94,31 @@ fn value_ended(alloc: Global, spot: Spot, values: Seq<Value>, byte: u8) -> Mem<O
     if byte == b'|' {
         Ok(Some(Mid::Value(spot, values)))
     } else if byte == b'\n' {
-        let row = Row::from_vec(alloc, values.into_vec())?;
-        Ok(Some(line_ended(spot, Some(row))?))
+        row_ended(alloc, spot, values)
     } else {
+        drop(spot);
+        drop(values);
         Ok(None)
+    }
+}
+
+// One more value, and the byte behind it.
+fn value_read(
+    alloc: Global,
+    spot: Spot,
+    mut values: Seq<Value>,
+    value: Value,
+    byte: u8,
+) -> Mem<Option<Mid>>
+    ensures { IfOk result (λ mid. mid ≡ of.value_ended spot (values ++ value ∷ []) byte) }
+{
+    match values.push(value) {
+        Ok(()) => value_ended(alloc, spot, values, byte),
+        Err(fault) => {
+            drop(spot);
+            drop(values);
+            Err(fault)
+        }
     }
 }
 
@@ -111,25 +149,31 @@ fn signed(is_negative: bool, number: u64) -> Option<i64>
 fn int_ended(
     alloc: Global,
     spot: Spot,
-    mut values: Seq<Value>,
+    values: Seq<Value>,
     number: Option<i64>,
     byte: u8,
 ) -> Mem<Option<Mid>>
     ensures { IfOk result (λ mid. mid ≡ of.int_ended spot values number byte) }
 {
     match number {
-        None => Ok(None),
-        Some(number) => {
-            values.push(Value::Int(number))?;
-            value_ended(alloc, spot, values, byte)
+        None => {
+            drop(spot);
+            drop(values);
+            Ok(None)
         }
+        Some(number) => value_read(alloc, spot, values, Value::Int(number), byte),
     }
 }
 
 fn at(stop: u8, byte: u8, mid: Mid) -> Option<Mid>
     ensures { result ≡ of.at stop byte mid }
 {
-    if byte == stop { Some(mid) } else { None }
+    if byte == stop {
+        Some(mid)
+    } else {
+        drop(mid);
+        None
+    }
 }
 
 fn cid_ended(rows: Rows, gxid: Gxid, number: u64, byte: u8) -> Option<Mid>
@@ -139,6 +183,7 @@ fn cid_ended(rows: Rows, gxid: Gxid, number: u64, byte: u8) -> Option<Mid>
         let field = Field::RidOrdinal(rows, gxid, Cid(number as u32));
         at(b'.', byte, Mid::Digits(field, None))
     } else {
+        drop(rows);
         None
     }
 }
@@ -151,6 +196,7 @@ fn ordinal_ended(rows: Rows, gxid: Gxid, cid: Cid, number: u64, byte: u8) -> Opt
         let field = Field::Table(rows, Rid { gxid, cid, ordinal });
         at(b' ', byte, Mid::Digits(field, None))
     } else {
+        drop(rows);
         None
     }
 }
@@ -166,6 +212,7 @@ fn table_ended(alloc: Global, rows: Rows, rid: Rid, number: u64, byte: u8) -> Op
             Mid::Value(Spot { rows, rid, table }, Seq::new(alloc)),
         )
     } else {
+        drop(rows);
         None
     }
 }
@@ -258,8 +305,23 @@ fn one_more(field: Field, number: Option<u64>, byte: u8) -> Option<Mid>
 {
     let digit = u64::from(byte - 48);
     match grown(is_negative(&field), most(&field), number, digit) {
-        None => None,
+        None => {
+            drop(field);
+            None
+        }
         Some(number) => Some(Mid::Digits(field, Some(number))),
+    }
+}
+
+fn digits_over(alloc: Global, field: Field, number: Option<u64>, byte: u8) -> Mem<Option<Mid>>
+    ensures { IfOk result (λ mid. mid ≡ of.digits_over field number byte) }
+{
+    match number {
+        None => {
+            drop(field);
+            Ok(None)
+        }
+        Some(number) => number_ended(alloc, field, number, byte),
     }
 }
 
@@ -267,11 +329,9 @@ fn next_digit(alloc: Global, field: Field, number: Option<u64>, byte: u8) -> Mem
     ensures { IfOk result (λ mid. mid ≡ of.next_digit field number byte) }
 {
     if is_digit(byte) {
-        return Ok(one_more(field, number, byte));
-    }
-    match number {
-        None => Ok(None),
-        Some(number) => number_ended(alloc, field, number, byte),
+        Ok(one_more(field, number, byte))
+    } else {
+        digits_over(alloc, field, number, byte)
     }
 }
 
@@ -290,9 +350,13 @@ fn next_letter(word: Word, place: usize, byte: u8) -> Mem<Option<Mid>>
 {
     let text = letters(&word);
     match text.get(place) {
-        None => Ok(None),
+        None => {
+            drop(word);
+            Ok(None)
+        }
         Some(letter) => {
             if *letter != byte {
+                drop(word);
                 Ok(None)
             } else if place + 1 < text.len() {
                 Ok(Some(Mid::Word(word, place + 1)))
@@ -332,32 +396,45 @@ fn begin_value(alloc: Global, spot: Spot, values: Seq<Value>, byte: u8) -> Mem<O
     }
 }
 
-fn in_text(spot: Spot, values: Seq<Value>, mut text: Seq<u8>, byte: u8) -> Mem<Option<Mid>>
+// One more byte of a text.
+fn byte_read(spot: Spot, values: Seq<Value>, mut text: Seq<u8>, byte: u8) -> Mem<Option<Mid>>
+    ensures { IfOk result (λ next. next ≡ Some (mid.Text spot values (text ++ byte ∷ []))) }
+{
+    match text.push(byte) {
+        Ok(()) => Ok(Some(Mid::Text(spot, values, text))),
+        Err(fault) => {
+            drop(spot);
+            drop(values);
+            drop(text);
+            Err(fault)
+        }
+    }
+}
+
+fn in_text(spot: Spot, values: Seq<Value>, text: Seq<u8>, byte: u8) -> Mem<Option<Mid>>
     ensures { IfOk result (λ next. next ≡ of.next (mid.Text spot values text) byte) }
 {
     if byte == b'\'' {
         Ok(Some(Mid::Quoted(spot, values, text)))
     } else {
-        text.push(byte)?;
-        Ok(Some(Mid::Text(spot, values, text)))
+        byte_read(spot, values, text, byte)
     }
 }
 
 fn quoted(
     alloc: Global,
     spot: Spot,
-    mut values: Seq<Value>,
-    mut text: Seq<u8>,
+    values: Seq<Value>,
+    text: Seq<u8>,
     byte: u8,
 ) -> Mem<Option<Mid>>
     ensures { IfOk result (λ next. next ≡ of.next (mid.Quoted spot values text) byte) }
 {
     if byte == b'\'' {
-        text.push(b'\'')?;
-        Ok(Some(Mid::Text(spot, values, text)))
+        byte_read(spot, values, text, byte)
     } else {
-        values.push(Value::Text(Txt::from_vec(text.into_vec())))?;
-        value_ended(alloc, spot, values, byte)
+        let value = Value::Text(Txt::from_vec(text.into_vec()));
+        value_read(alloc, spot, values, value, byte)
     }
 }
 
@@ -372,6 +449,9 @@ pub(crate) fn next(alloc: Global, mid: Mid, byte: u8) -> Mem<Option<Mid>>
         Mid::Value(spot, values) => begin_value(alloc, spot, values, byte),
         Mid::Text(spot, values, text) => in_text(spot, values, text, byte),
         Mid::Quoted(spot, values, text) => quoted(alloc, spot, values, text, byte),
-        Mid::Done(_item) => Ok(None),
+        Mid::Done(item) => {
+            drop(item);
+            Ok(None)
+        }
     }
 }

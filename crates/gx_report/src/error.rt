@@ -2,16 +2,16 @@
 ghost use Rattle.std.specs.Prelude.{◌≡◌, ◌++◌, OnOk};
 ghost use Rattle.gx_report.specs.Error.{error_text, journal_text, numbered_text, row_text, serialization_text, victim_text};
 
+use crate::words::push_count_behind;
 use gx_ids::{Gxid, Mem, Node, Rid};
 use gx_store::Refused;
-use gx_text::{push_bytes, push_count};
+use gx_text::push_bytes;
 
 // A number between two texts.
 fn push_numbered(text: &mut Vec<u8>, before: &[u8], number: u64, behind: &[u8]) -> Mem<()>
     ensures { OnOk result (text.new.items ≡ text.old.items ++ numbered_text before.now number behind.now) }
 {
-    push_bytes(text, before)?;
-    push_count(text, u128::from(number))?;
+    push_count_behind(text, before, u128::from(number))?;
     push_bytes(text, behind)
 }
 
@@ -19,12 +19,9 @@ fn push_numbered(text: &mut Vec<u8>, before: &[u8], number: u64, behind: &[u8]) 
 fn push_row_of(text: &mut Vec<u8>, before: &[u8], rid: Rid) -> Mem<()>
     ensures { OnOk result (text.new.items ≡ text.old.items ++ row_text before.now rid) }
 {
-    push_bytes(text, before)?;
-    push_count(text, u128::from(rid.gxid.0))?;
-    push_bytes(text, b".")?;
-    push_count(text, u128::from(rid.cid.0))?;
-    push_bytes(text, b".")?;
-    push_count(text, u128::from(rid.ordinal))
+    push_count_behind(text, before, u128::from(rid.gxid.0))?;
+    push_count_behind(text, b".", u128::from(rid.cid.0))?;
+    push_count_behind(text, b".", u128::from(rid.ordinal))
 }
 
 fn push_serialization(text: &mut Vec<u8>, rid: Rid, newer: Gxid) -> Mem<()>

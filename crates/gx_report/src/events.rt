@@ -3,7 +3,7 @@ ghost use Rattle.std.specs.Prelude.{◌≡◌, ◌++◌, OnOk};
 ghost use Rattle.gx_report.specs.EventText.{event_text};
 ghost use Rattle.gx_store.specs.declared.event.Event.TheVariants.{Resend};
 
-use crate::words::{push_at_node, push_session, push_words};
+use crate::words::{push_at_node, push_at_session, push_words};
 use gx_ids::{Gxid, Mem, Node};
 use gx_script::Script;
 use gx_store::Event;
@@ -31,14 +31,8 @@ pub fn push_event(text: &mut Vec<u8>, script: &Script, event: Event) -> Mem<()>
             &[u64::from(from.0), u64::from(to.0), number],
         ),
         Event::Resume { node, gxid } => { push_at_node(text, b"resume", node, gxid) }
-        Event::Start(session) => {
-            push_bytes(text, b"start")?;
-            push_session(text, script, session)
-        }
-        Event::End(session) => {
-            push_bytes(text, b"end")?;
-            push_session(text, script, session)
-        }
+        Event::Start(session) => push_at_session(text, script, b"start", session),
+        Event::End(session) => push_at_session(text, script, b"end", session),
         Event::Resend { segment, gxid } => push_resend(text, script, segment, gxid),
         Event::Round => push_bytes(text, b"round"),
     }

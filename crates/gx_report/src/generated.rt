@@ -1,12 +1,13 @@
 // The line that tells of a run of generated work.
 ghost use Rattle.std.specs.Prelude.{◌≡◌, ◌++◌, IfOk, OnOk, codes, count_by, sum_by};
-ghost use Rattle.std.specs.Fmt.{decimal, signed_decimal};
+ghost use Rattle.std.specs.Fmt.{signed_decimal};
 ghost use Rattle.gx_report.specs.Summary as of;
 
+use crate::words::push_count_behind;
 use gx_ids::Mem;
 use gx_script::Script;
 use gx_store::{Mark, Run, Step, StmtAnswer};
-use gx_text::{push_bytes, push_count, push_integer};
+use gx_text::{push_bytes, push_integer};
 use gx_tree::{KeyedRow, Value};
 use std::alloc::Global;
 
@@ -120,13 +121,6 @@ fn accounts_in(tables: &[Vec<KeyedRow>]) -> &[KeyedRow]
     }
 }
 
-fn push_counted(text: &mut Vec<u8>, words: &[u8], count: u128) -> Mem<()>
-    ensures { OnOk result (text.new.items ≡ text.old.items ++ words.now ++ decimal count) }
-{
-    push_bytes(text, words)?;
-    push_count(text, count)
-}
-
 fn push_total(text: &mut Vec<u8>, total: i128) -> Mem<()>
     ensures { OnOk result (text.new.items ≡ text.old.items ++ codes ", sum " ++ signed_decimal total ++ codes "\n") }
 {
@@ -149,11 +143,11 @@ pub fn summary(
     let steps = run.steps.as_slice();
     let accounts = accounts_in(tables);
     let mut text = Vec::new(alloc);
-    push_counted(&mut text, b"gen ", u128::from(number))?;
-    push_counted(&mut text, b": lines ", script.lines.len() as u128)?;
-    push_counted(&mut text, b", commits ", count_commits(steps))?;
-    push_counted(&mut text, b", refusals ", count_refusals(steps))?;
-    push_counted(&mut text, b", rows ", accounts.len() as u128)?;
+    push_count_behind(&mut text, b"gen ", u128::from(number))?;
+    push_count_behind(&mut text, b": lines ", script.lines.len() as u128)?;
+    push_count_behind(&mut text, b", commits ", count_commits(steps))?;
+    push_count_behind(&mut text, b", refusals ", count_refusals(steps))?;
+    push_count_behind(&mut text, b", rows ", accounts.len() as u128)?;
     push_total(&mut text, total_balance(accounts))?;
     Ok(text)
 }

@@ -4,11 +4,11 @@ ghost use Rattle.std.specs.List.{flat_map};
 ghost use Rattle.gx_meaning.specs.Order.{in_order};
 ghost use Rattle.gx_report.specs.LockText as of;
 
-use crate::words::{push_gxids, push_number, push_rid, push_table, push_words};
+use crate::words::{push_count_behind, push_gxids, push_number, push_rid, push_table, push_words};
 use gx_ids::{Mem, Node, copies};
 use gx_modes::Mode;
 use gx_script::Script;
-use gx_text::{push_bytes, push_count};
+use gx_text::push_bytes;
 use gx_waits::{Edge, LocalGraph, Object, Verdict};
 use std::alloc::Global;
 use std::cmp::Ordering;
@@ -62,8 +62,7 @@ fn push_edge(text: &mut Vec<u8>, edge: Edge) -> Mem<()>
     ensures { OnOk result (text.new.items ≡ text.old.items ++ of.edge_text edge) }
 {
     push_number(text, edge.waiter.0)?;
-    push_bytes(text, b">")?;
-    push_count(text, u128::from(edge.holder.0))?;
+    push_count_behind(text, b">", u128::from(edge.holder.0))?;
     if edge.dotted {
         push_bytes(text, b"~")?;
     }

@@ -7,14 +7,15 @@ ghost use Rattle.gx_report.specs.Words.{word_text};
 use crate::locks::{push_lock, push_recheck, push_report};
 use crate::rows::push_image;
 use crate::words::{
-    push_at_node, push_gxids, push_rid, push_session, push_table, push_word, push_words,
+    push_at_node, push_at_session, push_count_behind, push_gxids, push_rid, push_session,
+    push_table, push_word, push_words,
 };
 use gx_dsnap::Snapshot;
 use gx_ids::{Cid, Gxid, Mem, SessionId};
 use gx_msg::{Message, message_text};
 use gx_script::Script;
 use gx_store::Mark;
-use gx_text::{push_bytes, push_count};
+use gx_text::push_bytes;
 use std::alloc::Global;
 
 fn push_snap(text: &mut Vec<u8>, gxid: Gxid, cid: Cid, snapshot: &Snapshot) -> Mem<()>
@@ -30,10 +31,8 @@ fn push_snap(text: &mut Vec<u8>, gxid: Gxid, cid: Cid, snapshot: &Snapshot) -> M
 fn push_answered(text: &mut Vec<u8>, script: &Script, session: SessionId, number: u32) -> Mem<()>
     ensures { OnOk result (text.new.items ≡ text.old.items ++ of.answered_text script.now session number) }
 {
-    push_bytes(text, b"answer")?;
-    push_session(text, script, session)?;
-    push_bytes(text, b".")?;
-    push_count(text, u128::from(number))
+    push_at_session(text, script, b"answer", session)?;
+    push_count_behind(text, b".", u128::from(number))
 }
 
 fn push_begin(text: &mut Vec<u8>, script: &Script, gxid: Gxid, session: SessionId) -> Mem<()>

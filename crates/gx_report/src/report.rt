@@ -4,9 +4,10 @@ ghost use Rattle.std.specs.List.{flat_map};
 ghost use Rattle.gx_report.specs.Text.{answer_text, cell_text, cells_text, counted_text, line_text, row_line};
 
 use crate::error::push_error;
+use crate::words::push_count_behind;
 use gx_ids::Mem;
 use gx_store::StmtAnswer;
-use gx_text::{push_bytes, push_count, push_integer, push_quoted};
+use gx_text::{push_bytes, push_integer, push_quoted};
 use gx_tree::{Cell, OutRow};
 
 fn push_cell(text: &mut Vec<u8>, cell: &Cell) -> Mem<()>
@@ -55,8 +56,7 @@ fn push_rows(text: &mut Vec<u8>, rows: &[OutRow]) -> Mem<()>
 fn push_counted(text: &mut Vec<u8>, name: &[u8], count: u128) -> Mem<()>
     ensures { OnOk result (text.new.items ≡ text.old.items ++ counted_text name.now count) }
 {
-    push_bytes(text, name)?;
-    push_count(text, count)?;
+    push_count_behind(text, name, count)?;
     push_bytes(text, b"\n")
 }
 
@@ -84,8 +84,7 @@ pub fn push_line(text: &mut Vec<u8>, name: &[u8], number: u32, answer: &StmtAnsw
     ensures { OnOk result (text.new.items ≡ text.old.items ++ line_text name.now number answer.now) }
 {
     push_bytes(text, name)?;
-    push_bytes(text, b".")?;
-    push_count(text, u128::from(number))?;
+    push_count_behind(text, b".", u128::from(number))?;
     push_bytes(text, b" ")?;
     push_answer(text, answer)
 }

@@ -4,8 +4,9 @@ ghost use Rattle.std.specs.List.{flat_map};
 ghost use Rattle.gx_report.specs.Stops as of;
 
 use crate::locks::sorted_edges;
+use crate::words::push_count_behind;
 use gx_ids::{Mem, Node};
-use gx_text::{push_bytes, push_count};
+use gx_text::push_bytes;
 use gx_waits::{Edge, LocalGraph};
 use std::alloc::Global;
 
@@ -57,12 +58,9 @@ fn push_wait_lines(text: &mut Vec<u8>, node: Node, edges: &[Edge]) -> Mem<()>
 fn push_wait(text: &mut Vec<u8>, node: Node, edge: Edge) -> Mem<()>
     ensures { OnOk result (text.new.items ≡ text.old.items ++ of.wait_line node edge) }
 {
-    push_bytes(text, b"  node ")?;
-    push_count(text, u128::from(node.0))?;
-    push_bytes(text, b": ")?;
-    push_count(text, u128::from(edge.waiter.0))?;
-    push_bytes(text, b" waits for ")?;
-    push_count(text, u128::from(edge.holder.0))?;
+    push_count_behind(text, b"  node ", u128::from(node.0))?;
+    push_count_behind(text, b": ", u128::from(edge.waiter.0))?;
+    push_count_behind(text, b" waits for ", u128::from(edge.holder.0))?;
     push_kind(text, edge.dotted)
 }
 

@@ -4,10 +4,11 @@ ghost use Rattle.gx_meaning.specs.Aggregates.{cell_of};
 ghost use Rattle.gx_report.specs.Text.{answers_text, cell_text, cells_text, keyed_line, table_text, tables_text, text_of};
 
 use crate::sessions::push_sessions;
+use crate::words::push_count_behind;
 use gx_ids::Mem;
 use gx_script::Script;
 use gx_store::Run;
-use gx_text::{push_bytes, push_count, push_integer, push_quoted};
+use gx_text::{push_bytes, push_integer, push_quoted};
 use gx_tree::{KeyedRow, Schema, Value};
 use std::alloc::Global;
 
@@ -48,8 +49,7 @@ fn push_table(text: &mut Vec<u8>, name: &[u8], rows: &[KeyedRow]) -> Mem<()>
 {
     push_bytes(text, b"table ")?;
     push_bytes(text, name)?;
-    push_bytes(text, b" ")?;
-    push_count(text, rows.len() as u128)?;
+    push_count_behind(text, b" ", rows.len() as u128)?;
     push_bytes(text, b"\n")?;
     for row in rows {
         push_keyed_row(text, row)?;

@@ -1,5 +1,5 @@
 // The one write, and the status.
-ghost use Rattle.gx_report.specs.Told.{IsTold, IsToldOf};
+ghost use Rattle.gx_report.specs.Told.{IsTold, IsToldOf, no_run};
 
 use crate::attempt::Attempt;
 use gx_outside::{Failed, Sink, write_whole};
@@ -24,23 +24,38 @@ fn told<K: Sink>(status: u8, run: Run, text: &[u8], sink: &mut K) -> Report
     }
 }
 
+fn told_text<K: Sink>(status: u8, run: Run, text: Vec<u8>, sink: &mut K) -> Report
+    ensures { IsTold status run text.items (K.written sink.old) (K.written sink.new) (K.fault_count sink.old) (K.fault_count sink.new) result }
+{
+    let report = told(status, run, text.as_slice(), sink);
+    drop(text);
+    report
+}
+
+// Nothing was run.
+fn told_alone<K: Sink>(alloc: Global, status: u8, text: &[u8], sink: &mut K) -> Report
+    ensures { IsTold status no_run text.now (K.written sink.old) (K.written sink.new) (K.fault_count sink.old) (K.fault_count sink.new) result }
+{
+    told(status, Run::new(alloc), text, sink)
+}
+
 /// Tells what the work came to, in one write.
 pub fn told_of<K: Sink>(alloc: Global, attempt: Attempt, sink: &mut K) -> Report
     ensures { IsToldOf attempt (K.written sink.old) (K.written sink.new) (K.fault_count sink.old) (K.fault_count sink.new) result }
 {
     match attempt {
-        Attempt::Done(run, text) => told(0, run, text.as_slice(), sink),
-        Attempt::Stopped(run, text) => told(7, run, text.as_slice(), sink),
-        Attempt::Stuck(run, text) => told(8, run, text.as_slice(), sink),
-        Attempt::Usage => told(
+        Attempt::Done(run, text) => told_text(0, run, text, sink),
+        Attempt::Stopped(run, text) => told_text(7, run, text, sink),
+        Attempt::Stuck(run, text) => told_text(8, run, text, sink),
+        Attempt::Usage => told_alone(
+            alloc,
             2,
-            Run::new(alloc),
             b"usage: gx [--seed N] [--threads] [--trace] [--turns N] [--gen N]\n",
             sink,
         ),
-        Attempt::Refused(text) => told(3, Run::new(alloc), text.as_slice(), sink),
-        Attempt::ReadFault => told(4, Run::new(alloc), b"read fault\n", sink),
-        Attempt::TooLarge => told(9, Run::new(alloc), b"too large\n", sink),
+        Attempt::Refused(text) => told_text(3, Run::new(alloc), text, sink),
+        Attempt::ReadFault => told_alone(alloc, 4, b"read fault\n", sink),
+        Attempt::TooLarge => told_alone(alloc, 9, b"too large\n", sink),
         Attempt::OutOfMemory(run) => Report { status: 6, run },
     }
 }

@@ -4,6 +4,7 @@ ghost use Rattle.gx_report.specs.TraceText.{event_line, mark_line, step_lines, t
 
 use crate::events::push_event;
 use crate::marks::push_mark;
+use crate::words::push_count_behind;
 use gx_ids::Mem;
 use gx_script::Script;
 use gx_store::{Mark, Run, Step};
@@ -22,8 +23,7 @@ fn push_event_line(text: &mut Vec<u8>, script: &Script, step: &Step) -> Mem<()>
     ensures { OnOk result (text.new.items ≡ text.old.items ++ event_line script.now step.now) }
 {
     push_count(text, u128::from(step.stamp.clock))?;
-    push_bytes(text, b".")?;
-    push_count(text, u128::from(step.stamp.node.0))?;
+    push_count_behind(text, b".", u128::from(step.stamp.node.0))?;
     push_bytes(text, b" ")?;
     push_event(text, script, step.event)?;
     push_bytes(text, b"\n")
@@ -43,8 +43,7 @@ fn push_step(alloc: Global, text: &mut Vec<u8>, script: &Script, step: &Step) ->
 pub fn push_trace(alloc: Global, text: &mut Vec<u8>, script: &Script, run: &Run) -> Mem<()>
     ensures { OnOk result (text.new.items ≡ text.old.items ++ trace_of script.now run.now) }
 {
-    push_bytes(text, b"run ")?;
-    push_count(text, run.steps.len() as u128)?;
+    push_count_behind(text, b"run ", run.steps.len() as u128)?;
     push_bytes(text, b"\n")?;
     for step in run.steps.as_slice() {
         push_step(alloc, text, script, step)?;

@@ -1,5 +1,6 @@
 // Words, numbers and names with blanks before them.
 ghost use Rattle.std.specs.Prelude.{◌≡◌, ◌++◌, OnOk};
+ghost use Rattle.std.specs.Fmt.{decimal};
 ghost use Rattle.std.specs.List.{flat_map};
 ghost use Rattle.gx_ids.specs.Rid.{text_of as rid_text};
 ghost use Rattle.gx_report.specs.Words as of;
@@ -21,6 +22,14 @@ pub fn push_number(text: &mut Vec<u8>, number: u64) -> Mem<()>
 {
     push_bytes(text, b" ")?;
     push_count(text, u128::from(number))
+}
+
+/// Adds a count behind a text.
+pub fn push_count_behind(text: &mut Vec<u8>, before: &[u8], count: u128) -> Mem<()>
+    ensures { OnOk result (text.new.items ≡ text.old.items ++ before.now ++ decimal count) }
+{
+    push_bytes(text, before)?;
+    push_count(text, count)
 }
 
 /// Adds a word, and numbers behind it.
@@ -58,6 +67,19 @@ pub fn push_session(text: &mut Vec<u8>, script: &Script, session: SessionId) -> 
         Some(name) => push_bytes(text, name.as_slice()),
         None => Ok(()),
     }
+}
+
+/// Adds a word, and a session's name behind it.
+pub fn push_at_session(
+    text: &mut Vec<u8>,
+    script: &Script,
+    word: &[u8],
+    session: SessionId,
+) -> Mem<()>
+    ensures { OnOk result (text.new.items ≡ text.old.items ++ word.now ++ of.word_text (of.session_name script.now session)) }
+{
+    push_bytes(text, word)?;
+    push_session(text, script, session)
 }
 
 pub fn push_table(text: &mut Vec<u8>, script: &Script, table: Table) -> Mem<()>

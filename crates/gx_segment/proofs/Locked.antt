@@ -34,13 +34,16 @@ use Rattle.gx_slices.proofs.OwnMoves.{AreWriters-held}
 use Rattle.gx_slices.proofs.Owning.{AreOwn-held, is_own-unless}
 use Rattle.gx_slices.proofs.Waiting.{AreWaits-hold}
 use Rattle.gx_slices.proofs.Wakes.{IsHeld-suspended, suspended-woken}
-use Rattle.gx_segment.specs.Done.{HasDone}
+use Rattle.gx_segment.specs.Done.{HasDone, IsQuiet}
 use Rattle.gx_segment.specs.Waking.{awakened}
 use Rattle.gx_segment.specs.declared.done.Done.{Done}
 
 -- a turn is another one
 pub HasDone-same : (tables : List Schema) (held : Held) (horizon : Gxid) (done : Done) (turn turn' : SegTurn) → turn ≡ turn' → HasDone tables held horizon done turn → HasDone tables held horizon done turn'
 HasDone-same tables held horizon done turn turn' e is = subst (HasDone tables held horizon done) e is
+
+pub IsQuiet-same : (done : Done) (turn turn' : SegTurn) → turn ≡ turn' → IsQuiet done turn → IsQuiet done turn'
+IsQuiet-same done turn turn' e is = subst (IsQuiet done) e is
 
 module _ (tables : List Schema) (held : Held) (s : Seg) (g : Gxid) (c : Cid) (snapshot : Option Snapshot) (slice : Slice) (wanted : Claim) (is : IsHeld tables held s) (may : MayRun tables s g c snapshot slice) (own : wanted.gxid ≡ g) where
   -- it asks once

@@ -87,6 +87,7 @@ fn change_row(
 {
     match new_image(alloc, &change.set, &old)? {
         Ok(image) => {
+            drop(old);
             write_row(alloc, change.writer, held, entry, rid, image, marks)?;
             Ok(RowEnd::Written)
         }
@@ -126,7 +127,10 @@ fn change_if_true(
     match image {
         Some(old) => match is_true(change.cond.get(), &old) {
             Ok(true) => change_row(alloc, change, held, entry, rid, old, marks),
-            Ok(false) => skip(change, rid, marks),
+            Ok(false) => {
+                drop(old);
+                skip(change, rid, marks)
+            }
             Err(why) => fault(change, rid, old, why, marks),
         },
         None => skip(change, rid, marks),
@@ -180,7 +184,10 @@ fn process(
     match change.level {
         Level::ReadCommitted => change_if_true(alloc, change, held, entry, rid, image, marks),
         Level::RepeatableRead => match overtaker(change, &held.store, writer, cid) {
-            Some(writer) => Ok(RowEnd::Failing(Cause::Serialization(rid, writer))),
+            Some(writer) => {
+                drop(image);
+                Ok(RowEnd::Failing(Cause::Serialization(rid, writer)))
+            }
             None => change_shown(alloc, change, held, entry, rid, image, marks),
         },
     }
@@ -289,6 +296,7 @@ fn come_to(
     let Writer { node, gxid, .. } = change.writer;
     match awaited(&held.locks, gxid, newest.writer)? {
         Some(writer) => {
+            drop(newest);
             wait_at(node, &mut held.locks, gxid, rid, writer, marks)?;
             Ok(RowEnd::Waiting)
         }

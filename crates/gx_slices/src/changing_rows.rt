@@ -148,18 +148,18 @@ fn answer(
     requires answered { IsAnswered ending.stage (change_in change.now) change.now.writer.gxid held.old entry marks.items ending.turn reply }
     ensures { IfOk result (λ progress. HasProgressed ending.stage.found.tables held.new change.now.writer.gxid progress ending.turn) }
 {
-    keep_answer(
-        alloc,
-        held,
-        change.writer.gxid,
-        change.writer.cid,
-        entry,
-        &reply,
-    )?;
-    Ok(Progress {
-        marks: Seq::from_vec(marks),
-        reply: Some(reply),
-    })
+    let Writer { gxid, cid, .. } = change.writer;
+    match keep_answer(alloc, held, gxid, cid, entry, &reply) {
+        Ok(()) => Ok(Progress {
+            marks: Seq::from_vec(marks),
+            reply: Some(reply),
+        }),
+        Err(error) => {
+            drop(reply);
+            drop(marks);
+            Err(error)
+        }
+    }
 }
 
 // It is suspended at a row.
@@ -497,8 +497,18 @@ pub(crate) fn go_on_at(
         (rule.goes_through change.writer.gxid (change_in change) (row ∷ rows) (record { seg = found.start; marks = marks.items }) count)) }
 {
     let left = rows.as_slice();
-    let rids = rids_from(alloc, row, left)?;
-    let entry = take_entry(alloc, &mut held.entries, change.writer.gxid);
-    let list = rids.as_slice();
-    go_from(alloc, held, change, entry, list, count, marks)
+    match rids_from(alloc, row, left) {
+        Ok(rids) => {
+            drop(rows);
+            let entry = take_entry(alloc, &mut held.entries, change.writer.gxid);
+            let list = rids.as_slice();
+            go_from(alloc, held, change, entry, list, count, marks)
+        }
+        Err(error) => {
+            drop(change);
+            drop(rows);
+            drop(marks);
+            Err(error)
+        }
+    }
 }

@@ -43,28 +43,38 @@ pub(crate) fn insert(
 {
     let Writer { gxid, cid, .. } = writer;
     let part = no_rows(alloc)?;
-    let rows = own_rows(alloc, &rows)?;
+    let rows = own_rows(alloc, rows)?;
     let count = rows.len() as u64;
     let mut entry = take_entry(alloc, &mut held.entries, gxid);
-    let marks = insert_rows(alloc, writer, held, &mut entry, rows.into_vec())?;
-    let reply = Reply::Done {
-        cid,
-        wrote: has_written(entry.local.phase),
-        count,
-        part,
-    };
-    keep_answer(alloc, held, gxid, cid, entry, &reply)?;
-    Ok(Ran {
-        marks: Seq::from_vec(marks),
-        reply,
-    })
+    match insert_rows(alloc, writer, held, &mut entry, rows.into_vec()) {
+        Ok(marks) => {
+            let reply = Reply::Done {
+                cid,
+                wrote: has_written(entry.local.phase),
+                count,
+                part,
+            };
+            keep_answer(alloc, held, gxid, cid, entry, &reply)?;
+            Ok(Ran {
+                marks: Seq::from_vec(marks),
+                reply,
+            })
+        }
+        Err(error) => {
+            drop(part);
+            drop(entry);
+            Err(error)
+        }
+    }
 }
 
 // The slice's rows, to be taken apart.
-fn own_rows(alloc: Global, rows: &Shared<Seq<KeyedRow>>) -> Mem<Seq<KeyedRow>>
-    ensures { IfOk result (λ own. own ≡ rows.now) }
+fn own_rows(alloc: Global, rows: Shared<Seq<KeyedRow>>) -> Mem<Seq<KeyedRow>>
+    ensures { IfOk result (λ own. own ≡ rows) }
 {
-    rows.get().copy(alloc)
+    let own = rows.get().copy(alloc);
+    drop(rows);
+    own
 }
 
 // Adds the rows, in order.

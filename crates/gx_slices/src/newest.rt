@@ -41,7 +41,10 @@ pub(crate) fn newest_version(
             cid: current.cid,
             image,
         })),
-        None => Ok(None),
+        None => {
+            drop(image);
+            Ok(None)
+        }
     }
 }
 

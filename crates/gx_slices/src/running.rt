@@ -124,6 +124,7 @@ fn run_insert(
     requires node { writer.node ≡ found.start.node }
     ensures { IfOk result (λ progress. HasProgressed found.tables held.new writer.gxid progress (adds found.start writer.gxid writer.cid writer.table rows snapshot)) }
 {
+    drop(snapshot);
     let ran = insert(alloc, tables, held, writer, rows)?;
     Ok(answered(ran))
 }
@@ -172,8 +173,10 @@ fn run_slice(
         level,
         snapshot,
         slice,
+        rows,
         ..
     } = command;
+    drop(rows);
     match slice {
         Slice::Select(query) => run_select(alloc, tables, held, gxid, cid, snapshot, query),
         Slice::Insert(table, rows) => {
@@ -203,7 +206,10 @@ fn run_slice(
             };
             delete_by(alloc, held, writer, level, snapshot, cond)
         }
-        Slice::Lock(_table, _mode) => run_lock(alloc, tables, held, gxid, cid),
+        Slice::Lock(_table, _mode) => {
+            drop(snapshot);
+            run_lock(alloc, tables, held, gxid, cid)
+        }
     }
 }
 

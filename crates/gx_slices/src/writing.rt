@@ -118,7 +118,7 @@ fn add_version(
         None => {
             let mut versions = Versions::new(alloc)?;
             versions.add(rid, table, image, lxid, cid)?;
-            tables.insert(table, versions)?;
+            drop(tables.insert(table, versions)?);
             Ok(())
         }
     }

@@ -14,5 +14,5 @@ returns-in_ok-add_done-clause-coord c =
     let now = c.add_done.new.work in
     ap (λ f. record (coord_of old) { works = f })
     (found-through lines old.works (c.get_mut.follows.lender now) c.args.gxid work now c.in-Some.ensures.value (c.get_mut.follows.holds now)
-    ∙ ap (λ (v : Work). with_at (found lines old.works.entries) c.args.gxid.0 v) (ap (work_of lines) c.in_ok-add_done.ensures ∙ done-noted lines work c.args.node c.args.done.wrote c.args.done.count c.args.part)
-    ∙ ap (λ (v : Work). with_at (found lines old.works.entries) c.args.gxid.0 (done_work v c.args.node c.args.done.wrote c.args.done.count c.args.part)) (sym (found-at lines old.works c.args.gxid work c.in-Some.ensures.value)))
+    ∙ ap (λ (v : Work). with_at (found lines old.works.entries) c.args.gxid.0 v) (ap (work_of lines) c.in_ok-add_done.ensures ∙ done-noted lines work c.args.node c.args.done.wrote c.args.done.count c.args.part.now)
+    ∙ ap (λ (v : Work). with_at (found lines old.works.entries) c.args.gxid.0 (done_work v c.args.node c.args.done.wrote c.args.done.count c.args.part.now)) (sym (found-at lines old.works c.args.gxid work c.in-Some.ensures.value)))

@@ -29,8 +29,8 @@ loop-name-preserved c =
       way = i.way;
     }
 
-pub loop-name-preserved-in-Continue-branch-2 : goal.loop-name-preserved-in-Continue-branch-2
-loop-name-preserved-in-Continue-branch-2 c =
+pub loop-name-preserved-in-Continue-branch-3 : goal.loop-name-preserved-in-Continue-branch-3
+loop-name-preserved-in-Continue-branch-3 c =
     let i = c.loop-name.invariant in
     let core = c.loop-name.core in
     let new = c.cancel.new.self in

@@ -12,8 +12,8 @@ returns c =
     let reduced = c.in_ok-reduced.reduced in
     let count = count_at reduced.rest.tally in
     let o = c.in_ok-reduced.ensures in
-    if_ok_weaker _ _ c.left_edges.result
+    if_ok_weaker _ _ c.left_edges-left.result
     (λ left r. λ e.
     let s = r ∙ ap (filter (is_left count)) (c.deref.ensures.value ∙ o.same) in
     (rest_is_stuck all left.items (left_in reduced) count o.largest o.settled.counted.counts s e, stuck_is_rest all left.items (left_in reduced) count o.largest o.settled.counted.counts s e))
-    c.left_edges.ensures
+    c.left_edges-left.ensures

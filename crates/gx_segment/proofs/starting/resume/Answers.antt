@@ -1,5 +1,11 @@
+use Rattle.gx_locks.specs.Locks.{wait_of}
+use Rattle.gx_node.specs.Phases.{suspended_of}
+use Rattle.gx_rules.specs.AtSegment.{resumes}
+use Rattle.gx_rules.specs.Running.{goes_on}
+use Rattle.gx_rules.specs.Segments.{local_of}
+use Rattle.gx_segment.specs.Waking.{awakened}
 use Rattle.gx_slices.proofs.Wakes.{IsHeld-granted, MayGoOn-granted, found-woken}
-use Rattle.gx_segment.proofs.Locked.{HasDone-same, ready-still, turn-resumed}
+use Rattle.gx_segment.proofs.Locked.{HasDone-same, IsQuiet-same, ready-still, turn-resumed}
 use Rattle.gx_segment.proofs.starting.resume.Goals as goal
 
 pub grant-requires : goal.grant-requires
@@ -28,6 +34,22 @@ unreachable-requires g c = found-woken g.was.script.tables c.args.held.now c.wak
 
 pub returns-in_ok-done-in-Ok-clause-done : goal.returns-in_ok-done-in-Ok-clause-done
 returns-in_ok-done-in-Ok-clause-done g c =
-    HasDone-same g.was.script.tables c.proceed.new.held g.was.seg.horizon c.in_ok-done-in-Ok.done _ _
-    (turn-resumed g.was.script.tables c.args.held.now c.wake.new.held g.was.seg c.args.gxid c.in_ok-waiting.waiting c.requires.1.1.0 c.requires.1.1.1.0 c.in_ok-waiting.ensures c.in-Some.command c.in-Some.is c.args.node c.in-Ok.marks.items c.requires.1.1.1.1 c.in-Ok.ensures.marks)
+    let s = g.was.seg in
+    let id = c.args.gxid in
+    let command = c.in-Some.command in
+    HasDone-same g.was.script.tables c.proceed.new.held s.horizon c.in_ok-done-in-Ok.done
+    (goes_on (record { seg = awakened s id; marks = c.in-Ok.marks.items }) id (suspended_of command) command.row)
+    (resumes s id (wait_of s.locks id) (local_of s id).suspended)
+    (turn-resumed g.was.script.tables c.args.held.now c.wake.new.held s id c.in_ok-waiting.waiting c.requires.1.1.0 c.requires.1.1.1.0 c.in_ok-waiting.ensures command c.in-Some.is c.args.node c.in-Ok.marks.items c.requires.1.1.1.1 c.in-Ok.ensures.marks)
     c.in_ok-done-in-Ok.ensures.done
+
+pub returns-in_ok-done-in-Ok-clause-quiet : goal.returns-in_ok-done-in-Ok-clause-quiet
+returns-in_ok-done-in-Ok-clause-quiet g c =
+    let s = g.was.seg in
+    let id = c.args.gxid in
+    let command = c.in-Some.command in
+    IsQuiet-same c.in_ok-done-in-Ok.done
+    (goes_on (record { seg = awakened s id; marks = c.in-Ok.marks.items }) id (suspended_of command) command.row)
+    (resumes s id (wait_of s.locks id) (local_of s id).suspended)
+    (turn-resumed g.was.script.tables c.args.held.now c.wake.new.held s id c.in_ok-waiting.waiting c.requires.1.1.0 c.requires.1.1.1.0 c.in_ok-waiting.ensures command c.in-Some.is c.args.node c.in-Ok.marks.items c.requires.1.1.1.1 c.in-Ok.ensures.marks)
+    c.in_ok-done-in-Ok.ensures.quiet

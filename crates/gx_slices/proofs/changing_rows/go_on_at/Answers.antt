@@ -20,17 +20,17 @@ go_from-requires g c =
     let open_here = c.requires.1.1.1.0 in
     let free = c.requires.1.1.1.1.0 in
     let marks = c.args.marks.items in
-    let rids = c.as_slice-list.ensures.value ∙ c.in_ok-rids.ensures ∙ ap (λ (rs : List Rid). c.args.row ∷ rs) c.as_slice-left.ensures in
+    let rids = c.as_slice-list.ensures.value ∙ c.in-Ok.ensures ∙ ap (λ (rs : List Rid). c.args.row ∷ rs) c.as_slice-left.ensures in
     let room = room-for c.args.count c.args.row c.args.rows c.as_slice-list.result.now rids c.requires.1.1.1.1.1 in (
       IsTaken-start g.found held entries entry gxid was is (record { seg = g.found.start; marks = marks }) free took.others,
       (may, (IsAt-start g.found held entries entry gxid was is marks may.alive open_here took.local took.kept, (IsFree-start g.found held entries entry gxid was is marks free, (room, refl)))),
     )
 
-pub returns : goal.returns
-returns g c =
+pub returns-in-Ok : goal.returns-in-Ok
+returns-in-Ok g c =
     let k = c.args.change in
     let gxid = k.writer.gxid in
-    let rids = c.as_slice-list.ensures.value ∙ c.in_ok-rids.ensures ∙ ap (λ (rs : List Rid). c.args.row ∷ rs) c.as_slice-left.ensures in
+    let rids = c.as_slice-list.ensures.value ∙ c.in-Ok.ensures ∙ ap (λ (rs : List Rid). c.args.row ∷ rs) c.as_slice-left.ensures in
     HasProgressed-if g.found.tables c.go_from.new.held gxid c.go_from.result _ _
     (ap (λ (rs : List Rid). goes_through gxid (change_in k) rs (record { seg = g.found.start; marks = c.args.marks.items }) c.args.count) rids)
     c.go_from.ensures

@@ -26,8 +26,8 @@ insert_rows-requires g c =
       (alive, (IsApart-taken tables held c.take_entry-entry.new.entries g.s gxid c.take_entry-entry.result is alive c.requires.1.1.0 took.local took.kept, no-wait tables held g.s gxid is c.requires.1.1.1.0)),
     )
 
-pub returns : goal.returns
-returns g c =
+pub returns-in_ok-keep_answer-in-Ok : goal.returns-in_ok-keep_answer-in-Ok
+returns-in_ok-keep_answer-in-Ok g c =
     let tables = c.args.tables.now in
     let held = c.args.held.now in
     let gxid = c.args.writer.gxid in
@@ -43,10 +43,10 @@ returns g c =
     let entry = c.insert_rows.new.entry in
     let new = c.keep_answer.new.held in
     let m = inserted g.s gxid cid table rows in
-    let put = subst (λ (l : List KeyedRow). IsInserted g.s gxid cid table l first mid entry c.in_ok-marks.marks.items) (c.into_vec.ensures ∙ c.in_ok-rows.ensures) c.in_ok-marks.ensures in
+    let put = subst (λ (l : List KeyedRow). IsInserted g.s gxid cid table l first mid entry c.in-Ok.marks.items) (c.into_vec.ensures ∙ c.in_ok-rows.ensures) c.in-Ok.ensures in
     let typed = typed-inserted tables gxid cid table g.s rows is.typed (right-insert tables gxid cid table rows right) in
     let reply : Reply = Done cid c.has_written.result c.len-count.result c.in_ok-part.part in
-    let back = IsHeld-answered tables held first mid new g.s m.seg gxid cid entry is c.requires.1.1.1.1.1.1 put.apart c.take_entry-entry.ensures.others refl typed reply free put.free c.in_ok-keep_answer.ensures in
+    let back = IsHeld-answered tables held first mid new g.s m.seg gxid cid entry is c.requires.1.1.1.1.1.1 put.apart c.take_entry-entry.ensures.others refl typed reply free put.free c.in_ok-keep_answer-in-Ok.ensures in
     let ran : Ran = record { marks = c.from_vec.result; reply = reply } in
     let wrote = c.has_written.ensures ∙ ap (λ (l : Local). has_written l.phase) put.apart.local in
     HasRun-answers tables new gxid cid m.seg ran m.marks (Done cid (has_written (local_of m.seg gxid).phase) (length rows) (Rows [])) back

@@ -1,0 +1,22 @@
+use Rattle.std.proofs.Common.{◌∙◌, ◌+◌, ap, rules}
+use Rattle.std.specs.Prelude.{unwrap_or}
+use Rattle.gx_locks.specs.contracts.key.KeyOrd.TheImpl as block
+use Rattle.gx_locks.proofs.Written.{empty, written_there, written_elsewhere, ok_then, err_then}
+use Rattle.gx_locks.proofs.index.Index.reserve.Goals as goal
+
+pub returns-in-Some-clause-there : goal.returns-in-Some-clause-there
+returns-in-Some-clause-there c =
+    let new = c.reserve.new.self in
+    ok_then c.reserve.result (λ more. ap (λ o. (unwrap_or o empty).places) (written_there block.ghosts.cmp c.args.self.now.shelves (c.get_mut.follows.lender new) c.args.key c.in-Some.shelf.now new c.in-Some.ensures.value (c.get_mut.follows.holds new))
+    ∙ more ∙ ap (λ o. (unwrap_or o empty).places + 1) c.in-Some.ensures.value) c.reserve.ensures.ok
+
+pub returns-in-Some-clause-err : goal.returns-in-Some-clause-err
+returns-in-Some-clause-err c =
+    let new = c.reserve.new.self in
+    err_then c.reserve.result (λ same. ap (λ o. (unwrap_or o empty).places) (written_there block.ghosts.cmp c.args.self.now.shelves (c.get_mut.follows.lender new) c.args.key c.in-Some.shelf.now new c.in-Some.ensures.value (c.get_mut.follows.holds new))
+    ∙ same ∙ ap (λ o. (unwrap_or o empty).places) c.in-Some.ensures.value) c.reserve.ensures.err
+
+pub returns-in-Some-clause-elsewhere : goal.returns-in-Some-clause-elsewhere
+returns-in-Some-clause-elsewhere c = λ k other.
+    let new = c.reserve.new.self in
+    ap (λ o. (unwrap_or o empty).places) (written_elsewhere block.ghosts.cmp c.args.self.now.shelves (c.get_mut.follows.lender new) c.args.key c.in-Some.shelf.now new c.in-Some.ensures.value (c.get_mut.follows.holds new) k (search rules))

@@ -1,0 +1,8 @@
+use Rattle.std.proofs.Common.{rules}
+use Rattle.gx_report.specs.Text.{row_line}
+use Rattle.gx_report.proofs.Adding.{added-next}
+use Rattle.gx_report.proofs.report.push_rows.Goals as goal
+
+pub loop-row-preserved : goal.loop-row-preserved
+loop-row-preserved c =
+    added-next row_line c.args.rows.now c.loop-row.row-index c.row-item.result _ _ _ c.loop-row-test.true c.row-item.is c.loop-row.invariant (search rules)
