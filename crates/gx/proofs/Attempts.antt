@@ -7,8 +7,8 @@ use Rattle.gx_script.specs.declared.Script.{Script}
 use Rattle.gx_sql.specs.Answering.{Answers}
 use Rattle.gx_sql.specs.Script.{Reads}
 use Rattle.gx_sql.specs.declared.refusal.Refusal.{Refusal}
-use Rattle.gx_report.specs.declared.attempt.Attempt.{Attempt}
-use Rattle.gx_report.specs.declared.attempt.Attempt.TheVariants.{Done, Stopped, Stuck, Usage, Refused, ReadFault, TooLarge, OutOfMemory}
+use Rattle.gx_store.specs.declared.attempt.Attempt.{Attempt}
+use Rattle.gx_store.specs.declared.attempt.Attempt.TheVariants.{Done, Stopped, Stuck, Usage, Refused, ReadFault, TooLarge, OutOfMemory}
 use Rattle.gx.specs.Top.{AreAsked, AreGiven, HasScript, IsAttempt, IsOfBytes, IsRan, IsRefusedFor, IsScriptWith, limit}
 use Rattle.gx.proofs.Refusals.{read_as}
 

@@ -8,9 +8,9 @@ use Rattle.gx_drive.specs.Ordered.{AreFailuresFew, AreHeld}
 use Rattle.gx_drive.proofs.Journals.{none-failed, none-held}
 use Rattle.gx_sql.specs.declared.refusal.Refusal.{Refusal}
 use Rattle.gx_store.specs.declared.run.Run.{Run}
-use Rattle.gx_report.specs.declared.attempt.Attempt.{Attempt}
-use Rattle.gx_report.specs.declared.attempt.Attempt.TheVariants.{Done, Stopped, Stuck, Usage, Refused, ReadFault, TooLarge, OutOfMemory}
-use Rattle.gx_report.specs.Told.{no_run, run_in}
+use Rattle.gx_store.specs.declared.attempt.Attempt.{Attempt}
+use Rattle.gx_store.specs.declared.attempt.Attempt.TheVariants.{Done, Stopped, Stuck, Usage, Refused, ReadFault, TooLarge, OutOfMemory}
+use Rattle.gx_store.specs.Told.{no_run, run_in}
 use Rattle.gx.specs.Top.{AreKept, IsRefusedFor}
 
 -- nothing was run

@@ -5,10 +5,10 @@ use Rattle.std.specs.declared.string.String.{String}
 use Rattle.gx_store.specs.declared.run.Run.{Run}
 use Rattle.gx_outside.specs.Shelves.{Shelf}
 use Rattle.gx_drive.specs.Ordered.{AreFailuresFew, AreHeld}
-use Rattle.gx_report.specs.declared.attempt.Attempt.{Attempt}
-use Rattle.gx_report.specs.declared.attempt.Attempt.TheVariants.{Done, Stopped, Stuck, Usage, Refused, ReadFault, TooLarge, OutOfMemory}
-use Rattle.gx_report.specs.declared.told.Report.{Report}
-use Rattle.gx_report.specs.Told.{IsTold, IsToldOf, is_over, run_in, status_in, text_in}
+use Rattle.gx_store.specs.declared.attempt.Attempt.{Attempt}
+use Rattle.gx_store.specs.declared.attempt.Attempt.TheVariants.{Done, Stopped, Stuck, Usage, Refused, ReadFault, TooLarge, OutOfMemory}
+use Rattle.gx_store.specs.declared.told.Report.{Report}
+use Rattle.gx_store.specs.Told.{IsTold, IsToldOf, is_over, run_in, status_in, text_in}
 use Rattle.gx.specs.Top.{AreKept, IsAttempt, IsCutShort, IsDone, IsDue, IsPartRun, IsReadFault, IsRefused, IsStatus, IsStopped, IsStuck, IsTooLarge, IsUsage, IsWritten}
 
 abbrev pub pick : Bool → Type 0 → Type 0 → Type 0

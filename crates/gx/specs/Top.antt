@@ -36,9 +36,9 @@ use Rattle.gx_drive.specs.Ends.{IsEnd}
 use Rattle.gx_drive.specs.Ordered.{AreFailuresFew, AreFirst, AreHeld}
 use Rattle.gx_drive.specs.Seeded.{AreDrawn}
 use Rattle.gx_drive.specs.declared.end.End.TheVariants as end
-use Rattle.gx_report.specs.Told.{no_run, usage}
-use Rattle.gx_report.specs.declared.attempt.Attempt.{Attempt}
-use Rattle.gx_report.specs.declared.attempt.Attempt.TheVariants.{Done, Stopped, Stuck, Usage, Refused, ReadFault, TooLarge, OutOfMemory}
+use Rattle.gx_store.specs.Told.{no_run, usage}
+use Rattle.gx_store.specs.declared.attempt.Attempt.{Attempt}
+use Rattle.gx_store.specs.declared.attempt.Attempt.TheVariants.{Done, Stopped, Stuck, Usage, Refused, ReadFault, TooLarge, OutOfMemory}
 use Rattle.gx_report.specs.Stops.{stuck_lines, turns_spent}
 use Rattle.gx_report.specs.Summary.{summary_of}
 use Rattle.gx_report.specs.Text.{answers_text, text_of}

@@ -2,15 +2,14 @@
 ghost use Rattle.std.specs.Prelude.{◌≡◌, ◌≤◌, length, map};
 ghost use Rattle.gx_outside.specs.Shelves.{AreEmpty};
 ghost use Rattle.gx.specs.Top.{AreKept, IsAttempt, IsForSource, IsOfBytes, IsRefusedFor, limit};
-ghost use Rattle.gx_report.specs.Told.{is_over, run_in};
+ghost use Rattle.gx_store.specs.Told.{is_over, run_in};
 
 use crate::bytes::{NoBytes, script_bytes};
 use crate::refused::refusal_text;
 use crate::running::run_script;
 use gx_outside::{Gate, Journal, Source};
-use gx_report::Attempt;
 use gx_sql::{Refusal, parse_script};
-use gx_store::Run;
+use gx_store::{Attempt, Run};
 use gx_words::{Options, WordsFault, read_words};
 use std::alloc::Global;
 

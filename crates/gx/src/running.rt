@@ -6,16 +6,15 @@ ghost use Rattle.gx_drive.specs.declared.end.End.TheVariants.{Done, Stuck, Turns
 ghost use Rattle.gx_outside.specs.Shelves.{AreEmpty};
 ghost use Rattle.gx_store.specs.Language.{IsScript};
 ghost use Rattle.gx.specs.Top.{AreDriven, AreKept, IsRan};
-ghost use Rattle.gx_report.specs.Told.{is_over, run_in};
+ghost use Rattle.gx_store.specs.Told.{is_over, run_in};
 
 use crate::driving::drive;
 use crate::telling::{ended_text, stopped_text, stuck_text};
 use gx_drive::End;
 use gx_ids::Seq;
 use gx_outside::{Gate, Journal};
-use gx_report::Attempt;
 use gx_script::Script;
-use gx_store::Run;
+use gx_store::{Attempt, Run};
 use gx_waits::LocalGraph;
 use gx_words::Options;
 use gx_world::World;

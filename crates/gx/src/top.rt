@@ -6,7 +6,7 @@ ghost use Rattle.gx.specs.Top.{IsCutShort, IsDone, IsDue, IsForSource, IsOfLangu
 
 use crate::attempt::make_attempt;
 use gx_outside::{Gate, Journal, Sink, Source};
-use gx_report::{Report, told_of};
+use gx_store::{Report, told_of};
 use std::alloc::Global;
 
 /// Reads a script from the source, or generates the one of the number that the words give, runs it, and writes the text of its run to

@@ -9,4 +9,3 @@ pub mod Summary
 pub mod TraceText
 pub mod Words
 pub mod Worked
-pub mod Told

@@ -1,9 +1,7 @@
 //! The text of a run: each session's answers, and then the final tables, or why it stopped; that of its trace; and the line
-//! that tells of a run of generated work. `attempt` and `told`: how the work before the writing ends, and how each end is told,
-//! by its status and its text; what an end means is said by the program.
+//! that tells of a run of generated work.
 #![tactic(auto)]
 
-pub mod attempt;
 mod error;
 mod events;
 mod generated;
@@ -15,15 +13,12 @@ mod rows;
 mod sessions;
 mod stops;
 mod tables;
-pub mod told;
 mod trace;
 mod words;
 mod worked;
 
-pub use attempt::Attempt;
 pub use generated::summary;
 pub use stops::{push_stuck, push_turns_spent};
 pub use tables::{answers, text};
-pub use told::{Report, told_of};
 pub use trace::{push_trace, trace_text};
 pub use worked::{all_kinds_are_traced, begin_and_rollback_are_traced, stuck_edges_are_told};

@@ -26,3 +26,4 @@ pub mod RefusedCommits
 pub mod RefusedWaits
 pub mod RefusedRounds
 pub mod Cancelled
+pub mod Told

@@ -2,7 +2,7 @@ use Rattle.std.proofs.Common.{◌∙◌, ap, arith, false, inr, subst}
 use Rattle.gx_world.specs.Worlds.{WorldState}
 use Rattle.gx_script.specs.declared.Script.{Script}
 use Rattle.gx.specs.Top.{AreDriven}
-use Rattle.gx_report.specs.Told.{is_over, run_in}
+use Rattle.gx_store.specs.Told.{is_over, run_in}
 use Rattle.gx_store.specs.declared.run.Run.{Run}
 use Rattle.gx.proofs.Kept.{count-back, kept-back}
 use Rattle.gx.proofs.Runs.{run-in}

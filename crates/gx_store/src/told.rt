@@ -1,9 +1,9 @@
 // The one write, and the status.
-ghost use Rattle.gx_report.specs.Told.{IsTold, IsToldOf, no_run};
+ghost use Rattle.gx_store.specs.Told.{IsTold, IsToldOf, no_run};
 
 use crate::attempt::Attempt;
+use crate::run::Run;
 use gx_outside::{Failed, Sink, write_whole};
-use gx_store::Run;
 use std::alloc::Global;
 
 /// What a call did: its status, and the run that it made. 0 is done, 2 words that aren't in the language, 3 a refused script, 4 a read fault, 5 a write fault, 6

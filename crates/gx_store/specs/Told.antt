@@ -4,9 +4,9 @@ use Rattle.std.specs.declared.option.Option.{Option}
 use Rattle.std.specs.Io.KnownBytes.{Appends}
 use Rattle.gx_outside.specs.Causes.{Rose, WritesPrefix}
 use Rattle.gx_store.specs.declared.run.Run.{Run}
-use Rattle.gx_report.specs.declared.attempt.Attempt.{Attempt}
-use Rattle.gx_report.specs.declared.attempt.Attempt.TheVariants.{Done, Stopped, Stuck, Usage, Refused, ReadFault, TooLarge, OutOfMemory}
-use Rattle.gx_report.specs.declared.told.Report.{Report}
+use Rattle.gx_store.specs.declared.attempt.Attempt.{Attempt}
+use Rattle.gx_store.specs.declared.attempt.Attempt.TheVariants.{Done, Stopped, Stuck, Usage, Refused, ReadFault, TooLarge, OutOfMemory}
+use Rattle.gx_store.specs.declared.told.Report.{Report}
 
 -- the line that says how the program is used
 abbrev pub usage : List ℕ

@@ -1,4 +1,4 @@
-use gx_store::Run;
+use crate::run::Run;
 
 /// How the work before the writing ended: with a run and its text, with one that stopped once its turns were taken, with one that
 /// is stuck, with words that aren't in the language, with the text of a refusal, or with neither.
