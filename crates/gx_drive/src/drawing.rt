@@ -9,7 +9,7 @@ ghost use Rattle.gx_drive.specs.Seeded.{seeded};
 
 use crate::agenda::Agenda;
 use gx_ids::Mem;
-use gx_store::Event;
+use gx_store::{Event, drawn};
 use gx_world::World;
 use rand_core::SeedableRng;
 use rand_xoshiro::Xoshiro256PlusPlus;
@@ -21,17 +21,6 @@ pub(crate) fn generator_of(seed: u64) -> Xoshiro256PlusPlus
     ensures { result ≡ seeded seed }
 {
     Xoshiro256PlusPlus::seed_from_u64(seed)
-}
-
-// The event that a word draws among these, if there are any.
-fn drawn(events: &[Event], word: u64) -> Option<Event>
-    ensures is { result ≡ slice_get events.now (word % length events.now) }
-    ensures none { IfNone result (events.now ≡ []) }
-{
-    if events.is_empty() {
-        return None;
-    }
-    Some(events[(word % events.len() as u64) as usize])
 }
 
 // The event that a word draws among all that is enabled; none where nothing is.

@@ -1,3 +1,5 @@
+ghost use Rattle.std.specs.Prelude.{◌≡◌, ◌%◌, [], length, slice_get, IfNone};
+
 use gx_ids::{Gxid, Node, SessionId};
 
 /// What happens in one step, at one node.
@@ -15,4 +17,15 @@ pub enum Event {
     Resend { segment: Node, gxid: Option<Gxid> },
     /// The detector begins a round.
     Round,
+}
+
+/// The event that a word draws among these: the one at the word's remainder by their number. None where there is none.
+pub fn drawn(events: &[Event], word: u64) -> Option<Event>
+    ensures is { result ≡ slice_get events.now (word % length events.now) }
+    ensures none { IfNone result (events.now ≡ []) }
+{
+    if events.is_empty() {
+        return None;
+    }
+    Some(events[(word % events.len() as u64) as usize])
 }

@@ -16,7 +16,7 @@ pub mod told;
 
 pub use answer::{Refused, StmtAnswer};
 pub use attempt::Attempt;
-pub use event::Event;
+pub use event::{Event, drawn};
 pub use mark::Mark;
 pub use node::NodeEvent;
 pub use run::{Run, Step};
