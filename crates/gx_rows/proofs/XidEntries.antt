@@ -1,11 +1,13 @@
 -- The entries of the map, and what an entry more or less does to them.
 use Rattle.std.proofs.Common.{◌≡◌, ℕ, ◌+◌, ◌<◌, ◌≤◌, List, [], ◌∷◌, length, refl, sym, ap, ◌∙◌, subst, Bool, true, false, cond, eqb, ltb, ◌&&◌, arith}
 use Rattle.std.proofs.lemmas.Bool.Decides.{nat_tests}
+use Rattle.std.proofs.lemmas.Map.{lookup-set_value}
+use Rattle.std.specs.Cmp.{IsEquivalence, eq_by_cmp_equiv, nat_cmp_total, on_total}
 use Rattle.std.specs.Prelude.{Option, None, Some, IfSome, IsSome, is_some, nat_le, nat_lt, option_and_then, slice_get}
 use Rattle.std.specs.declared.cmp.Ordering.{Ordering}
 use Rattle.std.specs.declared.cmp.Ordering.TheVariants.{Less, Equal, Greater}
-use Rattle.std.specs.Ordering.{is_eq, is_gt, match_ordering}
-use Rattle.std.specs.Map.{lookup, remove_entry, set_value}
+use Rattle.std.specs.Ordering.{eq_by_cmp, is_eq, is_gt, match_ordering}
+use Rattle.std.specs.Map.{lookup, remove_entry}
 use Rattle.std.specs.BTreeMap.{BTreeMap, get, Updates, IsEmpty, IsLowerBound, insert_entry, is_at}
 use Rattle.gx_ids.specs.declared.ids.Gxid.{Gxid}
 use Rattle.gx_ids.specs.declared.ids.Lxid.{Lxid}
@@ -13,7 +15,7 @@ use Rattle.gx_rows.specs.declared.entry.XidEntry.{XidEntry}
 use Rattle.gx_rows.specs.declared.status.LocalStatus.{LocalStatus}
 use Rattle.gx_rows.specs.declared.status.LocalStatus.TheVariants.{Running, Prepared, Committed, Aborted}
 use Rattle.gx_rows.specs.Counts.{is_committed}
-use Rattle.gx_rows.specs.Truncated.{IsTruncated, goes, unless_it_goes}
+use Rattle.gx_rows.specs.Truncated.{IsTruncated, unless_it_goes}
 use Rattle.gx_rows.specs.Xids.{Xids, gxid_cmp, lxid_cmp, gxid_of, kept, status_in, with_entry}
 use Rattle.gx_rows.specs.Keys.{AreLeft, HasEntry, IsForgotten, IsRestated, IsWhole, is_done, restated}
 
@@ -27,6 +29,10 @@ none_some e = cc
 
 some_same : {X : Type 0} {x y : X} → Some x ≡ Some y → x ≡ y
 some_same e = cc
+
+is_some_of : {X : Type 0} (o : Option X) (x : X) → o ≡ Some x → IsSome o
+is_some_of (Some y) x e = refl
+is_some_of None x e = absurd (none_some e)
 
 not_both : {b : Bool} → b ≡ true → b ≡ false → ⊥
 not_both e f = cc
@@ -53,40 +59,8 @@ other_lxid l k other = by (eqb l.0 k.0) refl
     by true e = absurd (other (grind (arith, nat_tests, e)))
 
 -- WITH ANOTHER STATUS
-module _ (l : Lxid) (w : XidEntry) where
-  abbrev written : List (Lxid × XidEntry) → List (Lxid × XidEntry)
-  written es = set_value (is_at (lxid_cmp l)) es w
-
-  written_step : (e : Lxid × XidEntry) (es : List (Lxid × XidEntry)) (x : XidEntry) (b : Bool) → is_at (lxid_cmp l) e.0 ≡ b → lookup (is_at (lxid_cmp l)) (e ∷ es) ≡ Some x → (lookup (is_at (lxid_cmp l)) es ≡ Some x → lookup (is_at (lxid_cmp l)) (written es) ≡ Some w) → lookup (is_at (lxid_cmp l)) (written (e ∷ es)) ≡ Some w
-  written_step e es x true is found more =
-      ap (λ (b : Bool). lookup (is_at (lxid_cmp l)) (cond b ((e.0, w) ∷ es) (e ∷ written es))) is
-      ∙ ap (λ (b : Bool). cond b (Some w) (lookup (is_at (lxid_cmp l)) es)) is
-  written_step e es x false is found more =
-      ap (λ (b : Bool). lookup (is_at (lxid_cmp l)) (cond b ((e.0, w) ∷ es) (e ∷ written es))) is
-      ∙ ap (λ (b : Bool). cond b (Some e.1) (lookup (is_at (lxid_cmp l)) (written es))) is
-      ∙ more (sym (ap (λ (b : Bool). cond b (Some e.1) (lookup (is_at (lxid_cmp l)) es)) is) ∙ found)
-
-  lookup-written : (es : List (Lxid × XidEntry)) (x : XidEntry) → lookup (is_at (lxid_cmp l)) es ≡ Some x → lookup (is_at (lxid_cmp l)) (written es) ≡ Some w
-  lookup-written [] x found = absurd (none_some found)
-  lookup-written (e ∷ es) x found = written_step e es x (is_at (lxid_cmp l) e.0) refl found (lookup-written es x)
-
-  module _ (k : Lxid) (apart : eqb l.0 k.0 ≡ false) where
-    other_key : (j : Lxid) → eqb l.0 j.0 ≡ true → eqb k.0 j.0 ≡ false
-    other_key j e = grind (arith, nat_tests, apart)
-
-    apart_step : (e : Lxid × XidEntry) (es : List (Lxid × XidEntry)) (b : Bool) → eqb l.0 e.0.0 ≡ b → lookup (is_at (lxid_cmp k)) (written es) ≡ lookup (is_at (lxid_cmp k)) es → lookup (is_at (lxid_cmp k)) (written (e ∷ es)) ≡ lookup (is_at (lxid_cmp k)) (e ∷ es)
-    apart_step e es true is more =
-        let far : is_at (lxid_cmp k) e.0 ≡ false = at_lxid k e.0 false (other_key e.0 is) in
-        ap (λ (b : Bool). lookup (is_at (lxid_cmp k)) (cond b ((e.0, w) ∷ es) (e ∷ written es))) (at_lxid l e.0 true is)
-        ∙ ap (λ (b : Bool). cond b (Some w) (lookup (is_at (lxid_cmp k)) es)) far
-        ∙ sym (ap (λ (b : Bool). cond b (Some e.1) (lookup (is_at (lxid_cmp k)) es)) far)
-    apart_step e es false is more =
-        ap (λ (b : Bool). lookup (is_at (lxid_cmp k)) (cond b ((e.0, w) ∷ es) (e ∷ written es))) (at_lxid l e.0 false is)
-        ∙ ap (cond (is_at (lxid_cmp k) e.0) (Some e.1)) more
-
-    lookup-apart : (es : List (Lxid × XidEntry)) → lookup (is_at (lxid_cmp k)) (written es) ≡ lookup (is_at (lxid_cmp k)) es
-    lookup-apart [] = refl
-    lookup-apart (e ∷ es) = apart_step e es (eqb l.0 e.0.0) refl (lookup-apart es)
+same_entry : IsEquivalence (eq_by_cmp lxid_cmp)
+same_entry = eq_by_cmp_equiv (on_total (λ (l : Lxid). l.0) nat_cmp_total)
 
 module _ (l : Lxid) (s : LocalStatus) (es : List (Lxid × XidEntry)) where
   abbrev found_at : Lxid → Option XidEntry
@@ -95,14 +69,7 @@ module _ (l : Lxid) (s : LocalStatus) (es : List (Lxid × XidEntry)) where
   restated_at : (k : Lxid) (o : Option XidEntry) → found_at l ≡ o → (b : Bool) → eqb l.0 k.0 ≡ b → lookup (is_at (lxid_cmp k)) (with_entry l s o es) ≡ cond (is_at (lxid_cmp l) k) (restated s o) (found_at k)
   restated_at k None is true e = ap found_at (sym (same_lxid l k e)) ∙ is ∙ sym (ap (λ (b : Bool). cond b None (found_at k)) (at_lxid l k true e))
   restated_at k None is false e = sym (ap (λ (b : Bool). cond b None (found_at k)) (at_lxid l k false e))
-  restated_at k (Some x) is true e =
-      let y : XidEntry = record x { status = s } in
-      ap (λ (j : Lxid). lookup (is_at (lxid_cmp j)) (set_value (is_at (lxid_cmp l)) es y)) (sym (same_lxid l k e))
-      ∙ lookup-written l y es x is
-      ∙ sym (ap (λ (b : Bool). cond b (Some y) (found_at k)) (at_lxid l k true e))
-  restated_at k (Some x) is false e =
-      let y : XidEntry = record x { status = s } in
-      lookup-apart l y k e es ∙ sym (ap (λ (b : Bool). cond b (Some y) (found_at k)) (at_lxid l k false e))
+  restated_at k (Some x) is b e = lookup-set_value same_entry (is_at (lxid_cmp l)) (same_entry.congr l) k (record x { status = s }) es (is_some_of (found_at l) x is)
 
   -- an entry with another status is found where it stood, and the others are as they were
   pub lookup-with_entry : (k : Lxid) → lookup (is_at (lxid_cmp k)) (with_entry l s (found_at l) es) ≡ cond (is_at (lxid_cmp l) k) (restated s (found_at l)) (found_at k)
@@ -387,10 +354,6 @@ AreLeft-all m n h = record {
 }
 
 -- no gxid is below the least
-is_some_of : {X : Type 0} (o : Option X) (x : X) → o ≡ Some x → IsSome o
-is_some_of (Some y) x e = refl
-is_some_of None x e = absurd (none_some e)
-
 not_above : (g q : Gxid) → is_gt (gxid_cmp g q) ≡ false → g.0 ≤ q.0
 not_above g q e = grind (arith, nat_tests)
 

@@ -1,5 +1,5 @@
 -- What a segment knows of the transactions that wrote there.
-use Rattle.std.specs.Prelude.{◌≡◌, ℕ, ◌+◌, List, ◌&&◌, Bool, nat_le, nat_lt, if◌then◌else◌, Option, None, Some, option_and_then}
+use Rattle.std.specs.Prelude.{ℕ, ◌+◌, List, ◌&&◌, Bool, nat_le, nat_lt, if◌then◌else◌, Option, None, Some, option_and_then}
 use Rattle.std.specs.declared.cmp.Ordering.{Ordering}
 use Rattle.std.specs.Ordering.{nat_cmp}
 use Rattle.std.specs.Map.{lookup, set_value}
