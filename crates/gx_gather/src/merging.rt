@@ -1,4 +1,4 @@
-ghost use Rattle.std.specs.Prelude.{◌≡◌, ◌++◌, IfOk, OnOk, map};
+ghost use Rattle.std.specs.Prelude.{◌≡◌, IfOk, map};
 ghost use Rattle.std.specs.List.{flat_map};
 ghost use Rattle.gx_meaning.specs.Answer.{groups_in, limited, plain_answer, row_keys, rows_in};
 ghost use Rattle.gx_meaning.specs.Order.{in_order, row_order};
@@ -10,6 +10,7 @@ use crate::merged::{Entry, answered, groups_of};
 use crate::order::{group_sort_keys, row_sort_keys, sort_entries, sort_rows};
 use crate::output::{entries_out, rows_out};
 use gx_ids::Mem;
+use gx_meaning::rows_of;
 use gx_tree::{KeyedRow, OutRow, Part, Query};
 use std::alloc::Global;
 
@@ -40,35 +41,6 @@ fn ordered_rows<'a>(alloc: Global, query: &Query, parts: &'a [Part]) -> Mem<Vec<
     let places = row_sort_keys(alloc, query.order.as_slice())?;
     sort_rows(places.as_slice(), &mut rows)?;
     Ok(rows)
-}
-
-// The rows of all parts.
-fn rows_of<'a>(alloc: Global, parts: &'a [Part]) -> Mem<Vec<&'a KeyedRow>>
-    ensures { IfOk result (λ rows. map (λ row. row.now) rows.items ≡ flat_map rows_in parts.now) }
-{
-    let mut rows = Vec::new(alloc);
-    for part in parts {
-        add_rows(&mut rows, part_rows(part))?;
-    }
-    Ok(rows)
-}
-
-fn part_rows(part: &Part) -> &[KeyedRow]
-    ensures { result.now ≡ rows_in part.now }
-{
-    match part {
-        Part::Rows(rows) => rows.as_slice(),
-        Part::Groups(_) => &[],
-    }
-}
-
-fn add_rows<'a>(rows: &mut Vec<&'a KeyedRow>, more: &'a [KeyedRow]) -> Mem<()>
-    ensures { OnOk result (map (λ row. row.now) rows.new.items ≡ map (λ row. row.now) rows.old.items ++ more.now) }
-{
-    for row in more {
-        rows.push(row)?;
-    }
-    Ok(())
 }
 
 fn merge_groups(alloc: Global, query: &Query, parts: &[Part]) -> Mem<Vec<OutRow>>

@@ -3,11 +3,13 @@
 #![tactic(auto)]
 
 mod fault;
+mod parts;
 mod piece;
 mod sort_key;
 mod target;
 
 pub use fault::ArithFault;
+pub use parts::rows_of;
 pub use piece::Piece;
 pub use sort_key::SortKey;
 pub use target::Target;
