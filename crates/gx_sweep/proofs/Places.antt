@@ -1,60 +1,57 @@
 -- Two places of the index.
-use Rattle.std.proofs.Common.{◌≡◌, ◌≢◌, ◌⊎◌, inl, inr, ⊎_elim, ℕ, ap, sym, refl, subst, ◌∙◌, true, false}
-use Rattle.std.proofs.lemmas.Cmp.{int_cmp_total, nat_cmp_total, nat_list_cmp_total, tied_itself}
-use Rattle.std.proofs.lemmas.Map.Lookups.{exact_unsigned}
-use Rattle.std.specs.BTreeMap.{is_at}
-use Rattle.std.specs.Ordering.{is_eq, nat_cmp, ordering_then}
-use Rattle.std.specs.declared.cmp.Ordering.{Ordering}
-use Rattle.std.specs.declared.cmp.Ordering.TheVariants.{Less, Equal, Greater}
+use Rattle.std.proofs.Common.{◌≡◌, ◌≢◌, ◌⊎◌, inl, inr, ⊎_elim, ℕ, Bool, ◌&&◌, ap, sym, refl, subst, ◌∙◌, true, false, eqb}
+use Rattle.std.proofs.lemmas.Bool.{and_parts}
+use Rattle.std.proofs.lemmas.Bool.Decides.{Decides-eqb, Decides-int_eq}
+use Rattle.std.proofs.lemmas.Cmp.{int_eq_equiv, nat_eq_equiv, nat_list_eq_equiv}
+use Rattle.std.proofs.lemmas.Slice.Eq.{slice_eq-Decides}
 use Rattle.gx_ids.specs.declared.ids.Table.{Table}
-use Rattle.gx_tree.proofs.Values.{same_value}
-use Rattle.gx_tree.specs.Value.{value_order}
+use Rattle.gx_tree.specs.contracts.value.ValuePartialEq.TheImpl as value
 use Rattle.gx_tree.specs.declared.value.Value.{Value}
 use Rattle.gx_tree.specs.declared.value.Value.TheVariants.{Int, Text}
 use Rattle.gx_sweep.specs.declared.table_key.TableKey.{TableKey}
-use Rattle.gx_sweep.specs.contracts.table_key.TableKeyOrd.TheImpl as block
+use Rattle.gx_sweep.specs.contracts.table_key.TableKeyPartialEq.TheImpl as block
 
-pub value_itself : (a : Value) → value_order a a ≡ Equal
-value_itself (Int m) = tied_itself int_cmp_total m
-value_itself (Text s) = tied_itself nat_list_cmp_total s
+same_value : (a b : Value) → value.ghosts.eq a b ≡ true → a ≡ b
+same_value (Int m) (Int n) e = ap Int ((Decides-int_eq m n).0 e)
+same_value (Text s) (Text t) e = ap Text ((slice_eq-Decides Decides-eqb s t (value.ghosts.eq (Text s) (Text t)) refl).0 e)
+same_value (Int m) (Text t) e = cc
+same_value (Text s) (Int n) e = cc
 
-cmp_is : (t u : Table) (a b : Value) → block.ghosts.cmp (record { table = t; key = a }) (record { table = u; key = b }) ≡ ordering_then (nat_cmp t.0 u.0) (value_order a b)
-cmp_is t u (Int m) (Int n) = refl
-cmp_is t u (Text s) (Text r) = refl
-cmp_is t u (Int m) (Text r) = refl
-cmp_is t u (Text s) (Int n) = refl
+value_itself : (a : Value) → value.ghosts.eq a a ≡ true
+value_itself (Int m) = int_eq_equiv.refl m
+value_itself (Text s) = nat_list_eq_equiv.refl s
 
-both_Equal : (a b : Ordering) → ordering_then a b ≡ Equal → (a ≡ Equal) × (b ≡ Equal)
-both_Equal Less b e = absurd (cc)
-both_Equal Equal b e = (refl, e)
-both_Equal Greater b e = absurd (cc)
+eq_is : (t u : Table) (a b : Value) → block.ghosts.eq (record { table = t; key = a }) (record { table = u; key = b }) ≡ (eqb t.0 u.0 && value.ghosts.eq a b)
+eq_is t u (Int m) (Int n) = refl
+eq_is t u (Text s) (Text r) = refl
+eq_is t u (Int m) (Text r) = refl
+eq_is t u (Text s) (Int n) = refl
 
-same_place : (p q : TableKey) → block.ghosts.cmp p q ≡ Equal → p ≡ q
+pub same_place : (p q : TableKey) → block.ghosts.eq p q ≡ true → p ≡ q
 same_place p q e =
-    let parts : (nat_cmp p.table.0 q.table.0 ≡ Equal) × (value_order p.key q.key ≡ Equal) = both_Equal (nat_cmp p.table.0 q.table.0) (value_order p.key q.key) (sym (cmp_is p.table q.table p.key q.key) ∙ e) in
-    ap (λ (n : ℕ). let r : TableKey = record { table = record { 0 = n }; key = p.key } in r) (exact_unsigned p.table.0 q.table.0 parts.0)
+    let parts = and_parts (eqb p.table.0 q.table.0) (value.ghosts.eq p.key q.key) (sym (eq_is p.table q.table p.key q.key) ∙ e) in
+    ap (λ (n : ℕ). let r : TableKey = record { table = record { 0 = n }; key = p.key } in r) ((Decides-eqb p.table.0 q.table.0).0 parts.0)
     ∙ ap (λ (v : Value). let r : TableKey = record { table = q.table; key = v } in r) (same_value p.key q.key parts.1)
 
 -- a place is another one, or the same
-pub place_cases : (p q : TableKey) → (p ≡ q) ⊎ (is_at (block.ghosts.cmp p) q ≡ false)
-place_cases p q = by_order (block.ghosts.cmp p q) refl
+pub place_cases : (p q : TableKey) → (p ≡ q) ⊎ (block.ghosts.eq p q ≡ false)
+place_cases p q = by_test (block.ghosts.eq p q) refl
   where
-    by_order : (o : Ordering) → block.ghosts.cmp p q ≡ o → (p ≡ q) ⊎ (is_at (block.ghosts.cmp p) q ≡ false)
-    by_order Less e = inr (ap is_eq e)
-    by_order Equal e = inl (same_place p q e)
-    by_order Greater e = inr (ap is_eq e)
+    by_test : (b : Bool) → block.ghosts.eq p q ≡ b → (p ≡ q) ⊎ (block.ghosts.eq p q ≡ false)
+    by_test true e = inl (same_place p q e)
+    by_test false e = inr e
 
-pub elsewhere_than : (p q : TableKey) → q ≢ p → is_at (block.ghosts.cmp p) q ≡ false
-elsewhere_than p q other = ⊎_elim (λ (e : p ≡ q). absurd (other (sym e))) (λ (e : is_at (block.ghosts.cmp p) q ≡ false). e) (place_cases p q)
+pub elsewhere_than : (p q : TableKey) → q ≢ p → block.ghosts.eq p q ≡ false
+elsewhere_than p q other = ⊎_elim (λ (e : p ≡ q). absurd (other (sym e))) (λ (e : block.ghosts.eq p q ≡ false). e) (place_cases p q)
 
-apart : (p q : TableKey) → is_at (block.ghosts.cmp p) q ≡ false → p ≢ q
-apart p q e same = absurd (differ (sym (subst (λ (r : TableKey). is_at (block.ghosts.cmp p) r ≡ false) (sym same) e) ∙ ap is_eq (at_itself p)))
+apart : (p q : TableKey) → block.ghosts.eq p q ≡ false → p ≢ q
+apart p q e same = absurd (differ (sym (subst (λ (r : TableKey). block.ghosts.eq p r ≡ false) (sym same) e) ∙ at_itself p))
   where
     differ : false ≡ true → ⊥
     differ e = cc
 
-    at_itself : (p : TableKey) → block.ghosts.cmp p p ≡ Equal
-    at_itself p = cmp_is p.table p.table p.key p.key ∙ ap (λ (o : Ordering). ordering_then o (value_order p.key p.key)) (tied_itself nat_cmp_total p.table.0) ∙ value_itself p.key
+    at_itself : (p : TableKey) → block.ghosts.eq p p ≡ true
+    at_itself p = eq_is p.table p.table p.key p.key ∙ ap (λ (b : Bool). b && value.ghosts.eq p.key p.key) (nat_eq_equiv.refl p.table.0) ∙ value_itself p.key
 
 pub same_or_other : (p q : TableKey) → (p ≡ q) ⊎ (p ≢ q)
-same_or_other p q = ⊎_elim (λ (e : p ≡ q). inl e) (λ (e : is_at (block.ghosts.cmp p) q ≡ false). inr (apart p q e)) (place_cases p q)
+same_or_other p q = ⊎_elim (λ (e : p ≡ q). inl e) (λ (e : block.ghosts.eq p q ≡ false). inr (apart p q e)) (place_cases p q)

@@ -1,3 +1,4 @@
+pub mod Hashed
 pub mod Index
 pub mod Rids
 pub mod Swept

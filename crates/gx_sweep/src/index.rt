@@ -10,13 +10,13 @@ use crate::table_key::TableKey;
 use gx_ids::{Duplicate, Mem, Rid, Table};
 use gx_tree::Value;
 use std::alloc::Global;
-use std::collections::BTreeMap;
+use std::collections::HashMap;
 
 /// Which rows were put under a value of a table's distribution column. It only grows.
 #[derive(Drop)]
 pub struct KeyIndex {
     alloc: Global,
-    places: BTreeMap<TableKey, Rids>,
+    places: HashMap<TableKey, Rids>,
 }
 
 impl KeyIndex {
@@ -28,7 +28,7 @@ impl KeyIndex {
     {
         KeyIndex {
             alloc,
-            places: BTreeMap::new(alloc),
+            places: HashMap::new(alloc),
         }
     }
 
