@@ -10,7 +10,6 @@ use Rattle.std.specs.declared.cmp.Ordering.TheVariants.{Less, Equal, Greater}
 use Rattle.gx_ids.specs.declared.ids.Gxid.{Gxid}
 use Rattle.gx_dsnap.specs.Gxids.{gxid_cmp}
 use Rattle.gx_script.specs.declared.Line.{Line}
-use Rattle.gx_script.specs.Session.{IsIdle}
 use Rattle.gx_rules.specs.Coordinators as rule
 use Rattle.gx_rules.specs.Maps.{with_at}
 use Rattle.gx_ids.specs.declared.ids.Node.{Node}

@@ -7,7 +7,7 @@ use Rattle.std.proofs.lemmas.Bool.{and_parts, or_right}
 use Rattle.gx_ids.specs.declared.ids.Cid.{Cid}
 use Rattle.gx_ids.specs.declared.ids.Node.{Node}
 use Rattle.gx_dtx.specs.Nodes.{has}
-use Rattle.gx_dtx.specs.Rules.{AreWriters, on_reply}
+use Rattle.gx_dtx.specs.Rules.{AreWriters}
 use Rattle.gx_dtx.specs.Table.{IsActive, find_txn, participants_in, participants_of, status_in}
 use Rattle.gx_dtx.specs.declared.outcome.Outcome.{Outcome}
 use Rattle.gx_dtx.specs.declared.outcome.Outcome.TheVariants as outcome
@@ -15,7 +15,6 @@ use Rattle.gx_dtx.specs.declared.phase.Phase.{Phase}
 use Rattle.gx_dtx.specs.declared.phase.Phase.TheVariants.{Active, Preparing, CommittingOne, CommittingTwo, Ended, Aborting}
 use Rattle.gx_dtx.specs.declared.status.Status.TheVariants as status
 use Rattle.gx_dtx.specs.declared.txn.Txn.{Txn}
-use Rattle.gx_msg.specs.declared.reply.Reply.{Reply}
 use Rattle.gx_tree.specs.declared.stmt.Stmt.{Stmt}
 use Rattle.gx_script.specs.declared.Script.{Script}
 use Rattle.gx_script.specs.declared.state.Block.{Block}
@@ -26,7 +25,7 @@ use Rattle.gx_rules.specs.Coordinators.{Command, Coord, Work}
 use Rattle.gx_rules.specs.Rounds.{is_active as is_active_phase, is_live}
 use Rattle.gx_law_order.proofs.Sessions.{Kept, is_closing_in, is_working_in, stage_of}
 use Rattle.gx_law_order.proofs.Stages.{gx}
-use Rattle.gx_law_order.proofs.Statuses.{Moves, Stage, reply-turns, stage, stage_in}
+use Rattle.gx_law_order.proofs.Statuses.{Moves, Stage, stage, stage_in}
 use Rattle.gx_law_order.proofs.Statuses.Stage.{Live, Closing}
 use Rattle.gx_coord.specs.Sound.{AreSoundIn, IsSoundWork}
 use Rattle.gx_coord.specs.Turns.{IsBusy, IsFit, answers_line, asks, is_active}

@@ -1,9 +1,8 @@
 -- The detector and the rule say the same of rounds.
-use Rattle.std.proofs.Common.{◌≡◌, ◌≤◌, ◌∙◌, ℕ, ◌+◌, ◌==◌, ◌&&◌, List, [], Option, Some, None, Bool, true, if◌then◌else◌, refl, sym, subst, ap, arith, filter, map}
+use Rattle.std.proofs.Common.{◌≡◌, ◌∙◌, ℕ, ◌==◌, ◌&&◌, List, [], Option, Some, None, Bool, true, if◌then◌else◌, refl, sym, subst, ap, filter, map}
 use Rattle.std.proofs.Math.Path.{fun_ext}
 use Rattle.std.proofs.lemmas.Bool.{and_parts, eqb-true}
-use Rattle.std.proofs.lemmas.Bool.Decides.{nat_tests}
-use Rattle.std.specs.Prelude.{nat_le, option_map, replicate}
+use Rattle.std.specs.Prelude.{option_map}
 use Rattle.gx_ids.specs.declared.ids.Gxid.{Gxid}
 use Rattle.gx_ids.specs.declared.ids.Node.{Node}
 use Rattle.gx_detect.specs.Reports as own
@@ -17,11 +16,9 @@ use Rattle.gx_dtx.specs.declared.phase.Phase.{Phase}
 use Rattle.gx_dtx.specs.declared.phase.Phase.TheVariants.{Active, Preparing, CommittingOne, CommittingTwo, Ended, Aborting}
 use Rattle.gx_dtx.specs.declared.txn.Txn.{Txn}
 use Rattle.gx_locks.specs.Graphs.{graph_at}
-use Rattle.gx_script.specs.declared.Script.{Script}
 use Rattle.gx_waits.specs.declared.graph.LocalGraph.{LocalGraph}
-use Rattle.gx_rules.specs.AtCoordinator.{is_segment}
 use Rattle.gx_rules.specs.Coordinators as rule
-use Rattle.gx_rules.specs.Rounds.{active_in, awaits_graph, begins_round, is_active, is_report, noted_in, on_graph, verdict_at, victims_on_graph, victims_once_all, with_report}
+use Rattle.gx_rules.specs.Rounds.{active_in, awaits_graph, is_active, is_report, noted_in, on_graph, verdict_at, victims_on_graph, victims_once_all, with_report}
 use Rattle.gx_rules.proofs.Rounds.{graph-ways}
 use Rattle.gx_coord.specs.Books.{coord_of}
 use Rattle.gx_coord.specs.declared.coord.Coord.{Coord}

@@ -6,7 +6,7 @@ use Rattle.gx_ids.specs.declared.ids.Node.{Node}
 use Rattle.gx_ids.specs.declared.ids.SessionId.{SessionId}
 use Rattle.gx_tree.specs.declared.stmt.Level.{Level}
 use Rattle.gx_tree.specs.declared.stmt.Level.TheVariants.{ReadCommitted, RepeatableRead}
-use Rattle.gx_dtx.specs.Rules.{abort_found, aborts, commit_found, commits as commit_change, ends_committed, is_awaited as is_awaited_in, on_reply, reply_found, stays, takes, turns, with_live}
+use Rattle.gx_dtx.specs.Rules.{commit_found, commits as commit_change, ends_committed, is_awaited as is_awaited_in, on_reply, reply_found, stays, takes, turns, with_live}
 use Rattle.gx_dtx.specs.Table.{Table, find_txn}
 use Rattle.gx_dtx.specs.declared.change.Change.{Change}
 use Rattle.gx_dtx.specs.declared.outcome.Outcome.{Outcome}

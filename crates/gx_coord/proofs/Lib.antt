@@ -32,5 +32,6 @@ pub mod Unfinished
 pub mod Sent
 pub mod Graphs
 pub mod Quiet
+pub mod Heard
 pub mod Cancelled
 pub mod Stepped

@@ -2,11 +2,11 @@
 use Rattle.std.proofs.Common.{◌≡◌, ℕ, ◌+◌, ◌≤◌, ◌==◌, zero, suc, Bool, true, false, cond, ◌&&◌, List, [], ◌∷◌, ◌++◌, length, slice_get, refl, sym, ap, ◌∙◌, subst, arith}
 use Rattle.std.proofs.lemmas.Bool.Decides.{nat_tests}
 use Rattle.std.specs.Prelude.{None, Some}
-use Rattle.gx_lemmas.proofs.Numbers.{eqb-self, plus-none, same-of}
+use Rattle.gx_lemmas.proofs.Numbers.{plus-none, same-of}
 use Rattle.gx_ids.specs.declared.ids.SessionId.{SessionId}
 use Rattle.gx_store.specs.Language.{AreLinesNumbered, lines_in}
 use Rattle.gx_script.specs.declared.Line.{Line}
-use Rattle.gx_store.specs.Lines.{line_count, stmt_of}
+use Rattle.gx_store.specs.Lines.{stmt_of}
 use Rattle.gx_coord.specs.Places.{places_from}
 
 abbrev pub session_at : ℕ → SessionId

@@ -1,5 +1,5 @@
--- An answer for a command leaves the journal alone.
-use Rattle.std.proofs.Common.{◌≡◌, ◌&&◌, ℕ, List, [], ◌∷◌, Option, Some, None, Bool, true, false, if◌then◌else◌, append-nil, arith, refl, sym, subst}
+-- What leaves the journal alone: an answer for a command, and what comes by itself.
+use Rattle.std.proofs.Common.{◌≡◌, ◌&&◌, ℕ, List, [], ◌∷◌, Option, Some, None, Result, Ok, Err, Bool, true, false, if◌then◌else◌, append-nil, arith, refl, sym, subst}
 use Rattle.gx_ids.specs.declared.ids.Cid.{Cid}
 use Rattle.gx_ids.specs.declared.ids.Gxid.{Gxid}
 use Rattle.gx_ids.specs.declared.ids.Node.{Node}
@@ -17,6 +17,25 @@ use Rattle.gx_script.specs.declared.state.Block.TheVariants as block
 use Rattle.gx_rules.specs.AtCoordinator as turns
 use Rattle.gx_rules.specs.Coordinators.{Command, Coord, CoordTurn, rests, session_of, with_work, work_of}
 use Rattle.gx_rules.specs.Fits.{fits_part}
+use Rattle.gx_rules.specs.Locks.{with_hold}
+use Rattle.gx_rules.specs.Rounds.{victims_at}
+use Rattle.gx_locks.specs.Locks.{is_free, resumed, wait_of}
+use Rattle.gx_meaning.specs.Plan.{plan_of}
+use Rattle.gx_meaning.specs.declared.fault.ArithFault.{ArithFault}
+use Rattle.gx_meaning.specs.declared.piece.Piece.{Piece}
+use Rattle.gx_msg.specs.declared.message.Message.{Message}
+use Rattle.gx_ids.specs.declared.ids.SessionId.{SessionId}
+use Rattle.gx_script.specs.Session.{line_step}
+use Rattle.gx_script.specs.declared.Script.{Script}
+use Rattle.gx_script.specs.declared.line_step.LineStep.{LineStep}
+use Rattle.gx_script.specs.declared.line_step.LineStep.TheVariants as step
+use Rattle.gx_store.specs.Writes.{dist_of}
+use Rattle.gx_store.specs.declared.node.NodeEvent.{NodeEvent}
+use Rattle.gx_store.specs.declared.node.NodeEvent.TheVariants as event
+use Rattle.gx_tree.specs.declared.stmt.Level.TheVariants.{ReadCommitted}
+use Rattle.gx_tree.specs.declared.stmt.Stmt.{Stmt}
+use Rattle.gx_waits.specs.declared.claim.Claim.{Claim}
+use Rattle.gx_coord.specs.Own.{IsOwn}
 
 abbrev IsQuiet : CoordTurn → Type 0
 IsQuiet turn = turn.item ≡ None
@@ -74,3 +93,96 @@ answer-quiet c g i reply.Forgotten fails own = absurd own
 
 pub answer-took : (c : Coord) (g : Gxid) (i : Node) (r : Reply) (fails : Bool) (shelf : Shelf) → IsForCommand r → fails ≡ false → Took shelf shelf fails (turns.on_answer c g i fails r).item
 answer-took c g i r fails shelf own e = subst (λ b. Took shelf shelf b (turns.on_answer c g i b r).item) (sym e) (subst (λ it. Took shelf shelf false it) (sym (answer-quiet c g i r false own)) (took-nothing shelf))
+
+-- any other answer is for the transaction's status
+abbrev IsForStatus : Reply → Type 0
+IsForStatus (reply.Done cid wrote count part) = ⊥
+IsForStatus (reply.Failed cid cause) = ⊥
+IsForStatus _ = Unit {0}
+
+pub for-status : (r : Reply) → ((cid : Cid) (wrote : Bool) (count : ℕ) (part : Part) → r ≡ reply.Done cid wrote count part → ⊥) → ((cid : Cid) (cause : Cause) → r ≡ reply.Failed cid cause → ⊥) → IsForStatus r
+for-status (reply.Done cid wrote count part) a b = a cid wrote count part refl
+for-status (reply.Failed cid cause) a b = b cid cause refl
+for-status reply.Prepared a b = tt
+for-status reply.Committed a b = tt
+for-status reply.Jfault a b = tt
+for-status reply.Again a b = tt
+for-status reply.Aborted a b = tt
+for-status reply.Forgotten a b = tt
+
+pub status-turn : (c : Coord) (g : Gxid) (i : Node) (r : Reply) (fails : Bool) → IsForStatus r → turns.on_status c g i r fails ≡ turns.on_answer c g i fails r
+status-turn c g i (reply.Done cid wrote count part) fails own = absurd own
+status-turn c g i (reply.Failed cid cause) fails own = absurd own
+status-turn c g i reply.Prepared fails own = refl
+status-turn c g i reply.Committed fails own = refl
+status-turn c g i reply.Jfault fails own = refl
+status-turn c g i reply.Again fails own = refl
+status-turn c g i reply.Aborted fails own = refl
+status-turn c g i reply.Forgotten fails own = refl
+
+-- EVENTS THAT DON'T COME IN AN ENVELOPE
+goes-quiet : (g : Gxid) (cid : Cid) (line : Stmt) (r : turns.Reading) (plan : Result (List Piece) ArithFault) → IsQuiet (turns.goes g cid line r plan)
+goes-quiet g cid line r (Ok pieces) = refl
+goes-quiet g cid line r (Err fault) = refl
+
+locked-quiet : (script : Script) (c : Coord) (g : Gxid) (line : Stmt) → IsQuiet (turns.goes_on_locked script c g line)
+locked-quiet script c g line =
+    let cid = turns.next_cid (work_of c g) in
+    goes-quiet g cid line (turns.reads_for c g cid (work_of c g) line) (plan_of script.segments (dist_of script.tables (turns.table_of line)) g cid line)
+
+request-quiet : (script : Script) (c : Coord) (g : Gxid) (line : Stmt) (lock : Option Claim) → IsQuiet (turns.requests script c g line lock)
+request-quiet script c g line None = locked-quiet script c g line
+request-quiet script c g line (Some wanted) = by_test (is_free c.locks.holds wanted)
+  where
+    by_test : (b : Bool) → IsQuiet (turns.if_granted script c g line wanted b)
+    by_test true = locked-quiet script (record c { locks = with_hold c.locks wanted }) g line
+    by_test false = refl
+
+line-quiet : (script : Script) (c : Coord) (s : SessionId) (line : Stmt) (asked : LineStep) → IsQuiet (turns.on_line script c s line asked)
+line-quiet script c s line (step.Answer plain) = refl
+line-quiet script c s line step.Refuse5 = refl
+line-quiet script c s line step.Refuse7 = refl
+line-quiet script c s line (step.BeginBlock level) = refl
+line-quiet script c s line step.CommitBlock =
+    let g = (session_of c s).transaction in
+    let turn = on_commit c.table g (work_of c g).writers in
+    follows-quiet c g turn turn.out.outcome
+line-quiet script c s line step.RollbackBlock = refl
+line-quiet script c s line (step.Command true) = request-quiet script (turns.begins c s ReadCommitted) c.table.next line (turns.lock_for script c.table.next line)
+line-quiet script c s line (step.Command false) = request-quiet script c (session_of c s).transaction line (turns.lock_for script (session_of c s).transaction line)
+
+start-quiet : (script : Script) (c : Coord) (s : SessionId) (line : Option Stmt) → IsQuiet (turns.starts script c s line)
+start-quiet script c s None = refl
+start-quiet script c s (Some line) = line-quiet script (turns.starts_line c s (line_step (session_of c s).state.block line)) s line (line_step (session_of c s).state.block line)
+
+end-quiet : (c : Coord) (s : SessionId) (b : Block) → IsQuiet (turns.ends_in c s b)
+end-quiet c s (block.Open level) = refl
+end-quiet c s block.Failed = refl
+end-quiet c s block.Outside = refl
+
+again-quiet : (c : Coord) (i : Node) (told : Option Message) → IsQuiet (turns.resends c i told)
+again-quiet c i None = refl
+again-quiet c i (Some told) = refl
+
+resume-quiet : (script : Script) (c : Coord) (g : Gxid) (wait : Option Claim) (line : Option Stmt) → IsQuiet (turns.resumes script c g wait line)
+resume-quiet script c g None line = refl
+resume-quiet script c g (Some wanted) None = refl
+resume-quiet script c g (Some wanted) (Some line) = locked-quiet script (with_work (record c { locks = resumed c.locks g (Some wanted) }) g (record (work_of c g) { waiting = None })) g line
+
+pub own-quiet : (script : Script) (c : Coord) (x : NodeEvent) (fails : Bool) → IsOwn x → IsQuiet (turns.on_event script c x fails)
+own-quiet script c (event.Deliver from envelope) fails own = absurd own
+own-quiet script c (event.Start s) fails own = start-quiet script c s (turns.next_line script c s)
+own-quiet script c (event.End s) fails own = end-quiet c s (session_of c s).state.block
+own-quiet script c (event.Resend i (Some g)) fails own = again-quiet c i (turns.awaited c g i)
+own-quiet script c (event.Resend i None) fails own = again-quiet c i (turns.awaited_collect c i)
+own-quiet script c (event.Resume g) fails own = resume-quiet script c g (wait_of c.locks g) (work_of c g).waiting
+own-quiet script c event.Round fails own = refl
+
+pub own-nobody : (c : Coord) (x : NodeEvent) → IsOwn x → victims_at c x ≡ []
+own-nobody c (event.Deliver from envelope) own = absurd own
+own-nobody c (event.Start s) own = refl
+own-nobody c (event.End s) own = refl
+own-nobody c (event.Resend i (Some g)) own = refl
+own-nobody c (event.Resend i None) own = refl
+own-nobody c (event.Resume g) own = refl
+own-nobody c event.Round own = refl

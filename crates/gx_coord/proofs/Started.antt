@@ -1,22 +1,26 @@
 -- A session starts its next line.
-use Rattle.std.proofs.Common.{◌≡◌, ◌<◌, ◌≤◌, ◌+◌, ◌∙◌, ℕ, zero, suc, List, [], ◌∷◌, Option, Some, None, Result, Ok, Err, IfOk, ap, sym, subst, length, slice_get, get_or, unwrap_or}
+use Rattle.std.proofs.Common.{◌≡◌, ◌<◌, ◌≤◌, ◌+◌, ◌∙◌, ℕ, zero, suc, List, [], ◌∷◌, Option, Some, None, Result, Ok, Err, IfOk, ap, append-nil, arith, refl, sym, subst, length, slice_get, get_or, unwrap_or}
 use Rattle.std.proofs.lemmas.Option.{slice_get_within}
-use Rattle.std.proofs.lemmas.List.Elements.{recursion_from_All}
 use Rattle.std.specs.List.{AllByRecursion}
 use Rattle.std.specs.Prelude.{option_map}
 use Rattle.gx_lemmas.proofs.Numbers.{lt-le}
 use Rattle.gx_lemmas.proofs.Options.{some-same}
 use Rattle.gx_ids.specs.declared.ids.SessionId.{SessionId}
+use Rattle.gx_tree.specs.declared.stmt.Stmt.{Stmt}
 use Rattle.gx_tree.specs.declared.stmt.Stmt.TheVariants as stmt
+use Rattle.gx_store.specs.declared.mark.Mark.{Mark}
 use Rattle.gx_script.specs.declared.Line.{Line}
 use Rattle.gx_script.specs.declared.Script.{Script}
-use Rattle.gx_store.specs.Language.{IsLine, IsScript}
+use Rattle.gx_store.specs.Language.{IsScript}
 use Rattle.gx_script.specs.Session.{line_step}
 use Rattle.gx_script.specs.declared.line_step.LineStep.{LineStep}
 use Rattle.gx_msg.specs.declared.message.Out.{Out}
 use Rattle.gx_rules.specs.AtCoordinator.{next_line, on_line, starts, starts_line}
 use Rattle.gx_rules.specs.Coordinators as rule
-use Rattle.gx_coord.specs.Books.{stmt_at}
+use Rattle.gx_coord.specs.Books.{coord_of, stmt_at}
+use Rattle.gx_coord.specs.Turns.{IsTurn}
+use Rattle.gx_coord.specs.declared.coord.Coord.{Coord as OwnCoord}
+use Rattle.gx_coord.proofs.Turned.{framed-refl}
 use Rattle.gx_coord.specs.Places.{AreIndexed, at_index}
 use Rattle.gx_coord.proofs.LinePlaces.{IsLineOf, line_at}
 
@@ -47,6 +51,15 @@ at-place P [] p l a e = absurd (cc)
 at-place P (x ∷ xs) zero l a e = subst P (some-same x l e) a.0
 at-place P (x ∷ xs) (suc p) l a e = at-place P xs p l a.1 e
 
+-- the statement of a line that was found at its place
+pub stmt-found : (ls xs : List Line) (p : ℕ) (l : Line) → xs ≡ ls → p < length xs → l ≡ get_or xs p l → stmt_at ls p ≡ l.stmt
+stmt-found ls xs p l q h e = ap (λ ys. stmt_at ys p) (sym q) ∙ found xs p l h e
+  where
+    found : (xs : List Line) (p : ℕ) (l : Line) → p < length xs → l ≡ get_or xs p l → stmt_at xs p ≡ l.stmt
+    found [] p l h e = absurd (omega (arith, h))
+    found (x ∷ xs) zero l h e = ap (λ (y : Line). y.stmt) (sym e)
+    found (x ∷ xs) (suc p) l h e = found xs p l (omega (arith, h)) e
+
 pub line-number : (ls xs : List Line) (s n p : ℕ) (l : Line) → xs ≡ ls → IsLineOf s ls n p → l ≡ get_or xs p l → l.number ≡ n + 1
 line-number ls xs s n p l q h e = ap (λ (x : Line). x.number) (e ∙ ap (λ ys. get_or ys p l) q ∙ read ls p l h.line h.there) ∙ h.number
   where
@@ -57,3 +70,12 @@ line-number ls xs s n p l q h e = ap (λ (x : Line). x.number) (e ∙ ap (λ ys.
 
 pub no-line : (ls xs : List Line) (s n p : ℕ) → xs ≡ ls → IsLineOf s ls n p → length xs ≤ p → ⊥
 no-line ls xs s n p q h e = lt-le p (length ls) (slice_get_within ls p h.line h.there) (subst (λ (ys : List Line). length ys ≤ p) q e)
+
+-- no line is left
+pub none-starts : (k : OwnCoord) (script : Script) (s : SessionId) (before : List Mark) → next_line script (coord_of k) s ≡ None → IsTurn k k before before (starts script (coord_of k) s (next_line script (coord_of k) s))
+none-starts k script s before e =
+    subst (λ (o : Option Stmt). IsTurn k k before before (starts script (coord_of k) s o)) (sym e)
+    (record { framed = framed-refl k; coord = refl; marks = sym (append-nil before) })
+
+pub none-outs : (k : OwnCoord) (script : Script) (s : SessionId) → next_line script (coord_of k) s ≡ None → [] ≡ (starts script (coord_of k) s (next_line script (coord_of k) s)).outs
+none-outs k script s e = sym (ap (λ (o : Option Stmt). (starts script (coord_of k) s o).outs) e)

@@ -6,6 +6,7 @@ ghost use Rattle.gx_store.specs.Schedule.{is_exec as asks_exec};
 ghost use Rattle.gx_coord.specs.Books.{coord_of};
 ghost use Rattle.gx_coord.specs.Turns.{has_order, order_in};
 
+use crate::books::find_command;
 use crate::coord::Coord;
 use gx_dtx::nodes::has;
 use gx_ids::{Duplicate, Gxid, Mem, Node};
@@ -28,32 +29,28 @@ fn order_to(alloc: Global, node: Node, orders: &[Out]) -> Mem<Option<Message>>
 fn is_ordered(coord: &Coord, gxid: Gxid, node: Node) -> bool
     ensures { result ≡ has_order ((coord_of coord.now).works gxid.0).command node }
 {
-    match coord.works.get(&gxid) {
+    match find_command(coord, gxid) {
+        Some(command) => has(node, command.awaited.as_slice()),
         None => false,
-        Some(work) => match &work.command {
-            None => false,
-            Some(command) => has(node, command.awaited.as_slice()),
-        },
     }
 }
 
 fn command_order(alloc: Global, coord: &Coord, gxid: Gxid, node: Node) -> Mem<Option<Message>>
     ensures { IfOk result (λ found. found ≡ order_in ((coord_of coord.now).works gxid.0).command node) }
 {
-    match coord.works.get(&gxid) {
+    match find_command(coord, gxid) {
+        Some(command) => order_to(alloc, node, command.orders.as_slice()),
         None => Ok(None),
-        Some(work) => match &work.command {
-            None => Ok(None),
-            Some(command) => order_to(alloc, node, command.orders.as_slice()),
-        },
     }
 }
 
 fn status_order(coord: &Coord, gxid: Gxid, node: Node) -> Mem<Option<Message>>
     ensures { IfOk result (λ found. found ≡ turns.status_order gxid (awaited_order coord.now.dtx gxid node)) }
 {
-    let out = coord.dtx.resend(gxid, node)?;
-    Ok(out.map(|out| out.message))
+    match coord.dtx.resend(gxid, node)? {
+        Some(out) => Ok(Some(out.message)),
+        None => Ok(None),
+    }
 }
 
 // The message to a node whose answer is awaited.
@@ -92,12 +89,9 @@ fn is_exec_to(node: Node, orders: &[Out]) -> bool
 fn has_exec(coord: &Coord, gxid: Gxid, node: Node) -> bool
     ensures { result ≡ asks_exec (order_in ((coord_of coord.now).works gxid.0).command node) }
 {
-    match coord.works.get(&gxid) {
+    match find_command(coord, gxid) {
+        Some(command) => is_exec_to(node, command.orders.as_slice()),
         None => false,
-        Some(work) => match &work.command {
-            None => false,
-            Some(command) => is_exec_to(node, command.orders.as_slice()),
-        },
     }
 }
 

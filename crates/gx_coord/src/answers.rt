@@ -5,6 +5,7 @@ ghost use Rattle.gx_script.specs.declared.state.Pending.TheVariants as pending;
 ghost use Rattle.gx_coord.specs.Books.{command_of, coord_of, stmt_at};
 ghost use Rattle.gx_coord.specs.Turns.{AreFit, IsFit, told_by};
 
+use crate::books::find_command;
 use crate::coord::Coord;
 use crate::work::Command;
 use gx_gather::merge_parts;
@@ -69,12 +70,9 @@ pub(crate) fn told_for(alloc: Global, script: &Script, coord: &Coord, gxid: Gxid
     requires fits { IsFit ((coord_of coord.now).works gxid.0).command }
     ensures { IfOk result (λ told. told ≡ answer_of_command ((coord_of coord.now).works gxid.0).command) }
 {
-    match coord.works.get(&gxid) {
+    match find_command(coord, gxid) {
+        Some(command) => told_at(alloc, script, command),
         None => Ok(StmtAnswer::Commit),
-        Some(work) => match &work.command {
-            None => Ok(StmtAnswer::Commit),
-            Some(command) => told_at(alloc, script, command),
-        },
     }
 }
 

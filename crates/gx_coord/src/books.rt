@@ -1,10 +1,11 @@
 // What is known of a transaction and of a session, and how it changes.
-ghost use Rattle.std.specs.Prelude.{◌≡◌, ◌<◌, length, OnOk};
+ghost use Rattle.std.specs.Prelude.{◌≡◌, ◌<◌, length, option_map, OnOk};
+ghost use Rattle.std.specs.Option.{option_copied};
 ghost use Rattle.gx_rules.specs.Coordinators.{no_work, with_session, with_state, with_work};
-ghost use Rattle.gx_coord.specs.Books.{IsFramed, coord_of, session_of as session_data, work_of};
+ghost use Rattle.gx_coord.specs.Books.{IsFramed, command_of, coord_of, session_of as session_data, work_of};
 
 use crate::coord::Coord;
-use crate::work::{Session, Work};
+use crate::work::{Command, Session, Work};
 use gx_ids::{Gxid, Mem, SessionId};
 use gx_script::SessionState;
 
@@ -22,6 +23,16 @@ pub(crate) fn forget_work(coord: &mut Coord, gxid: Gxid)
     ensures coord { coord_of coord.new ≡ with_work (coord_of coord.old) gxid no_work }
 {
     drop(coord.works.remove(&gxid));
+}
+
+// The command of a transaction that is under way.
+pub(crate) fn find_command(coord: &Coord, gxid: Gxid) -> Option<&Command>
+    ensures { option_map (command_of coord.now.script.value.lines) (option_copied result) ≡ ((coord_of coord.now).works gxid.0).command }
+{
+    match coord.works.get(&gxid) {
+        Some(work) => work.command.as_ref(),
+        None => None,
+    }
 }
 
 // The session of this number; where the script has none, one that has done nothing.

@@ -1,5 +1,5 @@
 // One event, before its messages are numbered.
-ghost use Rattle.std.specs.Prelude.{◌≡◌, ◌≤◌, ◌<◌, ◌∷◌, ◌^◌, [], length, true, false, IfOk, OnOk};
+ghost use Rattle.std.specs.Prelude.{◌≡◌, ◌≤◌, ◌<◌, ◌∷◌, ◌^◌, [], length, None, true, false, IfOk, OnOk};
 ghost use Rattle.gx_store.specs.Language.{IsScript};
 ghost use Rattle.gx_outside.specs.Shelves.{IsLater};
 ghost use Rattle.gx_node.specs.Orders.{Took};
@@ -106,6 +106,35 @@ fn take_own(
     }
 }
 
+// The same, and the event is dropped.
+fn take_alone(
+    alloc: Global,
+    script: &Script,
+    coord: &mut Coord,
+    event: NodeEvent,
+    marks: &mut Vec<Mark>,
+) -> Mem<Turned>
+    requires same { coord.old.script.value ≡ script.now }
+    requires language { IsScript script.now }
+    requires places { AreIndexed script.now.lines (length script.now.sessions) coord.old.places.items }
+    requires sound { IsSound script.now (coord_of coord.old) }
+    requires drawn { coord.old.dtx.next.0 ≤ 2 ^ 62 }
+    requires sessions { length coord.old.sessions.items ≡ length script.now.sessions }
+    requires segments { coord.old.detector.segments ≡ script.now.segments }
+    requires rounds { coord.old.detector.begun < 2 ^ 62 }
+    requires admitted { turns.coord_can script.now (coord_of coord.old) event ≡ true }
+    requires own { IsOwn event }
+    ensures turn { IfOk result (λ turned. IsTurn coord.old coord.new marks.old.items marks.new.items (turns.on_event script.now (coord_of coord.old) event turned.fails)) }
+    ensures outs { IfOk result (λ turned. turned.outs ≡ (turns.on_event script.now (coord_of coord.old) event turned.fails).outs) }
+    ensures unfailing { IfOk result (λ turned. turned.fails ≡ false) }
+    ensures item { OnOk result ((turns.on_event script.now (coord_of coord.old) event false).item ≡ None) }
+    ensures victims { IfOk result (λ turned. turned.victims ≡ victims_at (coord_of coord.old) event) }
+{
+    let outs = take_own(alloc, script, coord, &event, marks);
+    drop(event);
+    Ok(plain(alloc, outs?))
+}
+
 // An event by its kind. What comes in an envelope isn't told by its number or its clock.
 pub(crate) fn take_event<J: Journal>(
     alloc: Global,
@@ -136,10 +165,6 @@ pub(crate) fn take_event<J: Journal>(
             let Envelope { message, .. } = envelope;
             take_message(alloc, script, coord, from, message, journal, marks)
         }
-        own => {
-            let outs = take_own(alloc, script, coord, &own, marks);
-            drop(own);
-            Ok(plain(alloc, outs?))
-        }
+        own => take_alone(alloc, script, coord, own, marks),
     }
 }

@@ -15,7 +15,7 @@ use crate::coord::Coord;
 use crate::rechecking::hear;
 use crate::replies::{Done, is_asked, is_done, is_taken, note_done, refuse};
 use crate::statuses::{Turned, take_status};
-use gx_ids::{Cid, Gxid, Mem, Node, Seq};
+use gx_ids::{Cid, Gxid, Mem, Node, Seq, Shared};
 use gx_msg::{Cause, Message, Out, Reply};
 use gx_outside::Journal;
 use gx_script::Script;
@@ -113,6 +113,31 @@ pub(crate) fn plain(alloc: Global, outs: Seq<Out>) -> Turned
     }
 }
 
+// A command is done at a segment, whose answer is dropped.
+fn take_part(
+    alloc: Global,
+    script: &Script,
+    coord: &mut Coord,
+    gxid: Gxid,
+    node: Node,
+    done: Done,
+    part: Shared<Part>,
+    marks: &mut Vec<Mark>,
+) -> Mem<Turned>
+    requires same { coord.old.script.value ≡ script.now }
+    requires sound { IsSound script.now (coord_of coord.old) }
+    ensures turn { OnOk result (IsTurn coord.old coord.new marks.old.items marks.new.items
+        (turns.on_done (coord_of coord.old) gxid node done.cid done.wrote done.count part ((coord_of coord.old).works gxid.0).command)) }
+    ensures outs { IfOk result (λ turned. turned.outs ≡ (turns.on_done (coord_of coord.old) gxid node done.cid done.wrote done.count part ((coord_of coord.old).works gxid.0).command).outs) }
+    ensures unfailing { IfOk result (λ turned. turned.fails ≡ false) }
+    ensures nobody { IfOk result (λ turned. turned.victims ≡ []) }
+    ensures small { done.count < 2 ^ 64 }
+{
+    let outs = take_done(alloc, script, coord, gxid, node, done, part.get(), marks);
+    drop(part);
+    Ok(plain(alloc, outs?))
+}
+
 // An answer is for a command, or for the transaction's status.
 fn take_reply<J: Journal>(
     alloc: Global,
@@ -142,9 +167,7 @@ fn take_reply<J: Journal>(
             part,
         } => {
             let done = Done { cid, wrote, count };
-            let outs = take_done(alloc, script, coord, gxid, node, done, part.get(), marks);
-            drop(part);
-            Ok(plain(alloc, outs?))
+            take_part(alloc, script, coord, gxid, node, done, part, marks)
         }
         Reply::Failed { cid, cause } => {
             let why = *cause.get();

@@ -136,6 +136,7 @@ pub(crate) fn hear(
         let all = note_report(coord, round, graph)?;
         recheck_once_all(alloc, coord, all, marks)
     } else {
+        drop(graph);
         Ok(Seq::new(alloc))
     }
 }

@@ -9,6 +9,7 @@ ghost use Rattle.gx_rules.specs.Fits as fits;
 ghost use Rattle.gx_coord.specs.Books.{IsFramed, add_to, coord_of, stmt_at};
 ghost use Rattle.gx_coord.specs.Turns.{AreCounted, IsBusy, IsTurn, asks, done_work, is_over, takes};
 
+use crate::books::find_command;
 use crate::coord::Coord;
 use crate::ends::refuse_line;
 use crate::work::{Command, Work};
@@ -50,12 +51,9 @@ fn fits_line(script: &Script, command: &Command, part: &Part) -> bool
 pub(crate) fn is_asked(coord: &Coord, gxid: Gxid, node: Node, cid: Cid) -> bool
     ensures { result ≡ asks ((coord_of coord.now).works gxid.0).command node cid }
 {
-    match coord.works.get(&gxid) {
+    match find_command(coord, gxid) {
+        Some(command) => is_awaited(command, node, cid),
         None => false,
-        Some(work) => match &work.command {
-            None => false,
-            Some(command) => is_awaited(command, node, cid),
-        },
     }
 }
 
@@ -71,12 +69,9 @@ pub(crate) fn is_taken(
     requires { coord.now.script.value ≡ script.now }
     ensures { result ≡ takes ((coord_of coord.now).works gxid.0).command node cid part.now }
 {
-    match coord.works.get(&gxid) {
+    match find_command(coord, gxid) {
+        Some(command) => is_awaited(command, node, cid) && fits_line(script, command, part),
         None => false,
-        Some(work) => match &work.command {
-            None => false,
-            Some(command) => { is_awaited(command, node, cid) && fits_line(script, command, part) },
-        },
     }
 }
 
@@ -135,12 +130,9 @@ pub(crate) fn note_done(
 pub(crate) fn is_done(coord: &Coord, gxid: Gxid) -> bool
     ensures { result ≡ is_over ((coord_of coord.now).works gxid.0).command }
 {
-    match coord.works.get(&gxid) {
+    match find_command(coord, gxid) {
+        Some(command) => command.awaited.is_empty(),
         None => true,
-        Some(work) => match &work.command {
-            None => true,
-            Some(command) => command.awaited.is_empty(),
-        },
     }
 }
 

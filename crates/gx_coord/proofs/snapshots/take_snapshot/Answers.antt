@@ -17,3 +17,11 @@ returns-clause-coord c =
 
 pub returns-clause-marks : goal.returns-clause-marks
 returns-clause-marks c = c.in_ok-push.ensures.items ∙ ap (λ (s : Snapshot). c.args.marks.now.items ++ mark.Snap c.args.gxid c.args.cid s ∷ []) (c.in_ok-copy.ensures ∙ c.in_ok-snapshot.ensures.value)
+
+pub returns-clause-value : goal.returns-clause-value
+returns-clause-value c = c.in_ok-snapshot.ensures.value
+
+pub returns-clause-framed : goal.returns-clause-framed
+returns-clause-framed c =
+    let f = c.in_ok-keep.ensures.framed in
+    record { script = f.script; places = f.places; sent = f.sent; clock = f.clock; segments = f.segments; count = f.count }

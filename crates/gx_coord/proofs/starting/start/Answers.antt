@@ -1,6 +1,8 @@
-use Rattle.std.proofs.Common.{refl, sym}
+use Rattle.std.proofs.Common.{◌∙◌, ap, refl, sym}
 use Rattle.gx_coord.specs.Books.{coord_of}
-use Rattle.gx_coord.proofs.Started.{line-number, next-there, no-line, outs-from, starts-next}
+use Rattle.gx_coord.proofs.Started.{line-number, next-there, no-line, none-outs, none-starts, outs-from, starts-next}
+use Rattle.gx_script.specs.declared.Script.{Script}
+use Rattle.gx_rules.specs.AtCoordinator.{next_line}
 use Rattle.gx_coord.proofs.Turned.{framed-refl, on_turn-from}
 use Rattle.gx_coord.proofs.starting.start.Goals as goal
 
@@ -36,3 +38,14 @@ returns-in-None-get-clause-outs c =
     absurd (no-line c.args.script.now.lines c.as_slice.result.now c.args.id.0 n c.in-Some.place c.as_slice.ensures
     (next-there c.args.script.now c.requires.language _ c.requires.places c.args.id.0 n c.in-Some.place _ refl (sym c.in-Some.ensures.place))
     c.in-None-get.ensures.lookup.3)
+
+pub returns-in-None-clause-turn : goal.returns-in-None-clause-turn
+returns-in-None-clause-turn c =
+    none-starts c.args.coord.now c.args.script.now c.args.id c.args.marks.now.items
+    (sym (ap (λ (x : Script). next_line x (coord_of c.args.coord.now) c.args.id) c.requires.same) ∙ c.in-None.ensures.line)
+
+pub returns-in-None-clause-outs : goal.returns-in-None-clause-outs
+returns-in-None-clause-outs c =
+    c.new-in-None.ensures
+    ∙ none-outs c.args.coord.now c.args.script.now c.args.id
+    (sym (ap (λ (x : Script). next_line x (coord_of c.args.coord.now) c.args.id) c.requires.same) ∙ c.in-None.ensures.line)
