@@ -1,12 +1,11 @@
 -- Causes of refusals, part by part.
-use Rattle.std.proofs.Common.{◌≡◌, ◌↔◌, ◌&&◌, ℕ, zero, suc, Bool, true, false, IsTrue, Option, List, [], ◌∷◌, Some, slice_get, refl, sym, subst, ap, ◌∙◌, arith}
+use Rattle.std.proofs.Common.{◌≡◌, ◌↔◌, ℕ, zero, suc, Bool, IsTrue, Option, List, [], ◌∷◌, Some, slice_get, refl, subst, ap, ◌∙◌, arith}
 use Rattle.std.specs.Prelude.{Contains}
 use Rattle.gx_ids.specs.declared.ids.Cid.{Cid}
 use Rattle.gx_ids.specs.declared.ids.Gxid.{Gxid}
 use Rattle.gx_ids.specs.declared.ids.Node.{Node}
 use Rattle.gx_ids.specs.declared.rid.Rid.{Rid}
 use Rattle.gx_lemmas.proofs.Options.{some-same}
-use Rattle.gx_lemmas.proofs.Tests.{and-first, and-second, false-true}
 use Rattle.gx_msg.specs.declared.message.Message.{Message}
 use Rattle.gx_msg.specs.declared.message.Message.TheVariants as message
 use Rattle.gx_msg.specs.declared.reply.Cause.{Cause}
@@ -14,11 +13,11 @@ use Rattle.gx_msg.specs.declared.reply.Reply.TheVariants as reply
 use Rattle.gx_store.specs.declared.event.Event.{Event}
 use Rattle.gx_store.specs.declared.event.Event.TheVariants as event
 use Rattle.gx_store.specs.declared.mark.Mark.{Mark}
-use Rattle.gx_store.specs.declared.mark.Mark.TheVariants.{Fault, JournalFailed, Recheck}
+use Rattle.gx_store.specs.declared.mark.Mark.TheVariants.{Fault, Recheck}
 use Rattle.gx_store.specs.declared.run.Step.{Step}
 use Rattle.gx_store.specs.Messages.{Receives}
-use Rattle.gx_store.specs.Points.{Point, before}
-use Rattle.gx_store.specs.Refusals.{HasJournalFailed, IsNamed, IsWord, the_coordinator}
+use Rattle.gx_store.specs.Points.{Point}
+use Rattle.gx_store.specs.Refusals.{IsNamed, IsWord, the_coordinator}
 use Rattle.gx_tree.specs.declared.value.Value.{Value}
 use Rattle.gx_waits.specs.declared.verdict.Verdict.TheVariants.{Victims}
 use Rattle.gx_legal.specs.Causes.{NamesAt, NotesInStep, StandsAt}

@@ -62,26 +62,19 @@ fn may_fault(
 ) -> Mem<bool>
     ensures { IfOk result (λ may. IsTrue may ↔ ((fault : OneFault) × IsFaultOf marks.now command.level command.gxid command.cid stmt.now rid image.now fault)) }
 {
-    if is_fault_of(
-        alloc,
-        marks,
-        command,
-        stmt,
-        rid,
-        image,
-        ArithFault::Overflow,
-    )? {
-        return Ok(true);
+    let overflow = ArithFault::Overflow;
+    match is_fault_of(alloc, marks, command, stmt, rid, image, overflow) {
+        Ok(false) => is_fault_of(
+            alloc,
+            marks,
+            command,
+            stmt,
+            rid,
+            image,
+            ArithFault::DivisionByZero,
+        ),
+        other => other,
     }
-    is_fault_of(
-        alloc,
-        marks,
-        command,
-        stmt,
-        rid,
-        image,
-        ArithFault::DivisionByZero,
-    )
 }
 
 /// Whether the command of this statement, at this level, may do it.
@@ -95,12 +88,12 @@ pub fn may(alloc: Global, script: &Script, deed: &Deed<'_>, stmt: &Stmt, level: 
         gxid: deed.gxid,
         cid: deed.cid,
     };
-    match &deed.act {
+    match deed.act {
         Act::Snap => Ok(is_on_rows(stmt) && !has_own_snapshot(marks, command)),
-        Act::Write { row, image } => may_write(alloc, script, marks, command, stmt, *row, image),
-        Act::Skip(rid) => is_skip_of(alloc, marks, command, stmt, *rid),
-        Act::Fault { rid, image } => may_fault(alloc, marks, command, stmt, *rid, image),
-        Act::LateWrite(row) => Ok(is_late_write_of(marks, command, stmt, *row)),
+        Act::Write { row, image } => may_write(alloc, script, marks, command, stmt, row, image),
+        Act::Skip(rid) => is_skip_of(alloc, marks, command, stmt, rid),
+        Act::Fault { rid, image } => may_fault(alloc, marks, command, stmt, rid, image),
+        Act::LateWrite(row) => Ok(is_late_write_of(marks, command, stmt, row)),
         Act::LateSkip => Ok(may_skip(stmt)),
         Act::LateFault => Ok(is_on_rows(stmt)),
     }

@@ -28,8 +28,7 @@ pub fn changes(
 ) -> Mem<bool>
     ensures { IfOk result (λ holds. IsTrue holds ↔ Changes marks.now command.level command.gxid command.cid table cond.now count) }
 {
-    let holds = has_changed(alloc, marks, command, table, cond, count)?;
-    Ok(holds)
+    has_changed(alloc, marks, command, table, cond, count)
 }
 
 pub(crate) fn has_changed(
@@ -79,7 +78,10 @@ fn is_done_by(
 ) -> Mem<bool>
     ensures { IfOk result (λ holds. holds ≡ was_done_by marks.now command.gxid command.cid cond.now rows.now) }
 {
-    Ok(faults_on_none(alloc, cond, rows)? && are_done(alloc, marks, command, cond, rows)?)
+    match faults_on_none(alloc, cond, rows) {
+        Ok(true) => are_done(alloc, marks, command, cond, rows),
+        other => other,
+    }
 }
 
 // Whether the condition faults on none of the rows.

@@ -26,10 +26,10 @@ pub(crate) fn is_constant_fault(
     if !is_own(command, rid) || image.is_some() {
         return Ok(false);
     }
-    Ok(
-        is_tuple_fault(alloc, fault, tuple_at(tuples, rid))?
-            && are_whole(alloc, earlier(tuples, rid))?,
-    )
+    match is_tuple_fault(alloc, fault, tuple_at(tuples, rid)) {
+        Ok(true) => are_whole(alloc, earlier(tuples, rid)),
+        other => other,
+    }
 }
 
 fn is_tuple_fault(alloc: Global, fault: ArithFault, tuple: Option<&Seq<Expr>>) -> Mem<bool>

@@ -17,15 +17,19 @@ pub fn value(alloc: Global, expr: &Expr, row: &[Value]) -> Mem<Result<Value, Ari
     ensures { IfOk result (λ outcome. outcome ≡ value_of row.now expr.now) }
 {
     match expr {
-        Expr::Lit(value) => Ok(Ok(value.copy(alloc)?)),
-        Expr::Col(column) => Ok(Ok(column_value(alloc, row, *column)?)),
-        Expr::Neg(inner) => match value(alloc, inner.get(), row)? {
-            Ok(number) => Ok(negated(number_of(number))),
-            Err(fault) => Ok(Err(fault)),
+        Expr::Lit(value) => value.copy(alloc).map(Ok),
+        Expr::Col(column) => column_value(alloc, row, *column).map(Ok),
+        Expr::Neg(inner) => match value(alloc, inner.get(), row) {
+            Ok(Ok(number)) => Ok(negated(number_of(number))),
+            other => other,
         },
-        Expr::Bin(op, left, right) => match value(alloc, left.get(), row)? {
-            Ok(left) => Ok(computed_with(*op, number_of(left), value(alloc, right.get(), row)?)),
-            Err(fault) => Ok(Err(fault)),
+        Expr::Bin(op, left, right) => match value(alloc, left.get(), row) {
+            Ok(Ok(left)) => Ok(computed_with(
+                *op,
+                number_of(left),
+                value(alloc, right.get(), row)?,
+            )),
+            other => other,
         },
     }
 }
@@ -55,17 +59,17 @@ pub fn truth(alloc: Global, cond: &Cond, row: &[Value]) -> Mem<Result<bool, Arit
 {
     match cond {
         Cond::Cmp(op, left, right) => Ok(compared(*op, order(alloc, left, right, row)?)),
-        Cond::And(left, right) => match truth(alloc, left.get(), row)? {
-            Ok(true) => truth(alloc, right.get(), row),
-            other => Ok(other),
+        Cond::And(left, right) => match truth(alloc, left.get(), row) {
+            Ok(Ok(true)) => truth(alloc, right.get(), row),
+            other => other,
         },
-        Cond::Or(left, right) => match truth(alloc, left.get(), row)? {
-            Ok(false) => truth(alloc, right.get(), row),
-            other => Ok(other),
+        Cond::Or(left, right) => match truth(alloc, left.get(), row) {
+            Ok(Ok(false)) => truth(alloc, right.get(), row),
+            other => other,
         },
-        Cond::Not(inner) => match truth(alloc, inner.get(), row)? {
-            Ok(truth) => Ok(Ok(!truth)),
-            Err(fault) => Ok(Err(fault)),
+        Cond::Not(inner) => match truth(alloc, inner.get(), row) {
+            Ok(Ok(truth)) => Ok(Ok(!truth)),
+            other => other,
         },
     }
 }
@@ -87,7 +91,18 @@ fn order(
 fn order_with(left: Value, right: Result<Value, ArithFault>) -> Result<Ordering, ArithFault>
     ensures { result ≡ and_then right (λ b. Ok (value_order left b)) }
 {
-    Ok(left.cmp(&right?))
+    match right {
+        Ok(right) => {
+            let order = left.cmp(&right);
+            drop(left);
+            drop(right);
+            Ok(order)
+        }
+        Err(fault) => {
+            drop(left);
+            Err(fault)
+        }
+    }
 }
 
 fn compared(op: CmpOp, order: Result<Ordering, ArithFault>) -> Result<bool, ArithFault>

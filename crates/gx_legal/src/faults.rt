@@ -31,8 +31,7 @@ pub fn is_fault_of(
 ) -> Mem<bool>
     ensures { IfOk result (λ holds. IsTrue holds ↔ IsFaultOf marks.now command.level command.gxid command.cid stmt.now rid image.now fault) }
 {
-    let holds = is_stmt_fault(alloc, marks, command, stmt, rid, image, fault)?;
-    Ok(holds)
+    is_stmt_fault(alloc, marks, command, stmt, rid, image, fault)
 }
 
 fn is_stmt_fault(
@@ -92,11 +91,10 @@ fn is_update_fault(
         || was_changed marks.now choice.entry.command.level choice.entry.command.gxid choice.entry.command.cid
         choice.entry.table choice.entry.cond.now choice.entry.rid (may_be_set assigns.now image.now fault)))) }
 {
-    Ok(
-        is_seen_fault(alloc, marks, choice, image, fault)?
-            || is_current_fault(alloc, marks, choice, image, fault)?
-            || is_set_fault(alloc, marks, choice, assigns, image, fault)?,
-    )
+    match is_condition_fault(alloc, marks, choice, image, fault) {
+        Ok(false) => is_set_fault(alloc, marks, choice, assigns, image, fault),
+        other => other,
+    }
 }
 
 fn is_condition_fault(
@@ -111,10 +109,10 @@ fn is_condition_fault(
         || may_be_current marks.now choice.entry.command.level choice.entry.command.gxid choice.entry.command.cid
         choice.entry.table choice.entry.cond.now choice.entry.rid image.now fault)) }
 {
-    Ok(
-        is_seen_fault(alloc, marks, choice, image, fault)?
-            || is_current_fault(alloc, marks, choice, image, fault)?,
-    )
+    match is_seen_fault(alloc, marks, choice, image, fault) {
+        Ok(false) => is_current_fault(alloc, marks, choice, image, fault),
+        other => other,
+    }
 }
 
 // Whether the condition faults on what the command sees of the row, by one of its snapshots.
@@ -219,10 +217,12 @@ fn is_current_fault(
     }
     match free_write(marks, choice.command.gxid, choice.rid) {
         None => Ok(false),
-        Some(write) => Ok(
-            is_image_fault(alloc, choice.cond, image, fault, write.image.as_ref())?
-                && is_selected(alloc, marks, choice)?,
-        ),
+        Some(write) => {
+            match is_image_fault(alloc, choice.cond, image, fault, write.image.as_ref()) {
+                Ok(true) => is_selected(alloc, marks, choice),
+                other => other,
+            }
+        }
     }
 }
 
@@ -243,10 +243,10 @@ fn is_set_fault(
     };
     match write.image {
         None => Ok(false),
-        Some(old) => Ok(
-            is_set_fault_on(alloc, assigns, image, fault, old)?
-                && is_changeable(alloc, marks, choice, write, old)?,
-        ),
+        Some(old) => match is_set_fault_on(alloc, assigns, image, fault, old) {
+            Ok(true) => is_changeable(alloc, marks, choice, write, old),
+            other => other,
+        },
     }
 }
 

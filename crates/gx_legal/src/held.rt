@@ -50,9 +50,12 @@ fn held_by(node: usize, wanted: &Claim, mark: &Mark) -> Option<bool>
             object,
             mode,
         } => {
-            let held = usize::from(at.0) == node
-                && is_same_claim(wanted, &claim_of(*gxid, *object, *mode));
-            held.then_some(true)
+            let held = claim_of(*gxid, *object, *mode);
+            if usize::from(at.0) == node && is_same_claim(wanted, &held) {
+                Some(true)
+            } else {
+                None
+            }
         }
         Mark::Release {
             node: at,
@@ -60,9 +63,12 @@ fn held_by(node: usize, wanted: &Claim, mark: &Mark) -> Option<bool>
             object,
             mode,
         } => {
-            let released = usize::from(at.0) == node
-                && is_same_claim(&claim_of(*gxid, *object, *mode), wanted);
-            released.then_some(false)
+            let released = claim_of(*gxid, *object, *mode);
+            if usize::from(at.0) == node && is_same_claim(&released, wanted) {
+                Some(false)
+            } else {
+                None
+            }
         }
         _ => None,
     }

@@ -25,7 +25,10 @@ pub(crate) fn has_inserted(
     if count != tuples.len() as u128 || !has_own_snapshot(marks, command) {
         return Ok(false);
     }
-    Ok(are_whole(alloc, tuples)? && are_own_done(alloc, marks, command, tuples)?)
+    match are_whole(alloc, tuples) {
+        Ok(true) => are_own_done(alloc, marks, command, tuples),
+        other => other,
+    }
 }
 
 fn are_own_done(alloc: Global, marks: &[Mark], command: Command, tuples: &[Seq<Expr>]) -> Mem<bool>

@@ -103,8 +103,8 @@ pub fn is_late(alloc: Global, moment: &Moment<'_, '_>, deed: &Deed<'_>) -> Mem<b
         return Ok(false);
     }
     let mut tally = no_tally(alloc, moment.script)?;
-    if is_by_earlier_step(alloc, moment, &mut tally, deed)? {
-        return Ok(true);
+    match is_by_earlier_step(alloc, moment, &mut tally, deed) {
+        Ok(false) => is_by_earlier_here(alloc, moment, &mut tally, deed),
+        other => other,
     }
-    is_by_earlier_here(alloc, moment, &mut tally, deed)
 }

@@ -23,9 +23,7 @@ fn is_late(marks: &[Mark], command: Command, stmt: &Stmt, row: RowAt) -> bool
         Stmt::Insert(table, tuples) => *table == row.table
             && is_own_row(command, tuples.len(), row.rid)
             && is_at_home(node_of(marks, row.rid), row.node),
-        Stmt::Update(table, _, _) => *table == row.table
-            && is_written_at(node_of(marks, row.rid), row.node),
-        Stmt::Delete(table, _) => *table == row.table
+        Stmt::Update(table, _, _) | Stmt::Delete(table, _) => *table == row.table
             && is_written_at(node_of(marks, row.rid), row.node),
         _ => false,
     }

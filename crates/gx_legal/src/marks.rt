@@ -140,8 +140,8 @@ fn is_processing(mark: &Mark, gxid: Gxid, cid: Cid, rid: Rid) -> bool
             cid: c,
             rid: row,
             ..
-        } => *g == gxid && *c == cid && *row == rid,
-        Mark::Skip {
+        }
+        | Mark::Skip {
             gxid: g,
             cid: c,
             rid: row,

@@ -59,15 +59,7 @@ pub fn is_overtaken(
         return Ok(false);
     }
     match stmt {
-        Stmt::Update(table, _, cond) => is_overtaken_there(
-            alloc,
-            moment,
-            command,
-            *table,
-            cond.get(),
-            row,
-        ),
-        Stmt::Delete(table, cond) => is_overtaken_there(
+        Stmt::Update(table, _, cond) | Stmt::Delete(table, cond) => is_overtaken_there(
             alloc,
             moment,
             command,

@@ -25,8 +25,7 @@ pub fn is_overtaken_row(
     ensures { IfOk result (λ holds. IsTrue holds ↔ IsOvertakenRow marks.now command.level command.gxid command.cid table cond.now rid writer) }
 {
     let choice = choice_of(command, table, cond, rid);
-    let holds = is_overtaken(alloc, marks, choice, writer)?;
-    Ok(holds)
+    is_overtaken(alloc, marks, choice, writer)
 }
 
 fn is_overtaken(alloc: Global, marks: &[Mark], choice: Choice<'_>, writer: Gxid) -> Mem<bool>
@@ -35,10 +34,11 @@ fn is_overtaken(alloc: Global, marks: &[Mark], choice: Choice<'_>, writer: Gxid)
 {
     match free_write(marks, choice.command.gxid, choice.rid) {
         None => Ok(false),
-        Some(write) => Ok(
-            write.gxid == writer
-                && is_committed(marks, writer)
-                && is_unseen(alloc, marks, choice, writer)?,
-        ),
+        Some(write) => {
+            if write.gxid != writer || !is_committed(marks, writer) {
+                return Ok(false);
+            }
+            is_unseen(alloc, marks, choice, writer)
+        }
     }
 }

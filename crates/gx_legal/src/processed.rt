@@ -50,8 +50,9 @@ fn row_of(mark: &Mark, command: Command) -> Option<Rid>
     ensures { result ≡ row_done command.gxid command.cid mark.now }
 {
     match mark {
-        Mark::Write { gxid, cid, rid, .. } => if_own(command, *gxid, *cid, *rid),
-        Mark::Skip { gxid, cid, rid } => if_own(command, *gxid, *cid, *rid),
+        Mark::Write { gxid, cid, rid, .. } | Mark::Skip { gxid, cid, rid } => {
+            if_own(command, *gxid, *cid, *rid)
+        }
         _ => None,
     }
 }

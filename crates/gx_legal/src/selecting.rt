@@ -55,7 +55,7 @@ fn is_chosen(alloc: Global, cond: &Option<Cond>, row: Option<&Row>) -> Mem<bool>
 {
     match row {
         None => Ok(false),
-        Some(row) => Ok(is_met(condition(alloc, cond, row)?)),
+        Some(row) => condition(alloc, cond, row).map(is_met),
     }
 }
 
@@ -127,10 +127,10 @@ fn is_changeable_at(
     ensures { IfOk result (λ holds. holds ≡ may_change_at marks.now choice.entry.command.level choice.entry.command.gxid choice.entry.command.cid
         choice.entry.table choice.entry.cond.now choice.entry.rid (written_of write.entry) old.now place) }
 {
-    Ok(
-        is_chosen_at(alloc, marks, choice, place)?
-            && is_current_at(alloc, marks, choice, write, old, place)?,
-    )
+    match is_chosen_at(alloc, marks, choice, place) {
+        Ok(true) => is_current_at(alloc, marks, choice, write, old, place),
+        other => other,
+    }
 }
 
 fn is_current_at(
@@ -145,7 +145,7 @@ fn is_current_at(
         choice.entry.cond.now choice.entry.rid (written_of write.entry) old.now place) }
 {
     match choice.command.level {
-        Level::ReadCommitted => Ok(is_met(condition(alloc, choice.cond, old)?)),
+        Level::ReadCommitted => condition(alloc, choice.cond, old).map(is_met),
         Level::RepeatableRead => Ok(is_shown_write(marks, choice, write, place)),
     }
 }
@@ -200,5 +200,8 @@ fn is_unseen_at(
     ensures { IfOk result (λ holds. holds ≡ was_unseen_at marks.now choice.entry.command.gxid choice.entry.command.cid
         choice.entry.table choice.entry.cond.now choice.entry.rid writer place) }
 {
-    Ok(is_chosen_at(alloc, marks, choice, place)? && !is_committed(before(marks, place), writer))
+    match is_chosen_at(alloc, marks, choice, place) {
+        Ok(true) => Ok(!is_committed(before(marks, place), writer)),
+        other => other,
+    }
 }

@@ -95,7 +95,7 @@ fn row_of(
     ensures { IfOk result (λ made. made ≡ and_then went (λ _. Ok values.items)) }
 {
     match went {
-        Ok(()) => Ok(Ok(Row::from_vec(alloc, values)?)),
+        Ok(()) => Row::from_vec(alloc, values).map(Ok),
         Err(fault) => {
             drop(values);
             Ok(Err(fault))

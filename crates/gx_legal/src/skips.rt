@@ -22,15 +22,14 @@ pub fn is_skip_of(
 ) -> Mem<bool>
     ensures { IfOk result (λ holds. IsTrue holds ↔ IsSkipOf marks.now command.level command.gxid command.cid stmt.now rid) }
 {
-    let holds = is_skip(alloc, marks, command, stmt, rid)?;
-    Ok(holds)
+    is_skip(alloc, marks, command, stmt, rid)
 }
 
 fn is_skip(alloc: Global, marks: &[Mark], command: Command, stmt: &Stmt, rid: Rid) -> Mem<bool>
     ensures { IfOk result (λ holds. holds ≡ may_skip marks.now command.level command.gxid command.cid stmt.now rid) }
 {
     match stmt {
-        Stmt::Update(table, _, cond) => is_first_skip(
+        Stmt::Update(table, _, cond) | Stmt::Delete(table, cond) => is_first_skip(
             alloc,
             marks,
             command,
@@ -38,7 +37,6 @@ fn is_skip(alloc: Global, marks: &[Mark], command: Command, stmt: &Stmt, rid: Ri
             cond.get(),
             rid,
         ),
-        Stmt::Delete(table, cond) => is_first_skip(alloc, marks, command, *table, cond.get(), rid),
         _ => Ok(false),
     }
 }
@@ -89,9 +87,10 @@ fn is_skipped(alloc: Global, marks: &[Mark], choice: Choice<'_>) -> Mem<bool>
     }
     match free_write(marks, choice.command.gxid, choice.rid) {
         None => Ok(false),
-        Some(write) => Ok(
-            is_left(alloc, choice.cond, write.image)? && is_selected(alloc, marks, choice)?,
-        ),
+        Some(write) => match is_left(alloc, choice.cond, write.image) {
+            Ok(true) => is_selected(alloc, marks, choice),
+            other => other,
+        },
     }
 }
 
@@ -101,6 +100,6 @@ fn is_left(alloc: Global, cond: &Option<Cond>, image: &Option<Row>) -> Mem<bool>
 {
     match image {
         None => Ok(true),
-        Some(old) => Ok(is_missed(condition(alloc, cond, old)?)),
+        Some(old) => condition(alloc, cond, old).map(is_missed),
     }
 }

@@ -26,8 +26,7 @@ pub fn tells(
 ) -> Mem<bool>
     ensures { IfOk result (λ holds. IsTrue holds ↔ Tells script.now marks.now command.level command.gxid command.cid stmt.now answer.now) }
 {
-    let holds = has_told(alloc, script, marks, command, stmt, answer)?;
-    Ok(holds)
+    has_told(alloc, script, marks, command, stmt, answer)
 }
 
 fn has_told(

@@ -24,8 +24,7 @@ pub fn view(
 {
     let committed = committed(alloc, before)?;
     let images = last_images(alloc, marks, &committed, reader, table)?;
-    let rows = rows_of(alloc, &images)?;
-    Ok(rows)
+    rows_of(alloc, &images)
 }
 
 fn last_images(
@@ -69,7 +68,8 @@ fn add_images(
         } = mark
         {
             if *written == table && is_seen(committed, reader, *gxid, *cid) {
-                drop(images.insert(*rid, image.copy(alloc)?)?);
+                let copy = image.copy(alloc)?;
+                drop(images.insert(*rid, copy)?);
             }
         }
     }
@@ -108,10 +108,8 @@ fn push_rows(
 {
     for (rid, image) in images {
         if let Some(row) = image {
-            rows.push(KeyedRow {
-                rid: *rid,
-                row: row.copy(alloc)?,
-            })?;
+            let row = row.copy(alloc)?;
+            rows.push(KeyedRow { rid: *rid, row })?;
         }
     }
     Ok(())

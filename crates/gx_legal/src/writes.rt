@@ -33,8 +33,7 @@ pub fn is_write_of(
     requires few { script.now.segments ≤ 16 }
     ensures { IfOk result (λ holds. IsTrue holds ↔ IsWriteOf script.now marks.now command.level command.gxid command.cid stmt.now row.node row.table row.rid image.now) }
 {
-    let holds = is_write(alloc, script, marks, command, stmt, row, image)?;
-    Ok(holds)
+    is_write(alloc, script, marks, command, stmt, row, image)
 }
 
 fn is_write(
@@ -51,23 +50,25 @@ fn is_write(
     ensures { IfOk result (λ holds. holds ≡ may_write script.now marks.now command.level command.gxid command.cid stmt.now row.node row.table row.rid image.now) }
 {
     match stmt {
-        Stmt::Insert(table, tuples) => {
-            let tuples = tuples.as_slice();
-            Ok(
-                *table == row.table
-                    && is_inserted(alloc, script, marks, command, *table, tuples, row, image)?,
+        Stmt::Insert(table, tuples) if *table == row.table => {
+            is_inserted(
+                alloc,
+                script,
+                marks,
+                command,
+                *table,
+                tuples.as_slice(),
+                row,
+                image,
             )
         }
-        Stmt::Update(table, assigns, cond) => {
+        Stmt::Update(table, assigns, cond) if is_next(marks, command, *table, row) => {
             let choice = choice_of(command, *table, cond.get(), row.rid);
-            Ok(
-                is_next(marks, command, *table, row)
-                    && is_updated(alloc, marks, choice, assigns.get().as_slice(), image)?,
-            )
+            is_updated(alloc, marks, choice, assigns.get().as_slice(), image)
         }
-        Stmt::Delete(table, cond) => {
+        Stmt::Delete(table, cond) if is_next(marks, command, *table, row) => {
             let choice = choice_of(command, *table, cond.get(), row.rid);
-            Ok(is_next(marks, command, *table, row) && is_deleted(alloc, marks, choice, image)?)
+            is_deleted(alloc, marks, choice, image)
         }
         _ => Ok(false),
     }
@@ -97,9 +98,10 @@ fn is_updated(
     };
     match write.image {
         None => Ok(false),
-        Some(old) => Ok(
-            is_set(alloc, assigns, image, old)? && is_changeable(alloc, marks, choice, write, old)?,
-        ),
+        Some(old) => match is_set(alloc, assigns, image, old) {
+            Ok(true) => is_changeable(alloc, marks, choice, write, old),
+            other => other,
+        },
     }
 }
 
@@ -112,7 +114,12 @@ fn is_deleted(alloc: Global, marks: &[Mark], choice: Choice<'_>, image: &Option<
     };
     match write.image {
         None => Ok(false),
-        Some(old) => Ok(image.is_none() && is_changeable(alloc, marks, choice, write, old)?),
+        Some(old) => {
+            if image.is_some() {
+                return Ok(false);
+            }
+            is_changeable(alloc, marks, choice, write, old)
+        }
     }
 }
 
