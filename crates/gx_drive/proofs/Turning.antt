@@ -22,7 +22,6 @@ use Rattle.gx_law_runs.proofs.Reaching.{event-reached}
 use Rattle.gx_law_order.proofs.More.{marks-last}
 use Rattle.gx_law_runs.specs.Failures.{failures_in}
 use Rattle.gx_law_runs.proofs.Steps.{behind-few}
-use Rattle.gx_drive.specs.Agrees.{IsNextStep}
 use Rattle.gx_drive.specs.Chosen.{AreChosen, Choice}
 use Rattle.gx_drive.specs.Ordered.{AreFailuresFew, AreHeld}
 use Rattle.gx_drive.proofs.Held.{items-after}

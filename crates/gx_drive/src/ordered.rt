@@ -2,6 +2,8 @@ ghost use Rattle.std.specs.Prelude.{◌≡◌, ◌≤◌, [], false, if◌then�
 ghost use Rattle.gx_store.specs.Schedule.{is_any_unfinished};
 ghost use Rattle.gx_outside.specs.Shelves.{AreEmpty};
 ghost use Rattle.gx_law_runs.specs.Reached.{IsReached};
+ghost use Rattle.gx_store.specs.Language.{IsScript};
+ghost use Rattle.gx_drive.specs.Agrees.{IsAgreed};
 ghost use Rattle.gx_drive.specs.Ends.{IsEnd};
 ghost use Rattle.gx_drive.specs.Ordered.{AreFailuresFew, AreFirst, AreHeld};
 ghost use Rattle.gx_drive.specs.declared.end.End.TheVariants.{Done, Turns};
@@ -40,15 +42,43 @@ pub fn run_ordered<J: Journal, G: Gate>(
     ensures unspent { OnOk result (world.new.spent ≡ false) }
 {
     let mut agenda = Agenda::new(alloc, world.script())?;
+    let end = run_firsts(alloc, world, &mut agenda, journals, gate, turns);
+    drop(agenda);
+    end
+}
+
+// Runs a new world with its agenda.
+fn run_firsts<J: Journal, G: Gate>(
+    alloc: Global,
+    world: &mut World,
+    agenda: &mut Agenda,
+    journals: &mut [J],
+    gate: &G,
+    turns: u64,
+) -> Mem<End>
+    requires new { world.old.run.steps ≡ [] }
+    requires usable { world.old.spent ≡ false }
+    requires language { IsScript world.old.script }
+    requires agreed { IsAgreed world.old.script [] agenda.old }
+    requires journals { length journals.old ≡ 17 }
+    requires empty { AreEmpty (map J.shelf journals.old) }
+    requires turns { turns ≤ 10000000 }
+    ensures journals { length journals.new ≡ 17 }
+    ensures script { world.new.script ≡ world.old.script }
+    ensures first { AreFirst world.old.script [] world.new.run.steps }
+    ensures failures { AreFailuresFew world.new.run.steps (map J.shelf journals.old) (map J.shelf journals.new) }
+    ensures end { IfOk result (IsEnd world.old.script world.new.run.steps turns) }
+    ensures held { OnOk result (AreHeld world.new.run.steps (map J.shelf journals.new)) }
+    ensures unspent { OnOk result (world.new.spent ≡ false) }
+{
     for _turn in 0..turns {
         if !is_unfinished(world) {
             return Ok(End::Done);
         }
-        let Some(event) = next_event(world, &agenda)? else {
-            let end = stuck(alloc, world, turns)?;
-            return Ok(end);
+        let Some(event) = next_event(world, agenda)? else {
+            return stuck(alloc, world, turns);
         };
-        turn(world, &mut agenda, journals, gate, event)?;
+        turn(world, agenda, journals, gate, event)?;
     }
     Ok(end_of(world))
 }

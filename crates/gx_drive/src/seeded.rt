@@ -1,5 +1,7 @@
 ghost use Rattle.std.specs.Prelude.{◌≡◌, ◌≤◌, [], false, IfOk, OnOk, length, map};
 ghost use Rattle.gx_outside.specs.Shelves.{AreEmpty};
+ghost use Rattle.gx_store.specs.Language.{IsScript};
+ghost use Rattle.gx_drive.specs.Agrees.{IsAgreed};
 ghost use Rattle.gx_drive.specs.Ends.{IsEnd};
 ghost use Rattle.gx_drive.specs.Ordered.{AreFailuresFew, AreHeld};
 ghost use Rattle.gx_drive.specs.Seeded.{AreDrawn};
@@ -42,17 +44,46 @@ pub fn run_seeded<J: Journal, G: Gate>(
     ensures unspent { OnOk result (world.new.spent ≡ false) }
 {
     let mut agenda = Agenda::new(alloc, world.script())?;
+    let end = run_drawn(alloc, world, &mut agenda, journals, gate, turns, seed);
+    drop(agenda);
+    end
+}
+
+// Runs a new world by a seed, with its agenda.
+fn run_drawn<J: Journal, G: Gate>(
+    alloc: Global,
+    world: &mut World,
+    agenda: &mut Agenda,
+    journals: &mut [J],
+    gate: &G,
+    turns: u64,
+    seed: u64,
+) -> Mem<End>
+    requires new { world.old.run.steps ≡ [] }
+    requires usable { world.old.spent ≡ false }
+    requires language { IsScript world.old.script }
+    requires agreed { IsAgreed world.old.script [] agenda.old }
+    requires journals { length journals.old ≡ 17 }
+    requires empty { AreEmpty (map J.shelf journals.old) }
+    requires turns { turns ≤ 10000000 }
+    ensures journals { length journals.new ≡ 17 }
+    ensures script { world.new.script ≡ world.old.script }
+    ensures drawn { AreDrawn world.old.script seed [] world.new.run.steps }
+    ensures failures { AreFailuresFew world.new.run.steps (map J.shelf journals.old) (map J.shelf journals.new) }
+    ensures end { IfOk result (IsEnd world.old.script world.new.run.steps turns) }
+    ensures held { OnOk result (AreHeld world.new.run.steps (map J.shelf journals.new)) }
+    ensures unspent { OnOk result (world.new.spent ≡ false) }
+{
     let mut generator = generator_of(seed);
     for _turn in 0..turns {
         if !is_unfinished(world) {
             return Ok(End::Done);
         }
         let word = generator.next_word();
-        let Some(event) = drawn_event(alloc, world, &agenda, word)? else {
-            let end = stuck(alloc, world, turns)?;
-            return Ok(end);
+        let Some(event) = drawn_event(alloc, world, agenda, word)? else {
+            return stuck(alloc, world, turns);
         };
-        turn(world, &mut agenda, journals, gate, event)?;
+        turn(world, agenda, journals, gate, event)?;
     }
     Ok(end_of(world))
 }

@@ -1,5 +1,5 @@
 // From the words and the source to the verdict.
-ghost use Rattle.std.specs.Prelude.{◌≡◌, ◌≤◌, IfOk, length, map, string_bytes};
+ghost use Rattle.std.specs.Prelude.{◌≡◌, ◌≤◌, [], false, IfOk, length, map, string_bytes};
 ghost use Rattle.gx_outside.specs.Memory.{shelf_of};
 ghost use Rattle.gx_outside.specs.Shelves.{AreEmpty};
 ghost use Rattle.gx_store.specs.Language.{IsScript};
@@ -97,7 +97,27 @@ fn judge_script(
     ensures { IfOk result (IsJudged script options) }
 {
     let mut world = World::new(alloc, script)?;
-    let _end = drive(alloc, &mut world, options, journals.as_mut_slice())?;
+    let verdict = judge_world(alloc, &mut world, options, journals);
+    drop(world);
+    verdict
+}
+
+// Drives a new world, for so many turns at most as are asked for, and judges its run.
+fn judge_world(
+    alloc: Global,
+    world: &mut World,
+    options: Options,
+    journals: &mut Vec<JournalMem>,
+) -> Mem<Verdict>
+    requires turns { options.turns ≤ 10000000 }
+    requires language { IsScript world.old.script }
+    requires new { world.old.run.steps ≡ [] }
+    requires usable { world.old.spent ≡ false }
+    requires journals { length journals.old.items ≡ 17 }
+    requires empty { AreEmpty (map shelf_of journals.old.items) }
+    ensures { IfOk result (IsJudged world.old.script options) }
+{
+    drop(drive(alloc, world, options, journals.as_mut_slice())?);
     if legal(alloc, world.script(), world.run())? {
         Ok(Verdict::Legal)
     } else {

@@ -135,6 +135,7 @@ fn run_lock(
     held: &mut Held,
     gxid: Gxid,
     cid: Cid,
+    snapshot: Option<Snapshot>,
 ) -> Mem<Progress>
     ghost found: { Found }
     requires tables { tables.now ≡ found.tables }
@@ -145,6 +146,7 @@ fn run_lock(
     requires new { nat_lt 0 cid.0 ≡ true }
     ensures { IfOk result (λ progress. HasProgressed found.tables held.new gxid progress (locks found.start gxid cid)) }
 {
+    drop(snapshot);
     let ran = lock(alloc, tables, held, gxid, cid)?;
     Ok(answered(ran))
 }
@@ -206,10 +208,7 @@ fn run_slice(
             };
             delete_by(alloc, held, writer, level, snapshot, cond)
         }
-        Slice::Lock(_table, _mode) => {
-            drop(snapshot);
-            run_lock(alloc, tables, held, gxid, cid)
-        }
+        Slice::Lock(_table, _mode) => run_lock(alloc, tables, held, gxid, cid, snapshot),
     }
 }
 

@@ -1,26 +1,7 @@
 use Rattle.std.proofs.Common.{[], subst}
-use Rattle.std.specs.Prelude.{IfSome, map}
 use Rattle.gx_script.specs.declared.Script.{Script}
 use Rattle.gx_drive.specs.Agrees.{IsAgreed}
-use Rattle.gx_drive.specs.Ordered.{IsFirst}
-use Rattle.gx_drive.proofs.Driving.{no-more, none-done, under-way}
-use Rattle.gx_drive.proofs.Journals.{as-many}
 use Rattle.gx_drive.proofs.ordered.run_ordered.Goals as goal
 
-pub loop-turn-init : goal.loop-turn-init
-loop-turn-init g c = none-done (IsFirst c.args.world.now.script) (map g.J.Journal.shelf c.args.journals.now) c.args.world.now c.in_ok-agenda.agenda c.requires.new c.requires.usable (as-many g.J.Journal.shelf c.args.journals.now 17 c.requires.journals) c.requires.empty
-    (subst (λ (s : Script). IsAgreed s [] c.in_ok-agenda.agenda) c.script.ensures.value c.in_ok-agenda.ensures)
-
-pub returns-in_err-turn-clause-first : goal.returns-in_err-turn-clause-first
-returns-in_err-turn-clause-first g c =
-    no-more (IsFirst c.args.world.now.script) c.loop-turn.world.run.steps c.turn.new.world.run.steps c.in-Some.event c.loop-turn.invariant.driven
-    (subst (λ (s : Script). IsFirst s c.loop-turn.world.run.steps c.in-Some.event) c.loop-turn.invariant.same
-    (subst (λ o. IfSome o (IsFirst c.loop-turn.world.script c.loop-turn.world.run.steps)) c.in-Some.is c.in_ok-event.ensures.first))
-    c.turn.ensures.done
-
-pub loop-turn-preserved : goal.loop-turn-preserved
-loop-turn-preserved g c =
-    under-way (IsFirst c.args.world.now.script) c.args.world.now.script c.loop-turn._turn c.loop-turn.world _ c.loop-turn.agenda _ c.in-Some.event _ _ _ c.loop-turn.invariant
-    (subst (λ (s : Script). IsFirst s c.loop-turn.world.run.steps c.in-Some.event) c.loop-turn.invariant.same
-    (subst (λ o. IfSome o (IsFirst c.loop-turn.world.script c.loop-turn.world.run.steps)) c.in-Some.is c.in_ok-event.ensures.first))
-    c.in_ok-turn.ensures.script c.in_ok-turn.ensures.done c.in_ok-turn.ensures.turned (c.in_ok-turn.ensures.failures _ c.loop-turn.invariant.few)
+pub run_firsts-end-requires-clause-agreed : goal.run_firsts-end-requires-clause-agreed
+run_firsts-end-requires-clause-agreed g c = subst (λ (s : Script). IsAgreed s [] c.in_ok-agenda.agenda) c.script.ensures.value c.in_ok-agenda.ensures

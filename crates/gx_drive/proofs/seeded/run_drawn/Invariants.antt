@@ -2,7 +2,7 @@ use Rattle.std.proofs.Common.{◌≡◌}
 use Rattle.std.specs.Prelude.{map}
 use Rattle.gx_drive.specs.Agrees.{IsUnderWay}
 use Rattle.gx_drive.specs.Seeded.{IsDrawn, behind, seeded}
-use Rattle.gx_drive.proofs.seeded.run_seeded.Given as goal
+use Rattle.gx_drive.proofs.seeded.run_drawn.Given as goal
 
 abbrev pub invariant-loop-turn : goal.invariant-loop-turn
 invariant-loop-turn g l =

@@ -1,7 +1,7 @@
 use Rattle.std.specs.Prelude.{map}
 use Rattle.gx_drive.specs.Agrees.{IsUnderWay}
 use Rattle.gx_drive.specs.Ordered.{IsFirst}
-use Rattle.gx_drive.proofs.ordered.run_ordered.Given as goal
+use Rattle.gx_drive.proofs.ordered.run_firsts.Given as goal
 
 abbrev pub invariant-loop-turn : goal.invariant-loop-turn
 invariant-loop-turn g l =
