@@ -102,11 +102,14 @@ fn push_item(text: &mut Vec<u8>, item: &JournalItem) -> Mem<()>
     }
 }
 
+// The room that an item of one row takes.
+const ROOM: usize = 64;
+
 /// A journal item as bytes: a line for the item, and one for each of its rows.
 pub fn item_bytes(alloc: Global, item: &JournalItem) -> Mem<Vec<u8>>
     ensures { IfOk result (λ bytes. bytes.items ≡ bytes_of_item item.now) }
 {
-    let mut bytes = Vec::new(alloc);
+    let mut bytes = Vec::with_capacity(alloc, ROOM)?;
     push_item(&mut bytes, item)?;
     Ok(bytes)
 }
