@@ -8,5 +8,3 @@ mod graphs;
 mod items;
 #[cfg(test)]
 mod places;
-#[cfg(test)]
-mod work;
