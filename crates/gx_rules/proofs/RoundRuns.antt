@@ -17,7 +17,7 @@ pub awaits_each : AwaitsEach
 awaits_each = record { first = refl; noted = refl; awaits_other = refl; has_first = refl; again = refl; later = refl; other_place = refl; decided = refl }
 
 pub gathers_reports : GathersReports
-gathers_reports = record { marks = refl; over = refl }
+gathers_reports = record { marks = refl; over = refl; dotted = refl }
 
 pub drops_the_round : DropsTheRound
 drops_the_round = record { marks = refl }

@@ -40,6 +40,10 @@ locks_table s number t = line s number (stmt.Lock (record { 0 = t }) Exclusive)
 abbrev pub edge : ℕ → ℕ → Edge
 edge g h = record { waiter = gxid g; holder = gxid h; dotted = false }
 
+-- the same, until the holder has nothing left to wait for at the edge's node
+abbrev pub dotted_edge : ℕ → ℕ → Edge
+dotted_edge g h = record { waiter = gxid g; holder = gxid h; dotted = true }
+
 abbrev pub graph : ℕ → List Edge → LocalGraph
 graph at edges = record { node = node at; edges = edges }
 
@@ -154,12 +158,14 @@ pub record AwaitsEach : Type 0 where
   pub other_place : (hears_graph 2 1 (graph 1 [])).coord.reports ≡ Some (Some (graph 1 []) ∷ None ∷ [])
   pub decided : last_marks (half (r 2 2 ∷ c 2 2 ∷ [])) ≡ mark.Recheck 1 (graph 0 (edge 2 1 ∷ [])) Nothing ∷ []
 
--- over reports with edges: who waits for each other across two nodes, and the younger of them
+-- over reports with edges: who waits for each other across two nodes, and the younger of them; nobody where the segment's edge is
+-- dotted, since its holder waits for nothing there
 pub record GathersReports : Type 0 where
   pub marks : (hears_graph 2 1 (graph 2 (edge 1 2 ∷ []))).marks
       ≡ mark.Recheck 1 (graph 0 (edge 2 1 ∷ [])) (Victims (gxid 2 ∷ []))
       ∷ mark.Abort (gxid 2) ∷ answer 1 1 (told.Refused (refused.Victim 1)) ∷ mark.Release (node 0) (gxid 2) (Relation the_table) RowExclusive ∷ []
   pub over : (hears_graph 2 1 (graph 2 (edge 1 2 ∷ []))).coord.reports ≡ None
+  pub dotted : (hears_graph 2 1 (graph 2 (dotted_edge 1 2 ∷ []))).marks ≡ mark.Recheck 1 (graph 0 (edge 2 1 ∷ [])) Nothing ∷ []
 
 -- the same, where the elder has been told to commit: the round is dropped
 abbrev pub committing : Coord
@@ -181,7 +187,7 @@ abbrev pub solid : ℕ → ℕ → ℕ → PlacedEdge
 solid at g h = record { node = node at; edge = edge g h }
 
 abbrev pub dotted : ℕ → ℕ → ℕ → PlacedEdge
-dotted at g h = record { node = node at; edge = record { waiter = gxid g; holder = gxid h; dotted = true } }
+dotted at g h = record { node = node at; edge = dotted_edge g h }
 
 abbrev pub all : List Gxid
 all = gxid 2 ∷ gxid 3 ∷ gxid 4 ∷ gxid 5 ∷ gxid 6 ∷ []

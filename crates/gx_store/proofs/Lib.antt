@@ -1,7 +1,6 @@
 pub mod Marks
 pub mod Rows
 pub mod Lines
-pub mod Legal
 pub mod Runs
 pub mod Points
 mod NeverStarted

@@ -1,1 +1,0 @@
--- Marks of a step in two parts.
