@@ -3,8 +3,4 @@
 #![tactic(auto)]
 
 #[cfg(test)]
-mod graphs;
-#[cfg(test)]
 mod items;
-#[cfg(test)]
-mod places;
