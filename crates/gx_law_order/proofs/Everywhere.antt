@@ -383,7 +383,7 @@ module _ (script : Script) (w : World) (n : Knows script w) (v : Holds script w)
         tells = tell-push [] w.steps step2 v.tells (step-told (at i) ms2 turn2.marks (λ node. turn2.seg.sent) turn2.outs (follows-no-sent msg (known i g) i g turn2.marks does.marks)
             (each_weaker (λ (o : Out). Tells (known i g) part_then i g turn2.marks o.message) (λ (o : Out). IsTold (at i) (ms2 ++ turn2.marks) o.message) (λ o h. seg-told (known i g) part_then i g turn2.marks (ms2 ++ turn2.marks) does.next.pair (sym (prepared-append ms2 turn2.marks (at i) (gx g))) (sym (local-append ms2 turn2.marks (at i) (gx g))) o.message h) turn2.outs does.outs));
         ends = end-push script [] w.steps step2 v.ends (seg-end script w.steps step2 msg (known i g) i g refl reached refl refl refl (parts_in w i g) (v.stands.pairs i g) (v.stands.parts i g) only-one part_then turn2.marks
-            (λ y. failed-next i g (ap (λ b. ((if b then seg_now else s).locals g).vote) (eqb-self i) ∙ y) (eqb i i && eqb g g) refl) (λ node. turn2.seg.sent) turn2.outs does.marks does.votes does.outs);
+            (λ y. failed-next i g (ap (λ b. ((if b then seg_now else s).locals g).vote) (eqb-self i) ∙ y) (eqb i i && eqb g g) refl) (λ node. turn2.seg.sent) turn2.outs does.marks does.votes does.unsettled does.outs);
       }
     where
       -- the only writer

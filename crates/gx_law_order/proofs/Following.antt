@@ -18,19 +18,19 @@ use Rattle.gx_store.specs.Journals.{is_same_node}
 use Rattle.gx_store.specs.Marks.{is_aborted, is_committed}
 use Rattle.gx_store.specs.Messages.{HasReceived, Receives}
 use Rattle.gx_store.specs.Points.{Point, before, marks_in}
-use Rattle.gx_store.specs.Protocol.{CommitsAlone, CommitsAsPromised, CommitsThere, IsExecuted, Promises, decided_count, is_writer, local_count, prepared_count}
+use Rattle.gx_store.specs.Protocol.{CommitsAlone, CommitsAsPromised, CommitsThere, IsExecuted, Promises, WritesThere, decided_count, is_writer, local_count, prepared_count}
 use Rattle.gx_store.specs.Refusals.{the_coordinator}
 use Rattle.gx_rules.specs.Sending.{counted, numbered}
-use Rattle.gx_law_order.proofs.Lists.{Each}
+use Rattle.gx_law_order.proofs.Lists.{Each, each_append, each_weaker}
 use Rattle.gx_law_order.proofs.Past.{aborted-append, committed-append}
 use Rattle.gx_law_order.specs.Followed.{DoMarksEnd, DoStepsEnd, EndsAt}
 use Rattle.gx_law_order.specs.Pairs.{Pair, bit}
 use Rattle.gx_law_order.specs.Said.{is_answer}
 use Rattle.gx_law_order.specs.Standings.{Known, Part, at, gx, is_closing, is_decided}
 use Rattle.gx_law_order.specs.Standings.Standing.{One, Two}
-use Rattle.gx_law_order.proofs.Counts.{NoEnd, no-aborted, no-committed}
+use Rattle.gx_law_order.proofs.Counts.{NoEnd, local-append, no-aborted, no-committed, prepared-append}
 use Rattle.gx_law_order.proofs.Ended.{IsExec}
-use Rattle.gx_law_order.proofs.Handled.{Follows, HasMark, IsExecOf, NoVote, Tells, Votes}
+use Rattle.gx_law_order.proofs.Handled.{Follows, HasMark, IsExecOf, IsUnsettled, NoVote, Tells, Votes, no-vote-of-command, no-votes-local, no-votes-prepared}
 use Rattle.gx_law_order.proofs.Ways.{Fol, FolAt, IsOf}
 
 pub is-contained : (m : Mark) (xs : List Mark) → HasMark m xs → Contains xs m
@@ -134,6 +134,18 @@ module _ (script : Script) (steps : List Step) (step : Step) where
         by_time (inl r) = (length steps, inr (refl, r))
         by_time (inr r) = (r.place, inl (r.step, r.stands, r.received))
 
+    none-more : (a b c d : ℕ) → a ≡ b + c → c ≡ 0 → b ≡ d → d ≡ 0 → a ≡ 0
+    none-more a b c d x y z u = omega arith
+
+    writes : (earlier later : List Mark) (c : Rattle.gx_ids.specs.declared.ids.Cid.Cid) → IsExecOf told g c → Each (Follows told k i g) earlier → (p.promises ≡ 0) × (p.commits ≡ 0) → WritesThere (point earlier later) (at i) (gx g) c
+    writes earlier later c x e u =
+        let calm : Each NoVote earlier = each_weaker (Follows told k i g) NoVote (no-vote-of-command told k i g c x) earlier e in
+        record {
+          executed = executed earlier later c x;
+          unpromised = none-more _ _ _ _ (prepared-append (marks_in steps) earlier (at i) (gx g)) (no-votes-prepared earlier (at i) (gx g) calm) of.promises u.0;
+          uncommitted = none-more _ _ _ _ (local-append (marks_in steps) earlier (at i) (gx g)) (no-votes-local earlier (at i) (gx g) calm) of.commits u.1;
+        }
+
     here-nil : marks_in steps ++ [] ≡ marks_in steps
     here-nil = append-nil (marks_in steps)
 
@@ -153,29 +165,31 @@ module _ (script : Script) (steps : List Step) (step : Step) where
           decided = ap (λ x. decided_count x (gx g)) here-nil ∙ sym decided ∙ pair.decided (ap is_decided e.1);
         })
 
-    follow-one : (earlier later : List Mark) (m : Mark) → Each NoEnd earlier → Follows told k i g m → NoVote m → EndsAt script step.stamp.node (point earlier later) m
-    follow-one earlier later (mark.Write h c n t r x) e f v = subst (λ (y : Gxid). IsExecuted (point earlier later) y c n) (same-gxid h f.0) (subst (λ (y : Node). IsExecuted (point earlier later) (gx g) c y) (same-at n f.1) (executed earlier later c f.2))
-    follow-one earlier later (mark.Prepared n h) e f v = absurd v
-    follow-one earlier later (mark.LocalCommit n h) e f v = absurd v
-    follow-one earlier later (mark.Fault h c r x) e f v = tt
-    follow-one earlier later (mark.JournalFailed n h) e f v = tt
-    follow-one earlier later (mark.Start h s) e f v = absurd f
-    follow-one earlier later (mark.Snap h c x) e f v = absurd f
-    follow-one earlier later (mark.Skip h c r) e f v = tt
-    follow-one earlier later (mark.Commit h) e f v = absurd f
-    follow-one earlier later (mark.Abort h) e f v = absurd f
-    follow-one earlier later (mark.Answer s n a) e f v = absurd f
-    follow-one earlier later (mark.Hold n h o x) e f v = tt
-    follow-one earlier later (mark.Wait n h o x) e f v = tt
-    follow-one earlier later (mark.Release n h o x) e f v = tt
-    follow-one earlier later (mark.Report n r x) e f v = tt
-    follow-one earlier later (mark.Decided h) e f v = absurd f
-    follow-one earlier later (mark.Sent to number m) e f v = absurd f
-    follow-one earlier later m e f v = absurd f
+    follow-one : (earlier later : List Mark) (m : Mark) → Each (Follows told k i g) earlier → Follows told k i g m → NoVote m → IsUnsettled p m → EndsAt script step.stamp.node (point earlier later) m
+    follow-one earlier later (mark.Write h c n t r x) e f v u =
+        subst (λ (y : Gxid). WritesThere (point earlier later) n y c) (same-gxid h f.0)
+        (subst (λ (y : Node). WritesThere (point earlier later) y (gx g) c) (same-at n f.1) (writes earlier later c f.2 e u))
+    follow-one earlier later (mark.Prepared n h) e f v u = absurd v
+    follow-one earlier later (mark.LocalCommit n h) e f v u = absurd v
+    follow-one earlier later (mark.Fault h c r x) e f v u = tt
+    follow-one earlier later (mark.JournalFailed n h) e f v u = tt
+    follow-one earlier later (mark.Start h s) e f v u = absurd f
+    follow-one earlier later (mark.Snap h c x) e f v u = absurd f
+    follow-one earlier later (mark.Skip h c r) e f v u = tt
+    follow-one earlier later (mark.Commit h) e f v u = absurd f
+    follow-one earlier later (mark.Abort h) e f v u = absurd f
+    follow-one earlier later (mark.Answer s n a) e f v u = absurd f
+    follow-one earlier later (mark.Hold n h o x) e f v u = tt
+    follow-one earlier later (mark.Wait n h o x) e f v u = tt
+    follow-one earlier later (mark.Release n h o x) e f v u = tt
+    follow-one earlier later (mark.Report n r x) e f v u = tt
+    follow-one earlier later (mark.Decided h) e f v u = absurd f
+    follow-one earlier later (mark.Sent to number m) e f v u = absurd f
+    follow-one earlier later m e f v u = absurd f
 
     -- the first mark
-    follow-first : (later ns : List Mark) (m : Mark) → Follows told k i g m → Votes told k p g (m ∷ ns) → EndsAt script step.stamp.node (point [] later) m
-    follow-first later ns (mark.Prepared n h) f v =
+    follow-first : (later ns : List Mark) (m : Mark) → Follows told k i g m → Votes told k p g (m ∷ ns) → IsUnsettled p m → EndsAt script step.stamp.node (point [] later) m
+    follow-first later ns (mark.Prepared n h) f v u =
         subst (λ (y : Gxid). Promises (point [] later) n y) (same-gxid h f.0)
         (subst (λ (y : Node). Promises (point [] later) y (gx g)) (same-at n f.1)
         (record {
@@ -185,7 +199,7 @@ module _ (script : Script) (steps : List Step) (step : Step) where
           uncommitted = not-committed [] tt f.3;
           uncommitted_there = ap (λ x. local_count x (at i) (gx g)) here-nil ∙ of.commits ∙ v.2;
         }))
-    follow-first later ns (mark.LocalCommit n h) f v =
+    follow-first later ns (mark.LocalCommit n h) f v u =
         subst (λ (y : Gxid). CommitsThere (point [] later) n y) (same-gxid h f.0)
         (subst (λ (y : Node). CommitsThere (point [] later) y (gx g)) (same-at n f.1)
         (record {
@@ -193,22 +207,12 @@ module _ (script : Script) (steps : List Step) (step : Step) where
           first = ap (λ x. local_count x (at i) (gx g)) here-nil ∙ of.commits ∙ v.0;
           by = commits-by later v.1;
         }))
-    follow-first later ns m f v = follow-one [] later m tt f tt
+    follow-first later ns m f v u = follow-one [] later m tt f tt u
 
     votes-rest : (m : Mark) (ns : List Mark) → Votes told k p g (m ∷ ns) → Each NoVote ns
     votes-rest (mark.Prepared n h) ns v = v.3
     votes-rest (mark.LocalCommit n h) ns v = v.2
     votes-rest m ns v = v
-
-    no-end-one : (m : Mark) → Follows told k i g m → NoEnd m
-    no-end-one (mark.Commit h) f = f
-    no-end-one (mark.Abort h) f = f
-    no-end-one (mark.Decided h) f = f
-    no-end-one m f = tt
-
-    each-last : (xs : List Mark) (m : Mark) → Each NoEnd xs → NoEnd m → Each NoEnd (xs ++ m ∷ [])
-    each-last [] m e f = (f, tt)
-    each-last (x ∷ xs) m e f = (e.0, each-last xs m e.1 f)
 
     -- its sendings, behind its marks
     module _ (q : Part) (marks : List Mark) (failed : q.vote ≡ Some reply.Jfault → HasMark (mark.JournalFailed (at i) (gx g)) (marks_in steps ++ marks)) where
@@ -242,17 +246,17 @@ module _ (script : Script) (steps : List Step) (step : Step) where
         subst (λ x. DoMarksEnd script steps step x (numbered (counted f o) outs)) (sym (append_assoc marks more (mark.Sent o.node (f o.node.0 + 1) o.message ∷ []))) (tells-end (more ++ mark.Sent o.node (f o.node.0 + 1) o.message ∷ []) (counted f o) outs e.1),
       )
 
-      marks-end : (earlier ns : List Mark) (f : ℕ → ℕ) (outs : List Out) → earlier ++ ns ≡ marks → Each NoEnd earlier → Each (Follows told k i g) ns → Each NoVote ns → Each (λ (o : Out). Tells k q i g marks o.message) outs → DoMarksEnd script steps step earlier (ns ++ numbered f outs)
-      marks-end earlier [] f outs same e m v h =
+      marks-end : (earlier ns : List Mark) (f : ℕ → ℕ) (outs : List Out) → earlier ++ ns ≡ marks → Each (Follows told k i g) earlier → Each (Follows told k i g) ns → Each NoVote ns → Each (IsUnsettled p) ns → Each (λ (o : Out). Tells k q i g marks o.message) outs → DoMarksEnd script steps step earlier (ns ++ numbered f outs)
+      marks-end earlier [] f outs same e m v u h =
           subst (λ x. DoMarksEnd script steps step x (numbered f outs)) (append-nil marks ∙ sym same ∙ append-nil earlier) (tells-end [] f outs h)
-      marks-end earlier (x ∷ ns) f outs same e m v h = (
-        follow-one earlier (ns ++ numbered f outs) x e m.0 v.0,
-        marks-end (earlier ++ x ∷ []) ns f outs (append_assoc earlier (x ∷ []) ns ∙ same) (each-last earlier x e (no-end-one x m.0)) m.1 v.1 h,
+      marks-end earlier (x ∷ ns) f outs same e m v u h = (
+        follow-one earlier (ns ++ numbered f outs) x e m.0 v.0 u.0,
+        marks-end (earlier ++ x ∷ []) ns f outs (append_assoc earlier (x ∷ []) ns ∙ same) (each_append (Follows told k i g) earlier (x ∷ []) e (m.0, tt)) m.1 v.1 u.1 h,
       )
 
-      first-end : (ns : List Mark) (f : ℕ → ℕ) (outs : List Out) → ns ≡ marks → Each (Follows told k i g) ns → Votes told k p g ns → Each (λ (o : Out). Tells k q i g marks o.message) outs → DoMarksEnd script steps step [] (ns ++ numbered f outs)
-      first-end [] f outs same m v h = marks-end [] [] f outs same tt tt tt h
-      first-end (x ∷ ns) f outs same m v h = (follow-first (ns ++ numbered f outs) ns x m.0 v, marks-end (x ∷ []) ns f outs same (no-end-one x m.0, tt) m.1 (votes-rest x ns v) h)
+      first-end : (ns : List Mark) (f : ℕ → ℕ) (outs : List Out) → ns ≡ marks → Each (Follows told k i g) ns → Votes told k p g ns → Each (IsUnsettled p) ns → Each (λ (o : Out). Tells k q i g marks o.message) outs → DoMarksEnd script steps step [] (ns ++ numbered f outs)
+      first-end [] f outs same m v u h = marks-end [] [] f outs same tt tt tt tt h
+      first-end (x ∷ ns) f outs same m v u h = (follow-first (ns ++ numbered f outs) ns x m.0 v u.0, marks-end (x ∷ []) ns f outs same (m.0, tt) m.1 (votes-rest x ns v) u.1 h)
 
-      pub seg-end : (f : ℕ → ℕ) (outs : List Out) → Each (Follows told k i g) marks → Votes told k p g marks → Each (λ (o : Out). Tells k q i g marks o.message) outs → DoMarksEnd script steps step [] (marks ++ numbered f outs)
-      seg-end f outs m v h = first-end marks f outs refl m v h
+      pub seg-end : (f : ℕ → ℕ) (outs : List Out) → Each (Follows told k i g) marks → Votes told k p g marks → Each (IsUnsettled p) marks → Each (λ (o : Out). Tells k q i g marks o.message) outs → DoMarksEnd script steps step [] (marks ++ numbered f outs)
+      seg-end f outs m v u h = first-end marks f outs refl m v u h

@@ -100,18 +100,42 @@ Votes told k p g (mark.LocalCommit n h ∷ ms) =
     (p.commits ≡ 0) × (((told ≡ message.Commit (gx g)) × (k.at ≡ One true)) ⊎ ((told ≡ message.CommitPrepared (gx g)) × (k.at ≡ Two true))) × Each NoVote ms
 Votes told k p g (m ∷ ms) = Each NoVote ms
 
+-- who writes has neither promised nor committed
+abbrev pub IsUnsettled : Part → Mark → Type 0
+IsUnsettled p (mark.Write h c n t r x) = (p.promises ≡ 0) × (p.commits ≡ 0)
+IsUnsettled p _ = Unit {0}
+
+-- nor does it in the step of a command
+pub no-vote-of-command : (told : Message) (k : Known) (i g : ℕ) (c : Cid) → IsExecOf told g c → (m : Mark) → Follows told k i g m → NoVote m
+no-vote-of-command told k i g c e (mark.Prepared n h) f = absurd (differ (sym e.is ∙ f.2))
+  where
+    differ : message.Exec (gx g) c e.level e.snapshot e.horizon e.slice ≡ message.Prepare (gx g) → ⊥
+    differ q = cc
+no-vote-of-command told k i g c e (mark.LocalCommit n h) f = absurd (by_order f.2)
+  where
+    by_order : (told ≡ message.Commit (gx g)) ⊎ (told ≡ message.CommitPrepared (gx g)) → ⊥
+    by_order (inl q) = differ (sym e.is ∙ q)
+      where
+        differ : message.Exec (gx g) c e.level e.snapshot e.horizon e.slice ≡ message.Commit (gx g) → ⊥
+        differ q = cc
+    by_order (inr q) = differ (sym e.is ∙ q)
+      where
+        differ : message.Exec (gx g) c e.level e.snapshot e.horizon e.slice ≡ message.CommitPrepared (gx g) → ⊥
+        differ q = cc
+no-vote-of-command told k i g c e m f = tt
+
 no-votes : (told : Message) (k : Known) (p : Part) (g : ℕ) (ms : List Mark) → Each NoVote ms → Votes told k p g ms
 no-votes told k p g [] e = tt
 no-votes told k p g (mark.Prepared n h ∷ ms) e = absurd e.0
 no-votes told k p g (mark.LocalCommit n h ∷ ms) e = absurd e.0
 no-votes told k p g (m ∷ ms) e = e.1
 
-no-votes-prepared : (ms : List Mark) (n : Node) (g : Gxid) → Each NoVote ms → prepared_count ms n g ≡ 0
+pub no-votes-prepared : (ms : List Mark) (n : Node) (g : Gxid) → Each NoVote ms → prepared_count ms n g ≡ 0
 no-votes-prepared [] n g e = refl
 no-votes-prepared (mark.Prepared m h ∷ ms) n g e = absurd e.0
 no-votes-prepared (m ∷ ms) n g e = no-votes-prepared ms n g e.1
 
-no-votes-local : (ms : List Mark) (n : Node) (g : Gxid) → Each NoVote ms → local_count ms n g ≡ 0
+pub no-votes-local : (ms : List Mark) (n : Node) (g : Gxid) → Each NoVote ms → local_count ms n g ≡ 0
 no-votes-local [] n g e = refl
 no-votes-local (mark.LocalCommit m h ∷ ms) n g e = absurd e.0
 no-votes-local (m ∷ ms) n g e = no-votes-local ms n g e.1
@@ -144,6 +168,7 @@ module _ (told : Message) (k : Known) (s : Seg) (i g : ℕ) (named : s.node ≡ 
     pub next : Next k p (after turn)
     pub marks : Each (Follows told k i g) turn.marks
     pub votes : Votes told k p g turn.marks
+    pub unsettled : Each (IsUnsettled p) turn.marks
     pub outs : Each (λ (o : Out). Tells k (after turn) i g turn.marks o.message) turn.outs
     pub fails : (turn.seg.locals g).vote ≡ Some reply.Jfault → (l.vote ≡ Some reply.Jfault) ⊎ HasMark (mark.JournalFailed (at i) (gx g)) turn.marks
 
@@ -155,13 +180,13 @@ module _ (told : Message) (k : Known) (s : Seg) (i g : ℕ) (named : s.node ≡ 
   same-next = subst (Next k p) (sym (none-after l)) (record { pair = e; grows = grows-same p })
 
   stay : Does (stays s)
-  stay = record { others = λ h d. refl; next = same-next; marks = tt; votes = tt; outs = tt; fails = λ v. inl v }
+  stay = record { others = λ h d. refl; next = same-next; marks = tt; votes = tt; unsettled = tt; outs = tt; fails = λ v. inl v }
 
   -- a segment's graph says nothing of its part
   collect : (round : ℕ) → 0 ≡ g → Does (on_collect s round)
   collect round none =
-      collect-ways Does s round stay (λ e. record { others = λ h d. refl; next = same-next; marks = (tt, tt); votes = tt; outs = (none, tt); fails = λ v. inl v })
-      (λ e graph f. record { others = λ h d. refl; next = same-next; marks = tt; votes = tt; outs = (none, tt); fails = λ v. inl v })
+      collect-ways Does s round stay (λ e. record { others = λ h d. refl; next = same-next; marks = (tt, tt); votes = tt; unsettled = (tt, tt); outs = (none, tt); fails = λ v. inl v })
+      (λ e graph f. record { others = λ h d. refl; next = same-next; marks = tt; votes = tt; unsettled = tt; outs = (none, tt); fails = λ v. inl v })
 
   -- an answer that changes nothing
   abbrev not-again : Reply → Bool
@@ -179,7 +204,7 @@ module _ (told : Message) (k : Known) (s : Seg) (i g : ℕ) (named : s.node ≡ 
   told-of k q ms reply.Forgotten n a = (refl, tt)
 
   tell : (r : Reply) → not-again r ≡ true → Answers k p r → Does (tells s (gx g) r)
-  tell r n a = record { others = λ h d. refl; next = same-next; marks = tt; votes = tt; outs = (subst (λ q. Tells k q i g [] (message.Answer (gx g) r)) (sym (none-after l)) (told-of k p [] r n a), tt); fails = λ v. inl v }
+  tell r n a = record { others = λ h d. refl; next = same-next; marks = tt; votes = tt; unsettled = tt; outs = (subst (λ q. Tells k q i g [] (message.Answer (gx g) r)) (sym (none-after l)) (told-of k p [] r n a), tt); fails = λ v. inl v }
 
   vote-not-again : (ph : Phase) (r : Reply) → IsVote ph (Some r) → not-again r ≡ true
   vote-not-again ph reply.Again v = absurd v
@@ -216,13 +241,14 @@ module _ (told : Message) (k : Known) (s : Seg) (i g : ℕ) (named : s.node ≡ 
   here : (x : Local) → with_at s.locals g x g ≡ x
   here x = ap (λ b. if b then x else l) (eqb-self g)
 
-  change : (x : Local) (ms : List Mark) (r : Reply) (it : Option JournalItem) → Next k p (after_marks x w pc lc i g ms) → Each (Follows told k i g) ms → Votes told k p g ms → Tells k (after_marks x w pc lc i g ms) i g ms (message.Answer (gx g) r) → (x.vote ≡ Some reply.Jfault → (l.vote ≡ Some reply.Jfault) ⊎ HasMark (mark.JournalFailed (at i) (gx g)) ms) → Does (changes s (gx g) x ms r it)
-  change x ms r it n m v t f =
+  change : (x : Local) (ms : List Mark) (r : Reply) (it : Option JournalItem) → Next k p (after_marks x w pc lc i g ms) → Each (Follows told k i g) ms → Votes told k p g ms → Each (IsUnsettled p) ms → Tells k (after_marks x w pc lc i g ms) i g ms (message.Answer (gx g) r) → (x.vote ≡ Some reply.Jfault → (l.vote ≡ Some reply.Jfault) ⊎ HasMark (mark.JournalFailed (at i) (gx g)) ms) → Does (changes s (gx g) x ms r it)
+  change x ms r it n m v u t f =
       record {
         others = λ h d. ap (λ b. if b then x else s.locals h) d;
         next = subst (λ y. Next k p (after_marks y w pc lc i g ms)) (sym (here x)) n;
         marks = m;
         votes = v;
+        unsettled = u;
         outs = (subst (λ y. Tells k (after_marks y w pc lc i g ms) i g ms (message.Answer (gx g) r)) (sym (here x)) t, tt);
         fails = λ v. f (subst (λ (y : Local). y.vote ≡ Some reply.Jfault) (here x) v);
       }
@@ -230,6 +256,10 @@ module _ (told : Message) (k : Known) (s : Seg) (i g : ℕ) (named : s.node ≡ 
   -- marks that say nothing of its part
   abbrev IsAside : Mark → Type 0
   IsAside x = NoPart x × NoVote x × Follows told k i g x
+
+  aside-unsettled : (x : Mark) → IsAside x → IsUnsettled p x
+  aside-unsettled (mark.Write h c n t r y) a = absurd a.0
+  aside-unsettled x a = tt
 
   aside-after : (x : Local) (ms : List Mark) → Each NoPart ms → after_marks x w pc lc i g ms ≡ part_of x w pc lc
   aside-after x ms f =
@@ -244,7 +274,7 @@ module _ (told : Message) (k : Known) (s : Seg) (i g : ℕ) (named : s.node ≡ 
   refuse it v o st =
       let n : Next k p (refusing p) = refuse-next k p e v o st in
       change (record l { vote = Some reply.Jfault }) (mark.JournalFailed s.node (gx g) ∷ []) reply.Jfault (Some it)
-      (subst (Next k p) (sym (none-after (record l { vote = Some reply.Jfault }))) n) (tt, tt) tt (refl, refl) (λ x. inr failed-here)
+      (subst (Next k p) (sym (none-after (record l { vote = Some reply.Jfault }))) n) (tt, tt) tt (tt, tt) (refl, refl) (λ x. inr failed-here)
 
   -- counts of one mark
   node-is : eqb s.node.0 i ≡ true
@@ -282,7 +312,7 @@ module _ (told : Message) (k : Known) (s : Seg) (i g : ℕ) (named : s.node ≡ 
   promised false m v o st c wr y =
       let n : Next k p (promising p) = promise-next k p e v o y st in
       change (record l { phase = Prepared; vote = Some reply.Prepared }) (mark.Prepared s.node (gx g) ∷ []) reply.Prepared _
-      (subst (Next k p) (sym (prepared-after (record l { phase = Prepared; vote = Some reply.Prepared }))) n) ((refl, at-node, m, c), tt) (wr, unpromised v, uncommitted l.phase refl (open-uncommitted l.phase o), tt) (refl, refl) (λ x. absurd (cc))
+      (subst (Next k p) (sym (prepared-after (record l { phase = Prepared; vote = Some reply.Prepared }))) n) ((refl, at-node, m, c), tt) (wr, unpromised v, uncommitted l.phase refl (open-uncommitted l.phase o), tt) (tt, tt) (refl, refl) (λ x. absurd (cc))
 
   not-ended-prepare : (k.at ≡ Preparing true) ⊎ (k.aborted ≡ true) → k.committed ≡ false
   not-ended-prepare st = plain k.committed k.aborted st e.either e.ends
@@ -324,7 +354,7 @@ module _ (told : Message) (k : Known) (s : Seg) (i g : ℕ) (named : s.node ≡ 
       let n : Next k p (committing p) = commit-next k p e v o y st in
       let x = live-marks (one-not-over st) in
       change (record l { phase = Committed; vote = Some reply.Committed }) (mark.LocalCommit s.node (gx g) ∷ []) reply.Committed _
-      (subst (Next k p) (sym (local-after (record l { phase = Committed; vote = Some reply.Committed }))) n) ((refl, at-node, inl m, x.0, x.1), tt) (uncommitted l.phase refl (open-uncommitted l.phase o), inl (m, st), tt) (refl, refl) (λ x. absurd (cc))
+      (subst (Next k p) (sym (local-after (record l { phase = Committed; vote = Some reply.Committed }))) n) ((refl, at-node, inl m, x.0, x.1), tt) (uncommitted l.phase refl (open-uncommitted l.phase o), inl (m, st), tt) (tt, tt) (refl, refl) (λ x. absurd (cc))
 
   unless-prepared : (b : Bool) → Does (if b then stays s else tells_kept s (gx g) l.vote)
   unless-prepared true = stay
@@ -341,12 +371,12 @@ module _ (told : Message) (k : Known) (s : Seg) (i g : ℕ) (named : s.node ≡ 
   -- COMMIT PREPARED
   finished : (fails : Bool) → told ≡ message.CommitPrepared (gx g) → l.phase ≡ Prepared → k.at ≡ Two true → Does (finishes s (gx g) fails l)
   finished true m f st =
-      change l (mark.JournalFailed s.node (gx g) ∷ []) reply.Again _ same-next (tt, tt) tt (refl, failed-here) (λ v. inl v)
+      change l (mark.JournalFailed s.node (gx g) ∷ []) reply.Again _ same-next (tt, tt) tt (tt, tt) (refl, failed-here) (λ v. inl v)
   finished false m f st =
       let n : Next k p (finishing p) = finish-next k p e f st in
       let x = live-marks (two-not-over st) in
       change (record l { phase = Committed }) (mark.LocalCommit s.node (gx g) ∷ []) reply.Committed _
-      (subst (Next k p) (sym (local-after (record l { phase = Committed }))) n) ((refl, at-node, inr m, x.0, x.1), tt) (uncommitted Prepared f refl, inr (m, st), tt) (refl, refl) (λ v. inl v)
+      (subst (Next k p) (sym (local-after (record l { phase = Committed }))) n) ((refl, at-node, inr m, x.0, x.1), tt) (uncommitted Prepared f refl, inr (m, st), tt) (tt, tt) (refl, refl) (λ v. inl v)
 
   decided-still : (ph : Phase) → l.phase ≡ ph → has_committed ph ≡ false → (k.at ≡ Two true) ⊎ (has_committed l.phase ≡ true) → k.at ≡ Two true
   decided-still ph f n (inl x) = x
@@ -372,6 +402,7 @@ module _ (told : Message) (k : Known) (s : Seg) (i g : ℕ) (named : s.node ≡ 
             (subst (Next k p) (sym (aside-after x back (each-released NoPart s.node s.locks (gx g) (λ claim. tt)))) (end-next k p ph e o d c st));
         marks = each-released (Follows told k i g) s.node s.locks (gx g) (λ claim. tt);
         votes = no-votes told k p g back (each-released NoVote s.node s.locks (gx g) (λ claim. tt));
+        unsettled = each-released (IsUnsettled p) s.node s.locks (gx g) (λ claim. tt);
         outs = (told-of k _ back r n (a _), tt);
         fails = λ v. inl (subst (λ (y : Local). y.vote ≡ Some reply.Jfault) (here x) v);
       }
@@ -457,11 +488,12 @@ module _ (told : Message) (k : Known) (s : Seg) (i g : ℕ) (named : s.node ≡ 
       wrote : has_written phase ≡ (w || is_writer x.marks (gx g) (at i))
       marks : Each (Follows told k i g) x.marks
       calm : Each NoVote x.marks
+      unsettled : Each (IsUnsettled p) x.marks
       node : x.seg.node ≡ s.node
 
     -- ONE MOVE
     starts : Going (starts_from t)
-    starts = record { others = base.others; phase = l.phase; local = base.local; opens = may.opens; wrote = e.written may.opens ∙ sym (or-false w); marks = tt; calm = tt; node = base.node }
+    starts = record { others = base.others; phase = l.phase; local = base.local; opens = may.opens; wrote = e.written may.opens ∙ sym (or-false w); marks = tt; calm = tt; unsettled = tt; node = base.node }
 
     -- a mark that says nothing of its part, and other locks
     aside-more : (x : Moved) (locks : Locks) (y : Mark) → Going x → IsAside y → Going (record { seg = record x.seg { locks = locks }; marks = x.marks ++ y ∷ [] })
@@ -474,6 +506,7 @@ module _ (told : Message) (k : Known) (s : Seg) (i g : ℕ) (named : s.node ≡ 
           wrote = f.wrote ∙ ap (λ b. w || b) (sym same);
           marks = each_append (Follows told k i g) x.marks (y ∷ []) f.marks (a.2, tt);
           calm = each_append NoVote x.marks (y ∷ []) f.calm (a.1, tt);
+          unsettled = each_append (IsUnsettled p) x.marks (y ∷ []) f.unsettled (aside-unsettled y a, tt);
           node = f.node;
         }
       where
@@ -495,6 +528,7 @@ module _ (told : Message) (k : Known) (s : Seg) (i g : ℕ) (named : s.node ≡ 
           wrote = sym (ap (λ b. w || b) (writer-append x.marks (y ∷ []) (gx g) (at i)) ∙ all-true w (is_writer x.marks (gx g) (at i)) (eqb g g) (eqb x.seg.node.0 i) (eqb-self g) at-node-there);
           marks = each_append (Follows told k i g) x.marks (y ∷ []) f.marks ((refl, ap (λ (n : Node). n.0) f.node ∙ at-node, m), tt);
           calm = each_append NoVote x.marks (y ∷ []) f.calm (tt, tt);
+          unsettled = each_append (IsUnsettled p) x.marks (y ∷ []) f.unsettled ((e.promised ∙ ap bit (e.unpromised may.opens), e.committed ∙ ap bit (open-uncommitted l.phase may.opens)), tt);
           node = f.node;
         }
       where
@@ -533,6 +567,7 @@ module _ (told : Message) (k : Known) (s : Seg) (i g : ℕ) (named : s.node ≡ 
           next = subst (Next k p) (sym same) next;
           marks = each_append (Follows told k i g) ns x.marks (each_weaker IsAside (Follows told k i g) (λ z q. q.2) ns aside) f.marks;
           votes = no-votes told k p g (ns ++ x.marks) calm;
+          unsettled = each_append (IsUnsettled p) ns x.marks (each_weaker IsAside (IsUnsettled p) aside-unsettled ns aside) f.unsettled;
           outs = subst (λ q. Each (λ (out : Out). Tells k q i g (ns ++ x.marks) out.message) outs) (sym same) (tells-so left next.pair refl);
           fails = λ v. inl (ap (λ (z : Local). z.vote) (sym set) ∙ v);
         }

@@ -93,7 +93,13 @@ module _ (script : Script) (steps : List Step) (event : Event) (earlier later ne
   end-later node (mark.Abort g) e = e
   end-later node (mark.LocalCommit n g) e = record { running = e.running; first = e.first; by = committed-by n g e.by }
   end-later node (mark.Prepared n g) e = record { told = e.told; writer = e.writer; first = e.first; uncommitted = e.uncommitted; uncommitted_there = e.uncommitted_there }
-  end-later node (mark.Write g c n t r x) e = record { level = e.level; snapshot = e.snapshot; horizon = e.horizon; slice = e.slice; received = e.received }
+  end-later node (mark.Write g c n t r x) e =
+      let ran = e.executed in
+      record {
+        executed = record { level = ran.level; snapshot = ran.snapshot; horizon = ran.horizon; slice = ran.slice; received = ran.received };
+        unpromised = e.unpromised;
+        uncommitted = e.uncommitted;
+      }
   end-later node (mark.Sent to number m) e = sent-later node to number m e
   end-later node m e = tt
 

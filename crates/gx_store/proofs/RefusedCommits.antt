@@ -11,7 +11,7 @@ use Rattle.gx_dsnap.specs.declared.snapshot.Snapshot.{Snapshot}
 use Rattle.gx_script.specs.declared.Script.{Script}
 use Rattle.gx_store.specs.Points.{Point, before}
 use Rattle.gx_store.specs.Protocol.{CommitsAlone, CommitsAsPromised, CommitsThere, decided_count, is_writer}
-use Rattle.gx_store.specs.RefusedCommits.{BreaksProtocol, answered_at_once, committed_early, decided_late, decided_of_nobody, decided_twice, one_select, promised_unwritten, two_writers}
+use Rattle.gx_store.specs.RefusedCommits.{BreaksProtocol, answered_at_once, committed_early, decided_late, decided_of_nobody, decided_twice, one_select, promised_unwritten, two_writers, written_late}
 use Rattle.gx_store.specs.RefusedParts.{anna, empty_block, first_cid, first_txn, other_segment, the_segment}
 use Rattle.gx_store.proofs.RefusedParts.{clash, none-returned}
 
@@ -45,3 +45,6 @@ no-early {point = point} c writes undecided = by_how c.by
 
 pub protocol-early : (script : Script) (table : Table) (one other : List Expr) (s : Snapshot) (row more : List Value) → BreaksProtocol (two_writers script table one other) (committed_early table s row more)
 protocol-early script table one other s row more h = no-early h.1.1.1.1.1.1.1.1.1.1.1.0.0 refl refl
+
+pub protocol-written : (script : Script) (table : Table) (one other : List Expr) (s : Snapshot) (row more late : List Value) → BreaksProtocol (two_writers script table one other) (written_late table s row more late)
+protocol-written script table one other s row more late h = one-zero h.1.1.1.1.1.1.1.1.1.1.1.0.0.unpromised refl

@@ -127,6 +127,12 @@ pub record IsExecuted (point : Point) (g : Gxid) (c : Cid) (node : Node) : Type 
   pub slice : Slice
   pub received : HasReceived point the_coordinator node (message.Exec g c level snapshot horizon slice)
 
+-- a segment writes for a command that it has received, of a transaction that it has neither promised nor committed
+pub record WritesThere (point : Point) (node : Node) (g : Gxid) (c : Cid) : Type 0 where
+  pub executed : IsExecuted point g c node
+  pub unpromised : prepared_count (before point) node g ≡ 0
+  pub uncommitted : local_count (before point) node g ≡ 0
+
 -- the coordinator has sent it the message in an earlier step, or the point's own step sends it, before the point or behind it
 abbrev pub IsSentBy : Point → Node → ℕ → Message → Type 0
 IsSentBy point node number told = IsSent point.steps the_coordinator node number told ⊎ Contains (point.earlier ++ point.later) (mark.Sent node number told)
@@ -154,15 +160,15 @@ IsComplete script point session answer =
     (line : Stmt) (level : Level) (g : Gxid) (c : Cid) (node : Node) → RunsCommand script point session line level g c → IsDispatched point g c node → IsReturned point g c node
 
 -- What each mark of a transaction's end stands behind: of promises, decisions, commits and aborts at the nodes and as a whole; that
--- a segment writes for a command that it has received, a command is answered once it is complete, and a failing journal's word comes
--- behind its mark, for 'again' in the same step.
+-- a segment writes for a command that it has received, and before it promises or commits, a command is answered once it is complete,
+-- and a failing journal's word comes behind its mark, for 'again' in the same step.
 abbrev pub FollowsAt : Script → Node → Point → Mark → Type 0
 FollowsAt script node point (mark.Commit g) = CommitsBy (writers_of script (before point) g) (before point) g
 FollowsAt script node point (mark.Decided g) = Decides script (before point) g
 FollowsAt script _ point (mark.LocalCommit node g) = CommitsThere point node g
 FollowsAt script _ point (mark.Prepared node g) = Promises point node g
 FollowsAt script node point (mark.Abort g) = (decided_count (before point) g ≡ 0) × ((segment : Node) → local_count (before point) segment g ≡ 0)
-FollowsAt script _ point (mark.Write g c node table rid image) = IsExecuted point g c node
+FollowsAt script _ point (mark.Write g c node table rid image) = WritesThere point node g c
 FollowsAt script node point (mark.Answer session number answer) = IsComplete script point session answer
 FollowsAt script node point (mark.Sent to number (message.Answer g reply.Jfault)) = Contains (before point) (mark.JournalFailed node g)
 FollowsAt script node point (mark.Sent to number (message.Answer g reply.Again)) = Contains point.earlier (mark.JournalFailed node g)

@@ -1,6 +1,8 @@
 -- Small runs that don't follow the commit protocol.
 use Rattle.std.specs.Prelude.{ℕ, true, List, [], ◌∷◌, ◌++◌, Some}
+use Rattle.gx_ids.specs.declared.ids.Cid.{Cid}
 use Rattle.gx_ids.specs.declared.ids.Node.{Node}
+use Rattle.gx_ids.specs.declared.rid.Rid.{Rid}
 use Rattle.gx_ids.specs.declared.ids.Table.{Table}
 use Rattle.gx_tree.specs.declared.expr.Expr.{Expr}
 use Rattle.gx_tree.specs.declared.part.Part.TheVariants.{Rows}
@@ -66,6 +68,13 @@ writes_there table clock node ordinal row =
     step_at node clock (event.Receive the_coordinator node 1)
     (mark.Write first_txn first_cid node table (nth_row first_txn ordinal) (Some row) ∷ mark.Sent the_coordinator 1 (message.Answer first_txn (reply.Done first_cid true 1 (Rows []))) ∷ [])
 
+-- a second command, and a row of it
+abbrev pub second_cid : Cid
+second_cid = record { 0 = 2 }
+
+abbrev pub second_row : Rid
+second_row = record { gxid = first_txn; cid = second_cid; ordinal = 1 }
+
 abbrev pub promises_there : ℕ → Node → Step
 promises_there clock node =
     step_at node clock (event.Receive the_coordinator node 2) (mark.Prepared node first_txn ∷ mark.Sent the_coordinator 2 (message.Answer first_txn reply.Prepared) ∷ [])
@@ -104,3 +113,11 @@ committed_early table snapshot one other =
     both_promise table snapshot one other
     ++ step_at the_coordinator 9 (event.Receive other_segment the_coordinator 2) (mark.Sent the_segment 3 (message.CommitPrepared first_txn) ∷ [])
     ∷ step_at the_segment 10 (event.Receive the_coordinator the_segment 3) (mark.LocalCommit the_segment first_txn ∷ []) ∷ []
+
+-- a segment that has promised is sent a further command, and writes a row
+abbrev pub written_late : Table → Snapshot → List Value → List Value → List Value → List Step
+written_late table snapshot one other late =
+    both_promise table snapshot one other
+    ++ step_at the_coordinator 9 (event.Receive other_segment the_coordinator 2)
+    (mark.Sent the_segment 3 (message.Exec first_txn second_cid ReadCommitted (Some snapshot) first_txn (slice.Insert table (record { rid = second_row; row = late } ∷ []))) ∷ [])
+    ∷ step_at the_segment 10 (event.Receive the_coordinator the_segment 3) (mark.Write first_txn second_cid the_segment table second_row (Some late) ∷ []) ∷ []

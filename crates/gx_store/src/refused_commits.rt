@@ -3,7 +3,7 @@ ghost use Rattle.std.specs.Prelude.{List};
 ghost use Rattle.gx_dsnap.specs.declared.snapshot.Snapshot.{Snapshot as OneSnapshot};
 ghost use Rattle.gx_ids.specs.declared.ids.Table.{Table as OneTable};
 ghost use Rattle.gx_script.specs.declared.Script.{Script as OneScript};
-ghost use Rattle.gx_store.specs.RefusedCommits.{BreaksProtocol, answered_at_once, committed_early, decided_late, decided_of_nobody, decided_twice, one_select, promised_unwritten, two_writers};
+ghost use Rattle.gx_store.specs.RefusedCommits.{BreaksProtocol, answered_at_once, committed_early, decided_late, decided_of_nobody, decided_twice, one_select, promised_unwritten, two_writers, written_late};
 ghost use Rattle.gx_store.specs.RefusedParts.{empty_block};
 ghost use Rattle.gx_tree.specs.declared.expr.Expr.{Expr as OneExpr};
 ghost use Rattle.gx_tree.specs.declared.query.Query.{Query as OneQuery};
@@ -32,4 +32,10 @@ pub fn decisions_come_once()
 pub fn commits_follow_the_decision()
     ensures { (script : OneScript) (table : OneTable) (one other : List OneExpr) (snapshot : OneSnapshot) (row more : List OneValue)
         → BreaksProtocol (two_writers script table one other) (committed_early table snapshot row more) }
+{}
+
+/// Who has promised writes nothing more.
+pub fn promises_are_of_all_rows()
+    ensures { (script : OneScript) (table : OneTable) (one other : List OneExpr) (snapshot : OneSnapshot) (row more late : List OneValue)
+        → BreaksProtocol (two_writers script table one other) (written_late table snapshot row more late) }
 {}

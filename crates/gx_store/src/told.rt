@@ -39,12 +39,19 @@ fn told_alone<K: Sink>(alloc: Global, status: u8, text: &[u8], sink: &mut K) -> 
     told(status, Run::new(alloc), text, sink)
 }
 
+// The run is over, as it should be.
+fn told_done<K: Sink>(run: Run, text: Vec<u8>, sink: &mut K) -> Report
+    ensures { IsTold 0 run text.items (K.written sink.old) (K.written sink.new) (K.fault_count sink.old) (K.fault_count sink.new) result }
+{
+    told_text(0, run, text, sink)
+}
+
 /// Tells what the work came to, in one write.
 pub fn told_of<K: Sink>(alloc: Global, attempt: Attempt, sink: &mut K) -> Report
     ensures { IsToldOf attempt (K.written sink.old) (K.written sink.new) (K.fault_count sink.old) (K.fault_count sink.new) result }
 {
     match attempt {
-        Attempt::Done(run, text) => told_text(0, run, text, sink),
+        Attempt::Done(run, text) => told_done(run, text, sink),
         Attempt::Stopped(run, text) => told_text(7, run, text, sink),
         Attempt::Stuck(run, text) => told_text(8, run, text, sink),
         Attempt::Usage => told_alone(
