@@ -7,7 +7,7 @@ use gx_ids::{Cid, Gxid};
 use gx_msg::{Message, Reply};
 
 /// The answer that the last message asks for.
-#[derive(Clone, Copy, Debug, PartialEq, Eq)]
+#[derive(Clone, Copy)]
 pub enum Expected {
     /// What became of the command of this number.
     Command(Cid),

@@ -7,7 +7,7 @@ use gx_script::LinkFault;
 
 /// A message by its link and its number. A segment has two links: the one to it has twice its number, and the one from it one
 /// more.
-#[derive(Clone, Copy, Debug, PartialEq, Eq, PartialOrd, Ord)]
+#[derive(Clone, Copy, PartialEq, Eq, PartialOrd, Ord)]
 pub struct LinkMessage {
     pub link: usize,
     pub number: u64,

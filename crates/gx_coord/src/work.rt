@@ -32,7 +32,7 @@ pub struct Work {
 
 /// A session: where it stands, how many of its lines were started, and the transaction of its block or of its line under
 /// way.
-#[derive(Clone, Copy, Debug)]
+#[derive(Clone, Copy)]
 pub struct Session {
     pub state: SessionState,
     pub lines: u32,

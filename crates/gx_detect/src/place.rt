@@ -15,7 +15,7 @@ pub enum Place {
 }
 
 /// What a reduction leaves: the stuck edges, or the core of them alone, where each waiter is waited for too.
-#[derive(Clone, Copy, PartialEq, Eq)]
+#[derive(Clone, Copy)]
 pub enum Aim {
     Stuck,
     Core,

@@ -2,7 +2,7 @@ use gx_ids::Seq;
 use gx_waits::LocalGraph;
 
 /// How a run ended.
-#[derive(Debug, PartialEq, Eq, Drop)]
+#[derive(Drop)]
 pub enum End {
     /// No session is unfinished.
     Done,

@@ -9,7 +9,7 @@ use std::alloc::Global;
 /// A distributed snapshot: the transactions below `xmax` that weren't running when it was taken have ended for its
 /// reader. The coordinator takes it once the statement's relation lock is granted (Lyu et al., SIGMOD 2021; PostgreSQL
 /// manual 13.2): at read committed for each statement, at repeatable read for the block.
-#[derive(Debug, Drop, PartialEq, Eq)]
+#[derive(Drop)]
 pub struct Snapshot {
     pub xmin: Gxid,
     pub xmax: Gxid,

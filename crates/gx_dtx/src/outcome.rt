@@ -5,7 +5,7 @@ use gx_msg::Out;
 use std::alloc::Global;
 
 /// What a call has come to.
-#[derive(Clone, Copy, Debug, PartialEq, Eq)]
+#[derive(Clone, Copy)]
 pub enum Outcome {
     /// None of the others.
     Pending,
@@ -20,7 +20,7 @@ pub enum Outcome {
 }
 
 /// What a call has come to, and what is to be sent for it, in order.
-#[derive(Debug, Drop)]
+#[derive(Drop)]
 pub struct DtxOut {
     pub outs: Seq<Out>,
     pub outcome: Outcome,

@@ -1,5 +1,5 @@
 /// How far a transaction is, as everybody may know it.
-#[derive(Clone, Copy, Debug, PartialEq, Eq)]
+#[derive(Clone, Copy)]
 pub enum Status {
     /// Its commands run.
     Active,

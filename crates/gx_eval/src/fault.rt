@@ -7,7 +7,7 @@ use gx_meaning::ArithFault;
 use thiserror::Error;
 
 /// A fault of evaluation: that of its meaning, or want of memory for the copy of a text.
-#[derive(Clone, Copy, Debug, PartialEq, Eq, Error)]
+#[derive(Clone, Copy, Debug, Error)]
 pub enum EvalFault {
     #[error("overflow")]
     Overflow,

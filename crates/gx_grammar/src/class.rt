@@ -13,7 +13,7 @@ use gx_tree::Txt;
 use std::alloc::Global;
 
 /// What a token is to a class of tokens.
-#[derive(Debug, Drop)]
+#[derive(Drop)]
 pub enum Picked<T> {
     Is(T),
     Isnt,

@@ -14,7 +14,7 @@ use gx_tree::Txt;
 use std::alloc::Global;
 
 /// What is open to the left of the next token.
-#[derive(Debug, Drop, PartialEq, Eq)]
+#[derive(Drop)]
 pub enum Frame {
     Paren,
     Minus,
@@ -23,14 +23,14 @@ pub enum Frame {
 }
 
 /// An operand is awaited, or is there, behind so many operators.
-#[derive(Debug, Drop)]
+#[derive(Drop)]
 pub enum Wait {
     Operand(usize),
     Operator(usize, Syn),
 }
 
 /// What a token did.
-#[derive(Debug, Drop)]
+#[derive(Drop)]
 pub enum Turn {
     Stop(Fault),
     Go(Wait),
@@ -379,7 +379,7 @@ fn word(limits: Limits, count: usize, frames: &mut Vec<Frame>, word: Word) -> Me
 }
 
 /// A sign that may begin an operand.
-#[derive(Clone, Copy, Debug, PartialEq, Eq)]
+#[derive(Clone, Copy)]
 pub enum Prefix {
     Minus,
     Open,

@@ -2,7 +2,7 @@ use gx_ids::OutOfMemory;
 use std::alloc::AllocFailed;
 
 /// The limits that tokens of a line may pass, in the order in which one of them is named where a token passes several.
-#[derive(Clone, Copy, Debug, PartialEq, Eq)]
+#[derive(Clone, Copy)]
 pub enum LineLimit {
     Segments,
     Name,
@@ -12,7 +12,7 @@ pub enum LineLimit {
 
 /// How much a line may have: the greatest number of segments, the bytes of a name and of a text, what may stand open
 /// around a token of an expression, and the operators of an expression.
-#[derive(Clone, Copy, Debug, PartialEq, Eq)]
+#[derive(Clone, Copy)]
 pub struct Limits {
     pub segments: u64,
     pub name: usize,
@@ -22,14 +22,14 @@ pub struct Limits {
 }
 
 /// What is wrong with a token: with it no line goes on, or none within the limits.
-#[derive(Clone, Copy, Debug, PartialEq, Eq)]
+#[derive(Clone, Copy)]
 pub enum Fault {
     Syntax,
     TooMany(LineLimit),
 }
 
 /// Why nothing was read.
-#[derive(Clone, Copy, Debug, PartialEq, Eq)]
+#[derive(Clone, Copy)]
 pub enum ReadError {
     Fault(Fault),
     OutOfMemory,

@@ -4,7 +4,7 @@ use gx_ids::Boxed;
 use gx_tree::Txt;
 
 /// What stands between two operands.
-#[derive(Clone, Copy, Debug, PartialEq, Eq)]
+#[derive(Clone, Copy)]
 pub enum Op {
     Or,
     And,
@@ -23,7 +23,7 @@ pub enum Op {
 
 /// An expression as it is written, without its parentheses, before its names and kinds are looked at. `Number` has
 /// whether it is negative and its size, `None` where that is above 18446744073709551615.
-#[derive(Debug, Drop, PartialEq, Eq)]
+#[derive(Drop)]
 pub enum Syn {
     Number(bool, Option<u64>),
     Text(Txt),

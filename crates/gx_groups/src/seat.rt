@@ -5,7 +5,7 @@ ghost use Rattle.gx_groups.specs.declared.seat.Seat.TheVariants.{Alone};
 use gx_ids::SessionId;
 
 /// What a session does about a slot.
-#[derive(Clone, Copy, Debug, PartialEq, Eq)]
+#[derive(Clone, Copy)]
 pub enum Standing {
     Idle,
     Asking,
@@ -13,7 +13,7 @@ pub enum Standing {
 }
 
 /// Where a session stands: in the group of a place, which knows what it does, or alone, where nobody holds it up.
-#[derive(Clone, Copy, Debug, PartialEq, Eq)]
+#[derive(Clone, Copy)]
 pub enum Seat {
     Grouped(u8),
     Alone(Standing),

@@ -2,7 +2,7 @@ use std::alloc::{AllocError, AllocFailed};
 use std::fmt;
 
 /// Memory ran out. Any call that allocates may answer so.
-#[derive(Clone, Copy, Debug, PartialEq, Eq)]
+#[derive(Clone, Copy, Debug)]
 pub struct OutOfMemory;
 
 /// What may run out of memory.

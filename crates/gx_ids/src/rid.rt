@@ -7,7 +7,7 @@ use std::alloc::Global;
 
 /// A row's identity, which an update keeps: the transaction and the command that inserted it, and the place of its
 /// tuple among the command's VALUES, from 1.
-#[derive(Clone, Copy, Debug, PartialEq, Eq, PartialOrd, Ord)]
+#[derive(Clone, Copy, PartialEq, Eq, PartialOrd, Ord)]
 pub struct Rid {
     pub gxid: Gxid,
     pub cid: Cid,

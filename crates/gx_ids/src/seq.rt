@@ -6,7 +6,7 @@ use std::alloc::Global;
 use std::marker::Model;
 
 /// A list of items. Contracts see it as the list alone, without the room that it has.
-#[derive(Debug, Drop)]
+#[derive(Drop)]
 pub struct Seq<T> {
     items: Vec<T>,
 }

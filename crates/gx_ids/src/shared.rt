@@ -7,7 +7,7 @@ use std::marker::Model;
 use std::sync::Arc;
 
 /// A value that several own, who all read it and never change it. A copy is one owner more. Contracts see it as that value.
-#[derive(Debug, Drop)]
+#[derive(Drop)]
 pub struct Shared<T> {
     inner: Arc<T, Global>,
 }

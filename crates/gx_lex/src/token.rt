@@ -4,7 +4,7 @@ use gx_tree::Txt;
 
 /// A token of a line. A number above 18446744073709551615 is `Number(None)`; `Bad` is a word with capitals that is
 /// no keyword, or the rest of a line from a byte that begins no token or from a text without its end.
-#[derive(Debug, Drop, PartialEq, Eq)]
+#[derive(Drop)]
 pub enum Token {
     Word(Word),
     Name(Txt),

@@ -8,7 +8,7 @@ ghost use Rattle.gx_lex.specs.declared.word.Word.{Word};
 use crate::byte::small;
 
 /// A keyword of the script language.
-#[derive(Clone, Copy, Debug, PartialEq, Eq)]
+#[derive(Clone, Copy)]
 pub enum Word {
     Segments,
     Detector,

@@ -34,7 +34,7 @@ fn pick_word<T: WordClass>(token: &Token) -> Picked<T>
 }
 
 /// An aggregate over a column.
-#[derive(Clone, Copy, Debug, PartialEq, Eq)]
+#[derive(Clone, Copy)]
 pub enum Agg {
     Sum,
     Min,
@@ -67,7 +67,7 @@ impl TokenClass for Agg {
 }
 
 /// How a key of ORDER BY orders.
-#[derive(Clone, Copy, Debug, PartialEq, Eq)]
+#[derive(Clone, Copy)]
 pub enum Direction {
     Asc,
     Desc,
@@ -98,7 +98,7 @@ impl TokenClass for Direction {
 }
 
 /// The word behind ACCESS or ROW in a mode's name.
-#[derive(Clone, Copy, Debug, PartialEq, Eq)]
+#[derive(Clone, Copy)]
 pub enum Strength {
     Share,
     Exclusive,
@@ -129,7 +129,7 @@ impl TokenClass for Strength {
 }
 
 /// Whether the detector runs.
-#[derive(Clone, Copy, Debug, PartialEq, Eq)]
+#[derive(Clone, Copy)]
 pub enum Switch {
     On,
     Off,
@@ -160,7 +160,7 @@ impl TokenClass for Switch {
 }
 
 /// What a column holds.
-#[derive(Clone, Copy, Debug, PartialEq, Eq)]
+#[derive(Clone, Copy)]
 pub enum KindSyn {
     Bigint,
     Text,
@@ -191,7 +191,7 @@ impl TokenClass for KindSyn {
 }
 
 /// What happens to a message.
-#[derive(Clone, Copy, Debug, PartialEq, Eq)]
+#[derive(Clone, Copy)]
 pub enum Fate {
     Lose,
     Repeat,
@@ -222,7 +222,7 @@ impl TokenClass for Fate {
 }
 
 /// The link from the coordinator to a segment, or the one from it.
-#[derive(Clone, Copy, Debug, PartialEq, Eq)]
+#[derive(Clone, Copy)]
 pub enum Way {
     To,
     From,
@@ -253,7 +253,7 @@ impl TokenClass for Way {
 }
 
 /// A number of any size, `None` where it is above 18446744073709551615.
-#[derive(Clone, Copy, Debug, PartialEq, Eq)]
+#[derive(Clone, Copy)]
 pub struct Size(pub Option<u64>);
 
 impl TokenClass for Size {
@@ -270,7 +270,7 @@ impl TokenClass for Size {
 }
 
 /// The number of segments.
-#[derive(Clone, Copy, Debug, PartialEq, Eq)]
+#[derive(Clone, Copy)]
 pub struct Segments(pub u64);
 
 impl TokenClass for Segments {

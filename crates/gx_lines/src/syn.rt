@@ -5,7 +5,7 @@ use gx_modes::Mode;
 use gx_tree::{Level, Txt};
 
 /// What SELECT gives.
-#[derive(Debug, Drop, PartialEq, Eq)]
+#[derive(Drop)]
 pub enum ItemSyn {
     Column(Txt),
     Count,
@@ -13,20 +13,20 @@ pub enum ItemSyn {
 }
 
 /// The items of SELECT, or all columns.
-#[derive(Debug, Drop, PartialEq, Eq)]
+#[derive(Drop)]
 pub enum ItemsSyn {
     All,
     These(Seq<ItemSyn>),
 }
 
 /// A key of ORDER BY.
-#[derive(Debug, Drop, PartialEq, Eq)]
+#[derive(Drop)]
 pub struct KeySyn {
     pub column: Txt,
     pub direction: Option<Direction>,
 }
 
-#[derive(Debug, Drop, PartialEq, Eq)]
+#[derive(Drop)]
 pub struct SelectSyn {
     pub items: ItemsSyn,
     pub table: Txt,
@@ -37,19 +37,19 @@ pub struct SelectSyn {
 }
 
 /// A tuple of VALUES.
-#[derive(Debug, Drop, PartialEq, Eq)]
+#[derive(Drop)]
 pub struct TupleSyn {
     pub values: Seq<Syn>,
 }
 
 /// An assignment of SET.
-#[derive(Debug, Drop, PartialEq, Eq)]
+#[derive(Drop)]
 pub struct AssignSyn {
     pub column: Txt,
     pub value: Syn,
 }
 
-#[derive(Debug, Drop, PartialEq, Eq)]
+#[derive(Drop)]
 pub enum StmtSyn {
     Begin(Level),
     Commit,
@@ -62,19 +62,19 @@ pub enum StmtSyn {
 }
 
 /// A column of a table line.
-#[derive(Debug, Drop, PartialEq, Eq)]
+#[derive(Drop)]
 pub struct ColumnSyn {
     pub name: Txt,
     pub kind: KindSyn,
 }
 
-#[derive(Debug, Drop, PartialEq, Eq)]
+#[derive(Drop)]
 pub enum DistSyn {
     By(Txt),
     Randomly,
 }
 
-#[derive(Debug, Drop, PartialEq, Eq)]
+#[derive(Drop)]
 pub struct TableSyn {
     pub name: Txt,
     pub columns: Seq<ColumnSyn>,
@@ -82,7 +82,7 @@ pub struct TableSyn {
 }
 
 /// A message that is lost or repeated.
-#[derive(Clone, Copy, Debug, PartialEq, Eq)]
+#[derive(Clone, Copy)]
 pub struct LinkSyn {
     pub fate: Fate,
     pub way: Way,
@@ -91,7 +91,7 @@ pub struct LinkSyn {
 }
 
 /// A line behind the segments.
-#[derive(Debug, Drop, PartialEq, Eq)]
+#[derive(Drop)]
 pub enum LineSyn {
     Detector(Switch),
     Table(TableSyn),

@@ -1,5 +1,5 @@
 /// How many envelopes were sent on a link, and how many of them were received.
-#[derive(Clone, Copy, Debug, PartialEq, Eq)]
+#[derive(Clone, Copy)]
 pub struct LinkRecord {
     pub sent: u64,
     pub received: u64,

@@ -1,7 +1,7 @@
 use gx_ids::{Gxid, Seq};
 
 /// What came of a request for a lock.
-#[derive(Debug, Drop, PartialEq, Eq)]
+#[derive(Drop)]
 pub enum LockAnswer {
     Granted,
     /// The request stands as a wait for these transactions, rising.

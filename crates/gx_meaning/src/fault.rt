@@ -1,7 +1,7 @@
 use thiserror::Error;
 
 /// A fault of whole-number evaluation.
-#[derive(Clone, Copy, Debug, PartialEq, Eq, Error)]
+#[derive(Clone, Copy, Debug, Error)]
 pub enum ArithFault {
     #[error("overflow")]
     Overflow,

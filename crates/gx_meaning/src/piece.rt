@@ -2,7 +2,7 @@ use gx_ids::Node;
 use gx_tree::Slice;
 
 /// A command's slice for one segment.
-#[derive(Debug, Drop)]
+#[derive(Drop)]
 pub struct Piece {
     pub node: Node,
     pub slice: Slice,

@@ -3,7 +3,7 @@ ghost use Rattle.gx_modes.specs.Table.{number_of, conflict};
 ghost use Rattle.gx_modes.specs.declared.modes.Mode.{Mode};
 
 /// A lock's mode, from the weakest to the strongest (PostgreSQL manual, 13.3.1).
-#[derive(Clone, Copy, Debug, PartialEq, Eq, PartialOrd, Ord)]
+#[derive(Clone, Copy)]
 pub enum Mode {
     AccessShare,
     RowShare,

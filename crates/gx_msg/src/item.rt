@@ -7,7 +7,7 @@ use std::alloc::Global;
 use thiserror::Error;
 
 /// What a node writes into its journal before it answers.
-#[derive(Debug, Drop)]
+#[derive(Drop)]
 pub enum JournalItem {
     /// A segment promises to commit these rows.
     Prepare(Gxid, Seq<Kept>),
@@ -20,7 +20,7 @@ pub enum JournalItem {
 }
 
 /// The last that a transaction wrote of a row. An image of `None` is a row that is gone.
-#[derive(Debug, Drop)]
+#[derive(Drop)]
 pub struct Kept {
     pub rid: Rid,
     pub table: Table,
@@ -28,7 +28,7 @@ pub struct Kept {
 }
 
 /// Why bytes aren't read as a journal item.
-#[derive(Clone, Copy, Debug, PartialEq, Eq, Error)]
+#[derive(Clone, Copy, Debug, Error)]
 pub enum ItemFault {
     /// The place of the first byte with which no item's bytes go on, or the end where they would have to.
     #[error("not a journal item from byte {0}")]

@@ -6,7 +6,7 @@ use gx_waits::LocalGraph;
 use std::alloc::Global;
 
 /// What one node tells another. The coordinator sends the first seven, a segment the last two.
-#[derive(Debug, Drop)]
+#[derive(Drop)]
 pub enum Message {
     /// A command's part for a segment. Where there is a snapshot, the segment takes it for the block or the command.
     Exec {
@@ -34,14 +34,14 @@ pub enum Message {
 }
 
 /// A message and the node that it goes to.
-#[derive(Debug, Drop)]
+#[derive(Drop)]
 pub struct Out {
     pub node: Node,
     pub message: Message,
 }
 
 /// A message on its link, with its number there, from 1, and the sender's clock.
-#[derive(Debug, Drop)]
+#[derive(Drop)]
 pub struct Envelope {
     pub number: u64,
     pub clock: u64,

@@ -3,7 +3,7 @@ use gx_tree::Part;
 use std::alloc::Global;
 
 /// Why a segment can't do a command.
-#[derive(Clone, Copy, Debug, PartialEq, Eq)]
+#[derive(Clone, Copy, PartialEq, Eq)]
 pub enum Cause {
     /// The row was changed by a transaction that the command's snapshot doesn't see.
     Serialization(Rid, Gxid),
@@ -12,7 +12,7 @@ pub enum Cause {
 }
 
 /// What a segment answers.
-#[derive(Debug, Drop)]
+#[derive(Drop)]
 pub enum Reply {
     /// A command is done. `wrote` is true where its transaction has written at the segment, in this command or an
     /// earlier one. Only a SELECT has a part with something in it.

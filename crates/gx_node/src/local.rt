@@ -10,7 +10,7 @@ use gx_store::Mark;
 use gx_tree::{Level, Slice};
 
 /// Where a transaction stands at a segment.
-#[derive(Clone, Copy, Debug, PartialEq, Eq)]
+#[derive(Clone, Copy)]
 pub enum Phase {
     /// It has written nothing here.
     Reading,
@@ -26,7 +26,7 @@ pub enum Phase {
 }
 
 /// What was answered to PREPARE or COMMIT, once and for all.
-#[derive(Clone, Copy, Debug, PartialEq, Eq)]
+#[derive(Clone, Copy, PartialEq, Eq)]
 pub enum Vote {
     Prepared,
     Committed,
@@ -48,7 +48,7 @@ impl Vote {
 
 /// A command's slice, which has its table's lock or waits for it, or waits at a row: how many rows it has written, and the rows
 /// left behind that one. It has a snapshot unless it reads nothing.
-#[derive(Debug, Drop)]
+#[derive(Drop)]
 pub struct Suspended {
     pub cid: Cid,
     pub level: Level,
@@ -61,7 +61,7 @@ pub struct Suspended {
 
 /// A transaction at a segment: where it stands, its last command here, from 1, or 0 before the first, what was answered to that
 /// command and to PREPARE or COMMIT, and the slice that waits.
-#[derive(Debug, Drop)]
+#[derive(Drop)]
 pub struct Local {
     pub phase: Phase,
     pub last: u32,
@@ -94,7 +94,7 @@ impl Local {
 
 /// What an order came to: its mark, its answer, whether the journal failed to take an item, and whether the transaction gives its
 /// locks back, since it has ended here.
-#[derive(Debug, Drop)]
+#[derive(Drop)]
 pub struct Taken {
     pub mark: Option<Mark>,
     pub reply: Option<Reply>,

@@ -10,7 +10,7 @@ pub trait Gate {
 }
 
 /// A gate that lets everything pass at once.
-#[derive(Clone, Copy, Debug)]
+#[derive(Clone, Copy)]
 pub struct PassGate;
 
 impl Gate for PassGate {
@@ -18,7 +18,7 @@ impl Gate for PassGate {
 }
 
 /// That one slice at a node has entered the gate, seen as the node. Only `pass` makes it, and the slice takes it.
-#[derive(Debug, Drop)]
+#[derive(Drop)]
 pub struct Passed {
     node: Node,
 }

@@ -1,5 +1,5 @@
 /// Why an item wasn't added to a journal: the outside refused it, or memory ran out.
-#[derive(Clone, Copy, Debug, PartialEq, Eq)]
+#[derive(Clone, Copy)]
 pub enum AppendFault {
     Failed,
     OutOfMemory,

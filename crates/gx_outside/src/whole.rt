@@ -8,7 +8,7 @@ use crate::source::{Failed, Source};
 use std::alloc::{AllocError, Global};
 
 /// Why a whole read stopped: the source failed, or memory ran out.
-#[derive(Clone, Copy, Debug, PartialEq, Eq)]
+#[derive(Clone, Copy)]
 pub enum ReadFault {
     Failed,
     OutOfMemory,

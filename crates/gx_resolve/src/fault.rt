@@ -2,7 +2,7 @@ use gx_ids::OutOfMemory;
 use std::alloc::AllocFailed;
 
 /// What is wrong with the names or the kinds of a line.
-#[derive(Clone, Copy, Debug, PartialEq, Eq)]
+#[derive(Clone, Copy)]
 pub enum NameFault {
     Syntax,
     UnknownTable,
@@ -13,7 +13,7 @@ pub enum NameFault {
 }
 
 /// Why a line was not resolved.
-#[derive(Clone, Copy, Debug, PartialEq, Eq)]
+#[derive(Clone, Copy)]
 pub enum ResolveError {
     Fault(NameFault),
     OutOfMemory,

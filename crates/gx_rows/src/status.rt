@@ -1,5 +1,5 @@
 /// What became of a transaction at one segment.
-#[derive(Clone, Copy, Debug, PartialEq, Eq)]
+#[derive(Clone, Copy, PartialEq, Eq)]
 pub enum LocalStatus {
     Running,
     Prepared,

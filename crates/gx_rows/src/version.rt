@@ -2,7 +2,7 @@ use gx_ids::{Cid, Lxid, Table};
 use gx_tree::Row;
 
 /// What one write made of a row. An `image` of `None` is the row gone.
-#[derive(Debug, Drop)]
+#[derive(Drop)]
 pub struct Version {
     pub image: Option<Row>,
     pub table: Table,

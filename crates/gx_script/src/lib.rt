@@ -11,7 +11,7 @@ pub use line_step::{LineStep, Plain};
 pub use state::SessionState;
 
 /// A line of a session, with its number within the session, from 1.
-#[derive(Debug, Drop, PartialEq, Eq)]
+#[derive(Drop)]
 pub struct Line {
     pub session: SessionId,
     pub number: u32,
@@ -20,7 +20,7 @@ pub struct Line {
 
 /// A message that a link loses, or delivers twice where `repeat` holds. The link is the one from the coordinator to the
 /// segment, or the one back; messages are numbered from 1 in the order of sending.
-#[derive(Clone, Copy, Debug, PartialEq, Eq)]
+#[derive(Clone, Copy)]
 pub struct LinkFault {
     pub to_segment: bool,
     pub segment: Node,
@@ -29,7 +29,7 @@ pub struct LinkFault {
 }
 
 /// A script. Tables and sessions are named elsewhere by their places here, and the lines stand in the order of the file.
-#[derive(Debug, Drop, PartialEq, Eq)]
+#[derive(Drop)]
 pub struct Script {
     pub segments: u8,
     pub detector: bool,

@@ -1,7 +1,7 @@
 use gx_tree::Level;
 
 /// The answer of a line that changes nothing in the store.
-#[derive(Clone, Copy, Debug, PartialEq, Eq)]
+#[derive(Clone, Copy)]
 pub enum Plain {
     Begin,
     Commit,
@@ -9,7 +9,7 @@ pub enum Plain {
 }
 
 /// What a line asks for (PostgreSQL manual 13.2 on blocks and levels).
-#[derive(Clone, Copy, Debug, PartialEq, Eq)]
+#[derive(Clone, Copy)]
 pub enum LineStep {
     /// The line is answered at once.
     Answer(Plain),

@@ -5,7 +5,7 @@ use crate::line_step::{LineStep, Plain};
 use gx_tree::{Level, Stmt};
 
 /// Where a session stands between its lines.
-#[derive(Clone, Copy, Debug, PartialEq, Eq)]
+#[derive(Clone, Copy)]
 pub enum Block {
     Outside,
     Open(Level),
@@ -13,7 +13,7 @@ pub enum Block {
 }
 
 /// What a session waits for.
-#[derive(Clone, Copy, Debug, PartialEq, Eq)]
+#[derive(Clone, Copy)]
 pub enum Pending {
     /// Nothing: the session is idle.
     Nothing,
@@ -24,7 +24,7 @@ pub enum Pending {
 }
 
 /// A session, as the lines so far have left it.
-#[derive(Clone, Copy, Debug, PartialEq, Eq)]
+#[derive(Clone, Copy)]
 pub struct SessionState {
     pub block: Block,
     pub pending: Pending,

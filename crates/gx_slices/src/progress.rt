@@ -7,7 +7,7 @@ use gx_store::Mark;
 
 /// How far a command has come: its marks in order, and its answer, which is kept besides as the transaction's last; none where it
 /// waits.
-#[derive(Debug, Drop)]
+#[derive(Drop)]
 pub struct Progress {
     pub marks: Seq<Mark>,
     pub reply: Option<Reply>,

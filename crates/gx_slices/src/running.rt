@@ -30,7 +30,7 @@ use gx_tree::{Assign, Cond, KeyedRow, Level, Query, Schema, Slice};
 use std::alloc::Global;
 
 /// What a command did here: its marks in order, and its answer, which is kept besides as the transaction's last.
-#[derive(Debug, Drop)]
+#[derive(Drop)]
 pub struct Ran {
     pub marks: Seq<Mark>,
     pub reply: Reply,

@@ -9,7 +9,7 @@ use std::alloc::AllocFailed;
 
 /// The limits of a script: 16 segments, 64 sessions, 64 tables, 32 columns of a table, 100,000 lines, 63 bytes of a name,
 /// 1,000 bytes of a text, and of an expression 100 parentheses, NOTs and minus signs around a token and 1,000 operators.
-#[derive(Clone, Copy, Debug, PartialEq, Eq)]
+#[derive(Clone, Copy)]
 pub enum Limit {
     Segments,
     Sessions,
@@ -22,7 +22,7 @@ pub enum Limit {
 }
 
 /// What is wrong with a line.
-#[derive(Clone, Copy, Debug, PartialEq, Eq)]
+#[derive(Clone, Copy)]
 pub enum LineFault {
     Syntax,
     UnknownTable,
@@ -35,7 +35,7 @@ pub enum LineFault {
 
 /// Why bytes are no script: the first line that has a fault, counted from 1, or the place from 0 of the first byte of
 /// the first sequence that isn't UTF-8.
-#[derive(Clone, Copy, Debug, PartialEq, Eq)]
+#[derive(Clone, Copy)]
 pub enum Refusal {
     Syntax(u32),
     UnknownTable(u32),
@@ -49,7 +49,7 @@ pub enum Refusal {
 }
 
 /// Why a line adds nothing.
-#[derive(Clone, Copy, Debug, PartialEq, Eq)]
+#[derive(Clone, Copy)]
 pub enum LineError {
     Fault(LineFault),
     OutOfMemory,

@@ -2,7 +2,7 @@ use gx_ids::{Gxid, Node, Rid, Seq};
 use gx_tree::OutRow;
 
 /// The answer to a session's line. Rows of a statement are counted over all segments.
-#[derive(Debug, Drop)]
+#[derive(Drop)]
 pub enum StmtAnswer {
     Begin,
     Commit,
@@ -18,7 +18,7 @@ pub enum StmtAnswer {
 }
 
 /// Why a statement is refused.
-#[derive(Clone, Copy, Debug, PartialEq, Eq)]
+#[derive(Clone, Copy)]
 pub enum Refused {
     /// At repeatable read, the row was changed by a transaction that committed after the snapshot.
     Serialization(Rid, Gxid),

@@ -3,7 +3,7 @@ ghost use Rattle.std.specs.Prelude.{◌≡◌, ◌%◌, [], length, slice_get, I
 use gx_ids::{Gxid, Node, SessionId};
 
 /// What happens in one step, at one node.
-#[derive(Clone, Copy, Debug, PartialEq, Eq)]
+#[derive(Clone, Copy)]
 pub enum Event {
     /// The message of this number on the link between two nodes, one of them the coordinator, is delivered.
     Receive { from: Node, to: Node, number: u64 },

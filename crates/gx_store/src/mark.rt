@@ -7,7 +7,7 @@ use gx_tree::Row;
 use gx_waits::{LocalGraph, Object, Verdict};
 
 /// A thing that a step did. An image of `None` is a row that is gone.
-#[derive(Debug, Drop)]
+#[derive(Drop)]
 pub enum Mark {
     /// A session's transaction began.
     Start {

@@ -2,7 +2,7 @@ use gx_ids::{Gxid, Node, SessionId};
 use gx_msg::Envelope;
 
 /// What happens at one node. A segment takes deliveries and resumptions alone.
-#[derive(Debug, Drop)]
+#[derive(Drop)]
 pub enum NodeEvent {
     Deliver { from: Node, envelope: Envelope },
     Resume(Gxid),

@@ -6,7 +6,7 @@ use gx_ids::{Seq, Stamp};
 use std::alloc::Global;
 
 /// One event of one node, with what it did, in order.
-#[derive(Debug, Drop)]
+#[derive(Drop)]
 pub struct Step {
     pub stamp: Stamp,
     pub event: Event,
@@ -14,7 +14,7 @@ pub struct Step {
 }
 
 /// What was done, step by step.
-#[derive(Debug, Drop)]
+#[derive(Drop)]
 pub struct Run {
     pub steps: Seq<Step>,
 }

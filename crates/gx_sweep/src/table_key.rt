@@ -5,7 +5,7 @@ use gx_tree::Value;
 use std::hash::{Hash, Hasher};
 
 /// A value of the distribution column of a table.
-#[derive(Debug, Drop, PartialEq, Eq)]
+#[derive(Drop, PartialEq, Eq)]
 pub struct TableKey {
     pub table: Table,
     pub key: Value,

@@ -6,7 +6,7 @@ use std::alloc::Global;
 use std::marker::Model;
 
 /// A value of an answer. Counts and sums have 128 bits; `Null` is SUM, MIN or MAX over no rows.
-#[derive(Debug, Drop, PartialEq, Eq)]
+#[derive(Drop, PartialEq, Eq)]
 pub enum Cell {
     Int(i128),
     Text(Txt),
@@ -24,7 +24,7 @@ impl Duplicate for Cell {
 }
 
 /// A row of an answer. Contracts see it as the list of its cells, one for each item of the query.
-#[derive(Debug, Drop)]
+#[derive(Drop)]
 pub struct OutRow {
     cells: Vec<Cell>,
 }

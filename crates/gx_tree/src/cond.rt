@@ -2,7 +2,7 @@ use crate::expr::Expr;
 use gx_ids::{Boxed, Duplicate, Mem};
 use std::alloc::Global;
 
-#[derive(Clone, Copy, Debug, PartialEq, Eq)]
+#[derive(Clone, Copy)]
 pub enum CmpOp {
     Eq,
     Ne,
@@ -13,7 +13,7 @@ pub enum CmpOp {
 }
 
 /// A condition on a row. A comparison is between two expressions of one kind.
-#[derive(Debug, Drop, PartialEq, Eq)]
+#[derive(Drop)]
 pub enum Cond {
     Cmp(CmpOp, Expr, Expr),
     And(Boxed<Cond>, Boxed<Cond>),

@@ -2,7 +2,7 @@ use crate::value::Value;
 use gx_ids::{Boxed, Duplicate, Mem};
 use std::alloc::Global;
 
-#[derive(Clone, Copy, Debug, PartialEq, Eq)]
+#[derive(Clone, Copy)]
 pub enum ArithOp {
     Add,
     Sub,
@@ -12,7 +12,7 @@ pub enum ArithOp {
 }
 
 /// An expression whose value is a whole number or a text. A column is named by its place in the table.
-#[derive(Debug, Drop, PartialEq, Eq)]
+#[derive(Drop)]
 pub enum Expr {
     Lit(Value),
     Col(u8),

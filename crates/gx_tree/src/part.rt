@@ -4,14 +4,14 @@ use gx_ids::{Duplicate, Mem, Seq};
 use std::alloc::Global;
 
 /// The rows of one value of the GROUP BY columns, as their aggregates at one segment.
-#[derive(Debug, Drop)]
+#[derive(Drop)]
 pub struct Group {
     pub key: Row,
     pub cells: Seq<Cell>,
 }
 
 /// A segment's part of an answer: rows, or groups where the query groups.
-#[derive(Debug, Drop)]
+#[derive(Drop)]
 pub enum Part {
     Rows(Seq<KeyedRow>),
     Groups(Seq<Group>),

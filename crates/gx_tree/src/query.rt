@@ -3,7 +3,7 @@ use gx_ids::{Duplicate, Mem, Seq, Table};
 use std::alloc::Global;
 
 /// What a SELECT gives for a row or a group: a column, or an aggregate over one or over the rows.
-#[derive(Clone, Copy, Debug, PartialEq, Eq)]
+#[derive(Clone, Copy)]
 pub enum Item {
     Col(u8),
     Count,
@@ -13,14 +13,14 @@ pub enum Item {
 }
 
 /// A column of ORDER BY.
-#[derive(Clone, Copy, Debug, PartialEq, Eq)]
+#[derive(Clone, Copy)]
 pub struct Key {
     pub col: u8,
     pub desc: bool,
 }
 
 /// A SELECT. `grouped` is true where an aggregate or GROUP BY stands; `*` is kept as its columns.
-#[derive(Debug, Drop, PartialEq, Eq)]
+#[derive(Drop)]
 pub struct Query {
     pub table: Table,
     pub items: Seq<Item>,

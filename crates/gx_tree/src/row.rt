@@ -6,7 +6,7 @@ use std::alloc::Global;
 use std::marker::Model;
 
 /// A row of a table, which all who have a copy share. Contracts see it as the list of its values, one for each column in order.
-#[derive(Debug, Drop)]
+#[derive(Drop)]
 pub struct Row {
     values: Shared<Seq<Value>>,
 }
@@ -47,7 +47,7 @@ impl Duplicate for Row {
 }
 
 /// A row with its identity.
-#[derive(Debug, Drop)]
+#[derive(Drop)]
 pub struct KeyedRow {
     pub rid: Rid,
     pub row: Row,

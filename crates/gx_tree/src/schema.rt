@@ -3,13 +3,13 @@ use gx_ids::{Duplicate, Mem, Seq};
 use std::alloc::Global;
 
 /// What a column holds: `bigint` or `text`.
-#[derive(Clone, Copy, Debug, PartialEq, Eq)]
+#[derive(Clone, Copy)]
 pub enum Kind {
     Int,
     Text,
 }
 
-#[derive(Debug, Drop, PartialEq, Eq)]
+#[derive(Drop)]
 pub struct Column {
     pub name: Txt,
     pub kind: Kind,
@@ -17,14 +17,14 @@ pub struct Column {
 
 /// How a table's rows are distributed among the segments: by the value of a column, whose place is given, or by the
 /// row's identity.
-#[derive(Clone, Copy, Debug, PartialEq, Eq)]
+#[derive(Clone, Copy)]
 pub enum Dist {
     By(u8),
     Randomly,
 }
 
 /// A table, as its line of the script declares it.
-#[derive(Debug, Drop, PartialEq, Eq)]
+#[derive(Drop)]
 pub struct Schema {
     pub name: Txt,
     pub columns: Seq<Column>,

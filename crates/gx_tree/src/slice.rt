@@ -7,7 +7,7 @@ use gx_modes::Mode;
 use std::alloc::Global;
 
 /// A statement's part for one segment. INSERT has the rows that are placed there.
-#[derive(Debug, Drop)]
+#[derive(Drop)]
 pub enum Slice {
     Select(Shared<Query>),
     Insert(Table, Shared<Seq<KeyedRow>>),

@@ -6,21 +6,21 @@ use gx_modes::Mode;
 use std::alloc::Global;
 
 /// An isolation level (PostgreSQL manual 13.2).
-#[derive(Clone, Copy, Debug, PartialEq, Eq)]
+#[derive(Clone, Copy)]
 pub enum Level {
     ReadCommitted,
     RepeatableRead,
 }
 
 /// An assignment of UPDATE's SET list.
-#[derive(Debug, Drop, PartialEq, Eq)]
+#[derive(Drop)]
 pub struct Assign {
     pub col: u8,
     pub expr: Expr,
 }
 
 /// A statement of a session. INSERT has its tuples. A query, a SET list and a condition are shared with the slices that a command sends.
-#[derive(Debug, Drop, PartialEq, Eq)]
+#[derive(Drop)]
 pub enum Stmt {
     Begin(Level),
     Commit,

@@ -6,7 +6,7 @@ use std::cmp::Ordering;
 use std::marker::Model;
 
 /// A text, as its UTF-8 bytes. Contracts see it as the list of them, and its order is that of the bytes.
-#[derive(Debug, Drop)]
+#[derive(Drop)]
 pub struct Txt {
     bytes: Vec<u8>,
 }

@@ -7,7 +7,7 @@ use std::alloc::Global;
 use std::cmp::Ordering;
 
 /// A value of a column: a whole number or a text.
-#[derive(Debug, Drop, PartialEq, Eq, PartialOrd, Ord)]
+#[derive(Drop, PartialEq, Eq, PartialOrd, Ord)]
 pub enum Value {
     Int(i64),
     Text(Txt),

@@ -7,7 +7,7 @@ use gx_modes::{Mode, conflicts};
 use std::alloc::Global;
 
 /// A lock that a transaction holds or waits for at one node.
-#[derive(Clone, Copy, Debug, PartialEq, Eq)]
+#[derive(Clone, Copy)]
 pub struct Claim {
     pub gxid: Gxid,
     pub object: Object,

@@ -5,7 +5,7 @@ use std::alloc::Global;
 
 /// One transaction waits for another. A dotted edge is a wait for a tuple, which the holder may give back before it
 /// ends; the lock behind a solid edge goes only at the holder's end.
-#[derive(Clone, Copy, Debug, PartialEq, Eq, PartialOrd, Ord)]
+#[derive(Clone, Copy, PartialEq, Eq)]
 pub struct Edge {
     pub waiter: Gxid,
     pub holder: Gxid,

@@ -6,7 +6,7 @@ use gx_ids::{Duplicate, Gxid, Mem, Node, Seq};
 use std::alloc::Global;
 
 /// The edges at one node, in the order in which they were added.
-#[derive(Debug, PartialEq, Eq, Drop)]
+#[derive(Drop)]
 pub struct LocalGraph {
     pub node: Node,
     pub edges: Seq<Edge>,

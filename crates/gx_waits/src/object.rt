@@ -4,7 +4,7 @@ use gx_ids::{Duplicate, Gxid, Mem, Rid, Table};
 use std::alloc::Global;
 
 /// What a lock is taken on.
-#[derive(Clone, Copy, Debug, PartialEq, Eq, PartialOrd, Ord)]
+#[derive(Clone, Copy, PartialEq, Eq, PartialOrd, Ord)]
 pub enum Object {
     Relation(Table),
     Tuple(Rid),

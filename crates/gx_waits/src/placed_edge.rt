@@ -3,7 +3,7 @@ use gx_ids::{Duplicate, Mem, Node};
 use std::alloc::Global;
 
 /// An edge and the node where it stands.
-#[derive(Clone, Copy, Debug, PartialEq, Eq, PartialOrd, Ord)]
+#[derive(Clone, Copy)]
 pub struct PlacedEdge {
     pub node: Node,
     pub edge: Edge,

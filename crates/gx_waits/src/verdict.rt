@@ -2,7 +2,7 @@ use gx_ids::{Duplicate, Gxid, Mem, Seq};
 use std::alloc::Global;
 
 /// What a round of the detector decides.
-#[derive(Debug, PartialEq, Eq, Drop)]
+#[derive(Drop)]
 pub enum Verdict {
     /// No transaction is stuck.
     Nothing,

@@ -1,5 +1,5 @@
 /// What the command line asks for.
-#[derive(Clone, Copy, Debug, PartialEq, Eq)]
+#[derive(Clone, Copy)]
 pub struct Options {
     /// The seed of the driver; without one it takes the first event of the schedule.
     pub seed: Option<u64>,

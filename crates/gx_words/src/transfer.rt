@@ -6,7 +6,7 @@ use gx_ids::Mem;
 use std::alloc::Global;
 
 /// What a session moves, from which account to which.
-#[derive(Clone, Copy, Debug)]
+#[derive(Clone, Copy)]
 pub struct Transfer {
     pub session: u64,
     pub from: u64,

@@ -9,7 +9,7 @@ use gx_store::{Mark, Step};
 use std::alloc::Global;
 
 /// Where a message's sending stands in a run: the step, and the mark in it, from 0.
-#[derive(Clone, Copy, Debug, PartialEq, Eq)]
+#[derive(Clone, Copy)]
 pub struct Place {
     pub step: usize,
     pub mark: usize,

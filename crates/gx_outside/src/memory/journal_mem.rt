@@ -9,7 +9,7 @@ use std::alloc::Global;
 use std::marker::Model;
 
 /// A journal that keeps its items in memory.
-#[derive(Debug, Drop)]
+#[derive(Drop)]
 pub struct JournalMem {
     items: Vec<Seq<u8>>,
     fail: Vec<u64>,

@@ -11,7 +11,7 @@ use std::alloc::Global;
 use std::marker::Model;
 
 /// A sink that keeps the bytes in memory, all of which it takes when it is made.
-#[derive(Debug, Drop)]
+#[derive(Drop)]
 pub struct SinkMem {
     bytes: Vec<u8>,
     room: usize,

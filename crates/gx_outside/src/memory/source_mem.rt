@@ -9,7 +9,7 @@ use crate::source::{Failed, Source};
 use std::marker::Model;
 
 /// A source whose bytes stand in memory.
-#[derive(Debug, Drop)]
+#[derive(Drop)]
 pub struct SourceMem {
     bytes: Vec<u8>,
     at: usize,
