@@ -46,7 +46,11 @@ pub fn push_lock(
 fn compare_edges(left: &Edge, right: &Edge) -> Ordering
     ensures { result ≡ of.edge_order left.now right.now }
 {
-    left.cmp(right)
+    left.waiter.cmp(&right.waiter).then(
+        left.holder
+            .cmp(&right.holder)
+            .then(left.dotted.cmp(&right.dotted)),
+    )
 }
 
 /// The edges by waiter, then by holder, and solid before dotted.
