@@ -172,6 +172,9 @@ impl LockTable {
     fn drop_wait(&mut self, gxid: Gxid)
         ensures { self.new ≡ record self.old { waits = without gxid self.old.waits } }
     {
+        if self.waits.is_empty() {
+            return;
+        }
         if self.book.is_full(gxid) {
             return;
         }
