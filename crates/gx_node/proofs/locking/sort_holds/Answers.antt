@@ -8,7 +8,7 @@ use Rattle.gx_locks.specs.Holds.{claims_of}
 use Rattle.gx_locks.specs.declared.hold.Hold.{Hold}
 use Rattle.gx_rules.specs.Locks.{claim_order}
 use Rattle.gx_node.proofs.Claims.{claim_order-total}
-use Rattle.gx_node.proofs.locking.sorted_holds.Goals as goal
+use Rattle.gx_node.proofs.locking.sort_holds.Goals as goal
 
 pub returns : goal.returns
 returns c =
