@@ -5,7 +5,7 @@ ghost use Rattle.std.specs.List.{flat_map};
 ghost use Rattle.std.specs.Map.{lookup, remove_entry};
 ghost use Rattle.std.specs.BTreeMap.{IsUnchanged, IsOrdered, is_at, insert_entry};
 ghost use Rattle.gx_outside.specs.Shelves.{HasKept};
-ghost use Rattle.gx_dsnap.specs.Gxids.{gxid_cmp, after_ended, is_below, first_or, least_of, lesser};
+ghost use Rattle.gx_dsnap.specs.Gxids.{gxid_cmp, after_ended, is_below, first_or, least_of};
 ghost use Rattle.gx_dtx.specs.Table.{is_active, is_running, new_txn, holds_back, live_xmin};
 ghost use Rattle.gx_dtx.specs.Rules.{with_txn, commit_found, abort_found, reply_found, decides_found, is_refused};
 ghost use Rattle.gx_dtx.specs.Deciding.{HasDecided};
@@ -14,12 +14,11 @@ ghost use Rattle.gx_dtx.specs.Nodes.{with_node as all_with};
 
 use crate::changes;
 use crate::nodes::put_in;
-use crate::outcome::DtxOut;
 use crate::replies::take_answer;
 use crate::taken::Taken;
 use crate::txn::Txn;
-use gx_dsnap::{Snapshot, take};
-use gx_ids::{Gxid, Mem, Node};
+use gx_dsnap::Snapshot;
+use gx_ids::{Gxid, Mem, Node, Seq, Shared};
 use gx_msg::Reply;
 use gx_outside::Journal;
 use std::alloc::Global;
@@ -28,18 +27,18 @@ use std::collections::BTreeMap;
 // The transactions by gxid.
 pub(crate) type Map = BTreeMap<Gxid, Txn>;
 
-// The running gxids, in the order of the keys.
-fn running(alloc: Global, txns: &Map) -> Mem<Vec<Gxid>>
-    ensures whole { IfOk result (λ running. running.items ≡ map (λ e. e.0) (filter (λ e. is_running e.1.phase) txns.now.entries)) }
+// The running gxids below a limit, in the order of the keys.
+fn running_below(alloc: Global, txns: &Map, limit: Gxid) -> Mem<Vec<Gxid>>
+    ensures whole { IfOk result (λ below. below.items ≡ filter (is_below limit) (map (λ e. e.0) (filter (λ e. is_running e.1.phase) txns.now.entries))) }
     ensures ordered { IsOrdered gxid_cmp txns.now }
 {
-    let mut running = Vec::with_capacity(alloc, txns.len())?;
+    let mut below = Vec::with_capacity(alloc, txns.len())?;
     for (gxid, txn) in txns {
-        if txn.phase.is_running() {
-            running.push(*gxid)?;
+        if txn.phase.is_running() && *gxid < limit {
+            below.push(*gxid)?;
         }
     }
-    Ok(running)
+    Ok(below)
 }
 
 // The active gxids, in the order of the keys.
@@ -62,8 +61,15 @@ pub(crate) fn snapshot_of(alloc: Global, txns: &Map, latest_ended: Option<Gxid>)
     ensures running { IfOk result (λ snap. snap.running ≡ filter (is_below snap.xmax) (map (λ e. e.0) (filter (λ e. is_running e.1.phase) txns.now.entries))) }
     ensures xmin { IfOk result (λ snap. snap.xmin ≡ first_or snap.running snap.xmax) }
 {
-    let running = running(alloc, txns)?;
-    take(alloc, running.as_slice(), latest_ended)
+    let xmax = latest_ended.map_or(Gxid(1), |gxid| Gxid(gxid.0 + 1));
+    let below = running_below(alloc, txns, xmax)?;
+    let xmin = below.first().copied().unwrap_or(xmax);
+    let running = Shared::new(alloc, Seq::from_vec(below))?;
+    Ok(Snapshot {
+        xmin,
+        xmax,
+        running,
+    })
 }
 
 // Sets the xmin of a transaction's live snapshot.
@@ -138,16 +144,13 @@ pub(crate) fn reply<J: Journal>(
     }
 }
 
-// Takes a transaction out that leaves the table.
-pub(crate) fn settle(txns: &mut Map, gxid: Gxid, taken: Taken) -> DtxOut
-    ensures txns { txns.new.entries ≡ (if taken.leaves then remove_entry (is_at (gxid_cmp gxid)) txns.old.entries else txns.old.entries) }
-    ensures out { result ≡ taken.out }
+// Takes a transaction out if it leaves the table.
+pub(crate) fn settle(txns: &mut Map, gxid: Gxid, leaves: bool)
+    ensures { txns.new.entries ≡ (if leaves then remove_entry (is_at (gxid_cmp gxid)) txns.old.entries else txns.old.entries) }
 {
-    let Taken { leaves, out } = taken;
     if leaves {
         drop(txns.remove(&gxid));
     }
-    out
 }
 
 // The least gxid that some transaction holds the horizon at, or another that is less.

@@ -106,7 +106,8 @@ impl Txns {
         ensures err { OnErr result (self.new ≡ self.old) }
     {
         let taken = map::commit(self.alloc, &mut self.map, gxid, writers)?;
-        Ok(map::settle(&mut self.map, gxid, taken))
+        map::settle(&mut self.map, gxid, taken.leaves);
+        Ok(taken.out)
     }
 
     /// Aborts a transaction.
@@ -116,7 +117,8 @@ impl Txns {
         ensures err { OnErr result (self.new ≡ self.old) }
     {
         let taken = map::abort(self.alloc, &mut self.map, gxid)?;
-        Ok(map::settle(&mut self.map, gxid, taken))
+        map::settle(&mut self.map, gxid, taken.leaves);
+        Ok(taken.out)
     }
 
     /// Takes a node's answer about a transaction.
@@ -135,7 +137,8 @@ impl Txns {
         ensures kept { OnErr result (HasKept (J.shelf journal.old) (J.shelf journal.new)) }
     {
         let taken = map::reply(self.alloc, &mut self.map, gxid, node, answer, journal)?;
-        Ok(map::settle(&mut self.map, gxid, taken))
+        map::settle(&mut self.map, gxid, taken.leaves);
+        Ok(taken.out)
     }
 
     /// The least gxid that some transaction holds the horizon at, or the next gxid.

@@ -11,5 +11,5 @@ use Rattle.gx_dtx.proofs.txns.Txns.abort.Goals as goal
 pub returns-clause-txns : goal.returns-clause-txns
 returns-clause-txns c =
     let es = c.self.inside.map.entries in
-    with_step-settled es c.args.gxid (abort_found c.args.gxid (lookup (is_at (gxid_cmp c.args.gxid)) es)) c.abort.new.txns.entries c.settle.new.txns.entries c.in_ok-taken.taken c.in_ok-taken.ensures.value c.settle.ensures.txns
+    with_step-settled es c.args.gxid (abort_found c.args.gxid (lookup (is_at (gxid_cmp c.args.gxid)) es)) c.abort.new.txns.entries c.settle.new.txns.entries c.in_ok-taken.taken c.in_ok-taken.ensures.value c.settle.ensures
     ∙ ap (λ (es : List (Gxid × Txn)). with_step es c.args.gxid (abort_found c.args.gxid (lookup (is_at (gxid_cmp c.args.gxid)) es)).step) c.self.view_is
