@@ -154,11 +154,7 @@ fn append_decide<J: Journal>(alloc: Global, gxid: Gxid, journal: &mut J) -> Resu
     ensures { IsAppended (J.shelf journal.old) (J.shelf journal.new) (bytes_of_item (item.Decide gxid)) result }
 {
     match decide_item(alloc, gxid) {
-        Ok(item) => {
-            let appended = journal.append(item.as_slice());
-            drop(item);
-            appended
-        }
+        Ok(item) => journal.append(item),
         Err(OutOfMemory) => Err(AppendFault::OutOfMemory),
     }
 }
