@@ -3,6 +3,7 @@
 
 pub mod byte;
 pub mod cut;
+mod shape;
 pub mod symbol;
 pub mod token;
 pub mod word;
