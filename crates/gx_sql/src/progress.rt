@@ -1,6 +1,7 @@
 // What the lines of a script have said so far.
 ghost use Rattle.std.specs.Prelude.{◌≡◌, ◌++◌, ◌∷◌, [], ◌-◌, IfErr, ◌≤◌, ◌<◌, ◌+◌, ◌^◌, ◌&&◌, not, nat_le, false, length, vec_len, OnOk, IfOk, List, Option, Some, None};
 ghost use Rattle.std.specs.Option.{option_and_then, option_map, ForSome};
+ghost use Rattle.indexmap.specs.IndexMap.{set_value_at};
 ghost use Rattle.gx_resolve.specs.Resolving.{table_after, table_named, table_from, stmt_of};
 ghost use Rattle.gx_sql.specs.Counts.{is_session};
 ghost use Rattle.gx_sql.specs.Held.{named, schemas, progress_of, AreTables, AreCounts, IsHeld, HasRoom, Ends, Gives};
@@ -147,6 +148,49 @@ fn push_table(
     insert_table(alloc, tables, schema)
 }
 
+/// Sets how many lines the session at a place has.
+fn set_count(sessions: &mut IndexMap<Vec<u8>, u32>, place: usize, count: u32)
+    requires { place < length sessions.old.entries }
+    ensures { sessions.new.entries ≡ set_value_at sessions.old.entries place count }
+{
+    sessions[place] = count;
+}
+
+/// Adds a session, or sets how many lines the one of this name has.
+fn insert_count(
+    alloc: Global,
+    sessions: &mut IndexMap<Vec<u8>, u32>,
+    name: &[u8],
+    count: u32,
+) -> Result<(), LineError>
+    ensures never { IfErr result (λ e. e ≡ error.OutOfMemory) }
+    ensures counted { OnOk result (named sessions.new.entries ≡ said.counted name.now count (named sessions.old.entries)) }
+{
+    let key = key_of(alloc, name)?;
+    sessions.insert(key, count)?;
+    Ok(())
+}
+
+/// Notes how many lines the session of this name has, which stands at this place or is new.
+fn note_count(
+    alloc: Global,
+    sessions: &mut IndexMap<Vec<u8>, u32>,
+    name: &[u8],
+    place: usize,
+    count: u32,
+) -> Result<(), LineError>
+    requires { place ≡ said.place_of name.now (named sessions.old.entries) }
+    ensures never { IfErr result (λ e. e ≡ error.OutOfMemory) }
+    ensures counted { OnOk result (named sessions.new.entries ≡ said.counted name.now count (named sessions.old.entries)) }
+{
+    if place < sessions.len() {
+        set_count(sessions, place, count);
+        Ok(())
+    } else {
+        insert_count(alloc, sessions, name, count)
+    }
+}
+
 /// Adds a line of a session.
 fn push_line(
     alloc: Global,
@@ -169,8 +213,7 @@ fn push_line(
     let (place, count) = find_session(sessions, name);
     let session = SessionId(place as u8);
     let number = count + 1;
-    let key = key_of(alloc, name)?;
-    sessions.insert(key, number)?;
+    note_count(alloc, sessions, name, place, number)?;
     lines.push(Line {
         session,
         number,
