@@ -262,15 +262,15 @@ impl Progress {
         Ok(())
     }
 
-    fn add_table(&mut self, alloc: Global, table: TableSyn) -> Result<(), LineError>
+    fn add_table(&mut self, alloc: Global, table: &TableSyn) -> Result<(), LineError>
         requires held { IsHeld self.old }
         requires few { length self.old.tables.entries < 64 }
-        requires bounded { length table.columns ≤ 32 }
-        ensures said { Ends result (progress_of self.new) (said.with_table (progress_of self.old) table) }
+        requires bounded { length table.now.columns ≤ 32 }
+        ensures said { Ends result (progress_of self.new) (said.with_table (progress_of self.old) table.now) }
         ensures held { OnOk result (IsHeld self.new) }
         ensures lines { vec_len self.new.lines ≤ vec_len self.old.lines + 1 }
     {
-        push_table(alloc, &mut self.tables, &table)
+        push_table(alloc, &mut self.tables, table)
     }
 
     fn add_line(&mut self, alloc: Global, name: &[u8], stmt: &StmtSyn) -> Result<(), LineError>
@@ -288,19 +288,19 @@ impl Progress {
     }
 
     /// Adds what a line says for which there is room.
-    pub fn add(&mut self, alloc: Global, line: LineSyn) -> Result<(), LineError>
+    pub fn add(&mut self, alloc: Global, line: &LineSyn) -> Result<(), LineError>
         requires held { IsHeld self.old }
-        requires room { HasRoom (length self.old.tables.entries) (named self.old.sessions.entries) line }
+        requires room { HasRoom (length self.old.tables.entries) (named self.old.sessions.entries) line.now }
         requires short { vec_len self.old.lines < 2 ^ 32 - 1 }
-        ensures said { Ends result (progress_of self.new) (said.with_line_syn (progress_of self.old) line) }
+        ensures said { Ends result (progress_of self.new) (said.with_line_syn (progress_of self.old) line.now) }
         ensures held { OnOk result (IsHeld self.new) }
         ensures lines { vec_len self.new.lines ≤ vec_len self.old.lines + 1 }
     {
         match line {
-            LineSyn::Detector(switch) => self.add_detector(switch),
+            LineSyn::Detector(switch) => self.add_detector(*switch),
             LineSyn::Table(table) => self.add_table(alloc, table),
-            LineSyn::Link(link) => self.add_link(link),
-            LineSyn::Session(name, stmt) => self.add_line(alloc, name.as_slice(), &stmt),
+            LineSyn::Link(link) => self.add_link(*link),
+            LineSyn::Session(name, stmt) => self.add_line(alloc, name.as_slice(), stmt),
         }
     }
 }

@@ -95,7 +95,7 @@ impl Progress {
         ensures lines { vec_len self.new.lines ≤ vec_len self.old.lines + 1 }
     {
         match read_head_line(alloc, segments, limits(), tokens) {
-            Ok(line) => self.add(alloc, line),
+            Ok(line) => self.add(alloc, &line),
             Err(error) => Err(LineError::from(error)),
         }
     }
@@ -125,7 +125,7 @@ impl Progress {
         ensures lines { vec_len self.new.lines ≤ vec_len self.old.lines + 1 }
     {
         match read_session_line(alloc, limits(), tokens) {
-            Ok(line) => self.add(alloc, line),
+            Ok(line) => self.add(alloc, &line),
             Err(error) => Err(LineError::from(error)),
         }
     }
