@@ -1,5 +1,5 @@
 // Cuts a line into tokens, one after the other.
-ghost use Rattle.std.specs.Prelude.{◌≡◌, ◌≤◌, ◌-◌, List, ◌∷◌, [], ◌++◌, true, false, drop, length, IfOk, MatchOption, Some};
+ghost use Rattle.std.specs.Prelude.{◌≡◌, ◌≤◌, ◌-◌, List, ◌∷◌, [], ◌++◌, true, false, drop, length, IfOk, OnOk, MatchOption, Some};
 ghost use Rattle.std.specs.List.{list_any, prefix_len};
 ghost use Rattle.gx_lex.specs.Lexing as of;
 ghost use Rattle.gx_lex.specs.Reader as reader;
@@ -189,30 +189,32 @@ fn token<'a>(
     }
 }
 
-fn cut<'a>(alloc: Global, line: &'a [u8]) -> Mem<Vec<Token<'a>>>
-    ensures { IfOk result (λ tokens. tokens.items ≡ reader.lex line.now) }
+/// Cuts the bytes into tokens, which take the place of those that the list had.
+fn cut<'a>(alloc: Global, line: &'a [u8], tokens: &mut Vec<Token<'a>>) -> Mem<()>
+    ensures { OnOk result (tokens.new.items ≡ reader.lex line.now) }
 {
-    let mut out = Vec::with_capacity(alloc, 32)?;
+    tokens.clear();
     let mut rest = line;
     while let Some((byte, behind)) = rest.split_first() {
         if is_blank(*byte) {
             rest = behind;
         } else {
             let (token, others) = token(alloc, rest, *byte, behind)?;
-            out.push(token)?;
+            tokens.push(token)?;
             rest = others;
         }
     }
-    Ok(out)
+    Ok(())
 }
 
-/// The tokens of a line's bytes, which are those without its line feed and a carriage return before it. Each token is
-/// the longest that can stand at its place, and tokens need no blank between them where they can be told apart.
-pub fn cut_line<'a>(alloc: Global, line: &'a [u8]) -> Mem<Vec<Token<'a>>>
+/// Gives the tokens of a line's bytes, which are those without its line feed and a carriage return before it, in a list whose
+/// room serves one line after the other. Each token is the longest that can stand at its place, and tokens need no blank
+/// between them where they can be told apart.
+pub fn cut_line<'a>(alloc: Global, line: &'a [u8], tokens: &mut Vec<Token<'a>>) -> Mem<()>
     // The line is written as the tokens say.
-    ensures cut { IfOk result (λ tokens. of.Lexes tokens.items line.now) }
+    ensures cut { OnOk result (of.Lexes tokens.new.items line.now) }
     // No other tokens write the line.
-    ensures only { (ts : List Token) → of.Lexes ts line.now → IfOk result (λ tokens. tokens.items ≡ ts) }
+    ensures only { (ts : List Token) → of.Lexes ts line.now → OnOk result (tokens.new.items ≡ ts) }
 {
-    cut(alloc, line)
+    cut(alloc, line, tokens)
 }
