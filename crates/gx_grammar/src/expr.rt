@@ -518,7 +518,7 @@ fn finish(alloc: Global, frames: &mut Vec<Frame>, wait: Wait) -> Mem<Turn>
 }
 
 /// Reads the expression that stands first step by step, and hands back the tokens behind it.
-fn expr_by_steps<'a, 't>(
+pub fn expr_by_steps<'a, 't>(
     alloc: Global,
     limits: Limits,
     tokens: &'a [Token<'t>],
@@ -555,7 +555,7 @@ fn begins_with_operator(tokens: &[Token]) -> bool
 
 /// The number that stands first, where it is the whole expression, and the tokens behind it.
 #[tactic(auto, using(crate::proofs::Alone::number_alone))]
-fn lone_number<'a, 't>(tokens: &'a [Token<'t>]) -> Option<(Syn, &'a [Token<'t>])>
+pub fn lone_number<'a, 't>(tokens: &'a [Token<'t>]) -> Option<(Syn, &'a [Token<'t>])>
     ensures { IfSome result (λ r. (limits : Limits) → machine.expr_at limits tokens.now ≡ Ok (r.0, r.1.now)) }
 {
     match tokens.split_first() {

@@ -7,7 +7,7 @@ ghost use Rattle.gx_grammar.specs.declared.fault.Limits.{Limits};
 ghost use Rattle.gx_lex.specs.declared.token.Token.{Token};
 
 use crate::class::read_one;
-use crate::expr::expr;
+use crate::expr::{expr_by_steps, lone_number};
 use crate::fault::{Limits, ReadError};
 use crate::rest::Rest;
 use crate::signs::{begins_with_sign, read_sign};
@@ -103,6 +103,10 @@ impl Part for Syn {
         limits: Limits,
         tokens: &'a [Token<'t>],
     ) -> Result<(Syn, &'a [Token<'t>]), ReadError> {
-        expr(alloc, limits, tokens)
+        // Most values are numbers, so they are looked at here, and the steps stand apart.
+        match lone_number(tokens) {
+            Some(read) => Ok(read),
+            None => expr_by_steps(alloc, limits, tokens),
+        }
     }
 }
