@@ -14,6 +14,7 @@ use gx_grammar::{
     Limits, Part, ReadError, begins_with_word, is_word, read_first_expr, read_list, read_name,
     read_one, read_sign, read_word,
 };
+use gx_ids::Boxed;
 use gx_lex::{Symbol, Token, Word};
 use gx_modes::Mode;
 use gx_tree::{Level, Txt};
@@ -90,7 +91,7 @@ fn selection<'a, 't>(
     ensures { Gives (λ r. (r.0, r.1.now)) result (made_at stmt_syn.Select (queries.select_at limits) tokens.now) }
 {
     let (select, rest) = select(alloc, limits, tokens)?;
-    Ok((StmtSyn::Select(select), rest))
+    Ok((StmtSyn::Select(Boxed::new(alloc, select)?), rest))
 }
 
 impl Part for TupleSyn {

@@ -1,6 +1,6 @@
 use crate::classes::{Agg, Direction, Fate, KindSyn, Size, Switch, Way};
 use gx_grammar::Syn;
-use gx_ids::Seq;
+use gx_ids::{Boxed, Seq};
 use gx_lex::Name;
 use gx_modes::Mode;
 use gx_tree::{Level, Txt};
@@ -55,7 +55,7 @@ pub enum StmtSyn<'t> {
     Begin(Level),
     Commit,
     Rollback,
-    Select(SelectSyn<'t>),
+    Select(Boxed<SelectSyn<'t>>),
     Insert(Name<'t>, Seq<TupleSyn>),
     Update(Name<'t>, Seq<AssignSyn>, Option<Syn>),
     Delete(Name<'t>, Option<Syn>),

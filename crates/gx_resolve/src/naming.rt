@@ -196,7 +196,7 @@ pub fn check_names(columns: &[Column], stmt: &StmtSyn) -> Result<(), NameFault>
     ensures { result ≡ of.names_right columns.now [] (of.names_of stmt.now) }
 {
     match stmt {
-        StmtSyn::Select(select) => known(knows_select(columns, select)),
+        StmtSyn::Select(select) => known(knows_select(columns, select.get())),
         StmtSyn::Insert(_, tuples) => known(knows_tuples(columns, tuples.as_slice())),
         StmtSyn::Update(_, assigns, cond) => check_update(columns, assigns.as_slice(), cond),
         StmtSyn::Delete(_, cond) => known(knows_condition(columns, cond)),

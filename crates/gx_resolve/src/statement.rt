@@ -22,7 +22,7 @@ pub fn named_table<'s, 'a>(stmt: &'s StmtSyn<'a>) -> Option<&'s Name<'a>>
     ensures { option_copied result ≡ of.table_named stmt.now }
 {
     match stmt {
-        StmtSyn::Select(select) => Some(&select.table),
+        StmtSyn::Select(select) => Some(&select.get().table),
         StmtSyn::Insert(table, _) => Some(table),
         StmtSyn::Update(table, _, _) => Some(table),
         StmtSyn::Delete(table, _) => Some(table),
@@ -63,7 +63,7 @@ fn kinded(
         StmtSyn::Commit => Ok(Stmt::Commit),
         StmtSyn::Rollback => Ok(Stmt::Rollback),
         StmtSyn::Select(select) => {
-            let query = query_as(alloc, table, columns, select)?;
+            let query = query_as(alloc, table, columns, select.get())?;
             Ok(Stmt::Select(Shared::new(alloc, query)?))
         }
         StmtSyn::Insert(_, tuples) => {
