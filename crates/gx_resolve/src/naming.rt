@@ -101,10 +101,20 @@ fn knows_select(columns: &[Column], select: &SelectSyn) -> bool
         && knows_order(columns, &select.order)
 }
 
+// A number has no names, and most values are numbers.
+fn knows_value(columns: &[Column], value: &Syn) -> bool
+    ensures { result ≡ list_all (of.is_column columns.now) (of.names_in value.now) }
+{
+    match value {
+        Syn::Number(_, _) => true,
+        _ => knows(columns, value),
+    }
+}
+
 fn knows_values(columns: &[Column], values: &[Syn]) -> bool
     ensures { result ≡ list_all (λ value. list_all (of.is_column columns.now) (of.names_in value)) values.now }
 {
-    values.iter().all(|value| knows(columns, value))
+    values.iter().all(|value| knows_value(columns, value))
 }
 
 #[tactic(auto, using(crate::proofs::Names::lists))]
