@@ -1,3 +1,4 @@
+pub mod Rising
 pub mod Adding
 pub mod Agreeing
 pub mod Deliveries

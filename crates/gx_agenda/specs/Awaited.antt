@@ -22,10 +22,11 @@ use Rattle.gx_agenda.specs.declared.expected.Expected.{Expected}
 use Rattle.gx_agenda.specs.declared.request.Request.{Request}
 use Rattle.gx_agenda.specs.Expected.{expected_of, is_command}
 use Rattle.gx_agenda.specs.Requests.{request_cmp}
+use Rattle.gx_agenda.specs.VecMap.{at}
 
 -- the answer that is awaited of a request, whether it may be asked for again or not
 abbrev pub awaited_at : Asked → Request → Option Expected
-awaited_at asked r = option_or (get request_cmp asked.due r) (get request_cmp asked.withheld r)
+awaited_at asked r = option_or (at request_cmp asked.due r) (at request_cmp asked.withheld r)
 
 -- the answer of a segment for a transaction that is awaited
 abbrev pub expected_at : Asked → Node → Gxid → Option Expected
@@ -44,7 +45,7 @@ due_of None waits = None
 due_of (Some expected) waits = if is_command expected && not (length waits == 0) then None else Some expected
 
 abbrev pub due_at : Asked → Node → Gxid → Option Expected
-due_at asked segment g = get request_cmp asked.due (record { segment = segment; gxid = g })
+due_at asked segment g = at request_cmp asked.due (record { segment = segment; gxid = g })
 
 -- each segment's answer for each transaction is awaited as the steps say
 abbrev pub AreAwaited : List Step → Asked → Type 0
@@ -56,7 +57,7 @@ AreWaits standing asked = (node : Node) (g : Gxid) → waits_for asked node g �
 
 -- what may be asked for again is found
 abbrev pub IsIndexed : Asked → Type 0
-IsIndexed asked = (r : Request) → get request_cmp asked.due r ≡ due_of (awaited_at asked r) (waits_in asked.waiting r)
+IsIndexed asked = (r : Request) → at request_cmp asked.due r ≡ due_of (awaited_at asked r) (waits_in asked.waiting r)
 
 -- all of it is as the steps say
 pub record AreAsked (steps : List Step) (asked : Asked) : Type 0 where

@@ -1,3 +1,4 @@
+pub mod VecMap
 pub mod Links
 pub mod Faults
 pub mod Agrees

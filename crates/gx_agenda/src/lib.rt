@@ -14,6 +14,7 @@ mod repeating;
 pub mod request;
 mod resends;
 pub mod standing;
+pub mod vec_map;
 mod waits;
 
 pub use asked::Asked;
@@ -25,3 +26,4 @@ pub use link::LinkMessage;
 pub use queue::Queue;
 pub use request::Request;
 pub use standing::{Move, Standing};
+pub use vec_map::VecMap;

@@ -1,6 +1,6 @@
 // The waits at each node, mark by mark.
 ghost use Rattle.std.specs.Prelude.{◌≡◌, ◌∷◌, [], List, OnOk, IfOk, if◌then◌else◌, unwrap_or};
-ghost use Rattle.std.specs.BTreeMap.{get, is_at};
+ghost use Rattle.std.specs.BTreeMap.{is_at};
 ghost use Rattle.std.specs.List.{list_any};
 ghost use Rattle.gx_ids.specs.declared.ids.Node.{Node as OneNode};
 ghost use Rattle.gx_store.specs.Waits.{added, waits_from, without};
@@ -9,6 +9,7 @@ ghost use Rattle.gx_waits.specs.declared.claim.Claim.{Claim as OneClaim};
 ghost use Rattle.gx_agenda.specs.declared.request.Request.{Request as OneRequest};
 ghost use Rattle.gx_agenda.specs.Awaited.{AreWaits, IsIndexed, awaited_at, due_of, waits_in};
 ghost use Rattle.gx_agenda.specs.Requests.{request_cmp};
+ghost use Rattle.gx_agenda.specs.VecMap.{at};
 
 use crate::asked::Asked;
 use crate::request::Request;
@@ -109,8 +110,8 @@ impl Asked {
     fn put(&mut self, request: Request, claims: Seq<Claim>) -> Mem<()>
         ensures awaited { OnOk result ((r : OneRequest) → awaited_at self.new r ≡ awaited_at self.old r) }
         ensures waits { OnOk result ((r : OneRequest) → waits_in self.new.waiting r ≡ (if is_at (request_cmp request) r then claims else waits_in self.old.waiting r)) }
-        ensures due { OnOk result ((r : OneRequest) → get request_cmp self.new.due r
-            ≡ (if is_at (request_cmp request) r then due_of (awaited_at self.old request) claims else get request_cmp self.old.due r)) }
+        ensures due { OnOk result ((r : OneRequest) → at request_cmp self.new.due r
+            ≡ (if is_at (request_cmp request) r then due_of (awaited_at self.old request) claims else at request_cmp self.old.due r)) }
     {
         self.fill(request, claims)?;
         self.settle(request)
