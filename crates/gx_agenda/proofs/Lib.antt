@@ -21,3 +21,4 @@ pub mod NextLines
 pub mod Again
 pub mod Oks
 pub mod Parted
+pub mod Quieter

@@ -95,7 +95,7 @@ module _ (q : Request) (there : List Claim) (o0 o1 : Request → Option (List Cl
       (sym (ap (λ o. due_of o (w q)) (same q) ∙ ap (due_of (p q)) (set-here q w there (λ r. unwrap_or (o1 r) []) put)))
 
 -- where nobody waits, no wait ends
-no-waits : (q : Request) (es : List (Request × List Claim)) → length es ≡ 0 → unwrap_or (lookup (is_at (request_cmp q)) es) [] ≡ []
+pub no-waits : (q : Request) (es : List (Request × List Claim)) → length es ≡ 0 → unwrap_or (lookup (is_at (request_cmp q)) es) [] ≡ []
 no-waits q [] none = refl
 no-waits q (e ∷ es) none = absurd (omega (arith, none))
 

@@ -10,9 +10,11 @@ use Rattle.gx_script.specs.declared.Script.{Script}
 use Rattle.gx_store.specs.declared.event.Event.{Event}
 use Rattle.gx_store.specs.declared.event.Event.TheVariants.{Receive}
 use Rattle.gx_store.specs.declared.run.Step.{Step}
+use Rattle.gx_store.specs.Journals.{is_same_node}
 use Rattle.gx_store.specs.Marks.{is_same_gxid}
 use Rattle.gx_store.specs.Ordered.{IsSegment}
 use Rattle.gx_store.specs.Points.{marks_in}
+use Rattle.gx_store.specs.Refusals.{the_coordinator}
 use Rattle.gx_store.specs.Schedule as schedule
 use Rattle.gx_store.specs.Schedule.{gxids_of, is_about, is_graph_awaited, is_quiet, sent_message}
 use Rattle.gx_store.specs.Waits.{waits_at}
@@ -69,6 +71,10 @@ pub record AreAsked (steps : List Step) (asked : Asked) : Type 0 where
 abbrev pub told_in : List Step → Event → Option Message
 told_in steps (Receive from to number) = sent_message from to number steps
 told_in steps _ = None
+
+-- what a step of the coordinator was told
+abbrev pub IsTold : List Step → Step → Option Message → Type 0
+IsTold steps step told = is_same_node step.stamp.node the_coordinator ≡ true → told ≡ told_in steps step.event
 
 -- nothing is left on a segment's links, and what is asked of it is asked of transactions that have begun
 pub record IsResendable (script : Script) (steps : List Step) (segment : Node) : Type 0 where

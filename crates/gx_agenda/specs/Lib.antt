@@ -11,3 +11,4 @@ pub mod Requests
 pub mod Expected
 pub mod Awaited
 pub mod Following
+pub mod Quiet

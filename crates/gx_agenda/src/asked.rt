@@ -1,4 +1,4 @@
-ghost use Rattle.std.specs.Prelude.{◌≡◌, ◌++◌, ◌∷◌, [], ℕ, List, Option, Some, None, if◌then◌else◌, ◌&&◌, OnOk, IfSome, IfNone, IsSome, map, option_map, ◌<◌, ◌==◌, not, length};
+ghost use Rattle.std.specs.Prelude.{◌≡◌, ◌++◌, ◌∷◌, [], ℕ, List, Option, Some, None, false, if◌then◌else◌, ◌&&◌, OnOk, IfSome, IfNone, IsSome, map, option_map, ◌<◌, ◌==◌, not, length};
 ghost use Rattle.std.specs.Option.{option_copied, option_to_list};
 ghost use Rattle.std.specs.BTreeMap.{is_at};
 ghost use Rattle.std.specs.List.{filter, flat_map};
@@ -9,9 +9,10 @@ ghost use Rattle.gx_script.specs.declared.Script.{Script};
 ghost use Rattle.gx_store.specs.declared.run.Step.{Step};
 ghost use Rattle.gx_store.specs.Journals.{is_same_node};
 ghost use Rattle.gx_store.specs.Marks.{is_same_gxid};
-ghost use Rattle.gx_store.specs.Schedule.{asked_by, first_of, is_about, is_graph_awaited, resends, segments_of, unless_answered};
+ghost use Rattle.gx_store.specs.Points.{marks_in};
+ghost use Rattle.gx_store.specs.Schedule.{asked_by, first_of, is_about, is_graph_awaited, resends, resumptions, segments_of, unless_answered};
 ghost use Rattle.gx_agenda.specs.declared.request.Request.{Request as OneRequest};
-ghost use Rattle.gx_agenda.specs.Awaited.{AreAsked, AreAwaited, AreResendable, IsFirstGraph, IsIndexed, IsResendable, awaited_at, due_of, expected_at, told_in, waits_in};
+ghost use Rattle.gx_agenda.specs.Awaited.{AreAsked, AreAwaited, AreResendable, IsFirstGraph, IsIndexed, IsResendable, IsTold, awaited_at, due_of, expected_at, told_in, waits_in};
 ghost use Rattle.gx_agenda.specs.Expected.{expected_of, unless_met};
 ghost use Rattle.gx_agenda.specs.Following.{Follows, FollowsOrders, IsOrderOf, unless_told};
 ghost use Rattle.gx_agenda.specs.Requests.{request_cmp};
@@ -53,10 +54,10 @@ impl Asked {
         }
     }
 
-    /// A step of the run was done. `told` is the message that its event received, if it received one. Where memory runs out,
-    /// what is awaited is no longer known.
+    /// A step of the run was done. If it is the coordinator's, `told` is the message that its event received, if it received one. Where
+    /// memory runs out, what is awaited is no longer known.
     pub fn note(&mut self, step: &Step, told: Option<&Message>) -> Mem<()>
-        ensures { OnOk result ((steps : List Step) → AreAsked steps self.old → option_copied told.entry ≡ told_in steps step.now.event → AreAsked (steps ++ step.now ∷ []) self.new) }
+        ensures { OnOk result ((steps : List Step) → AreAsked steps self.old → IsTold steps step.now (option_copied told.entry) → AreAsked (steps ++ step.now ∷ []) self.new) }
     {
         self.note_answers(step, told)?;
         self.note_waits(step.marks.as_slice())
@@ -85,9 +86,16 @@ impl Asked {
         push_graph(segment, graph, events)
     }
 
+    /// Whether somebody waits. Where nobody does, nobody resumes.
+    pub fn is_any_waiting(&self) -> bool
+        ensures { result ≡ false → (steps : List Step) → AreAsked steps self.now → (node : Node) → resumptions (marks_in steps) node ≡ [] }
+    {
+        !self.waiting.is_empty()
+    }
+
     // A step has sent or answered what it did.
     fn note_answers(&mut self, step: &Step, told: Option<&Message>) -> Mem<()>
-        ensures answers { OnOk result ((steps : List Step) → AreAwaited steps self.old → option_copied told.entry ≡ told_in steps step.now.event → AreAwaited (steps ++ step.now ∷ []) self.new) }
+        ensures answers { OnOk result ((steps : List Step) → AreAwaited steps self.old → IsTold steps step.now (option_copied told.entry) → AreAwaited (steps ++ step.now ∷ []) self.new) }
         ensures waiting { self.new.waiting ≡ self.old.waiting }
         ensures due { OnOk result (IsIndexed self.old → IsIndexed self.new) }
     {
