@@ -1,5 +1,5 @@
 -- What is awaited after steps, and when the first of it is what is sent again.
-use Rattle.std.specs.Prelude.{◌≡◌, ℕ, ◌<◌, ◌==◌, ◌&&◌, if◌then◌else◌, not, true, false, is_some, List, [], length, None, Some, Option, option_map, unwrap_or}
+use Rattle.std.specs.Prelude.{◌≡◌, ℕ, ◌<◌, ◌==◌, ◌&&◌, if◌then◌else◌, not, Bool, true, false, is_some, List, [], length, None, Some, Option, option_map, unwrap_or}
 use Rattle.std.specs.BTreeMap.{BTreeMap, get}
 use Rattle.std.specs.List.{filter, list_any}
 use Rattle.std.specs.Option.{option_or}
@@ -9,6 +9,8 @@ use Rattle.gx_msg.specs.declared.message.Message.{Message}
 use Rattle.gx_script.specs.declared.Script.{Script}
 use Rattle.gx_store.specs.declared.event.Event.{Event}
 use Rattle.gx_store.specs.declared.event.Event.TheVariants.{Receive}
+use Rattle.gx_store.specs.declared.mark.Mark.{Mark}
+use Rattle.gx_store.specs.declared.mark.Mark.TheVariants as mark
 use Rattle.gx_store.specs.declared.run.Step.{Step}
 use Rattle.gx_store.specs.Journals.{is_same_node}
 use Rattle.gx_store.specs.Marks.{is_same_gxid}
@@ -56,6 +58,11 @@ AreAwaited steps asked = (segment : Node) (g : Gxid) → expected_at asked segme
 -- each transaction's waits at each node are among those that stand there
 abbrev pub AreWaits : (Node → List Claim) → Asked → Type 0
 AreWaits standing asked = (node : Node) (g : Gxid) → waits_for asked node g ≡ filter (λ wait. is_same_gxid wait.gxid g) (standing node)
+
+-- a wait begins
+abbrev pub begins_wait : Mark → Bool
+begins_wait (mark.Wait node g object mode) = true
+begins_wait _ = false
 
 -- what may be asked for again is found
 abbrev pub IsIndexed : Asked → Type 0

@@ -7,7 +7,7 @@ ghost use Rattle.gx_store.specs.Waits.{added, waits_from, without};
 ghost use Rattle.gx_waits.specs.Claim.{same_claim};
 ghost use Rattle.gx_waits.specs.declared.claim.Claim.{Claim as OneClaim};
 ghost use Rattle.gx_agenda.specs.declared.request.Request.{Request as OneRequest};
-ghost use Rattle.gx_agenda.specs.Awaited.{AreWaits, IsIndexed, awaited_at, due_of, waits_in};
+ghost use Rattle.gx_agenda.specs.Awaited.{AreWaits, IsIndexed, awaited_at, begins_wait, due_of, waits_in};
 ghost use Rattle.gx_agenda.specs.Requests.{request_cmp};
 ghost use Rattle.gx_agenda.specs.VecMap.{at};
 
@@ -23,6 +23,19 @@ use std::alloc::Global;
 impl Asked {
     // A step made these marks.
     pub(crate) fn note_waits(&mut self, marks: &[Mark]) -> Mem<()>
+        ensures awaited { OnOk result ((r : OneRequest) → awaited_at self.new r ≡ awaited_at self.old r) }
+        ensures waits { OnOk result ((standing : OneNode → List OneClaim) → AreWaits standing self.old → AreWaits (λ node. waits_from node (standing node) marks.now) self.new) }
+        ensures due { OnOk result (IsIndexed self.old → IsIndexed self.new) }
+    {
+        if self.waiting.is_empty() && !begin_any(marks) {
+            Ok(())
+        } else {
+            self.note_each(marks)
+        }
+    }
+
+    // Mark by mark.
+    fn note_each(&mut self, marks: &[Mark]) -> Mem<()>
         ensures awaited { OnOk result ((r : OneRequest) → awaited_at self.new r ≡ awaited_at self.old r) }
         ensures waits { OnOk result ((standing : OneNode → List OneClaim) → AreWaits standing self.old → AreWaits (λ node. waits_from node (standing node) marks.now) self.new) }
         ensures due { OnOk result (IsIndexed self.old → IsIndexed self.new) }
@@ -129,6 +142,24 @@ impl Asked {
         }
         Ok(())
     }
+}
+
+// Whether one of these marks begins a wait.
+fn begin_any(marks: &[Mark]) -> bool
+    ensures { result ≡ list_any begins_wait marks.now }
+{
+    for mark in marks {
+        if begins(mark) {
+            return true;
+        }
+    }
+    false
+}
+
+fn begins(mark: &Mark) -> bool
+    ensures { result ≡ begins_wait mark.now }
+{
+    matches!(mark, Mark::Wait { .. })
 }
 
 fn claim_of(gxid: &Gxid, object: &Object, mode: &Mode) -> Claim
