@@ -17,4 +17,4 @@ returns-in-Some c =
     let whole = last-all script some c.args.world.now.run.steps steps step c.in-Some.step.now same is in
     subst (λ ss. IsAgreed script ss c.note.new.self) whole
     (noted script steps agreed (last-due script some c.args.world.now.run.steps steps step c.in-Some.step.now same is due) (subst AreCounted (sym whole) (counted script some c.args.world.now.run.steps c.requires.reached c.requires.room))
-    (c.told.ensures ∙ last-told script some c.args.world.now.run.steps steps step c.in-Some.step.now same is reached admitted)))
+    (λ here. c.told.ensures here ∙ last-told script some c.args.world.now.run.steps steps step c.in-Some.step.now same is reached admitted)))

@@ -7,7 +7,7 @@ use Rattle.gx_agenda.proofs.asked.Asked.note_answers.Goals as goal
 
 pub returns-in_ok-sent_all-clause-answers : goal.returns-in_ok-sent_all-clause-answers
 returns-in_ok-sent_all-clause-answers c = λ steps asks told segment g.
-    let heard = c.hear.ensures.asked steps told segment g (asked steps segment g) (asked-order steps segment g) (asks segment g) in
+    let heard = c.hear.ensures.asked steps (told (sym c.eq.ensures ∙ c.if-eq.true)) segment g (asked steps segment g) (asked-order steps segment g) (asks segment g) in
     c.in_ok-sent_all.ensures.asked segment g heard.0 heard.1
     ∙ ap (λ ms. option_map expected_of (asked_by segment g heard.0 ms)) c.as_slice.ensures
     ∙ ap (option_map expected_of) heard.2

@@ -4,7 +4,7 @@ use Rattle.gx_waits.specs.declared.claim.Claim.{Claim}
 use Rattle.gx_store.specs.Waits.{waits_from}
 use Rattle.gx_agenda.specs.Awaited.{AreWaits, IsIndexed, awaited_at}
 use Rattle.gx_agenda.specs.declared.request.Request.{Request}
-use Rattle.gx_agenda.proofs.asked.Asked.note_waits.Given as goal
+use Rattle.gx_agenda.proofs.asked.Asked.note_each.Given as goal
 
 abbrev pub invariant-loop-mark : goal.invariant-loop-mark
 invariant-loop-mark l =
