@@ -132,7 +132,8 @@ pub fn legal(alloc: Global, script: &Script, run: &Run) -> Mem<bool>
     requires { IsScript script.now }
     ensures { IfOk result (λ is. IsTrue is ↔ IsLegalHistory script.now run.now) }
 {
-    let steps = all_steps(alloc, &run.steps)?;
-    let all = all_marks(alloc, &steps)?;
-    are_legal_steps(alloc, script, &steps, &all)
+    let own = all_steps(alloc, &run.steps)?;
+    let steps = own.as_slice();
+    let all = all_marks(alloc, steps)?;
+    are_legal_steps(alloc, script, steps, &all)
 }
