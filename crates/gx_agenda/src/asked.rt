@@ -25,7 +25,7 @@ use crate::resends::{earlier, first_key, push_graph, push_requests, resend};
 use crate::vec_map::VecMap;
 use gx_ids::{Gxid, Mem, Node, Seq};
 use gx_msg::{Message, Reply};
-use gx_store::{Event, Mark, Step};
+use gx_store::{Event, Mark, StepView};
 use gx_waits::Claim;
 use std::alloc::Global;
 use std::collections::BTreeMap;
@@ -56,11 +56,11 @@ impl Asked {
 
     /// A step of the run was done. If it is the coordinator's, `told` is the message that its event received, if it received one. Where
     /// memory runs out, what is awaited is no longer known.
-    pub fn note(&mut self, step: &Step, told: Option<&Message>) -> Mem<()>
+    pub fn note(&mut self, step: &StepView<'_>, told: Option<&Message>) -> Mem<()>
         ensures { OnOk result ((steps : List Step) → AreAsked steps self.old → IsTold steps step.now (option_copied told.entry) → AreAsked (steps ++ step.now ∷ []) self.new) }
     {
         self.note_answers(step, told)?;
-        self.note_waits(step.marks.as_slice())
+        self.note_waits(step.marks())
     }
 
     /// What is sent again first, by segment: there by transaction, and the graph last. Told is the first segment whose graph is
@@ -94,28 +94,28 @@ impl Asked {
     }
 
     // A step has sent or answered what it did.
-    fn note_answers(&mut self, step: &Step, told: Option<&Message>) -> Mem<()>
+    fn note_answers(&mut self, step: &StepView<'_>, told: Option<&Message>) -> Mem<()>
         ensures answers { OnOk result ((steps : List Step) → AreAwaited steps self.old → IsTold steps step.now (option_copied told.entry) → AreAwaited (steps ++ step.now ∷ []) self.new) }
         ensures waiting { self.new.waiting ≡ self.old.waiting }
         ensures due { OnOk result (IsIndexed self.old → IsIndexed self.new) }
     {
-        if step.stamp.node == Node(0) {
+        if step.stamp().node == Node(0) {
             self.hear(step, told);
-            self.sent_all(step.marks.as_slice())?;
+            self.sent_all(step.marks())?;
         }
         Ok(())
     }
 
     // The coordinator hears what its step received. What the step asks anew is awaited whatever it hears.
-    fn hear(&mut self, step: &Step, told: Option<&Message>)
+    fn hear(&mut self, step: &StepView<'_>, told: Option<&Message>)
         ensures asked { (steps : List Step) → option_copied told.entry ≡ told_in steps step.now.event → (segment : Node) (g : Gxid) (was : Option Message) → IsOrderOf g was
             → expected_at self.old segment g ≡ option_map expected_of was → (left : Option Message) × (expected_at self.new segment g ≡ option_map expected_of left)
             × (asked_by segment g left step.now.marks ≡ asked_by segment g (unless_answered steps segment g was step.now.event) step.now.marks) }
         ensures waiting { self.new.waiting ≡ self.old.waiting }
         ensures due { IsIndexed self.old → IsIndexed self.new }
     {
-        if !is_asked_anew(step.event, told, step.marks.as_slice()) {
-            self.received(step.event, told);
+        if !is_asked_anew(step.event(), told, step.marks()) {
+            self.received(step.event(), told);
         }
     }
 

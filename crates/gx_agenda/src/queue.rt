@@ -21,7 +21,7 @@ use crate::standing::{Move, Standing};
 use crate::vec_map::VecMap;
 use gx_ids::{Mem, SessionId};
 use gx_script::Script;
-use gx_store::{Event, Mark, Step};
+use gx_store::{Event, Mark, StepView};
 use std::alloc::Global;
 
 /// The next line of each session that is idle, by its place in the file.
@@ -61,11 +61,11 @@ impl Queue {
     }
 
     /// A step of the run was done.
-    pub fn note(&mut self, step: &Step) -> Mem<()>
+    pub fn note(&mut self, step: &StepView<'_>) -> Mem<()>
         ensures { OnOk result ((script : Script) (steps : List Step) → AreQueued script steps self.old → AreCounted (steps ++ step.now ∷ []) → AreQueued script (steps ++ step.now ∷ []) self.new) }
     {
-        self.note_event(step.event)?;
-        self.note_marks(step.marks.as_slice())
+        self.note_event(step.event())?;
+        self.note_marks(step.marks())
     }
 
     // An event may start a line.

@@ -6,7 +6,7 @@ ghost use Rattle.gx_store.specs.Ordered.{sent_count};
 ghost use Rattle.gx_agenda.specs.Quiet.{AreQuiet};
 
 use gx_ids::Node;
-use gx_store::{Mark, Step};
+use gx_store::{Mark, StepView};
 
 /// Where to begin to look for a delivery: nothing is left on the links from the first so many segments, nor on those to the first
 /// so many.
@@ -25,13 +25,13 @@ impl Quiet {
     }
 
     /// A step was done: something may be left now on the links on which it has sent.
-    pub fn note(&mut self, step: &Step)
+    pub fn note(&mut self, step: &StepView<'_>)
         ensures { (script : Script) (steps : List OneStep) → AreQuiet script steps self.old → AreQuiet script (steps ++ step.now ∷ []) self.new }
     {
-        if step.stamp.node == Node(0) {
-            self.to = unsent(step.marks.as_slice(), self.to);
+        if step.stamp().node == Node(0) {
+            self.to = unsent(step.marks(), self.to);
         } else {
-            self.from = below(step.stamp.node, self.from);
+            self.from = below(step.stamp().node, self.from);
         }
     }
 }

@@ -20,7 +20,7 @@ use gx_agenda::{Asked, Cursors, Queue, Quiet};
 use gx_ids::{Mem, Node};
 use gx_msg::Message;
 use gx_script::Script;
-use gx_store::{Event, Step};
+use gx_store::{Event, StepView};
 use gx_world::World;
 use std::alloc::Global;
 
@@ -104,7 +104,7 @@ impl Agenda {
     }
 
     /// A step was done, and if it is the coordinator's, what its event received, if it received a message, is told.
-    pub fn note(&mut self, step: &Step, told: Option<&Message>) -> Mem<()>
+    pub fn note(&mut self, step: &StepView<'_>, told: Option<&Message>) -> Mem<()>
         ensures { OnOk result ((script : OneScript) (steps : List OneStep) → IsAgreed script steps self.old → IsDue script steps step.now.event
             → AreCounted (steps ++ step.now ∷ []) → IsTold steps step.now (option_copied told.entry)
             → IsAgreed script (steps ++ step.now ∷ []) self.new) }
@@ -131,10 +131,10 @@ fn last(world: &World) -> Mem<Option<Event>>
 }
 
 // The link of a receipt goes on.
-fn deliver(cursors: &mut Cursors, step: &Step)
+fn deliver(cursors: &mut Cursors, step: &StepView<'_>)
     ensures { (script : OneScript) (steps : List OneStep) → Agree script steps cursors.old → IsDue script steps step.now.event → Agree script (steps ++ step.now ∷ []) cursors.new }
 {
-    match step.event {
+    match step.event() {
         Event::Receive { from, to, number } => go_on(cursors, from, to, number),
         _ => cursors.undelivered(),
     }

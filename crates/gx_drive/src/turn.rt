@@ -68,8 +68,8 @@ fn note(world: &World, agenda: &mut Agenda) -> Mem<()>
         → IsAgreed world.now.script steps agenda.old → IsDue world.now.script steps step.event → is_admitted world.now.script steps step.event ≡ true
         → IsReached world.now.script steps → IsAgreed world.now.script world.now.run.steps agenda.new) }
 {
-    match world.run().steps.as_slice().last() {
-        Some(step) => agenda.note(step, told(world, step.stamp.node, step.event)),
+    match world.run().steps.last() {
+        Some(step) => agenda.note(&step, told(world, step.stamp().node, step.event())),
         None => Ok(()),
     }
 }
