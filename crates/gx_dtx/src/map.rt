@@ -132,9 +132,11 @@ pub(crate) fn reply<J: Journal>(
     answer: &Reply,
     journal: &mut J,
 ) -> Mem<Taken>
-    ensures value { IfOk result (λ taken. AreMade (reply_found gxid node answer.now (is_refused taken.out.outcome) (lookup (is_at (gxid_cmp gxid)) txns.old.entries)) txns.old.entries txns.new.entries gxid taken) }
+    ensures value { IfOk result (λ taken. AreMade (reply_found gxid node answer.now (is_refused taken.out.outcome) (lookup (is_at (gxid_cmp gxid)) txns.old.entries))
+        txns.old.entries txns.new.entries gxid taken) }
     ensures err { OnErr result (txns.new.entries ≡ txns.old.entries) }
-    ensures decided { IfOk result (λ taken. HasDecided (J.shelf journal.old) (J.shelf journal.new) gxid (decides_found (lookup (is_at (gxid_cmp gxid)) txns.old.entries) node answer.now) taken.out.outcome) }
+    ensures decided { IfOk result (λ taken. HasDecided (J.shelf journal.old) (J.shelf journal.new) gxid
+        (decides_found (lookup (is_at (gxid_cmp gxid)) txns.old.entries) node answer.now) taken.out.outcome) }
     ensures untouched { decides_found (lookup (is_at (gxid_cmp gxid)) txns.old.entries) node answer.now ≡ false → journal.new ≡ journal.old }
     ensures kept { OnErr result (HasKept (J.shelf journal.old) (J.shelf journal.new)) }
 {

@@ -40,7 +40,8 @@ pub(crate) fn insert(
     requires right { IsRightFor tables.now writer.gxid writer.cid (slice.Insert writer.table rows.now) true }
     requires node { writer.node ≡ s.node }
     requires new { nat_lt 0 writer.cid.0 ≡ true }
-    ensures { IfOk result (λ ran. HasRun tables.now held.new writer.gxid ran (after_marks marks.items (inserts writer.gxid writer.cid (length rows.now) (inserted s writer.gxid writer.cid writer.table rows.now)))) }
+    ensures { IfOk result (λ ran. HasRun tables.now held.new writer.gxid ran
+        (after_marks marks.items (inserts writer.gxid writer.cid (length rows.now) (inserted s writer.gxid writer.cid writer.table rows.now)))) }
 {
     let Writer { gxid, cid, .. } = writer;
     let part = no_rows(alloc)?;

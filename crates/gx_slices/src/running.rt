@@ -178,7 +178,8 @@ fn run_slice(
     requires held { IsHeld found.tables held.old found.start }
     requires may { MayRun found.tables found.start gxid command.cid command.snapshot command.slice }
     requires node { node ≡ found.start.node }
-    ensures { IfOk result (λ progress. HasProgressed found.tables held.new gxid progress (after_marks marks.items (runs_slice found.start gxid command.cid command.level command.snapshot command.slice))) }
+    ensures { IfOk result (λ progress. HasProgressed found.tables held.new gxid progress
+        (after_marks marks.items (runs_slice found.start gxid command.cid command.level command.snapshot command.slice))) }
 {
     let Suspended {
         cid,
@@ -209,16 +210,8 @@ fn run_slice(
                 cid,
                 table,
             };
-            change_by(
-                alloc,
-                held,
-                writer,
-                level,
-                snapshot,
-                Some(assigns),
-                cond,
-                marks,
-            )
+            let given = Some(assigns);
+            change_by(alloc, held, writer, level, snapshot, given, cond, marks)
         }
         Slice::Delete(table, cond) => {
             let writer = Writer {
