@@ -22,3 +22,4 @@ pub mod Again
 pub mod Oks
 pub mod Parted
 pub mod Quieter
+pub mod Stamps

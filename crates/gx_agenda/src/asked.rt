@@ -114,8 +114,9 @@ impl Asked {
         ensures waiting { self.new.waiting ≡ self.old.waiting }
         ensures due { IsIndexed self.old → IsIndexed self.new }
     {
-        if !is_asked_anew(step.event(), told, step.marks()) {
-            self.received(step.event(), told);
+        let event = step.event();
+        if !is_asked_anew(event, told, step.marks()) {
+            self.received(event, told);
         }
     }
 

@@ -28,10 +28,11 @@ impl Quiet {
     pub fn note(&mut self, step: &StepView<'_>)
         ensures { (script : Script) (steps : List OneStep) → AreQuiet script steps self.old → AreQuiet script (steps ++ step.now ∷ []) self.new }
     {
-        if step.stamp().node == Node(0) {
+        let node = step.stamp().node;
+        if node == Node(0) {
             self.to = unsent(step.marks(), self.to);
         } else {
-            self.from = below(step.stamp().node, self.from);
+            self.from = below(node, self.from);
         }
     }
 }
