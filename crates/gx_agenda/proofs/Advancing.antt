@@ -3,7 +3,6 @@ use Rattle.std.proofs.Common.{◌≡◌, ◌≢◌, ⊎_elim, ℕ, ◌+◌, ◌<
 use Rattle.std.proofs.lemmas.Bool.{cases_eq}
 use Rattle.std.proofs.lemmas.Bool.Decides.{nat_tests}
 use Rattle.std.proofs.lemmas.Option.{same_Some, slice_get_within}
-use Rattle.std.specs.BTreeMap.{get}
 use Rattle.std.specs.Ordering.{nat_cmp}
 use Rattle.std.specs.Prelude.{None, Option, Some}
 use Rattle.gx_ids.specs.declared.ids.SessionId.{SessionId}
@@ -14,6 +13,7 @@ use Rattle.gx_agenda.specs.declared.standing.Standing.{Standing}
 use Rattle.gx_agenda.specs.Moves.{AreFew, IsAdvancedAt, is_place, more_for, next_place, offered, withdrawn}
 use Rattle.gx_agenda.specs.LinePlaces.{ArePlaces, IsLineAt}
 use Rattle.gx_agenda.specs.Queued.{AreQueuedBy, IsStanding, is_due, session_due}
+use Rattle.gx_agenda.specs.VecMap.{at}
 use Rattle.gx_agenda.proofs.Lists.{apart_from, both_ways, length-set, same_from, same_number, set-here, set-other}
 
 both_true : (a b : Bool) → (a && b) ≡ true → (a ≡ true) × (b ≡ true)
@@ -165,36 +165,36 @@ module _ (lines : List Line) (f g : SessionId → ℕ) (session : SessionId) (st
           ap (λ (b : Bool). cond b (Some line.session) None) (sym (due-same f g f' g' line (more-other session starts f line.session other) (more-other session answers g line.session other)))
 
   -- and one that is
-  module _ (was : Standing) (there : slice_get old.standings.items session.0 ≡ Some was) (move : Move) (at : IsAdvancedAt session.0 old.standings.items new.standings.items was starts answers move) (next : (place : ℕ) → get nat_cmp new.next place ≡ offered move.to session (withdrawn move.from (get nat_cmp old.next)) place) (few : AreFew f') (few_answered : AreFew g') where
+  module _ (was : Standing) (there : slice_get old.standings.items session.0 ≡ Some was) (move : Move) (on : IsAdvancedAt session.0 old.standings.items new.standings.items was starts answers move) (next : (place : ℕ) → at nat_cmp new.next place ≡ offered move.to session (withdrawn move.from (at nat_cmp old.next)) place) (few : AreFew f') (few_answered : AreFew g') where
     before : IsStanding lines session (f session) (g session) was
     before = queued.each session was there
 
-    after : IsStanding lines session (f' session) (g' session) at.is
+    after : IsStanding lines session (f' session) (g' session) on.is
     after =
         let a = more-own session starts f in
         let b = more-own session answers g in
         let c = few session in
         let d = few_answered session in
         record {
-          places = subst (ArePlaces lines session) (sym at.advanced.places) before.places;
-          starts = at.advanced.starts_rise (omega (arith, before.starts, a, c)) ∙ ap (λ n. n + starts) before.starts ∙ sym a;
-          answers = at.advanced.answers_rise (omega (arith, before.answers, b, d)) ∙ ap (λ n. n + answers) before.answers ∙ sym b;
+          places = subst (ArePlaces lines session) (sym on.advanced.places) before.places;
+          starts = on.advanced.starts_rise (omega (arith, before.starts, a, c)) ∙ ap (λ n. n + starts) before.starts ∙ sym a;
+          answers = on.advanced.answers_rise (omega (arith, before.answers, b, d)) ∙ ap (λ n. n + answers) before.answers ∙ sym b;
         }
 
     pub known-on : AreQueuedBy lines f' g' new
     known-on =
         record {
-          known = λ place line e. subst (λ n. line.session.0 < n) (sym (ap length at.set ∙ length-set old.standings.items session.0 at.is)) (queued.known place line e);
-          each = λ s standing e. ⊎_elim (own-stands s standing (ap (λ xs. slice_get xs s.0) (sym at.set) ∙ e)) (other-stands s standing (ap (λ xs. slice_get xs s.0) (sym at.set) ∙ e)) (cases_eq s.0 session.0);
+          known = λ place line e. subst (λ n. line.session.0 < n) (sym (ap length on.set ∙ length-set old.standings.items session.0 on.is)) (queued.known place line e);
+          each = λ s standing e. ⊎_elim (own-stands s standing (ap (λ xs. slice_get xs s.0) (sym on.set) ∙ e)) (other-stands s standing (ap (λ xs. slice_get xs s.0) (sym on.set) ∙ e)) (cases_eq s.0 session.0);
           next = λ place.
-              next place ∙ ap (λ o. offered o session (withdrawn move.from (get nat_cmp old.next)) place) at.advanced.to ∙ ap (λ o. offered (next_place at.is) session (withdrawn o (get nat_cmp old.next)) place) at.advanced.from
-              ∙ stands-on lines f g f' g' session was at.is before after (more-other session starts f) (more-other session answers g) (get nat_cmp old.next) queued.next place;
+              next place ∙ ap (λ o. offered o session (withdrawn move.from (at nat_cmp old.next)) place) on.advanced.to ∙ ap (λ o. offered (next_place on.is) session (withdrawn o (at nat_cmp old.next)) place) on.advanced.from
+              ∙ stands-on lines f g f' g' session was on.is before after (more-other session starts f) (more-other session answers g) (at nat_cmp old.next) queued.next place;
         }
       where
-        own-stands : (s : SessionId) (standing : Standing) → slice_get (slice_set old.standings.items session.0 at.is) s.0 ≡ Some standing → s.0 ≡ session.0 → IsStanding lines s (f' s) (g' s) standing
+        own-stands : (s : SessionId) (standing : Standing) → slice_get (slice_set old.standings.items session.0 on.is) s.0 ≡ Some standing → s.0 ≡ session.0 → IsStanding lines s (f' s) (g' s) standing
         own-stands s standing e same =
-            let is : at.is ≡ standing = same_Some at.is standing (sym (set-here old.standings.items session.0 was at.is there) ∙ ap (slice_get (slice_set old.standings.items session.0 at.is)) (sym same) ∙ e) in
+            let is : on.is ≡ standing = same_Some on.is standing (sym (set-here old.standings.items session.0 was on.is there) ∙ ap (slice_get (slice_set old.standings.items session.0 on.is)) (sym same) ∙ e) in
             subst (λ (k : SessionId). IsStanding lines k (f' k) (g' k) standing) (sym (own-session session s same)) (subst (IsStanding lines session (f' session) (g' session)) is after)
 
-        other-stands : (s : SessionId) (standing : Standing) → slice_get (slice_set old.standings.items session.0 at.is) s.0 ≡ Some standing → s.0 ≢ session.0 → IsStanding lines s (f' s) (g' s) standing
-        other-stands s standing e other = standing-same lines s (f s) (g s) (f' s) (g' s) standing (more-other session starts f s other) (more-other session answers g s other) (queued.each s standing (sym (set-other old.standings.items session.0 s.0 at.is other) ∙ e))
+        other-stands : (s : SessionId) (standing : Standing) → slice_get (slice_set old.standings.items session.0 on.is) s.0 ≡ Some standing → s.0 ≢ session.0 → IsStanding lines s (f' s) (g' s) standing
+        other-stands s standing e other = standing-same lines s (f s) (g s) (f' s) (g' s) standing (more-other session starts f s other) (more-other session answers g s other) (queued.each s standing (sym (set-other old.standings.items session.0 s.0 on.is other) ∙ e))

@@ -1,18 +1,14 @@
 -- All that is sent again to a segment, by the awaited answers that a map holds of it.
-use Rattle.std.proofs.Common.{◌≡◌, ℕ, zero, suc, ◌+◌, ◌<◌, Bool, true, false, cond, if◌then◌else◌, not, ◌&&◌, List, [], ◌∷◌, ◌++◌, append_assoc, map, Option, Some, None, refl, sym, ap, ◌∙◌, subst, arith}
+use Rattle.std.proofs.Common.{◌≡◌, ℕ, zero, suc, ◌+◌, ◌<◌, Bool, true, false, cond, if◌then◌else◌, List, [], ◌∷◌, ◌++◌, append_assoc, map, Option, Some, None, refl, sym, ap, ◌∙◌, subst, arith}
 use Rattle.std.proofs.lemmas.Bool.Decides.{nat_tests}
 use Rattle.std.proofs.lemmas.Cmp.{nat_cmp_total, on_total, then_total}
-use Rattle.std.proofs.lemmas.List.Elements.{filter_agree}
 use Rattle.std.proofs.lemmas.List.Kept.{IsStrictlySortedBy-filter}
 use Rattle.std.proofs.lemmas.Map.Entries.{lookup-filter-keys}
-use Rattle.std.specs.BTreeMap.{get, is_at}
+use Rattle.std.specs.BTreeMap.{is_at}
 use Rattle.std.specs.Cmp.{IsTotalOrder}
 use Rattle.std.specs.List.{cons_option, filter, filter_map, range_with_len}
 use Rattle.std.specs.List.Sorted.{IsStrictlySortedBy}
 use Rattle.std.specs.Map.{keys_of, lookup}
-use Rattle.std.specs.BTreeMap.Range.{entries_between, range_contains}
-use Rattle.std.specs.Ordering.{is_le, nat_cmp, ordering_then}
-use Rattle.std.specs.declared.ops.Bound.TheVariants.{Excluded, Included}
 use Rattle.std.specs.Prelude.{◌==◌, is_some, option_map}
 use Rattle.std.specs.declared.cmp.Ordering.TheVariants.{Less}
 use Rattle.gx_ids.specs.declared.ids.Gxid.{Gxid}
@@ -29,6 +25,7 @@ use Rattle.gx_agenda.specs.declared.expected.Expected.{Expected}
 use Rattle.gx_agenda.specs.declared.request.Request.{Request}
 use Rattle.gx_agenda.specs.Awaited.{AreAsked, IsResendable, due_at}
 use Rattle.gx_agenda.specs.Requests.{is_of, request_cmp, resend_of}
+use Rattle.gx_agenda.specs.VecMap.{at as lookup_at}
 use Rattle.gx_agenda.proofs.FirstAsked.{gxid-within}
 use Rattle.gx_agenda.proofs.Lists.{same_from, same_number}
 use Rattle.gx_agenda.proofs.Numbered.{IsNumbered, entry, numbered}
@@ -54,17 +51,6 @@ keys-filter {K} {X} p (e ∷ es) = by (p e.0) (keys-filter p es)
     by : (b : Bool) → keys_of (filter (λ e. p e.0) es) ≡ filter p (keys_of es) → keys_of (cond b (e ∷ filter (λ e. p e.0) es) (filter (λ e. p e.0) es)) ≡ cond b (e.0 ∷ filter p (keys_of es)) (filter p (keys_of es))
     by true rest = ap (λ ks. e.0 ∷ ks) rest
     by false rest = rest
-
--- what lies between a segment's least request and the next segment's is the segment's
-between-is : (s : Node) (r : Request) → range_contains request_cmp (Included (record { segment = s; gxid = record { 0 = 0 } })) (Excluded (record { segment = record { 0 = s.0 + 1 }; gxid = record { 0 = 0 } })) r ≡ is_of s r
-between-is s r = by-numbers s.0 r.segment.0 r.gxid.0
-  where
-    by-numbers : (s a g : ℕ) → (is_le (ordering_then (nat_cmp s a) (nat_cmp 0 g)) && not (is_le (ordering_then (nat_cmp (s + 1) a) (nat_cmp 0 g)))) ≡ (a == s)
-    by-numbers s a g = grind (arith, nat_tests)
-
-pub between-of : (s : Node) (es : List (Request × Expected))
-    → entries_between request_cmp (Included (record { segment = s; gxid = record { 0 = 0 } })) (Excluded (record { segment = record { 0 = s.0 + 1 }; gxid = record { 0 = 0 } })) es ≡ filter (λ e. is_of s e.0) es
-between-of s es = filter_agree _ (λ e. is_of s e.0) (λ e. between-is s e.0) es
 
 module _ (script : Script) (steps : List Step) (segment : Node) (known : Asked) where
   abbrev at : ℕ → Request
@@ -98,17 +84,17 @@ module _ (script : Script) (steps : List Step) (segment : Node) (known : Asked) 
       by None is rest = ap put is ∙ rest ∙ sym (ap passing (sym (same first) ∙ ap is_some is))
       by (Some v) is rest = ap put is ∙ ap (λ xs. again (record { 0 = first }) ∷ xs) rest ∙ sym (ap passing (sym (same first) ∙ ap is_some is))
 
-  module _ (fit : IsResendable script steps segment) (asked : AreAsked steps known) (sorted : IsStrictlySortedBy request_cmp (keys_of known.due.entries)) where
+  module _ (fit : IsResendable script steps segment) (asked : AreAsked steps known) (sorted : IsStrictlySortedBy request_cmp (keys_of known.due)) where
     abbrev of_segment : List (Request × Expected)
-    of_segment = filter (λ e. is_of segment e.0) known.due.entries
+    of_segment = filter (λ e. is_of segment e.0) known.due
 
     abbrev find : Request → Option Expected
     find k = lookup (is_at (request_cmp k)) of_segment
 
-    found : (k : Request) → find k ≡ cond (is_of segment k) (get request_cmp known.due k) None
+    found : (k : Request) → find k ≡ cond (is_of segment k) (lookup_at request_cmp known.due k) None
     found k =
         lookup-filter-keys (is_at (request_cmp k)) (is_of segment) (is_of segment k)
-        (λ q tied. ap (λ n. n == segment.0) (sym (tied-numbers k.segment.0 k.gxid.0 q.segment.0 q.gxid.0 tied))) known.due.entries
+        (λ q tied. ap (λ n. n == segment.0) (sym (tied-numbers k.segment.0 k.gxid.0 q.segment.0 q.gxid.0 tied))) known.due
 
     within : (k : Request) → is_some (find k) ≡ true → IsNumbered at 1 (start_count (marks_in steps)) k
     within k there = by (is_of segment k) refl
@@ -116,10 +102,10 @@ module _ (script : Script) (steps : List Step) (segment : Node) (known : Asked) 
         by : (b : Bool) → is_of segment k ≡ b → IsNumbered at 1 (start_count (marks_in steps)) k
         by true is =
             let same = same-request segment k is in
-            let some : is_some (due_at known segment k.gxid) ≡ true = ap (λ r. is_some (get request_cmp known.due r)) (sym same) ∙ ap is_some (sym (found k ∙ ap (λ b. cond b (get request_cmp known.due k) None) is)) ∙ there in
+            let some : is_some (due_at known segment k.gxid) ≡ true = ap (λ r. is_some (lookup_at request_cmp known.due r)) (sym same) ∙ ap is_some (sym (found k ∙ ap (λ b. cond b (lookup_at request_cmp known.due k) None) is)) ∙ there in
             let w = gxid-within k.gxid 1 (start_count (marks_in steps)) (fit.begun k.gxid (may-asked steps segment k.gxid (sym (due-again steps known asked segment k.gxid) ∙ some))) in
             record { number = k.gxid.0; is = same; low = w.0; high = w.1 }
-        by false off = absurd (never (sym (ap is_some (found k ∙ ap (λ b. cond b (get request_cmp known.due k) None) off)) ∙ there))
+        by false off = absurd (never (sym (ap is_some (found k ∙ ap (λ b. cond b (lookup_at request_cmp known.due k) None) off)) ∙ there))
           where
             never : false ≡ true → ⊥
             never e = cc
@@ -131,7 +117,7 @@ module _ (script : Script) (steps : List Step) (segment : Node) (known : Asked) 
     asks-listed =
         ap (map (λ (e : Request × Expected). resend_of e.0))
         (numbered request-total at (λ m n. request-rises segment.0 m n) known_at 1 (start_count (marks_in steps)) of_segment
-        (subst (IsStrictlySortedBy request_cmp) (sym (keys-filter (is_of segment) known.due.entries)) (IsStrictlySortedBy-filter request_cmp (is_of segment) (keys_of known.due.entries) sorted))
+        (subst (IsStrictlySortedBy request_cmp) (sym (keys-filter (is_of segment) known.due)) (IsStrictlySortedBy-filter request_cmp (is_of segment) (keys_of known.due) sorted))
         within (λ n low high. finds n))
         ∙ again-listed (may_resend steps segment) (λ n. due-again steps known asked segment (record { 0 = n })) 1 (start_count (marks_in steps))
 

@@ -5,14 +5,11 @@ use Rattle.std.specs.BTreeMap.{is_at}
 use Rattle.std.specs.Prelude.{Option, Some, None}
 use Rattle.gx_ids.specs.declared.ids.Gxid.{Gxid}
 use Rattle.gx_ids.specs.declared.ids.Node.{Node}
-use Rattle.gx_msg.specs.declared.message.Message.{Message}
-use Rattle.gx_msg.specs.declared.message.Message.TheVariants as message
 use Rattle.gx_msg.specs.declared.reply.Reply.{Reply}
 use Rattle.gx_store.specs.Journals.{is_same_node}
 use Rattle.gx_store.specs.Marks.{is_same_gxid}
-use Rattle.gx_store.specs.Schedule.{is_about}
 use Rattle.gx_agenda.specs.declared.expected.Expected.{Expected}
-use Rattle.gx_agenda.specs.Expected.{expected_of, gxid_of, is_met, unless_met}
+use Rattle.gx_agenda.specs.Expected.{is_met, unless_met}
 use Rattle.gx_agenda.specs.Requests.{request_cmp}
 
 same_numbers : (a g b h : ℕ) → is_at (request_cmp (record { segment = record { 0 = a }; gxid = record { 0 = g } })) (record { segment = record { 0 = b }; gxid = record { 0 = h } }) ≡ (eqb a b && eqb g h)

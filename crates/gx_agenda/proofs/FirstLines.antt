@@ -3,7 +3,6 @@ use Rattle.std.proofs.Common.{◌≡◌, ℕ, zero, suc, ◌<◌, Bool, true, fa
 use Rattle.std.proofs.lemmas.Grind.{common_steps}
 use Rattle.std.proofs.lemmas.List.{take-map}
 use Rattle.std.proofs.lemmas.Option.{same_Some}
-use Rattle.std.specs.BTreeMap.{IsLowerBound, get}
 use Rattle.std.specs.Ordering.{is_gt, nat_cmp}
 use Rattle.std.specs.Prelude.{IsSome, None, Option, Some}
 use Rattle.gx_ids.specs.declared.ids.SessionId.{SessionId}
@@ -16,6 +15,7 @@ use Rattle.gx_store.specs.Points.{marks_in, starts_in}
 use Rattle.gx_store.specs.Schedule.{first_of, is_next, starts}
 use Rattle.gx_agenda.specs.declared.queue.Queue.{Queue}
 use Rattle.gx_agenda.specs.Queued.{AreQueued, session_due}
+use Rattle.gx_agenda.specs.VecMap.{IsLeast, at}
 
 -- FILTERS
 filter-none : {X : Type 0} (test : X → Bool) (xs : List X) → ((i : ℕ) (x : X) → slice_get xs i ≡ Some x → test x ≡ false) → filter test xs ≡ []
@@ -43,8 +43,8 @@ record IsDueLine (test : Line → Bool) (o : Option Line) (session : SessionId) 
   its : line.session ≡ session
 
 module _ (script : Script) (steps : List Step) (queue : Queue) (queued : AreQueued script steps queue) where
-  abbrev at : ℕ → Option SessionId
-  at place = get nat_cmp queue.next place
+  abbrev next_at : ℕ → Option SessionId
+  next_at place = at nat_cmp queue.next place
 
   abbrev due : Option Line → Option SessionId
   due o = session_due (λ session. starts_in session steps) (λ session. answer_count session (marks_in steps)) o
@@ -58,17 +58,17 @@ module _ (script : Script) (steps : List Step) (queue : Queue) (queued : AreQueu
       by false off f = absurd (cc)
 
   -- a line that passes is found
-  held : (place : ℕ) (line : Line) → slice_get script.lines place ≡ Some line → is_next steps line ≡ true → at place ≡ Some line.session
+  held : (place : ℕ) (line : Line) → slice_get script.lines place ≡ Some line → is_next steps line ≡ true → next_at place ≡ Some line.session
   held place line there on = queued.next place ∙ ap due there ∙ ap (λ (b : Bool). cond b (Some line.session) None) on
 
-  off-where : (place : ℕ) (line : Line) → slice_get script.lines place ≡ Some line → (at place ≡ Some line.session → ⊥) → is_next steps line ≡ false
+  off-where : (place : ℕ) (line : Line) → slice_get script.lines place ≡ Some line → (next_at place ≡ Some line.session → ⊥) → is_next steps line ≡ false
   off-where place line there none = by (is_next steps line) refl
     where
       by : (b : Bool) → is_next steps line ≡ b → b ≡ false
       by true on = absurd (none (held place line there on))
       by false off = refl
 
-  pub first-due : (place : ℕ) (session : SessionId) → at place ≡ Some session → IsLowerBound nat_cmp queue.next place → Start session ∷ [] ≡ first_of (starts script steps)
+  pub first-due : (place : ℕ) (session : SessionId) → next_at place ≡ Some session → IsLeast nat_cmp queue.next place → Start session ∷ [] ≡ first_of (starts script steps)
   first-due place session there least = sym (
       take-map (λ (l : Line). Start l.session) 1 (filter (is_next steps) script.lines)
       ∙ ap (map (λ (l : Line). Start l.session)) (filter-first (is_next steps) script.lines place first.line first.there first.on earlier)
@@ -84,7 +84,7 @@ module _ (script : Script) (steps : List Step) (queue : Queue) (queued : AreQueu
           let not_above : is_gt (nat_cmp place q) ≡ false = least q (subst IsSome (sym found) (search rules)) in
           absurd (cc))
 
-  pub none-due : queue.next.entries ≡ [] → [] ≡ first_of (starts script steps)
+  pub none-due : queue.next ≡ [] → [] ≡ first_of (starts script steps)
   none-due empty = sym (ap (λ ls. take 1 (map (λ (l : Line). Start l.session) ls)) (filter-none (is_next steps) script.lines none))
     where
       none : (place : ℕ) (line : Line) → slice_get script.lines place ≡ Some line → is_next steps line ≡ false

@@ -1,19 +1,18 @@
 -- Places and first lines, with one line more.
-use Rattle.std.proofs.Common.{◌≡◌, ◌≢◌, ◌⊎◌, inl, inr, ⊎_elim, ℕ, zero, suc, ◌+◌, ◌<◌, ◌==◌, Bool, true, false, cond, List, [], ◌∷◌, ◌++◌, length, length-append, take, slice_get, slice_set, refl, sym, ap, ◌∙◌, subst, arith, append-nil, append_assoc}
+use Rattle.std.proofs.Common.{◌≡◌, ◌≢◌, ◌⊎◌, inl, inr, ⊎_elim, ℕ, zero, suc, ◌+◌, ◌<◌, ◌==◌, ◌&&◌, Bool, true, false, cond, List, [], ◌∷◌, ◌++◌, length, length-append, get_or, take, slice_get, slice_set, refl, sym, ap, ◌∙◌, subst, arith, append-nil, append_assoc}
 use Rattle.std.proofs.lemmas.Bool.{cases_eq}
 use Rattle.std.proofs.lemmas.Bool.Decides.{nat_tests}
-use Rattle.std.proofs.lemmas.List.{length-replicate}
-use Rattle.std.proofs.lemmas.Option.{same_Some}
-use Rattle.std.specs.Prelude.{Some, replicate}
+use Rattle.std.proofs.lemmas.Option.{same_Some, slice_get-get_or}
+use Rattle.std.specs.Prelude.{None, Option, Some}
 use Rattle.gx_ids.specs.declared.ids.SessionId.{SessionId}
 use Rattle.gx_script.specs.declared.Line.{Line}
 use Rattle.gx_store.specs.Language.{AreLinesNumbered, lines_in}
 use Rattle.gx_agenda.specs.declared.queue.Queue.{Queue}
 use Rattle.gx_agenda.specs.declared.standing.Standing.{Standing}
-use Rattle.gx_agenda.specs.FreshQueue.{AreFresh, IsFresh, new_standing, with_place}
+use Rattle.gx_agenda.specs.FreshQueue.{AreFresh, IsFresh, with_place}
 use Rattle.gx_agenda.specs.LinePlaces.{ArePlaces, HasPlace, IsLineAt}
-use Rattle.gx_agenda.specs.Queued.{AreFirst, AreQueuedBy}
-use Rattle.gx_agenda.proofs.Lists.{apart_from, kept, last, length-set, pushed, same_number, set-here, set-other}
+use Rattle.gx_agenda.specs.Queued.{AreFirst, AreQueuedBy, session_due}
+use Rattle.gx_agenda.proofs.Lists.{apart_from, kept, last, length-set, pushed, same_from, same_number, set-here, set-other}
 
 -- NUMBERS
 pub numbered_at : (before ls : List Line) (i : ℕ) (l : Line) → AreLinesNumbered before ls → slice_get ls i ≡ Some l → l.number ≡ lines_in l.session.0 (before ++ take i ls) + 1
@@ -116,6 +115,61 @@ fresh-more ls l n place old new are number at within set =
 
     away : (session : SessionId) (standing : Standing) → slice_get (slice_set old l.session.0 now) session.0 ≡ Some standing → l.session.0 ≢ session.0 → IsFresh (ls ++ l ∷ []) session standing
     away session standing e other = fresh-other ls l number session standing (are.each session standing (sym (set-other old l.session.0 session.0 now (λ f. other (sym f))) ∙ e)) other
+
+-- FIRST LINES
+suc-same : (p i : ℕ) → (p == i) ≡ (suc p == suc i)
+suc-same p i = grind (arith, nat_tests)
+
+zero-apart : (i : ℕ) → false ≡ (0 == suc i)
+zero-apart i = grind (arith, nat_tests)
+
+apart-zero : (p : ℕ) → false ≡ (suc p == 0)
+apart-zero p = grind (arith, nat_tests)
+
+-- what stands at a place among one more
+more-at : {A : Type 0} (xs : List A) (i : ℕ) (x : A) → slice_get xs i ≡ Some x → (p : ℕ) → slice_get (take (suc i) xs) p ≡ cond (p == i) (Some x) (slice_get (take i xs) p)
+more-at [] i x there p = absurd (cc)
+more-at (y ∷ ys) zero x there zero = there
+more-at (y ∷ ys) zero x there (suc p) = ap (λ b. cond b (Some x) None) (apart-zero p)
+more-at (y ∷ ys) (suc i) x there zero = ap (λ b. cond b (Some x) (Some y)) (zero-apart i)
+more-at (y ∷ ys) (suc i) x there (suc p) = more-at ys i x there p ∙ ap (λ b. cond b (Some x) (slice_get (take i ys) p)) (suc-same p i)
+
+past : {A : Type 0} (xs : List A) (i : ℕ) → slice_get (take i xs) i ≡ None
+past [] zero = refl
+past [] (suc i) = refl
+past (x ∷ xs) zero = refl
+past (x ∷ xs) (suc i) = past xs i
+
+module _ (lines : List Line) (i : ℕ) (line : Line) (inside : i < length lines) (is : line ≡ get_or lines i line) (old new : ℕ → Option SessionId) where
+  abbrev due : Option Line → Option SessionId
+  due o = session_due (λ session. 0) (λ session. 0) o
+
+  there : slice_get lines i ≡ Some line
+  there = slice_get-get_or lines i line inside ∙ ap Some (sym is)
+
+  at-one : line.number ≡ 1 → due (Some line) ≡ Some line.session
+  at-one one = ap (λ n. cond ((0 == 0) && (n == 0 + 1)) (Some line.session) None) one
+
+  at-other : line.number ≢ 1 → due (Some line) ≡ None
+  at-other other = ap (λ b. cond ((0 == 0) && b) (Some line.session) None) (apart_from line.number 1 other)
+
+  -- the first lines among one more
+  pub first-more : ((p : ℕ) → old p ≡ due (slice_get (take i lines) p)) → (line.number ≡ 1 → (p : ℕ) → new p ≡ cond (p == i) (Some line.session) (old p)) → (line.number ≢ 1 → (p : ℕ) → new p ≡ old p)
+      → (p : ℕ) → new p ≡ due (slice_get (take (i + 1) lines) p)
+  first-more were first other p = join (p == i) refl ∙ sym (ap due (ap (λ n. slice_get (take n lines) p) (next i) ∙ more-at lines i line there p))
+    where
+      next : (n : ℕ) → n + 1 ≡ suc n
+      next n = omega arith
+
+      join : (b : Bool) → (p == i) ≡ b → new p ≡ due (cond b (Some line) (slice_get (take i lines) p))
+      join true e = ⊎_elim
+          (λ (one : line.number ≡ 1). first one p ∙ ap (λ b. cond b (Some line.session) (old p)) e ∙ sym (at-one one))
+          (λ (more : line.number ≢ 1). other more p ∙ were p ∙ ap due (ap (slice_get (take i lines)) (same_from p i e) ∙ past lines i) ∙ sym (at-other more))
+          (cases_eq line.number 1)
+      join false e = ⊎_elim
+          (λ (one : line.number ≡ 1). first one p ∙ ap (λ b. cond b (Some line.session) (old p)) e ∙ were p)
+          (λ (more : line.number ≢ 1). other more p ∙ were p)
+          (cases_eq line.number 1)
 
 -- ALL OF A QUEUE
 pub fresh-queued : (lines : List Line) (n : ℕ) (queue : Queue) → AreFresh lines n queue.standings.items → AreFirst lines queue.next → ((place : ℕ) (line : Line) → slice_get lines place ≡ Some line → line.session.0 < n) → AreQueuedBy lines (λ session. 0) (λ session. 0) queue

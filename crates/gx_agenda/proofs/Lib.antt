@@ -1,3 +1,4 @@
+pub mod Rising
 pub mod Adding
 pub mod Agreeing
 pub mod Deliveries
@@ -20,3 +21,5 @@ pub mod NextLines
 pub mod Again
 pub mod Oks
 pub mod Parted
+pub mod Quieter
+pub mod Stamps

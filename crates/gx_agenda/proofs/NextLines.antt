@@ -3,7 +3,6 @@ use Rattle.std.proofs.Common.{◌≡◌, ℕ, suc, ◌+◌, ◌<◌, Bool, true,
 use Rattle.std.proofs.lemmas.Cmp.{nat_cmp_total}
 use Rattle.std.proofs.lemmas.Grind.{common_steps}
 use Rattle.std.proofs.lemmas.Option.{slice_get_within}
-use Rattle.std.specs.BTreeMap.{IsOrdered, get}
 use Rattle.std.specs.List.{cons_option, filter, filter_map, range_with_len}
 use Rattle.std.specs.Ordering.{nat_cmp}
 use Rattle.std.specs.Prelude.{is_some, option_map}
@@ -19,6 +18,7 @@ use Rattle.gx_store.specs.Points.{marks_in, starts_in}
 use Rattle.gx_store.specs.Schedule.{is_next, starts}
 use Rattle.gx_agenda.specs.declared.queue.Queue.{Queue}
 use Rattle.gx_agenda.specs.Queued.{AreQueued, session_due}
+use Rattle.gx_agenda.specs.VecMap.{IsRising, at}
 use Rattle.gx_agenda.proofs.Numbered.{IsNumbered, entry, numbered}
 
 place-rises : (m n : ℕ) → m < n → nat_cmp m n ≡ Less
@@ -59,9 +59,9 @@ module _ (script : Script) (steps : List Step) where
           ∙ rest
           ∙ sym (ap (λ b. map start_of (cond b (line ∷ filter (is_next steps) lines) (filter (is_next steps) lines))) is)
 
-  pub starts-listed : (queue : Queue) → AreQueued script steps queue → IsOrdered nat_cmp queue.next → map start_at queue.next.entries ≡ starts script steps
+  pub starts-listed : (queue : Queue) → AreQueued script steps queue → IsRising nat_cmp queue.next → map start_at queue.next ≡ starts script steps
   starts-listed queue queued sorted =
-      ap (map start_at) (numbered nat_cmp_total (λ n. n) place-rises f 0 (length script.lines) queue.next.entries sorted within (λ n low high. queued.next n))
+      ap (map start_at) (numbered nat_cmp_total (λ n. n) place-rises f 0 (length script.lines) queue.next sorted within (λ n low high. queued.next n))
       ∙ starts-from f 0 script.lines (λ i inside. ap (λ n. due (slice_get script.lines n)) (omega arith))
     where
       f : ℕ → Option SessionId
@@ -71,7 +71,7 @@ module _ (script : Script) (steps : List Step) where
       inside n None is some = absurd (cc)
       inside n (Some line) is some = slice_get_within script.lines n line is
 
-      within : (place : ℕ) → is_some (get nat_cmp queue.next place) ≡ true → IsNumbered (λ (n : ℕ). n) 0 (length script.lines) place
+      within : (place : ℕ) → is_some (at nat_cmp queue.next place) ≡ true → IsNumbered (λ (n : ℕ). n) 0 (length script.lines) place
       within place there = record { number = place; is = refl; low = omega arith; high = at-most place (inside place (slice_get script.lines place) refl (ap is_some (sym (queued.next place)) ∙ there)) }
         where
           at-most : (n : ℕ) → n < length script.lines → n < 0 + length script.lines

@@ -1,7 +1,7 @@
 -- The least request that is awaited, or a graph of a segment before it, is what is sent again first.
 use Rattle.std.proofs.Common.{◌≡◌, ℕ, ◌+◌, ◌<◌, ◌≤◌, Bool, true, false, cond, if◌then◌else◌, not, ◌&&◌, ◌||◌, refl, sym, ap, ◌∙◌, List, [], ◌∷◌, ◌++◌, length, arith}
 use Rattle.std.proofs.lemmas.Bool.Decides.{nat_tests}
-use Rattle.std.specs.BTreeMap.{IsLowerBound, get, is_at}
+use Rattle.std.specs.BTreeMap.{is_at}
 use Rattle.std.specs.List.{flat_map}
 use Rattle.std.specs.Map.{lookup}
 use Rattle.std.specs.Option.{option_to_list}
@@ -27,6 +27,7 @@ use Rattle.gx_agenda.specs.Awaited.{AreAsked, AreNoGraphsBefore, AreResendable, 
 use Rattle.gx_agenda.specs.declared.expected.Expected.TheVariants.{Command}
 use Rattle.gx_agenda.specs.Expected.{expected_of}
 use Rattle.gx_agenda.specs.Requests.{is_before, request_cmp, resend_of}
+use Rattle.gx_agenda.specs.VecMap.{IsLeast, at as lookup_at}
 use Rattle.gx_agenda.proofs.FirstAsked.{first-in-row, first-node, gxid-within, nodes-empty, row, row-none}
 
 order_of_numbers : (a g b h : ℕ) → is_gt (request_cmp (record { segment = record { 0 = a }; gxid = record { 0 = g } }) (record { segment = record { 0 = b }; gxid = record { 0 = h } })) ≡ false → a ≤ b
@@ -123,7 +124,7 @@ module _ (script : Script) (steps : List Step) where
             ∙ ap (λ b. if b then Resend s None ∷ [] else []) is.1)
 
     -- first what is asked
-    module _ (r : Request) (found : IsSome (get request_cmp known.due r)) (least : IsLowerBound request_cmp known.due r) where
+    module _ (r : Request) (found : IsSome (lookup_at request_cmp known.due r)) (least : IsLeast request_cmp known.due r) where
       is-asked : may_resend steps r.segment r.gxid ≡ true
       is-asked = sym (due-again steps known are r.segment r.gxid) ∙ found
 
@@ -155,25 +156,25 @@ module _ (script : Script) (steps : List Step) where
               ∙ first-in-row (may_resend steps) again begun r.segment r.gxid (graph r.segment) is-asked (λ h e. order_at_node r.segment.0 r.gxid.0 h.0 (bound r.segment h e))
               (gxid-within r.gxid 1 begun ((fit.each r.segment there).begun r.gxid (may-asked steps r.segment r.gxid is-asked)))
 
-    nothing : known.due.entries ≡ [] → (s : Node) (g : Gxid) → may_resend steps s g ≡ false
+    nothing : known.due ≡ [] → (s : Node) (g : Gxid) → may_resend steps s g ≡ false
     nothing empty s g = sym (due-again steps known are s g) ∙ ap (λ es. is_some (lookup (is_at (request_cmp (record { segment = s; gxid = g }))) es)) empty
 
     -- what is found to be least
     module _ (asked : Option Request) where
-      pub first-asked : IfSome asked (λ r. IsSome (get request_cmp known.due r)) → IfSome asked (λ r. IsLowerBound request_cmp known.due r) → IfNone asked (known.due.entries ≡ [])
+      pub first-asked : IfSome asked (λ r. IsSome (lookup_at request_cmp known.due r)) → IfSome asked (λ r. IsLeast request_cmp known.due r) → IfNone asked (known.due ≡ [])
           → IsFirstGraph script steps None → option_to_list (option_map resend_of asked) ≡ first
       first-asked = by asked
         where
-          by : (o : Option Request) → IfSome o (λ r. IsSome (get request_cmp known.due r)) → IfSome o (λ r. IsLowerBound request_cmp known.due r) → IfNone o (known.due.entries ≡ [])
+          by : (o : Option Request) → IfSome o (λ r. IsSome (lookup_at request_cmp known.due r)) → IfSome o (λ r. IsLeast request_cmp known.due r) → IfNone o (known.due ≡ [])
               → IsFirstGraph script steps None → option_to_list (option_map resend_of o) ≡ first
           by None found least none graphs = none-resent (nothing none) graphs
           by (Some r) found least none graphs = request-resent r found least (λ t there under. graphs t there)
 
-      pub first-earlier : IfSome asked (λ r. IsSome (get request_cmp known.due r)) → IfSome asked (λ r. IsLowerBound request_cmp known.due r) → IfNone asked (known.due.entries ≡ [])
+      pub first-earlier : IfSome asked (λ r. IsSome (lookup_at request_cmp known.due r)) → IfSome asked (λ r. IsLeast request_cmp known.due r) → IfNone asked (known.due ≡ [])
           → (s : Node) → IsFirstGraph script steps (Some s) → (if is_before s asked then Resend s None ∷ [] else option_to_list (option_map resend_of asked)) ≡ first
       first-earlier = by asked
         where
-          at : (s : Node) (r : Request) → IsSome (get request_cmp known.due r) → IsLowerBound request_cmp known.due r → IsFirstGraph script steps (Some s) → (b : Bool) → nat_lt s.0 r.segment.0 ≡ b
+          at : (s : Node) (r : Request) → IsSome (lookup_at request_cmp known.due r) → IsLeast request_cmp known.due r → IsFirstGraph script steps (Some s) → (b : Bool) → nat_lt s.0 r.segment.0 ≡ b
               → (if b then Resend s None ∷ [] else resend_of r ∷ []) ≡ first
           at s r found least is true before = graph-resent s is (λ t g under. none-before r found least t g (lower t.0 s.0 r.segment.0 under before))
             where
@@ -184,7 +185,7 @@ module _ (script : Script) (steps : List Step) where
               lower : (t s n : ℕ) → t < n → nat_lt s n ≡ false → t < s
               lower t s n under before = grind (arith, nat_tests)
 
-          by : (o : Option Request) → IfSome o (λ r. IsSome (get request_cmp known.due r)) → IfSome o (λ r. IsLowerBound request_cmp known.due r) → IfNone o (known.due.entries ≡ [])
+          by : (o : Option Request) → IfSome o (λ r. IsSome (lookup_at request_cmp known.due r)) → IfSome o (λ r. IsLeast request_cmp known.due r) → IfNone o (known.due ≡ [])
               → (s : Node) → IsFirstGraph script steps (Some s) → (if is_before s o then Resend s None ∷ [] else option_to_list (option_map resend_of o)) ≡ first
           by None found least none s is = graph-resent s is (λ t g under. nothing none t g)
           by (Some r) found least none s is = at s r found least is (nat_lt s.0 r.segment.0) refl

@@ -2,11 +2,11 @@
 use Rattle.std.proofs.Common.{◌≡◌, ◌+◌, ◌<◌, ℕ, Bool, true, false, cond, not, ◌&&◌, ◌||◌, eqb, refl, sym, ap, ◌∙◌, List, [], ◌∷◌, ◌++◌, append-nil, arith, length, get_or, take}
 use Rattle.std.proofs.lemmas.Bool.Decides.{nat_tests}
 use Rattle.std.proofs.lemmas.List.{take_more}
-use Rattle.std.specs.BTreeMap.{BTreeMap, btree_map_len, get, is_at}
+use Rattle.std.specs.BTreeMap.{BTreeMap, btree_map_len, is_at}
 use Rattle.std.specs.List.{filter, list_any}
 use Rattle.std.specs.Map.{lookup}
 use Rattle.std.specs.Option.{option_or}
-use Rattle.std.specs.Prelude.{Option, None, Some, unwrap_or}
+use Rattle.std.specs.Prelude.{Option, None, unwrap_or}
 use Rattle.gx_ids.specs.declared.ids.Gxid.{Gxid}
 use Rattle.gx_ids.specs.declared.ids.Node.{Node}
 use Rattle.gx_waits.specs.Claim.{same_claim, same_object}
@@ -23,9 +23,10 @@ use Rattle.gx_store.specs.Waits.{added, waits_at, waits_from, without}
 use Rattle.gx_agenda.specs.declared.asked.Asked.{Asked}
 use Rattle.gx_agenda.specs.declared.expected.Expected.{Expected}
 use Rattle.gx_agenda.specs.declared.request.Request.{Request}
-use Rattle.gx_agenda.specs.Awaited.{AreAsked, AreAwaited, AreWaits, IsIndexed, awaited_at, due_of, waits_in}
+use Rattle.gx_agenda.specs.Awaited.{AreAsked, AreAwaited, AreWaits, IsIndexed, awaited_at, begins_wait, due_of, waits_in}
 use Rattle.gx_agenda.specs.Requests.{request_cmp}
 use Rattle.gx_agenda.proofs.Changes.{is_same_request}
+use Rattle.gx_agenda.proofs.Lists.{same_number}
 use Rattle.gx_agenda.proofs.Parted.{none-first}
 
 -- THE INDEX
@@ -95,7 +96,7 @@ module _ (q : Request) (there : List Claim) (o0 o1 : Request → Option (List Cl
       (sym (ap (λ o. due_of o (w q)) (same q) ∙ ap (due_of (p q)) (set-here q w there (λ r. unwrap_or (o1 r) []) put)))
 
 -- where nobody waits, no wait ends
-no-waits : (q : Request) (es : List (Request × List Claim)) → length es ≡ 0 → unwrap_or (lookup (is_at (request_cmp q)) es) [] ≡ []
+pub no-waits : (q : Request) (es : List (Request × List Claim)) → length es ≡ 0 → unwrap_or (lookup (is_at (request_cmp q)) es) [] ≡ []
 no-waits q [] none = refl
 no-waits q (e ∷ es) none = absurd (omega (arith, none))
 
@@ -232,6 +233,33 @@ waits_from-append node h (m ∷ ms) ns = waits_from-append node h ms ns
 
 pub waits-next : (node : Node) (h : List Claim) (ms : List Mark) (k : ℕ) (m : Mark) → k < length ms → m ≡ get_or ms k m → waits_from node h (take (k + 1) ms) ≡ waits_from node (waits_from node h (take k ms)) (m ∷ [])
 waits-next node h ms k m inside is = ap (waits_from node h) (take_more ms k m inside ∙ ap (λ x. take k ms ++ x ∷ []) (sym is)) ∙ waits_from-append node h (take k ms) (m ∷ [])
+
+-- where nobody waits and no wait begins, nobody waits behind the marks
+all-none : (ws : List Claim) → ((g : Gxid) → of_gxid g ws ≡ []) → ws ≡ []
+all-none [] none = refl
+all-none (w ∷ ws) none = absurd (never w (of_gxid w.gxid ws) (sym (ap (λ b. cond b (w ∷ of_gxid w.gxid ws) (of_gxid w.gxid ws)) (same_number w.gxid.0)) ∙ none w.gxid))
+  where
+    never : (x : Claim) (xs : List Claim) → x ∷ xs ≡ [] → ⊥
+    never x xs e = cc
+
+none-ends : (c : Claim) (b : Bool) → cond b (without c []) [] ≡ []
+none-ends c true = refl
+none-ends c false = refl
+
+none-begun : (node : Node) (ms : List Mark) → list_any begins_wait ms ≡ false → waits_from node [] ms ≡ []
+none-begun node [] none = refl
+none-begun node (mark.Wait n g object mode ∷ ms) none = absurd (cc)
+none-begun node (mark.Hold n g object mode ∷ ms) none =
+    ap (λ h. waits_from node h ms) (none-ends (record { gxid = g; object = object; mode = mode }) (is_same_node n node)) ∙ none-begun node ms none
+none-begun node (mark.Release n g object mode ∷ ms) none =
+    ap (λ h. waits_from node h ms) (none-ends (record { gxid = g; object = object; mode = mode }) (is_same_node n node)) ∙ none-begun node ms none
+none-begun node (m ∷ ms) none = none-begun node ms none
+
+pub none-waits : (asked : Asked) (ms : List Mark) → btree_map_len asked.waiting ≡ 0 → list_any begins_wait ms ≡ false → (standing : Node → List Claim) → AreWaits standing asked → AreWaits (λ node. waits_from node (standing node) ms) asked
+none-waits asked ms empty none standing were node g = were node g ∙ ap (of_gxid g) (nobody ∙ sym (ap (λ h. waits_from node h ms) nobody ∙ none-begun node ms none))
+  where
+    nobody : standing node ≡ []
+    nobody = all-none (standing node) (λ h. sym (were node h) ∙ no-waits (record { segment = node; gxid = h }) asked.waiting.entries empty)
 
 -- A STEP
 -- the answers were noted, and then the waits

@@ -1,5 +1,5 @@
 -- What is awaited after steps, and when the first of it is what is sent again.
-use Rattle.std.specs.Prelude.{◌≡◌, ℕ, ◌<◌, ◌==◌, ◌&&◌, if◌then◌else◌, not, true, false, is_some, List, [], length, None, Some, Option, option_map, unwrap_or}
+use Rattle.std.specs.Prelude.{◌≡◌, ℕ, ◌<◌, ◌==◌, ◌&&◌, if◌then◌else◌, not, Bool, true, false, is_some, List, [], length, None, Some, Option, option_map, unwrap_or}
 use Rattle.std.specs.BTreeMap.{BTreeMap, get}
 use Rattle.std.specs.List.{filter, list_any}
 use Rattle.std.specs.Option.{option_or}
@@ -9,10 +9,14 @@ use Rattle.gx_msg.specs.declared.message.Message.{Message}
 use Rattle.gx_script.specs.declared.Script.{Script}
 use Rattle.gx_store.specs.declared.event.Event.{Event}
 use Rattle.gx_store.specs.declared.event.Event.TheVariants.{Receive}
+use Rattle.gx_store.specs.declared.mark.Mark.{Mark}
+use Rattle.gx_store.specs.declared.mark.Mark.TheVariants as mark
 use Rattle.gx_store.specs.declared.run.Step.{Step}
+use Rattle.gx_store.specs.Journals.{is_same_node}
 use Rattle.gx_store.specs.Marks.{is_same_gxid}
 use Rattle.gx_store.specs.Ordered.{IsSegment}
 use Rattle.gx_store.specs.Points.{marks_in}
+use Rattle.gx_store.specs.Refusals.{the_coordinator}
 use Rattle.gx_store.specs.Schedule as schedule
 use Rattle.gx_store.specs.Schedule.{gxids_of, is_about, is_graph_awaited, is_quiet, sent_message}
 use Rattle.gx_store.specs.Waits.{waits_at}
@@ -22,10 +26,11 @@ use Rattle.gx_agenda.specs.declared.expected.Expected.{Expected}
 use Rattle.gx_agenda.specs.declared.request.Request.{Request}
 use Rattle.gx_agenda.specs.Expected.{expected_of, is_command}
 use Rattle.gx_agenda.specs.Requests.{request_cmp}
+use Rattle.gx_agenda.specs.VecMap.{at}
 
 -- the answer that is awaited of a request, whether it may be asked for again or not
 abbrev pub awaited_at : Asked → Request → Option Expected
-awaited_at asked r = option_or (get request_cmp asked.due r) (get request_cmp asked.withheld r)
+awaited_at asked r = option_or (at request_cmp asked.due r) (at request_cmp asked.withheld r)
 
 -- the answer of a segment for a transaction that is awaited
 abbrev pub expected_at : Asked → Node → Gxid → Option Expected
@@ -44,7 +49,7 @@ due_of None waits = None
 due_of (Some expected) waits = if is_command expected && not (length waits == 0) then None else Some expected
 
 abbrev pub due_at : Asked → Node → Gxid → Option Expected
-due_at asked segment g = get request_cmp asked.due (record { segment = segment; gxid = g })
+due_at asked segment g = at request_cmp asked.due (record { segment = segment; gxid = g })
 
 -- each segment's answer for each transaction is awaited as the steps say
 abbrev pub AreAwaited : List Step → Asked → Type 0
@@ -54,9 +59,14 @@ AreAwaited steps asked = (segment : Node) (g : Gxid) → expected_at asked segme
 abbrev pub AreWaits : (Node → List Claim) → Asked → Type 0
 AreWaits standing asked = (node : Node) (g : Gxid) → waits_for asked node g ≡ filter (λ wait. is_same_gxid wait.gxid g) (standing node)
 
+-- a wait begins
+abbrev pub begins_wait : Mark → Bool
+begins_wait (mark.Wait node g object mode) = true
+begins_wait _ = false
+
 -- what may be asked for again is found
 abbrev pub IsIndexed : Asked → Type 0
-IsIndexed asked = (r : Request) → get request_cmp asked.due r ≡ due_of (awaited_at asked r) (waits_in asked.waiting r)
+IsIndexed asked = (r : Request) → at request_cmp asked.due r ≡ due_of (awaited_at asked r) (waits_in asked.waiting r)
 
 -- all of it is as the steps say
 pub record AreAsked (steps : List Step) (asked : Asked) : Type 0 where
@@ -68,6 +78,10 @@ pub record AreAsked (steps : List Step) (asked : Asked) : Type 0 where
 abbrev pub told_in : List Step → Event → Option Message
 told_in steps (Receive from to number) = sent_message from to number steps
 told_in steps _ = None
+
+-- what a step of the coordinator was told
+abbrev pub IsTold : List Step → Step → Option Message → Type 0
+IsTold steps step told = is_same_node step.stamp.node the_coordinator ≡ true → told ≡ told_in steps step.event
 
 -- nothing is left on a segment's links, and what is asked of it is asked of transactions that have begun
 pub record IsResendable (script : Script) (steps : List Step) (segment : Node) : Type 0 where

@@ -1,3 +1,4 @@
+pub mod VecMap
 pub mod Links
 pub mod Faults
 pub mod Agrees
@@ -10,3 +11,4 @@ pub mod Requests
 pub mod Expected
 pub mod Awaited
 pub mod Following
+pub mod Quiet

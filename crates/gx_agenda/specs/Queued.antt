@@ -1,7 +1,6 @@
 -- A queue that agrees with the steps of a run.
 use Rattle.std.specs.Prelude.{◌≡◌, ℕ, ◌+◌, ◌<◌, ◌^◌, ◌==◌, ◌&&◌, Bool, if◌then◌else◌, List, length, slice_get, Some, None}
 use Rattle.std.specs.declared.option.Option.{Option}
-use Rattle.std.specs.BTreeMap.{BTreeMap, get}
 use Rattle.std.specs.Ordering.{nat_cmp}
 use Rattle.gx_ids.specs.declared.ids.SessionId.{SessionId}
 use Rattle.gx_script.specs.declared.Line.{Line}
@@ -12,6 +11,7 @@ use Rattle.gx_store.specs.Points.{marks_in, starts_in}
 use Rattle.gx_agenda.specs.declared.queue.Queue.{Queue}
 use Rattle.gx_agenda.specs.declared.standing.Standing.{Standing}
 use Rattle.gx_agenda.specs.LinePlaces.{ArePlaces}
+use Rattle.gx_agenda.specs.VecMap.{at}
 
 -- By how many lines of each session were started and how many were answered: the session of the line is idle, and the line is
 -- its next. With the counts of steps this is `is_next`.
@@ -34,11 +34,11 @@ pub record IsStanding (lines : List Line) (session : SessionId) (started answere
 pub record AreQueuedBy (lines : List Line) (started answered : SessionId → ℕ) (queue : Queue) : Type 0 where
   pub known : (place : ℕ) (line : Line) → slice_get lines place ≡ Some line → line.session.0 < length queue.standings.items
   pub each : (session : SessionId) (standing : Standing) → slice_get queue.standings.items session.0 ≡ Some standing → IsStanding lines session (started session) (answered session) standing
-  pub next : (place : ℕ) → get nat_cmp queue.next place ≡ session_due started answered (slice_get lines place)
+  pub next : (place : ℕ) → at nat_cmp queue.next place ≡ session_due started answered (slice_get lines place)
 
 -- nothing was done: by place, the sessions whose first lines stand there
-abbrev pub AreFirst : List Line → BTreeMap ℕ SessionId → Type 0
-AreFirst lines next = (place : ℕ) → get nat_cmp next place ≡ session_due (λ session. 0) (λ session. 0) (slice_get lines place)
+abbrev pub AreFirst : List Line → List (ℕ × SessionId) → Type 0
+AreFirst lines next = (place : ℕ) → at nat_cmp next place ≡ session_due (λ session. 0) (λ session. 0) (slice_get lines place)
 
 -- the queue is as the script and the steps have it
 abbrev pub AreQueued : Script → List Step → Queue → Type 0

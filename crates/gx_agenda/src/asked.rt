@@ -1,6 +1,6 @@
-ghost use Rattle.std.specs.Prelude.{◌≡◌, ◌++◌, ◌∷◌, [], ℕ, List, Option, Some, None, if◌then◌else◌, ◌&&◌, OnOk, IfSome, IfNone, IsSome, map, option_map, ◌<◌, ◌==◌, not, length};
+ghost use Rattle.std.specs.Prelude.{◌≡◌, ◌++◌, ◌∷◌, [], ℕ, List, Option, Some, None, false, if◌then◌else◌, ◌&&◌, OnOk, IfSome, IfNone, IsSome, map, option_map, ◌<◌, ◌==◌, not, length};
 ghost use Rattle.std.specs.Option.{option_copied, option_to_list};
-ghost use Rattle.std.specs.BTreeMap.{IsLowerBound, IsOrdered, get, is_at};
+ghost use Rattle.std.specs.BTreeMap.{is_at};
 ghost use Rattle.std.specs.List.{filter, flat_map};
 ghost use Rattle.gx_ids.specs.declared.ids.Gxid.{Gxid};
 ghost use Rattle.gx_ids.specs.declared.ids.Node.{Node};
@@ -9,20 +9,23 @@ ghost use Rattle.gx_script.specs.declared.Script.{Script};
 ghost use Rattle.gx_store.specs.declared.run.Step.{Step};
 ghost use Rattle.gx_store.specs.Journals.{is_same_node};
 ghost use Rattle.gx_store.specs.Marks.{is_same_gxid};
-ghost use Rattle.gx_store.specs.Schedule.{asked_by, first_of, is_about, is_graph_awaited, resends, segments_of, unless_answered};
+ghost use Rattle.gx_store.specs.Points.{marks_in};
+ghost use Rattle.gx_store.specs.Schedule.{asked_by, first_of, is_about, is_graph_awaited, resends, resumptions, segments_of, unless_answered};
 ghost use Rattle.gx_agenda.specs.declared.request.Request.{Request as OneRequest};
-ghost use Rattle.gx_agenda.specs.Awaited.{AreAsked, AreAwaited, AreResendable, IsFirstGraph, IsIndexed, IsResendable, awaited_at, due_of, expected_at, told_in, waits_in};
+ghost use Rattle.gx_agenda.specs.Awaited.{AreAsked, AreAwaited, AreResendable, IsFirstGraph, IsIndexed, IsResendable, IsTold, awaited_at, due_of, expected_at, told_in, waits_in};
 ghost use Rattle.gx_agenda.specs.Expected.{expected_of, unless_met};
 ghost use Rattle.gx_agenda.specs.Following.{Follows, FollowsOrders, IsOrderOf, unless_told};
 ghost use Rattle.gx_agenda.specs.Requests.{request_cmp};
+ghost use Rattle.gx_agenda.specs.VecMap.{IsLeast, IsRising, at};
 
 use crate::expected::{Expected, expected_answer, is_met_by, transaction_of};
 use crate::repeating::is_asked_anew;
 use crate::request::Request;
 use crate::resends::{earlier, first_key, push_graph, push_requests, resend};
+use crate::vec_map::VecMap;
 use gx_ids::{Gxid, Mem, Node, Seq};
 use gx_msg::{Message, Reply};
-use gx_store::{Event, Mark, Step};
+use gx_store::{Event, Mark, StepView};
 use gx_waits::Claim;
 use std::alloc::Global;
 use std::collections::BTreeMap;
@@ -31,9 +34,9 @@ use std::collections::BTreeMap;
 #[derive(Drop)]
 pub struct Asked {
     /// The answers that may be asked for again.
-    pub due: BTreeMap<Request, Expected>,
+    pub due: VecMap<Request, Expected>,
     /// The others: those to commands whose transactions wait where they were sent.
-    pub withheld: BTreeMap<Request, Expected>,
+    pub withheld: VecMap<Request, Expected>,
     pub waiting: BTreeMap<Request, Seq<Claim>>,
     pub alloc: Global,
 }
@@ -44,20 +47,20 @@ impl Asked {
         ensures { AreAsked [] result }
     {
         Asked {
-            due: BTreeMap::new(alloc),
-            withheld: BTreeMap::new(alloc),
+            due: VecMap::new(alloc),
+            withheld: VecMap::new(alloc),
             waiting: BTreeMap::new(alloc),
             alloc,
         }
     }
 
-    /// A step of the run was done. `told` is the message that its event received, if it received one. Where memory runs out,
-    /// what is awaited is no longer known.
-    pub fn note(&mut self, step: &Step, told: Option<&Message>) -> Mem<()>
-        ensures { OnOk result ((steps : List Step) → AreAsked steps self.old → option_copied told.entry ≡ told_in steps step.now.event → AreAsked (steps ++ step.now ∷ []) self.new) }
+    /// A step of the run was done. If it is the coordinator's, `told` is the message that its event received, if it received one. Where
+    /// memory runs out, what is awaited is no longer known.
+    pub fn note(&mut self, step: &StepView<'_>, told: Option<&Message>) -> Mem<()>
+        ensures { OnOk result ((steps : List Step) → AreAsked steps self.old → IsTold steps step.now (option_copied told.entry) → AreAsked (steps ++ step.now ∷ []) self.new) }
     {
         self.note_answers(step, told)?;
-        self.note_waits(step.marks.as_slice())
+        self.note_waits(step.marks())
     }
 
     /// What is sent again first, by segment: there by transaction, and the graph last. Told is the first segment whose graph is
@@ -76,7 +79,6 @@ impl Asked {
     /// Adds all that is sent again to a segment on whose links nothing is left: by transaction, and the graph last, of which it is
     /// told whether it is awaited.
     pub fn push_resends(&self, events: &mut Vec<Event>, segment: Node, graph: bool) -> Mem<()>
-        requires { segment.0 < 255 }
         ensures { OnOk result ((script : Script) (steps : List Step) → AreAsked steps self.now → IsResendable script steps segment
             → graph ≡ is_graph_awaited steps segment → events.new.items ≡ events.old.items ++ resends script steps segment) }
     {
@@ -84,29 +86,37 @@ impl Asked {
         push_graph(segment, graph, events)
     }
 
+    /// Whether somebody waits. Where nobody does, nobody resumes.
+    pub fn is_any_waiting(&self) -> bool
+        ensures { result ≡ false → (steps : List Step) → AreAsked steps self.now → (node : Node) → resumptions (marks_in steps) node ≡ [] }
+    {
+        !self.waiting.is_empty()
+    }
+
     // A step has sent or answered what it did.
-    fn note_answers(&mut self, step: &Step, told: Option<&Message>) -> Mem<()>
-        ensures answers { OnOk result ((steps : List Step) → AreAwaited steps self.old → option_copied told.entry ≡ told_in steps step.now.event → AreAwaited (steps ++ step.now ∷ []) self.new) }
+    fn note_answers(&mut self, step: &StepView<'_>, told: Option<&Message>) -> Mem<()>
+        ensures answers { OnOk result ((steps : List Step) → AreAwaited steps self.old → IsTold steps step.now (option_copied told.entry) → AreAwaited (steps ++ step.now ∷ []) self.new) }
         ensures waiting { self.new.waiting ≡ self.old.waiting }
         ensures due { OnOk result (IsIndexed self.old → IsIndexed self.new) }
     {
-        if step.stamp.node == Node(0) {
+        if step.stamp().node == Node(0) {
             self.hear(step, told);
-            self.sent_all(step.marks.as_slice())?;
+            self.sent_all(step.marks())?;
         }
         Ok(())
     }
 
     // The coordinator hears what its step received. What the step asks anew is awaited whatever it hears.
-    fn hear(&mut self, step: &Step, told: Option<&Message>)
+    fn hear(&mut self, step: &StepView<'_>, told: Option<&Message>)
         ensures asked { (steps : List Step) → option_copied told.entry ≡ told_in steps step.now.event → (segment : Node) (g : Gxid) (was : Option Message) → IsOrderOf g was
             → expected_at self.old segment g ≡ option_map expected_of was → (left : Option Message) × (expected_at self.new segment g ≡ option_map expected_of left)
             × (asked_by segment g left step.now.marks ≡ asked_by segment g (unless_answered steps segment g was step.now.event) step.now.marks) }
         ensures waiting { self.new.waiting ≡ self.old.waiting }
         ensures due { IsIndexed self.old → IsIndexed self.new }
     {
-        if !is_asked_anew(step.event, told, step.marks.as_slice()) {
-            self.received(step.event, told);
+        let event = step.event();
+        if !is_asked_anew(event, told, step.marks()) {
+            self.received(event, told);
         }
     }
 
@@ -190,9 +200,9 @@ impl Asked {
     fn awaited(&self, request: &Request) -> Option<Expected>
         ensures { result ≡ awaited_at self.now request.now }
     {
-        match self.due.get(request) {
-            Some(expected) => Some(*expected),
-            None => self.withheld.get(request).copied(),
+        match self.due.get(*request) {
+            Some(expected) => Some(expected),
+            None => self.withheld.get(*request),
         }
     }
 
@@ -202,16 +212,16 @@ impl Asked {
         ensures waiting { self.new.waiting ≡ self.old.waiting }
         ensures due { IsIndexed self.old → IsIndexed self.new }
     {
-        self.due.remove(request);
-        self.withheld.remove(request);
+        self.due.remove(*request);
+        self.withheld.remove(*request);
     }
 
     // An answer is awaited. Whether it may be asked for again is told by its kind and by the waits.
     fn expect(&mut self, request: Request, expected: Expected) -> Mem<()>
         ensures awaited { OnOk result ((r : OneRequest) → awaited_at self.new r ≡ (if is_at (request_cmp request) r then Some expected else awaited_at self.old r)) }
         ensures waiting { self.new.waiting ≡ self.old.waiting }
-        ensures due { OnOk result ((r : OneRequest) → get request_cmp self.new.due r
-            ≡ (if is_at (request_cmp request) r then due_of (Some expected) (waits_in self.old.waiting request) else get request_cmp self.old.due r)) }
+        ensures due { OnOk result ((r : OneRequest) → at request_cmp self.new.due r
+            ≡ (if is_at (request_cmp request) r then due_of (Some expected) (waits_in self.old.waiting request) else at request_cmp self.old.due r)) }
     {
         if expected.is_command() && self.is_waiting(&request) {
             self.withhold(request, expected)
@@ -224,8 +234,8 @@ impl Asked {
     pub(crate) fn settle(&mut self, request: Request) -> Mem<()>
         ensures awaited { OnOk result ((r : OneRequest) → awaited_at self.new r ≡ awaited_at self.old r) }
         ensures waiting { self.new.waiting ≡ self.old.waiting }
-        ensures due { OnOk result ((r : OneRequest) → get request_cmp self.new.due r
-            ≡ (if is_at (request_cmp request) r then due_of (awaited_at self.old request) (waits_in self.old.waiting request) else get request_cmp self.old.due r)) }
+        ensures due { OnOk result ((r : OneRequest) → at request_cmp self.new.due r
+            ≡ (if is_at (request_cmp request) r then due_of (awaited_at self.old request) (waits_in self.old.waiting request) else at request_cmp self.old.due r)) }
     {
         match self.awaited(&request) {
             Some(expected) => self.expect(request, expected),
@@ -236,9 +246,9 @@ impl Asked {
     fn withhold(&mut self, request: Request, expected: Expected) -> Mem<()>
         ensures awaited { OnOk result ((r : OneRequest) → awaited_at self.new r ≡ (if is_at (request_cmp request) r then Some expected else awaited_at self.old r)) }
         ensures waiting { self.new.waiting ≡ self.old.waiting }
-        ensures due { (r : OneRequest) → get request_cmp self.new.due r ≡ (if is_at (request_cmp request) r then None else get request_cmp self.old.due r) }
+        ensures due { (r : OneRequest) → at request_cmp self.new.due r ≡ (if is_at (request_cmp request) r then None else at request_cmp self.old.due r) }
     {
-        self.due.remove(&request);
+        self.due.remove(request);
         self.withheld.insert(request, expected)?;
         Ok(())
     }
@@ -246,9 +256,9 @@ impl Asked {
     fn offer(&mut self, request: Request, expected: Expected) -> Mem<()>
         ensures awaited { OnOk result ((r : OneRequest) → awaited_at self.new r ≡ (if is_at (request_cmp request) r then Some expected else awaited_at self.old r)) }
         ensures waiting { self.new.waiting ≡ self.old.waiting }
-        ensures due { OnOk result ((r : OneRequest) → get request_cmp self.new.due r ≡ (if is_at (request_cmp request) r then Some expected else get request_cmp self.old.due r)) }
+        ensures due { OnOk result ((r : OneRequest) → at request_cmp self.new.due r ≡ (if is_at (request_cmp request) r then Some expected else at request_cmp self.old.due r)) }
     {
-        self.withheld.remove(&request);
+        self.withheld.remove(request);
         self.due.insert(request, expected)?;
         Ok(())
     }

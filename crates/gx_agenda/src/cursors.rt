@@ -7,6 +7,7 @@ ghost use Rattle.gx_store.specs.declared.run.Step.{Step};
 ghost use Rattle.gx_store.specs.Ordered.{IsLink, sent_in};
 ghost use Rattle.gx_store.specs.Schedule.{first_of, left_on};
 ghost use Rattle.gx_agenda.specs.Agrees.{Agree, cursor_at, is_delivery};
+ghost use Rattle.gx_agenda.specs.Faults.{Follows};
 ghost use Rattle.gx_agenda.specs.FreshLinks.{AreFresh};
 ghost use Rattle.gx_agenda.specs.Links.{link_of};
 
@@ -58,9 +59,7 @@ impl Cursors {
         ensures others { (link : ℕ) → link ≢ link_of from to → cursor_at self.new link ≡ cursor_at self.old link }
         ensures faults { self.new.faults ≡ self.old.faults }
     {
-        let link = link_between(from, to);
-        let cursor = self.faults.after(link, self.cursor(link));
-        self.set(link, cursor);
+        self.advance(link_between(from, to));
     }
 
     /// An event that delivers nothing leaves the cursors as they are to be.
@@ -79,15 +78,16 @@ impl Cursors {
         })
     }
 
-    // Sets the cursor of a link.
-    fn set(&mut self, link: usize, cursor: Cursor)
-        ensures here { link < length self.old.links.items → cursor_at self.new link ≡ cursor }
+    // The cursor of a link goes on by a delivery.
+    fn advance(&mut self, link: usize)
+        ensures here { link < length self.old.links.items → (cursor_at self.old link).done + 1 < 2 ^ 64
+            → Follows self.old.faults link (cursor_at self.old link) (cursor_at self.new link) }
         ensures others { (l : ℕ) → l ≢ link → cursor_at self.new l ≡ cursor_at self.old l }
         ensures whole { length self.new.links.items ≡ length self.old.links.items }
         ensures faults { self.new.faults ≡ self.old.faults }
     {
-        if let Some(place) = self.links.get_mut(link) {
-            *place = cursor;
+        if let Some(cursor) = self.links.get_mut(link) {
+            *cursor = self.faults.after(link, *cursor);
         }
     }
 }

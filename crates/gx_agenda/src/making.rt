@@ -7,10 +7,10 @@ ghost use Rattle.gx_agenda.specs.Queued.{AreFirst};
 
 use crate::places::add_first;
 use crate::standing::Standing;
+use crate::vec_map::VecMap;
 use gx_ids::{Mem, Seq, SessionId};
 use gx_script::Line;
 use std::alloc::Global;
-use std::collections::BTreeMap;
 
 // For each of so many sessions the places of its lines.
 pub(crate) fn fresh_standings(alloc: Global, lines: &[Line], sessions: usize) -> Mem<Vec<Standing>>
@@ -48,10 +48,10 @@ fn add_place(standings: &mut Vec<Standing>, session: usize, place: usize) -> Mem
 }
 
 // By place, the sessions whose first lines stand there.
-pub(crate) fn first_lines(alloc: Global, lines: &[Line]) -> Mem<BTreeMap<usize, SessionId>>
+pub(crate) fn first_lines(alloc: Global, lines: &[Line]) -> Mem<VecMap<usize, SessionId>>
     ensures { IfOk result (λ next. AreFirst lines.now next) }
 {
-    let mut next = BTreeMap::new(alloc);
+    let mut next = VecMap::new(alloc);
     for place in 0..lines.len() {
         add_first(&mut next, place, &lines[place])?;
     }

@@ -1,5 +1,4 @@
 ghost use Rattle.std.specs.Prelude.{◌≡◌, ◌<◌, ◌+◌, ◌++◌, ◌∷◌, [], ℕ, List, length, IfOk, OnOk, map, option_map, slice_get, Some};
-ghost use Rattle.std.specs.BTreeMap.{IsOrdered};
 ghost use Rattle.std.specs.Ordering.{nat_cmp};
 ghost use Rattle.std.specs.Option.{option_to_list};
 ghost use Rattle.gx_ids.specs.declared.ids.SessionId.{SessionId as OneSession};
@@ -14,21 +13,22 @@ ghost use Rattle.gx_store.specs.Schedule.{first_of, starts};
 ghost use Rattle.gx_agenda.specs.declared.standing.Standing.{Standing as OneStanding};
 ghost use Rattle.gx_agenda.specs.Moves.{AreFew, IsAdvancedAt, more_for, session_answered, session_started};
 ghost use Rattle.gx_agenda.specs.Queued.{AreCounted, AreQueued, AreQueuedBy};
+ghost use Rattle.gx_agenda.specs.VecMap.{IsRising};
 
 use crate::making::{first_lines, fresh_standings};
 use crate::places::go_on;
 use crate::standing::{Move, Standing};
+use crate::vec_map::VecMap;
 use gx_ids::{Mem, SessionId};
 use gx_script::Script;
-use gx_store::{Event, Mark, Step};
+use gx_store::{Event, Mark, StepView};
 use std::alloc::Global;
-use std::collections::BTreeMap;
 
 /// The next line of each session that is idle, by its place in the file.
 #[derive(Drop)]
 pub struct Queue {
     pub standings: Vec<Standing>,
-    pub next: BTreeMap<usize, SessionId>,
+    pub next: VecMap<usize, SessionId>,
 }
 
 impl Queue {
@@ -47,8 +47,8 @@ impl Queue {
     pub fn first(&self) -> Option<SessionId>
         ensures { (script : Script) (steps : List Step) → AreQueued script steps self.now → option_to_list (option_map Start result) ≡ first_of (starts script steps) }
     {
-        match self.next.first_key_value() {
-            Some((_, session)) => Some(*session),
+        match self.next.first() {
+            Some((_, session)) => Some(session),
             None => None,
         }
     }
@@ -61,11 +61,11 @@ impl Queue {
     }
 
     /// A step of the run was done.
-    pub fn note(&mut self, step: &Step) -> Mem<()>
+    pub fn note(&mut self, step: &StepView<'_>) -> Mem<()>
         ensures { OnOk result ((script : Script) (steps : List Step) → AreQueued script steps self.old → AreCounted (steps ++ step.now ∷ []) → AreQueued script (steps ++ step.now ∷ []) self.new) }
     {
-        self.note_event(step.event)?;
-        self.note_marks(step.marks.as_slice())
+        self.note_event(step.event())?;
+        self.note_marks(step.marks())
     }
 
     // An event may start a line.
@@ -118,11 +118,11 @@ impl Queue {
 }
 
 // Adds the starts of these sessions' lines.
-fn push_sessions(next: &BTreeMap<usize, SessionId>, events: &mut Vec<Event>) -> Mem<()>
-    ensures all { OnOk result (events.new.items ≡ events.old.items ++ map (λ (e : ℕ × OneSession). Start e.1) next.now.entries) }
-    ensures ordered { IsOrdered nat_cmp next.now }
+fn push_sessions(next: &VecMap<usize, SessionId>, events: &mut Vec<Event>) -> Mem<()>
+    ensures all { OnOk result (events.new.items ≡ events.old.items ++ map (λ (e : ℕ × OneSession). Start e.1) next.now) }
+    ensures ordered { IsRising nat_cmp next.now }
 {
-    for (_, session) in next {
+    for (_, session) in next.entries() {
         events.push(Event::Start(*session))?;
     }
     Ok(())

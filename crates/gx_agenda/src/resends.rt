@@ -1,18 +1,18 @@
 // What is sent again.
 ghost use Rattle.std.specs.Prelude.{◌≡◌, ◌<◌, ◌++◌, ◌∷◌, [], None, if◌then◌else◌, OnOk, IfSome, IfNone, IsSome, map, option_map};
 ghost use Rattle.std.specs.Option.{option_to_list};
-ghost use Rattle.std.specs.BTreeMap.{IsLowerBound, IsOrdered, get};
 ghost use Rattle.std.specs.List.{filter};
 ghost use Rattle.gx_store.specs.declared.event.Event.TheVariants.{Resend};
 ghost use Rattle.gx_agenda.specs.declared.expected.Expected.{Expected as OneExpected};
 ghost use Rattle.gx_agenda.specs.declared.request.Request.{Request as OneRequest};
 ghost use Rattle.gx_agenda.specs.Requests.{is_before, is_of, request_cmp, resend_of};
+ghost use Rattle.gx_agenda.specs.VecMap.{IsLeast, IsRising, at};
 
 use crate::expected::Expected;
 use crate::request::Request;
-use gx_ids::{Gxid, Mem, Node};
+use crate::vec_map::VecMap;
+use gx_ids::{Mem, Node};
 use gx_store::Event;
-use std::collections::BTreeMap;
 
 // The segment's graph, if the segment stands before what is asked, or else that.
 pub(crate) fn earlier(segment: Node, asked: Option<Request>) -> Option<Event>
@@ -49,35 +49,36 @@ pub(crate) fn resend(asked: Option<Request>) -> Option<Event>
 }
 
 // The least request.
-pub(crate) fn first_key(pending: &BTreeMap<Request, Expected>) -> Option<Request>
-    ensures found { IfSome result (λ first. IsSome (get request_cmp pending.now first)) }
-    ensures least { IfSome result (λ first. IsLowerBound request_cmp pending.now first) }
-    ensures none { IfNone result (pending.now.entries ≡ []) }
+pub(crate) fn first_key(pending: &VecMap<Request, Expected>) -> Option<Request>
+    ensures found { IfSome result (λ first. IsSome (at request_cmp pending.now first)) }
+    ensures least { IfSome result (λ first. IsLeast request_cmp pending.now first) }
+    ensures none { IfNone result (pending.now ≡ []) }
 {
-    let (request, _) = pending.first_key_value()?;
-    Some(*request)
+    let (request, _) = pending.first()?;
+    Some(request)
 }
 
-// Adds the resends of a segment's requests, which lie side by side.
+// Adds the resends of a segment's requests.
 pub(crate) fn push_requests(
-    pending: &BTreeMap<Request, Expected>,
+    pending: &VecMap<Request, Expected>,
     segment: Node,
     events: &mut Vec<Event>,
 ) -> Mem<()>
-    requires { segment.0 < 255 }
     ensures all { OnOk result (events.new.items ≡ events.old.items
-        ++ map (λ (e : OneRequest × OneExpected). resend_of e.0) (filter (λ (e : OneRequest × OneExpected). is_of segment e.0) pending.now.entries)) }
-    ensures ordered { IsOrdered request_cmp pending.now }
+        ++ map (λ (e : OneRequest × OneExpected). resend_of e.0) (filter (λ (e : OneRequest × OneExpected). is_of segment e.0) pending.now)) }
+    ensures ordered { IsRising request_cmp pending.now }
 {
-    let least = Request {
-        segment,
-        gxid: Gxid(0),
-    };
-    let behind = Request {
-        segment: Node(segment.0 + 1),
-        gxid: Gxid(0),
-    };
-    for (request, _) in pending.range(least..behind) {
+    for (request, _) in pending.entries() {
+        push_request(*request, segment, events)?;
+    }
+    Ok(())
+}
+
+// The resend of a request, if it is the segment's.
+fn push_request(request: Request, segment: Node, events: &mut Vec<Event>) -> Mem<()>
+    ensures { OnOk result (events.new.items ≡ events.old.items ++ (if is_of segment request then resend_of request ∷ [] else [])) }
+{
+    if request.segment == segment {
         events.push(Event::Resend {
             segment: request.segment,
             gxid: Some(request.gxid),

@@ -1,14 +1,15 @@
 // The waits at each node, mark by mark.
 ghost use Rattle.std.specs.Prelude.{◌≡◌, ◌∷◌, [], List, OnOk, IfOk, if◌then◌else◌, unwrap_or};
-ghost use Rattle.std.specs.BTreeMap.{get, is_at};
+ghost use Rattle.std.specs.BTreeMap.{is_at};
 ghost use Rattle.std.specs.List.{list_any};
 ghost use Rattle.gx_ids.specs.declared.ids.Node.{Node as OneNode};
 ghost use Rattle.gx_store.specs.Waits.{added, waits_from, without};
 ghost use Rattle.gx_waits.specs.Claim.{same_claim};
 ghost use Rattle.gx_waits.specs.declared.claim.Claim.{Claim as OneClaim};
 ghost use Rattle.gx_agenda.specs.declared.request.Request.{Request as OneRequest};
-ghost use Rattle.gx_agenda.specs.Awaited.{AreWaits, IsIndexed, awaited_at, due_of, waits_in};
+ghost use Rattle.gx_agenda.specs.Awaited.{AreWaits, IsIndexed, awaited_at, begins_wait, due_of, waits_in};
 ghost use Rattle.gx_agenda.specs.Requests.{request_cmp};
+ghost use Rattle.gx_agenda.specs.VecMap.{at};
 
 use crate::asked::Asked;
 use crate::request::Request;
@@ -22,6 +23,19 @@ use std::alloc::Global;
 impl Asked {
     // A step made these marks.
     pub(crate) fn note_waits(&mut self, marks: &[Mark]) -> Mem<()>
+        ensures awaited { OnOk result ((r : OneRequest) → awaited_at self.new r ≡ awaited_at self.old r) }
+        ensures waits { OnOk result ((standing : OneNode → List OneClaim) → AreWaits standing self.old → AreWaits (λ node. waits_from node (standing node) marks.now) self.new) }
+        ensures due { OnOk result (IsIndexed self.old → IsIndexed self.new) }
+    {
+        if self.waiting.is_empty() && !begin_any(marks) {
+            Ok(())
+        } else {
+            self.note_each(marks)
+        }
+    }
+
+    // Mark by mark.
+    fn note_each(&mut self, marks: &[Mark]) -> Mem<()>
         ensures awaited { OnOk result ((r : OneRequest) → awaited_at self.new r ≡ awaited_at self.old r) }
         ensures waits { OnOk result ((standing : OneNode → List OneClaim) → AreWaits standing self.old → AreWaits (λ node. waits_from node (standing node) marks.now) self.new) }
         ensures due { OnOk result (IsIndexed self.old → IsIndexed self.new) }
@@ -109,8 +123,8 @@ impl Asked {
     fn put(&mut self, request: Request, claims: Seq<Claim>) -> Mem<()>
         ensures awaited { OnOk result ((r : OneRequest) → awaited_at self.new r ≡ awaited_at self.old r) }
         ensures waits { OnOk result ((r : OneRequest) → waits_in self.new.waiting r ≡ (if is_at (request_cmp request) r then claims else waits_in self.old.waiting r)) }
-        ensures due { OnOk result ((r : OneRequest) → get request_cmp self.new.due r
-            ≡ (if is_at (request_cmp request) r then due_of (awaited_at self.old request) claims else get request_cmp self.old.due r)) }
+        ensures due { OnOk result ((r : OneRequest) → at request_cmp self.new.due r
+            ≡ (if is_at (request_cmp request) r then due_of (awaited_at self.old request) claims else at request_cmp self.old.due r)) }
     {
         self.fill(request, claims)?;
         self.settle(request)
@@ -128,6 +142,24 @@ impl Asked {
         }
         Ok(())
     }
+}
+
+// Whether one of these marks begins a wait.
+fn begin_any(marks: &[Mark]) -> bool
+    ensures { result ≡ list_any begins_wait marks.now }
+{
+    for mark in marks {
+        if begins(mark) {
+            return true;
+        }
+    }
+    false
+}
+
+fn begins(mark: &Mark) -> bool
+    ensures { result ≡ begins_wait mark.now }
+{
+    matches!(mark, Mark::Wait { .. })
 }
 
 fn claim_of(gxid: &Gxid, object: &Object, mode: &Mode) -> Claim

@@ -1,4 +1,4 @@
-ghost use Rattle.std.specs.Prelude.{◌≡◌, ◌==◌, ◌<◌, ◌^◌, All, length, not, true, false, None, IfOk, OnErr, IsErr};
+ghost use Rattle.std.specs.Prelude.{◌≡◌, ◌==◌, ◌<◌, ◌^◌, [], All, length, not, true, false, None, IfOk, OnErr, IsErr};
 ghost use Rattle.gx_locks.specs.Graphs.{graph_at};
 ghost use Rattle.gx_locks.specs.Locks.{least_with, ready_ones};
 ghost use Rattle.gx_outside.specs.Shelves.{IsLater};
@@ -79,8 +79,13 @@ impl Coord {
 
     /// Does one event by the coordinator's rule. What an envelope holds is tested here; what isn't awaited or doesn't fit changes
     /// nothing but the clock. The journal takes the item of a decision before COMMIT PREPARED is sent. What it did is told by its
-    /// marks, the messages that it sends among them.
-    pub fn step<J: Journal>(&mut self, event: NodeEvent, journal: &mut J) -> Mem<Seq<Mark>>
+    /// marks, the messages that it sends among them; they go into the list that is given, which has nothing in it.
+    pub fn step<J: Journal>(
+        &mut self,
+        event: NodeEvent,
+        journal: &mut J,
+        blank: Vec<Mark>,
+    ) -> Mem<Seq<Mark>>
         ghost c: { RuleCoord }
         requires is { self.old.spent ≡ false → IsCoord self.old c }
         requires admitted { self.old.spent ≡ false → coord_can self.old.script.value c event ≡ true }
@@ -89,6 +94,7 @@ impl Coord {
         requires numbers { All (λ sent. sent < 2 ^ 62) self.old.sent.items }
         requires drawn { self.old.dtx.next.0 < 2 ^ 62 }
         requires rounds { self.old.detector.begun < 2 ^ 62 }
+        requires blank { blank.items ≡ [] }
         ensures stepped { IfOk result (HasStepped self.old self.new c event (J.shelf journal.old) (J.shelf journal.new)) }
         ensures later { IsLater (J.shelf journal.old) (J.shelf journal.new) }
         ensures spent { OnErr result (self.new.spent ≡ true) }
@@ -99,7 +105,7 @@ impl Coord {
             drop(event);
             return Err(OutOfMemory);
         }
-        match step_on(self, event, journal) {
+        match step_on(self, event, journal, blank) {
             Ok(marks) => {
                 self.spent = false;
                 Ok(marks)

@@ -14,7 +14,7 @@ use crate::coord::Coord;
 use crate::ends::refuse_line;
 use crate::work::{Command, Work};
 use gx_dtx::DtxOut;
-use gx_dtx::nodes::{has, with_node, without};
+use gx_dtx::nodes::{has, put_in, take_out};
 use gx_ids::{Cid, Duplicate, Gxid, Mem, Node, Seq};
 use gx_msg::Out;
 use gx_node::fits_part;
@@ -82,7 +82,7 @@ fn add_part(alloc: Global, command: &mut Command, node: Node, count: u64, part: 
     let _parts = command.parts.len();
     command.count += u128::from(count);
     command.parts.push(part.copy(alloc)?)?;
-    command.awaited = without(alloc, node, command.awaited.as_slice())?;
+    take_out(alloc, node, &mut command.awaited);
     Ok(())
 }
 
@@ -90,7 +90,7 @@ fn add_writer(alloc: Global, work: &mut Work, wrote: bool, node: Node) -> Mem<()
     ensures { OnOk result (work.new ≡ record work.old { writers = turns.writers_with wrote node work.old.writers }) }
 {
     if wrote {
-        work.writers = with_node(alloc, node, &work.writers)?;
+        put_in(alloc, node, &mut work.writers)?;
     }
     Ok(())
 }

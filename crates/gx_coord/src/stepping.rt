@@ -61,11 +61,12 @@ fn send_and_cancel(
     Ok(Seq::from_vec(marks))
 }
 
-// Takes the event, sends what it gives, and cancels whom it has named.
+// Takes the event, sends what it gives, and cancels whom it has named. The marks go into an empty list.
 pub(crate) fn step_on<J: Journal>(
     coord: &mut Coord,
     event: NodeEvent,
     journal: &mut J,
+    blank: Vec<Mark>,
 ) -> Mem<Seq<Mark>>
     requires language { IsScript coord.old.script.value }
     requires places { AreIndexed coord.old.script.value.lines (length coord.old.script.value.sessions) coord.old.places.items }
@@ -79,11 +80,12 @@ pub(crate) fn step_on<J: Journal>(
     requires numbers { All (λ sent. sent < 2 ^ 62) coord.old.sent.items }
     requires drawn { coord.old.dtx.next.0 < 2 ^ 62 }
     requires rounds { coord.old.detector.begun < 2 ^ 62 }
+    requires blank { blank.items ≡ [] }
     ensures gone { IfOk result (HasGone coord.old coord.new event (J.shelf journal.old) (J.shelf journal.new)) }
     ensures later { IsLater (J.shelf journal.old) (J.shelf journal.new) }
 {
     match Arc::try_clone(&coord.script) {
-        Ok(script) => step_by(&script, coord, event, journal),
+        Ok(script) => step_by(&script, coord, event, journal, blank),
         Err(_) => {
             drop(event);
             Err(OutOfMemory)
@@ -97,6 +99,7 @@ fn step_by<J: Journal>(
     coord: &mut Coord,
     event: NodeEvent,
     journal: &mut J,
+    blank: Vec<Mark>,
 ) -> Mem<Seq<Mark>>
     requires same { coord.old.script.value ≡ script.now }
     requires language { IsScript coord.old.script.value }
@@ -111,12 +114,13 @@ fn step_by<J: Journal>(
     requires numbers { All (λ sent. sent < 2 ^ 62) coord.old.sent.items }
     requires drawn { coord.old.dtx.next.0 < 2 ^ 62 }
     requires rounds { coord.old.detector.begun < 2 ^ 62 }
+    requires blank { blank.items ≡ [] }
     ensures gone { IfOk result (HasGone coord.old coord.new event (J.shelf journal.old) (J.shelf journal.new)) }
     ensures later { IsLater (J.shelf journal.old) (J.shelf journal.new) }
 {
     let alloc = coord.alloc;
     let clock = clock_after(coord.clock, &event);
-    let mut marks = Vec::new(alloc);
+    let mut marks = blank;
     let turned = take_event(alloc, script, coord, event, journal, &mut marks)?;
     let all = send_and_cancel(alloc, coord, turned, clock, marks)?;
     Ok(all)

@@ -1,4 +1,5 @@
 pub mod Firsts
+pub mod Quieter
 pub mod Enabled
 pub mod Asked
 pub mod Held

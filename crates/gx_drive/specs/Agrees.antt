@@ -12,6 +12,7 @@ use Rattle.gx_store.specs.Refusals.{the_coordinator}
 use Rattle.gx_store.specs.Schedule.{at_segment, first_of, left_on, resumptions, segments_of}
 use Rattle.gx_agenda.specs.Awaited.{AreAsked}
 use Rattle.gx_agenda.specs.Agrees.{Agree}
+use Rattle.gx_agenda.specs.Quiet.{AreQuiet}
 use Rattle.gx_world.specs.Worlds.{WorldState}
 use Rattle.gx_agenda.specs.Queued.{AreQueued}
 use Rattle.gx_law_runs.specs.Reached.{IsReached}
@@ -19,16 +20,21 @@ use Rattle.gx_drive.specs.Chosen.{AreChosen, Choice}
 use Rattle.gx_drive.specs.Ordered.{AreFailuresFew, AreHeld}
 use Rattle.gx_drive.specs.declared.agenda.Agenda.{Agenda}
 
--- links, lines and awaited answers are where the steps have led
+-- links, lines and awaited answers are where the steps have led, and nothing is left where no delivery is looked for
 pub record IsAgreed (script : Script) (steps : List Step) (agenda : Agenda) : Type 0 where
   pub cursors : Agree script steps agenda.cursors
   pub queue : AreQueued script steps agenda.queue
   pub asked : AreAsked steps agenda.asked
+  pub quiet : AreQuiet script steps agenda.quiet
 
 -- a receipt is the next delivery of its link
 abbrev pub IsDue : Script → List Step → Event → Type 0
 IsDue script steps (Receive from to number) = IsLink script from to × (first_of (left_on script steps from to) ≡ Receive from to number ∷ [])
 IsDue script steps _ = Unit {0}
+
+-- what each segment does, and who resumes at the coordinator
+abbrev pub resuming_of : Script → List Step → List Event
+resuming_of script steps = flat_map (at_segment script steps) (segments_of script) ++ resumptions (marks_in steps) the_coordinator
 
 -- what comes before anything is sent again: the next delivery from each segment, what each segment does, and who resumes at the coordinator
 abbrev pub moves_of : Script → List Step → List Event

@@ -1,7 +1,7 @@
 ghost use Rattle.std.specs.Prelude.{◌≡◌, ◌++◌, ◌∷◌, [], List, false, IfOk, OnOk, IfSome, option_copied};
 ghost use Rattle.std.specs.List.{flat_map};
 ghost use Rattle.std.specs.Option.{option_to_list};
-ghost use Rattle.gx_agenda.specs.Awaited.{told_in};
+ghost use Rattle.gx_agenda.specs.Awaited.{IsTold};
 ghost use Rattle.gx_agenda.specs.Agrees.{Agree};
 ghost use Rattle.gx_agenda.specs.Queued.{AreCounted};
 ghost use Rattle.gx_law_runs.specs.Reached.{IsReached};
@@ -16,20 +16,22 @@ ghost use Rattle.gx_drive.specs.Agrees.{IsAgreed, IsDue, moves_of};
 use crate::detecting::{first_graph, next_round};
 use crate::ends::first_end;
 use crate::moves::first_move;
-use gx_agenda::{Asked, Cursors, Queue};
+use gx_agenda::{Asked, Cursors, Queue, Quiet};
 use gx_ids::{Mem, Node};
 use gx_msg::Message;
 use gx_script::Script;
-use gx_store::{Event, Step};
+use gx_store::{Event, StepView};
 use gx_world::World;
 use std::alloc::Global;
 
-/// What a driver keeps of a run besides it: where each link stands, the next lines, and the answers that are awaited.
+/// What a driver keeps of a run besides it: where each link stands, the next lines, the answers that are awaited, and where to begin to
+/// look for a delivery.
 #[derive(Drop)]
 pub struct Agenda {
     pub cursors: Cursors,
     pub queue: Queue,
     pub asked: Asked,
+    pub quiet: Quiet,
 }
 
 impl Agenda {
@@ -45,20 +47,23 @@ impl Agenda {
             cursors,
             queue,
             asked,
+            quiet: Quiet::new(),
         })
     }
 
     /// The first that is enabled; none where nothing is. While no round of the detector runs, it costs nothing more than without one
     /// until nothing else is enabled.
-    pub fn first(&self, world: &World) -> Mem<Option<Event>>
+    pub fn first(&mut self, world: &World) -> Mem<Option<Event>>
         requires usable { world.now.spent ≡ false }
         requires language { IsScript world.now.script }
         requires reached { IsReached world.now.script world.now.run.steps }
-        requires agreed { IsAgreed world.now.script world.now.run.steps self.now }
+        requires agreed { IsAgreed world.now.script world.now.run.steps self.old }
         ensures first { IfOk result (λ event. option_to_list event ≡ first_of (enabled world.now.script world.now.run.steps)) }
         ensures due { IfOk result (λ event. IfSome event (IsDue world.now.script world.now.run.steps)) }
+        ensures agreed { IsAgreed world.now.script world.now.run.steps self.new }
     {
-        match first_move(&self.cursors, world) {
+        let waiting = self.asked.is_any_waiting();
+        match first_move(&self.cursors, &mut self.quiet, world, waiting) {
             Some(event) => Ok(Some(event)),
             None => self.asked_for(world),
         }
@@ -98,13 +103,14 @@ impl Agenda {
         }
     }
 
-    /// A step was done, and what its event received, if it received a message, is told.
-    pub fn note(&mut self, step: &Step, told: Option<&Message>) -> Mem<()>
+    /// A step was done, and if it is the coordinator's, what its event received, if it received a message, is told.
+    pub fn note(&mut self, step: &StepView<'_>, told: Option<&Message>) -> Mem<()>
         ensures { OnOk result ((script : OneScript) (steps : List OneStep) → IsAgreed script steps self.old → IsDue script steps step.now.event
-            → AreCounted (steps ++ step.now ∷ []) → option_copied told.entry ≡ told_in steps step.now.event
+            → AreCounted (steps ++ step.now ∷ []) → IsTold steps step.now (option_copied told.entry)
             → IsAgreed script (steps ++ step.now ∷ []) self.new) }
     {
         deliver(&mut self.cursors, step);
+        self.quiet.note(step);
         self.queue.note(step)?;
         self.asked.note(step, told)
     }
@@ -125,10 +131,10 @@ fn last(world: &World) -> Mem<Option<Event>>
 }
 
 // The link of a receipt goes on.
-fn deliver(cursors: &mut Cursors, step: &Step)
+fn deliver(cursors: &mut Cursors, step: &StepView<'_>)
     ensures { (script : OneScript) (steps : List OneStep) → Agree script steps cursors.old → IsDue script steps step.now.event → Agree script (steps ++ step.now ∷ []) cursors.new }
 {
-    match step.event {
+    match step.event() {
         Event::Receive { from, to, number } => go_on(cursors, from, to, number),
         _ => cursors.undelivered(),
     }

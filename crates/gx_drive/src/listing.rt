@@ -23,9 +23,9 @@ use gx_world::World;
 use std::alloc::Global;
 
 impl Agenda {
-    /// All that is enabled, in the order of the schedule. It looks once at each link and each node, at each answer that is awaited of a
-    /// segment on whose links nothing is left, at each line that is its session's next, and at each session; and where the detector
-    /// is on and no round runs, once more at each node until somebody waits.
+    /// All that is enabled, in the order of the schedule. It looks once at each link and each node, at each answer that is awaited, once
+    /// for each segment on whose links nothing is left, at each line that is its session's next, and at each session; and where the
+    /// detector is on and no round runs, once more at each node until somebody waits.
     pub fn enabled(&self, alloc: Global, world: &World) -> Mem<Vec<Event>>
         requires usable { world.now.spent ≡ false }
         requires language { IsScript world.now.script }
@@ -110,7 +110,6 @@ fn push_resends_to(
     requires agreed { IsAgreed world.now.script world.now.run.steps agenda.now }
     requires running { running ≡ is_round_running world.now.run.steps }
     requires there { IsSegment world.now.script segment }
-    requires few { segment.0 < 255 }
     ensures { OnOk result (events.new.items ≡ events.old.items ++ resends world.now.script world.now.run.steps segment) }
 {
     if is_quiet(&agenda.cursors, world, segment) {

@@ -19,8 +19,8 @@ use std::alloc::Global;
 
 /// Runs a new world by the ordered schedule: it does the first that is enabled at each turn, until no session is unfinished, so
 /// many turns were taken, or nothing is enabled. The journals are those of the coordinator and 16 segments, and hold
-/// nothing. Besides the step itself a turn costs the logarithm of what is under way, and a look at each link, node and session until
-/// one has what is first.
+/// nothing. Besides the step itself a turn costs the logarithm of what is under way, a move of the answers that are awaited or of the
+/// next lines, and a look at each link, node and session until one has what is first.
 pub fn run_ordered<J: Journal, G: Gate>(
     alloc: Global,
     world: &mut World,

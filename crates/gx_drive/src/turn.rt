@@ -1,6 +1,8 @@
 // One turn: an event that is enabled is done.
 ghost use Rattle.std.specs.Prelude.{◌≡◌, ◌<◌, ◌^◌, ◌++◌, ◌∷◌, [], List, Some, true, false, IfNone, IfOk, IfSome, OnOk, length, map, option_copied};
 ghost use Rattle.gx_agenda.specs.Awaited.{told_in};
+ghost use Rattle.gx_store.specs.Journals.{is_same_node};
+ghost use Rattle.gx_store.specs.Refusals.{the_coordinator};
 ghost use Rattle.gx_store.specs.Schedule.{enabled, is_any_unfinished};
 ghost use Rattle.gx_outside.specs.Shelves.{Shelf};
 ghost use Rattle.gx_law_runs.specs.Reached.{IsReached};
@@ -11,29 +13,42 @@ ghost use Rattle.gx_drive.specs.Agrees.{HasTurned, IsAgreed, IsDue, IsNoMore};
 ghost use Rattle.gx_drive.specs.Ordered.{AreFailuresFew, IsFirst};
 
 use crate::agenda::Agenda;
-use gx_ids::Mem;
+use gx_ids::{Mem, Node};
 use gx_msg::Message;
 use gx_outside::{Gate, Journal};
 use gx_store::Event;
 use gx_world::World;
 
 // What is first, where a session is unfinished; none where nothing is enabled.
-pub(crate) fn next_event(world: &World, agenda: &Agenda) -> Mem<Option<Event>>
+pub(crate) fn next_event(world: &World, agenda: &mut Agenda) -> Mem<Option<Event>>
     requires usable { world.now.spent ≡ false }
     requires language { IsScript world.now.script }
     requires reached { IsReached world.now.script world.now.run.steps }
-    requires agreed { IsAgreed world.now.script world.now.run.steps agenda.now }
+    requires agreed { IsAgreed world.now.script world.now.run.steps agenda.old }
     requires unfinished { is_any_unfinished world.now.script world.now.run.steps ≡ true }
     ensures first { IfOk result (λ event. IfSome event (IsFirst world.now.script world.now.run.steps)) }
     ensures due { IfOk result (λ event. IfSome event (IsDue world.now.script world.now.run.steps)) }
     ensures admitted { IfOk result (λ event. IfSome event (λ e. is_admitted world.now.script world.now.run.steps e ≡ true)) }
     ensures stuck { IfOk result (λ event. IfNone event (enabled world.now.script world.now.run.steps ≡ [])) }
+    ensures agreed { IsAgreed world.now.script world.now.run.steps agenda.new }
 {
     agenda.first(world)
 }
 
+// The message that the event of a step received, if the step is the coordinator's.
+fn told(world: &World, node: Node, event: Event) -> Option<&Message>
+    requires usable { world.now.spent ≡ false }
+    ensures { is_same_node node the_coordinator ≡ true → option_copied result ≡ told_in world.now.run.steps event }
+{
+    if node == Node(0) {
+        received(world, event)
+    } else {
+        None
+    }
+}
+
 // The message that an event received.
-fn told(world: &World, event: Event) -> Option<&Message>
+fn received(world: &World, event: Event) -> Option<&Message>
     requires usable { world.now.spent ≡ false }
     ensures { option_copied result ≡ told_in world.now.run.steps event }
 {
@@ -53,8 +68,8 @@ fn note(world: &World, agenda: &mut Agenda) -> Mem<()>
         → IsAgreed world.now.script steps agenda.old → IsDue world.now.script steps step.event → is_admitted world.now.script steps step.event ≡ true
         → IsReached world.now.script steps → IsAgreed world.now.script world.now.run.steps agenda.new) }
 {
-    match world.run().steps.as_slice().last() {
-        Some(step) => agenda.note(step, told(world, step.event)),
+    match world.run().steps.last() {
+        Some(step) => agenda.note(&step, told(world, step.stamp().node, step.event())),
         None => Ok(()),
     }
 }

@@ -15,4 +15,6 @@ pub mod Promises
 pub mod Causes
 pub mod Over
 pub mod Awaited
-pub mod Filing
+pub mod Settled
+pub mod Above
+pub mod Asking

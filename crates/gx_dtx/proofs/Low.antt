@@ -46,3 +46,7 @@ module _ (g : Gxid) (t : Txn) where
   pub live_found-low : (x : Gxid) (es : List (Gxid × Txn)) → t.live ≡ Some x → lookup (is_at (gxid_cmp g)) es ≡ Some t → (other : Gxid) → (least_of (flat_map holds_back es) other).0 ≤ x.0
   live_found-low x [] has found = absurd (cc)
   live_found-low x (e ∷ es) has found = λ other. live_if x e es other (is_at (gxid_cmp g) e.0) has found (live_found-low x es has)
+
+-- one transaction after the other
+pub least_of_entries : (e : Gxid × Txn) (es : List (Gxid × Txn)) (other : Gxid) → least_of (flat_map holds_back (e ∷ es)) other ≡ least_of (flat_map holds_back es) (least_of (live_xmin e.1.live) (lesser e.0 other))
+least_of_entries e es other = least_of-append (holds_back e) (flat_map holds_back es) other

@@ -8,6 +8,7 @@ use Rattle.gx_ids.specs.declared.memory.OutOfMemory.{OutOfMemory}
 use Rattle.gx_dsnap.specs.Gxids.{gxid_cmp}
 use Rattle.gx_msg.specs.declared.reply.Reply.{Reply}
 use Rattle.gx_dtx.specs.declared.change.Change.{Change}
+use Rattle.gx_dtx.specs.declared.outcome.DtxOut.{DtxOut}
 use Rattle.gx_dtx.specs.declared.outcome.Outcome.TheVariants as outcome
 use Rattle.gx_dtx.specs.declared.status.Status.TheVariants as status
 use Rattle.gx_dtx.specs.declared.txn.Txn.{Txn}
@@ -20,7 +21,7 @@ use Rattle.gx_dtx.proofs.Finds.{insert_entry-last}
 use Rattle.gx_dtx.proofs.Keeps.{IsWhole-begun, IsWhole-changed, IsWhole-with}
 
 -- a change is made field by field
-pub IsWhole-made : (d : Table) (g : Gxid) (c : Change) (latest : Option Gxid) (txns : List (Gxid × Txn)) → txns ≡ with_step d.txns g c.step → latest ≡ with_ended (ends c.out.outcome) g d.latest_ended → IsWhole d → Fits (find_txn d g) c → IsWhole (record { next = d.next; latest_ended = latest; txns = txns })
+IsWhole-made : (d : Table) (g : Gxid) (c : Change) (latest : Option Gxid) (txns : List (Gxid × Txn)) → txns ≡ with_step d.txns g c.step → latest ≡ with_ended (ends c.out.outcome) g d.latest_ended → IsWhole d → Fits (find_txn d g) c → IsWhole (record { next = d.next; latest_ended = latest; txns = txns })
 IsWhole-made d g c latest txns are is w fits =
     subst (λ (l : Option Gxid). IsWhole (record { next = d.next; latest_ended = l; txns = txns })) (sym is) (subst (λ (ts : List (Gxid × Txn)). IsWhole (record { next = d.next; latest_ended = with_ended (ends c.out.outcome) g d.latest_ended; txns = ts })) (sym are) (IsWhole-changed d g c w fits))
 
@@ -67,7 +68,7 @@ pub IsWhole-tried : (d : Table) (g : Gxid) (i : Node) (txns : List (Gxid × Txn)
 IsWhole-tried d g i txns (Ok u) are same w = IsWhole-enlisted d g i txns are w
 IsWhole-tried d g i txns (Err e) are same w = subst (λ (ts : List (Gxid × Txn)). IsWhole (record d { txns = ts })) (sym same) w
 
-pub turns-made : (d : Table) (g : Gxid) (c : Change) (latest : Option Gxid) (txns : List (Gxid × Txn)) → txns ≡ with_step d.txns g c.step → latest ≡ with_ended (ends c.out.outcome) g d.latest_ended → record { next = d.next; latest_ended = latest; txns = txns } ≡ (turns d g c).table
+turns-made : (d : Table) (g : Gxid) (c : Change) (latest : Option Gxid) (txns : List (Gxid × Txn)) → txns ≡ with_step d.txns g c.step → latest ≡ with_ended (ends c.out.outcome) g d.latest_ended → record { next = d.next; latest_ended = latest; txns = txns } ≡ (turns d g c).table
 turns-made d g c latest txns are is =
     ap (λ (ts : List (Gxid × Txn)). let t : Table = record { next = d.next; latest_ended = latest; txns = ts } in t) are ∙ ap (λ (l : Option Gxid). let t : Table = record { next = d.next; latest_ended = l; txns = with_step d.txns g c.step } in t) is
 
@@ -80,3 +81,15 @@ unawaited_if false c isnt = refl
 pub reply-unawaited : (g : Gxid) (i : Node) (answer : Reply) (refused : Bool) (o : Option Txn) → awaits_found i answer o ≡ false → reply_found g i answer refused o ≡ stays
 reply-unawaited g i answer refused None isnt = refl
 reply-unawaited g i answer refused (Some t) isnt = unawaited_if (is_awaited t.phase i answer) (takes g t.participants i refused t.phase answer) isnt
+
+-- ---- a change that was made, with what was told of it
+
+module _ (d : Table) (g : Gxid) (c : Change) (out : DtxOut) (latest : Option Gxid) (txns : List (Gxid × Txn)) where
+  latest-taken : out ≡ c.out → latest ≡ with_ended (ends out.outcome) g d.latest_ended → latest ≡ with_ended (ends c.out.outcome) g d.latest_ended
+  latest-taken told is = is ∙ ap (λ (o : DtxOut). with_ended (ends o.outcome) g d.latest_ended) told
+
+  pub IsWhole-taken : txns ≡ with_step d.txns g c.step → out ≡ c.out → latest ≡ with_ended (ends out.outcome) g d.latest_ended → IsWhole d → Fits (find_txn d g) c → IsWhole (record { next = d.next; latest_ended = latest; txns = txns })
+  IsWhole-taken are told is w fits = IsWhole-made d g c latest txns are (latest-taken told is) w fits
+
+  pub turns-taken : txns ≡ with_step d.txns g c.step → out ≡ c.out → latest ≡ with_ended (ends out.outcome) g d.latest_ended → record { next = d.next; latest_ended = latest; txns = txns } ≡ (turns d g c).table
+  turns-taken are told is = turns-made d g c latest txns are (latest-taken told is)

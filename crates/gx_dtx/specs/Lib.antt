@@ -9,4 +9,5 @@ pub mod Fits
 pub mod Past
 pub mod Agrees
 pub mod Lives
+pub mod Due
 pub mod Laws

@@ -1,179 +1,133 @@
 // What a call makes of one transaction.
-ghost use Rattle.std.specs.Prelude.{◌≡◌, ◌∷◌, [], false, IfOk};
-ghost use Rattle.gx_dtx.specs.Rules.{commits, aborts, ends_committed, refuses, goes_to, decides, finishes, forgets, gives_up};
-ghost use Rattle.gx_dtx.specs.Nodes.{to_each as messages, without as all_but};
+ghost use Rattle.std.specs.Prelude.{◌≡◌, ◌∷◌, [], IfOk, OnErr};
+ghost use Rattle.gx_dtx.specs.Rules.{commits, aborts, ends_committed, refuses, goes_to};
+ghost use Rattle.gx_dtx.specs.Due.{IsMade};
+ghost use Rattle.gx_dtx.specs.Nodes.{to_each as messages};
+ghost use Rattle.gx_dtx.specs.Orders.{message_of};
 ghost use Rattle.gx_dtx.specs.declared.outcome.Outcome.TheVariants as outcome;
 ghost use Rattle.gx_dtx.specs.declared.phase.Phase.TheVariants as phase;
 ghost use Rattle.gx_msg.specs.declared.message.Message.TheVariants as message;
 
-use crate::change::Change;
-use crate::nodes::without;
 use crate::order::Order;
 use crate::outcome::Outcome;
 use crate::phase::Phase;
+use crate::taken::Taken;
 use crate::txn::Txn;
-use gx_ids::{Duplicate, Gxid, Mem, Node, Seq, copies};
+use gx_ids::{Gxid, Mem, Node, Seq, copies};
+use gx_msg::Out;
 use std::alloc::Global;
 
-// The transaction has ended by a commit.
-pub(crate) fn end_committed(alloc: Global, gxid: Gxid, participants: &Seq<Node>) -> Mem<Change>
-    ensures { IfOk result (λ change. change ≡ ends_committed gxid participants.now) }
+// A list of the nodes, and the order to each of them.
+fn told(alloc: Global, gxid: Gxid, order: Order, nodes: &[Node]) -> Mem<(Seq<Node>, Seq<Out>)>
+    ensures { IfOk result (λ told. (told.0 ≡ nodes.now) × (told.1 ≡ messages (message_of order gxid) nodes.now)) }
 {
-    if participants.is_empty() {
-        Ok(Change::leaves(alloc, Outcome::Committed))
-    } else {
-        tell_forget(alloc, gxid, participants)
+    let outs = order.to_each(alloc, gxid, nodes)?;
+    match copies(alloc, nodes) {
+        Ok(awaited) => Ok((Seq::from_vec(awaited), outs)),
+        Err(fault) => {
+            drop(outs);
+            Err(fault)
+        }
     }
 }
 
-fn tell_forget(alloc: Global, gxid: Gxid, participants: &Seq<Node>) -> Mem<Change>
-    ensures { IfOk result (λ change. change ≡ goes_to (phase.Ended participants.now) (messages (message.Forget gxid) participants.now) outcome.Committed) }
+// The transaction goes on to a phase, and this is to be sent.
+fn go_on(txn: &mut Txn, phase: Phase, outs: Seq<Out>, outcome: Outcome) -> Taken
+    ensures { IsMade (goes_to phase outs outcome) txn.old txn.new result }
 {
-    let awaited = participants.copy(alloc)?;
-    let nodes = participants.as_slice();
-    Change::sends(
-        alloc,
-        Phase::Ended(awaited),
-        Outcome::Committed,
-        Order::Forget,
-        gxid,
-        nodes,
-    )
+    txn.go_to(phase);
+    Taken::sends(outs, outcome)
 }
 
-fn tell_abort(alloc: Global, gxid: Gxid, participants: &Seq<Node>, outcome: Outcome) -> Mem<Change>
-    ensures { IfOk result (λ change. change ≡ goes_to (phase.Aborting participants.now) (messages (message.Abort gxid) participants.now) outcome) }
+// The transaction has ended by a commit.
+pub(crate) fn end_committed(alloc: Global, gxid: Gxid, txn: &mut Txn) -> Mem<Taken>
+    ensures value { IfOk result (λ taken. IsMade (ends_committed gxid txn.old.participants) txn.old txn.new taken) }
+    ensures err { OnErr result (txn.new ≡ txn.old) }
 {
-    let awaited = participants.copy(alloc)?;
-    let nodes = participants.as_slice();
-    Change::sends(
-        alloc,
-        Phase::Aborting(awaited),
-        outcome,
-        Order::Abort,
-        gxid,
-        nodes,
-    )
+    if txn.participants.is_empty() {
+        Ok(Taken::leaves(alloc, Outcome::Committed))
+    } else {
+        tell_forget(alloc, gxid, txn)
+    }
+}
+
+fn tell_forget(alloc: Global, gxid: Gxid, txn: &mut Txn) -> Mem<Taken>
+    ensures value { IfOk result (λ taken. IsMade (goes_to (phase.Ended txn.old.participants) (messages (message.Forget gxid) txn.old.participants) outcome.Committed) txn.old txn.new taken) }
+    ensures err { OnErr result (txn.new ≡ txn.old) }
+{
+    let (awaited, outs) = told(alloc, gxid, Order::Forget, txn.participants.as_slice())?;
+    Ok(go_on(txn, Phase::Ended(awaited), outs, Outcome::Committed))
+}
+
+fn tell_abort(alloc: Global, gxid: Gxid, txn: &mut Txn, outcome: Outcome) -> Mem<Taken>
+    ensures value { IfOk result (λ taken. IsMade (goes_to (phase.Aborting txn.old.participants) (messages (message.Abort gxid) txn.old.participants) outcome) txn.old txn.new taken) }
+    ensures err { OnErr result (txn.new ≡ txn.old) }
+{
+    let (awaited, outs) = told(alloc, gxid, Order::Abort, txn.participants.as_slice())?;
+    Ok(go_on(txn, Phase::Aborting(awaited), outs, outcome))
 }
 
 // A node's journal has failed.
-pub(crate) fn refuse(alloc: Global, gxid: Gxid, participants: &Seq<Node>, node: Node) -> Mem<Change>
-    ensures { IfOk result (λ change. change ≡ refuses gxid participants.now node) }
+pub(crate) fn refuse(alloc: Global, gxid: Gxid, txn: &mut Txn, node: Node) -> Mem<Taken>
+    ensures value { IfOk result (λ taken. IsMade (refuses gxid txn.old.participants node) txn.old txn.new taken) }
+    ensures err { OnErr result (txn.new ≡ txn.old) }
 {
-    tell_abort(alloc, gxid, participants, Outcome::Refused(node))
+    tell_abort(alloc, gxid, txn, Outcome::Refused(node))
 }
 
 // Abort.
-pub(crate) fn abort(alloc: Global, gxid: Gxid, participants: &Seq<Node>) -> Mem<Change>
-    ensures { IfOk result (λ change. change ≡ aborts gxid participants.now) }
+pub(crate) fn abort(alloc: Global, gxid: Gxid, txn: &mut Txn) -> Mem<Taken>
+    ensures value { IfOk result (λ taken. IsMade (aborts gxid txn.old.participants) txn.old txn.new taken) }
+    ensures err { OnErr result (txn.new ≡ txn.old) }
 {
-    if participants.is_empty() {
-        Ok(Change::leaves(alloc, Outcome::Ended))
+    if txn.participants.is_empty() {
+        Ok(Taken::leaves(alloc, Outcome::Ended))
     } else {
-        tell_abort(alloc, gxid, participants, Outcome::Pending)
+        tell_abort(alloc, gxid, txn, Outcome::Pending)
     }
 }
 
 // Commit, with these writers.
-pub(crate) fn commit(alloc: Global, gxid: Gxid, writers: &[Node], txn: &Txn) -> Mem<Change>
-    ensures { IfOk result (λ change. change ≡ commits gxid writers.now txn.now) }
+pub(crate) fn commit(alloc: Global, gxid: Gxid, writers: &[Node], txn: &mut Txn) -> Mem<Taken>
+    ensures value { IfOk result (λ taken. IsMade (commits gxid writers.now txn.old) txn.old txn.new taken) }
+    ensures err { OnErr result (txn.new ≡ txn.old) }
 {
     match writers {
-        [] => end_committed(alloc, gxid, &txn.participants),
-        [writer] => tell_commit(alloc, gxid, *writer),
-        [_, _, ..] => tell_prepare(alloc, gxid, writers),
+        [] => end_committed(alloc, gxid, txn),
+        [writer] => tell_commit(alloc, gxid, txn, *writer),
+        [_, _, ..] => tell_prepare(alloc, gxid, txn, writers),
     }
 }
 
-fn tell_commit(alloc: Global, gxid: Gxid, writer: Node) -> Mem<Change>
-    ensures { IfOk result (λ change. change ≡ goes_to (phase.CommittingOne writer) (messages (message.Commit gxid) (writer ∷ [])) outcome.Pending) }
+fn tell_commit(alloc: Global, gxid: Gxid, txn: &mut Txn, writer: Node) -> Mem<Taken>
+    ensures value { IfOk result (λ taken. IsMade (goes_to (phase.CommittingOne writer) (messages (message.Commit gxid) (writer ∷ [])) outcome.Pending) txn.old txn.new taken) }
+    ensures err { OnErr result (txn.new ≡ txn.old) }
 {
-    let phase = Phase::CommittingOne(writer);
-    Change::sends(
-        alloc,
-        phase,
-        Outcome::Pending,
-        Order::Commit,
-        gxid,
-        &[writer],
-    )
+    let outs = Order::Commit.to_each(alloc, gxid, &[writer])?;
+    Ok(go_on(txn, Phase::CommittingOne(writer), outs, Outcome::Pending))
 }
 
-fn tell_prepare(alloc: Global, gxid: Gxid, writers: &[Node]) -> Mem<Change>
-    ensures { IfOk result (λ change. change ≡ goes_to (phase.Preparing writers.now writers.now) (messages (message.Prepare gxid) writers.now) outcome.Pending) }
+fn tell_prepare(alloc: Global, gxid: Gxid, txn: &mut Txn, writers: &[Node]) -> Mem<Taken>
+    ensures value { IfOk result (λ taken. IsMade (goes_to (phase.Preparing writers.now writers.now) (messages (message.Prepare gxid) writers.now) outcome.Pending) txn.old txn.new taken) }
+    ensures err { OnErr result (txn.new ≡ txn.old) }
 {
-    let phase = Phase::Preparing {
-        writers: Seq::from_vec(copies(alloc, writers)?),
-        awaited: Seq::from_vec(copies(alloc, writers)?),
-    };
-    Change::sends(
-        alloc,
-        phase,
-        Outcome::Pending,
-        Order::Prepare,
-        gxid,
-        writers,
-    )
+    let (phase, outs) = prepared(alloc, gxid, writers)?;
+    Ok(go_on(txn, phase, outs, Outcome::Pending))
 }
 
-// All writers are prepared, and the decide item is appended.
-pub(crate) fn decide(alloc: Global, gxid: Gxid, writers: &Seq<Node>) -> Mem<Change>
-    ensures { IfOk result (λ change. change ≡ decides gxid writers.now [] false) }
+// The phase in which these writers are asked to prepare, and what is to be sent for it.
+fn prepared(alloc: Global, gxid: Gxid, writers: &[Node]) -> Mem<(Phase, Seq<Out>)>
+    ensures { IfOk result (λ prepared. (prepared.0 ≡ phase.Preparing writers.now writers.now) × (prepared.1 ≡ messages (message.Prepare gxid) writers.now)) }
 {
-    let awaited = writers.copy(alloc)?;
-    let phase = Phase::CommittingTwo(awaited);
-    let nodes = writers.as_slice();
-    Change::sends(
-        alloc,
-        phase,
-        Outcome::Decided,
-        Order::CommitPrepared,
-        gxid,
-        nodes,
-    )
-}
-
-// A writer has committed as promised; of those that were awaited the others haven't yet.
-pub(crate) fn finish(
-    alloc: Global,
-    gxid: Gxid,
-    participants: &Seq<Node>,
-    node: Node,
-    awaited: &Seq<Node>,
-) -> Mem<Change>
-    ensures { IfOk result (λ change. change ≡ finishes gxid participants.now (all_but node awaited.now)) }
-{
-    let rest = without(alloc, node, awaited.as_slice())?;
-    if rest.is_empty() {
-        drop(rest);
-        end_committed(alloc, gxid, participants)
-    } else {
-        Ok(Change::waits(alloc, Phase::CommittingTwo(rest)))
-    }
-}
-
-// A participant has forgotten the transaction; of those that were awaited the others haven't yet.
-pub(crate) fn forget(alloc: Global, node: Node, awaited: &Seq<Node>) -> Mem<Change>
-    ensures { IfOk result (λ change. change ≡ forgets (all_but node awaited.now)) }
-{
-    let rest = without(alloc, node, awaited.as_slice())?;
-    if rest.is_empty() {
-        drop(rest);
-        Ok(Change::leaves(alloc, Outcome::Pending))
-    } else {
-        Ok(Change::waits(alloc, Phase::Ended(rest)))
-    }
-}
-
-// A participant has aborted the transaction; of those that were awaited the others haven't yet.
-pub(crate) fn give_up(alloc: Global, node: Node, awaited: &Seq<Node>) -> Mem<Change>
-    ensures { IfOk result (λ change. change ≡ gives_up (all_but node awaited.now)) }
-{
-    let rest = without(alloc, node, awaited.as_slice())?;
-    if rest.is_empty() {
-        drop(rest);
-        Ok(Change::leaves(alloc, Outcome::Ended))
-    } else {
-        Ok(Change::waits(alloc, Phase::Aborting(rest)))
+    let (awaited, outs) = told(alloc, gxid, Order::Prepare, writers)?;
+    match copies(alloc, writers) {
+        Ok(copied) => {
+            let writers = Seq::from_vec(copied);
+            Ok((Phase::Preparing { writers, awaited }, outs))
+        }
+        Err(fault) => {
+            drop((awaited, outs));
+            Err(fault)
+        }
     }
 }

@@ -4,10 +4,10 @@ ghost use Rattle.gx_ids.specs.declared.ids.Gxid.{Gxid};
 ghost use Rattle.gx_outside.specs.Shelves.{HasKept};
 ghost use Rattle.gx_dsnap.specs.Snapshot.{sees};
 
+use crate::found;
 use crate::outcome::DtxOut;
 use crate::status::Status;
-use crate::txns::Txns;
-use crate::{found, txns};
+use crate::txns::{Txns, latest_after};
 use gx_dsnap::Snapshot;
 use gx_ids::{Gxid, Mem, Node};
 use gx_msg::{Out, Reply};
@@ -19,7 +19,6 @@ use std::marker::Model;
 /// forgotten.
 #[derive(Drop)]
 pub struct Dtx {
-    alloc: Global,
     next: Gxid,
     latest_ended: Option<Gxid>,
     txns: Txns,
@@ -49,7 +48,6 @@ impl Dtx {
         ensures { IfOk result (λ dtx. dtx ≡ new_table) }
     {
         Ok(Dtx {
-            alloc,
             next: Gxid(1),
             latest_ended: None,
             txns: Txns::new(alloc),
@@ -98,7 +96,7 @@ impl Dtx {
         ensures err { OnErr result (self.new ≡ self.old) }
     {
         let snapshot = self.txns.snapshot(self.latest_ended)?;
-        self.txns.set_live(gxid, snapshot.xmin)?;
+        self.txns.set_live(gxid, Some(snapshot.xmin));
         Ok(snapshot)
     }
 
@@ -118,7 +116,7 @@ impl Dtx {
     pub fn drop_snapshot(&mut self, gxid: Gxid)
         ensures { self.new ≡ with_live self.old gxid None }
     {
-        self.txns.drop_live(gxid);
+        self.txns.set_live(gxid, None);
     }
 
     /// Makes a node a participant of the transaction, since a command goes to it.
@@ -141,8 +139,9 @@ impl Dtx {
         ensures told { participants_of self.old gxid ≡ [] → IfOk result (λ out. out ≡ silently outcome.Committed) }
         ensures err { OnErr result (self.new ≡ self.old) }
     {
-        let change = found::commit(self.alloc, self.txns.find(gxid), gxid, writers)?;
-        Ok(self.txns.make(&mut self.latest_ended, gxid, change))
+        let out = self.txns.commit(gxid, writers)?;
+        self.latest_ended = latest_after(out.outcome, gxid, self.latest_ended);
+        Ok(out)
     }
 
     /// Aborts a transaction.
@@ -154,8 +153,9 @@ impl Dtx {
         ensures told { participants_of self.old gxid ≡ [] → IfOk result (λ out. out ≡ silently outcome.Ended) }
         ensures err { OnErr result (self.new ≡ self.old) }
     {
-        let change = found::abort(self.alloc, self.txns.find(gxid), gxid)?;
-        Ok(self.txns.make(&mut self.latest_ended, gxid, change))
+        let out = self.txns.abort(gxid)?;
+        self.latest_ended = latest_after(out.outcome, gxid, self.latest_ended);
+        Ok(out)
     }
 
     /// Takes a node's answer about a transaction. One that isn't awaited changes nothing. With the last PREPARED the
@@ -177,15 +177,9 @@ impl Dtx {
         ensures err { OnErr result (self.new ≡ self.old) }
         ensures kept { OnErr result (HasKept (J.shelf journal.old) (J.shelf journal.new)) }
     {
-        let change = found::reply(
-            self.alloc,
-            self.txns.find(gxid),
-            gxid,
-            node,
-            &answer,
-            journal,
-        )?;
-        Ok(self.txns.make(&mut self.latest_ended, gxid, change))
+        let out = self.txns.reply(gxid, node, &answer, journal)?;
+        self.latest_ended = latest_after(out.outcome, gxid, self.latest_ended);
+        Ok(out)
     }
 
     /// The message to a node whose answer is awaited, once more; none exactly where no answer of the node is awaited.

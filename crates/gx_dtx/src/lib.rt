@@ -4,10 +4,9 @@
 pub mod change;
 mod changes;
 pub mod dtx;
+pub mod due;
 mod found;
 pub mod laws;
-pub mod live;
-mod lives;
 mod map;
 pub mod nodes;
 pub mod order;
@@ -16,6 +15,7 @@ pub mod phase;
 mod probe;
 mod replies;
 pub mod status;
+pub mod taken;
 pub mod txn;
 mod txns;
 

@@ -1,39 +1,44 @@
 // The transactions, as an ordered map.
-ghost use Rattle.std.specs.Prelude.{◌≡◌, ◌≤◌, ◌+◌, ◌<◌, ◌^◌, ◌⊎◌, All, IsSome, IfOk, OnOk, OnErr, None, Some, map, filter};
+ghost use Rattle.std.specs.Prelude.{◌≡◌, ◌+◌, ◌<◌, ◌^◌, IfOk, OnOk, OnErr, false, map, filter, if◌then◌else◌};
 ghost use Rattle.std.specs.Option.{ForSome};
-ghost use Rattle.std.specs.Map.{lookup};
-ghost use Rattle.std.specs.BTreeMap.{IsUnchanged, IsOrdered, Updates, get, keys, is_at, insert_entry};
-ghost use Rattle.gx_dsnap.specs.Gxids.{gxid_cmp, after_ended, is_below, first_or};
-ghost use Rattle.gx_dtx.specs.Table.{is_active, is_running, new_txn};
-ghost use Rattle.gx_dtx.specs.Lives.{live_of as live_found};
-ghost use Rattle.gx_dtx.specs.Rules.{with_txn, with_step, moved};
+ghost use Rattle.std.specs.List.{flat_map};
+ghost use Rattle.std.specs.Map.{lookup, remove_entry};
+ghost use Rattle.std.specs.BTreeMap.{IsUnchanged, IsOrdered, is_at, insert_entry};
+ghost use Rattle.gx_outside.specs.Shelves.{HasKept};
+ghost use Rattle.gx_dsnap.specs.Gxids.{gxid_cmp, after_ended, is_below, first_or, least_of};
+ghost use Rattle.gx_dtx.specs.Table.{is_active, is_running, new_txn, holds_back, live_xmin};
+ghost use Rattle.gx_dtx.specs.Rules.{with_txn, commit_found, abort_found, reply_found, decides_found, is_refused};
+ghost use Rattle.gx_dtx.specs.Deciding.{HasDecided};
+ghost use Rattle.gx_dtx.specs.Due.{AreMade};
 ghost use Rattle.gx_dtx.specs.Nodes.{with_node as all_with};
-ghost use Rattle.gx_dtx.specs.declared.change.Step.TheVariants.{Leaves};
 
-use crate::nodes::with_node;
-use crate::phase::Phase;
+use crate::changes;
+use crate::nodes::put_in;
+use crate::replies::take_answer;
+use crate::taken::Taken;
 use crate::txn::Txn;
-use gx_dsnap::{Snapshot, take};
-use gx_ids::{Gxid, Mem, Node, Seq};
+use gx_dsnap::Snapshot;
+use gx_ids::{Gxid, Mem, Node, Seq, Shared};
+use gx_msg::Reply;
+use gx_outside::Journal;
 use std::alloc::Global;
 use std::collections::BTreeMap;
-use std::mem;
 
 // The transactions by gxid.
 pub(crate) type Map = BTreeMap<Gxid, Txn>;
 
-// The running gxids, in the order of the keys.
-fn running(alloc: Global, txns: &Map) -> Mem<Vec<Gxid>>
-    ensures whole { IfOk result (λ running. running.items ≡ map (λ e. e.0) (filter (λ e. is_running e.1.phase) txns.now.entries)) }
+// The running gxids below a limit, in the order of the keys.
+fn running_below(alloc: Global, txns: &Map, limit: Gxid) -> Mem<Vec<Gxid>>
+    ensures whole { IfOk result (λ below. below.items ≡ filter (is_below limit) (map (λ e. e.0) (filter (λ e. is_running e.1.phase) txns.now.entries))) }
     ensures ordered { IsOrdered gxid_cmp txns.now }
 {
-    let mut running = Vec::with_capacity(alloc, txns.len())?;
+    let mut below = Vec::with_capacity(alloc, txns.len())?;
     for (gxid, txn) in txns {
-        if txn.phase.is_running() {
-            running.push(*gxid)?;
+        if txn.phase.is_running() && *gxid < limit {
+            below.push(*gxid)?;
         }
     }
-    Ok(running)
+    Ok(below)
 }
 
 // The active gxids, in the order of the keys.
@@ -56,8 +61,15 @@ pub(crate) fn snapshot_of(alloc: Global, txns: &Map, latest_ended: Option<Gxid>)
     ensures running { IfOk result (λ snap. snap.running ≡ filter (is_below snap.xmax) (map (λ e. e.0) (filter (λ e. is_running e.1.phase) txns.now.entries))) }
     ensures xmin { IfOk result (λ snap. snap.xmin ≡ first_or snap.running snap.xmax) }
 {
-    let running = running(alloc, txns)?;
-    take(alloc, running.as_slice(), latest_ended)
+    let xmax = latest_ended.map_or(Gxid(1), |gxid| Gxid(gxid.0 + 1));
+    let below = running_below(alloc, txns, xmax)?;
+    let xmin = below.first().copied().unwrap_or(xmax);
+    let running = Shared::new(alloc, Seq::from_vec(below))?;
+    Ok(Snapshot {
+        xmin,
+        xmax,
+        running,
+    })
 }
 
 // Sets the xmin of a transaction's live snapshot.
@@ -69,73 +81,97 @@ pub(crate) fn set_live(txns: &mut Map, gxid: Gxid, live: Option<Gxid>)
     }
 }
 
-fn set_participants(txns: &mut Map, gxid: Gxid, participants: Seq<Node>)
-    ensures { txns.new.entries ≡ with_txn txns.old.entries gxid (λ t. record t { participants = participants }) }
-{
-    match txns.get_mut(&gxid) {
-        Some(txn) => drop(mem::replace(&mut txn.participants, participants)),
-        None => drop(participants),
-    }
-}
-
 // Makes a node a participant.
 pub(crate) fn enlist(alloc: Global, txns: &mut Map, gxid: Gxid, node: Node) -> Mem<()>
     ensures ok { OnOk result (txns.new.entries ≡ with_txn txns.old.entries gxid (λ t. record t { participants = all_with node t.participants })) }
-    ensures err { OnErr result (IsUnchanged txns.old txns.new) }
-{
-    let Some(txn) = txns.get(&gxid) else {
-        return Ok(());
-    };
-    let participants = with_node(alloc, node, &txn.participants)?;
-    set_participants(txns, gxid, participants);
-    Ok(())
-}
-
-pub(crate) fn set_phase(txns: &mut Map, gxid: Gxid, phase: Phase)
-    ensures { txns.new.entries ≡ with_txn txns.old.entries gxid (moved phase) }
+    ensures err { OnErr result (txns.new.entries ≡ txns.old.entries) }
 {
     match txns.get_mut(&gxid) {
-        Some(txn) => txn.go_to(phase),
-        None => drop(phase),
+        Some(txn) => put_in(alloc, node, &mut txn.participants),
+        None => Ok(()),
     }
-}
-
-// Takes a transaction out.
-pub(crate) fn remove(txns: &mut Map, gxid: Gxid)
-    ensures entries { txns.new.entries ≡ with_step txns.old.entries gxid Leaves }
-    ensures finds { Updates gxid_cmp txns.old txns.new gxid None }
-{
-    drop(txns.remove(&gxid));
 }
 
 // Adds a transaction that begins.
 pub(crate) fn add(alloc: Global, txns: &mut Map, gxid: Gxid) -> Mem<()>
     ensures ok { OnOk result (txns.new.entries ≡ insert_entry gxid_cmp txns.old.entries gxid new_txn) }
-    ensures finds { OnOk result (Updates gxid_cmp txns.old txns.new gxid (Some new_txn)) }
     ensures err { OnErr result (IsUnchanged txns.old txns.new) }
 {
     drop(txns.insert(gxid, Txn::new(alloc))?);
     Ok(())
 }
 
-// The xmin of a transaction's live snapshot.
-pub(crate) fn live_of(txns: &Map, gxid: Gxid) -> Option<Gxid>
-    ensures { result ≡ live_found (lookup (is_at (gxid_cmp gxid)) txns.now.entries) }
+// A transaction commits, with these writers.
+pub(crate) fn commit(alloc: Global, txns: &mut Map, gxid: Gxid, writers: &[Node]) -> Mem<Taken>
+    ensures value { IfOk result (λ taken. AreMade (commit_found gxid writers.now (lookup (is_at (gxid_cmp gxid)) txns.old.entries)) txns.old.entries txns.new.entries gxid taken) }
+    ensures err { OnErr result (txns.new.entries ≡ txns.old.entries) }
 {
-    match txns.get(&gxid) {
-        Some(txn) => txn.live,
-        None => None,
+    match txns.get_mut(&gxid) {
+        Some(txn) => changes::commit(alloc, gxid, writers, txn),
+        None => Ok(Taken::silent(alloc)),
     }
 }
 
-// The least gxid, or another where there is none.
-pub(crate) fn first_with(txns: &Map, other: Gxid) -> Gxid
-    ensures low { All (λ g. result.0 ≤ g.0) (keys txns.now) }
-    ensures other { result.0 ≤ other.0 }
-    ensures among { (result ≡ other) ⊎ IsSome (get gxid_cmp txns.now result) }
+// A transaction aborts.
+pub(crate) fn abort(alloc: Global, txns: &mut Map, gxid: Gxid) -> Mem<Taken>
+    ensures value { IfOk result (λ taken. AreMade (abort_found gxid (lookup (is_at (gxid_cmp gxid)) txns.old.entries)) txns.old.entries txns.new.entries gxid taken) }
+    ensures err { OnErr result (txns.new.entries ≡ txns.old.entries) }
 {
-    match txns.first_key_value() {
-        Some((first, _)) if *first < other => *first,
-        _ => other,
+    match txns.get_mut(&gxid) {
+        Some(txn) => changes::abort(alloc, gxid, txn),
+        None => Ok(Taken::silent(alloc)),
+    }
+}
+
+// A node answers about a transaction.
+pub(crate) fn reply<J: Journal>(
+    alloc: Global,
+    txns: &mut Map,
+    gxid: Gxid,
+    node: Node,
+    answer: &Reply,
+    journal: &mut J,
+) -> Mem<Taken>
+    ensures value { IfOk result (λ taken. AreMade (reply_found gxid node answer.now (is_refused taken.out.outcome) (lookup (is_at (gxid_cmp gxid)) txns.old.entries))
+        txns.old.entries txns.new.entries gxid taken) }
+    ensures err { OnErr result (txns.new.entries ≡ txns.old.entries) }
+    ensures decided { IfOk result (λ taken. HasDecided (J.shelf journal.old) (J.shelf journal.new) gxid
+        (decides_found (lookup (is_at (gxid_cmp gxid)) txns.old.entries) node answer.now) taken.out.outcome) }
+    ensures untouched { decides_found (lookup (is_at (gxid_cmp gxid)) txns.old.entries) node answer.now ≡ false → journal.new ≡ journal.old }
+    ensures kept { OnErr result (HasKept (J.shelf journal.old) (J.shelf journal.new)) }
+{
+    match txns.get_mut(&gxid) {
+        Some(txn) => take_answer(alloc, gxid, txn, node, answer, journal),
+        None => Ok(Taken::silent(alloc)),
+    }
+}
+
+// Takes a transaction out if it leaves the table.
+pub(crate) fn settle(txns: &mut Map, gxid: Gxid, leaves: bool)
+    ensures { txns.new.entries ≡ (if leaves then remove_entry (is_at (gxid_cmp gxid)) txns.old.entries else txns.old.entries) }
+{
+    if leaves {
+        drop(txns.remove(&gxid));
+    }
+}
+
+// The least gxid that some transaction holds the horizon at, or another that is less.
+#[tactic(auto, using(crate::proofs::Low::least_of_entries))]
+pub(crate) fn horizon(txns: &Map, next: Gxid) -> Gxid
+    ensures { result ≡ least_of (flat_map holds_back txns.now.entries) next }
+{
+    let mut least = next;
+    for (gxid, txn) in txns {
+        least = least_with(txn.live, (*gxid).min(least));
+    }
+    least
+}
+
+fn least_with(live: Option<Gxid>, other: Gxid) -> Gxid
+    ensures { result ≡ least_of (live_xmin live) other }
+{
+    match live {
+        Some(xmin) => xmin.min(other),
+        None => other,
     }
 }

@@ -1,9 +1,12 @@
 // Lists of nodes.
-ghost use Rattle.std.specs.Prelude.{◌≡◌, ◌++◌, ◌∷◌, [], nat_lt, filter, IfOk, OnOk};
+ghost use Rattle.std.specs.Prelude.{◌≡◌, ◌++◌, ◌∷◌, [], nat_lt, filter, OnOk, OnErr};
+ghost use Rattle.std.specs.List.{list_all};
+ghost use Rattle.gx_dtx.specs.Due.{is_only as is_no_other};
 ghost use Rattle.gx_dtx.specs.Nodes.{has as is_one_of, without as all_but, with_node as all_with};
 
-use gx_ids::{Duplicate, Mem, Node, Seq};
+use gx_ids::{Mem, Node, Seq};
 use std::alloc::Global;
+use std::mem;
 
 /// Whether a node is one of these.
 pub fn has(node: Node, nodes: &[Node]) -> bool
@@ -12,46 +15,61 @@ pub fn has(node: Node, nodes: &[Node]) -> bool
     nodes.iter().any(|other| *other == node)
 }
 
-/// The nodes but one.
-pub fn without(alloc: Global, node: Node, nodes: &[Node]) -> Mem<Seq<Node>>
-    ensures { IfOk result (λ rest. rest ≡ all_but node nodes.now) }
+// Whether no other node is one of these.
+pub(crate) fn is_only(node: Node, nodes: &[Node]) -> bool
+    ensures { result ≡ is_no_other node nodes.now }
 {
-    let mut rest = Vec::new(alloc);
-    push_others(node, nodes, &mut rest)?;
-    Ok(Seq::from_vec(rest))
+    nodes.iter().all(|other| *other == node)
 }
 
-fn push_others(node: Node, nodes: &[Node], others: &mut Vec<Node>) -> Mem<()>
-    ensures { OnOk result (others.new.items ≡ others.old.items ++ all_but node nodes.now) }
+/// Takes a node out.
+pub fn take_out(alloc: Global, node: Node, nodes: &mut Seq<Node>)
+    ensures { nodes.new ≡ all_but node nodes.old }
 {
-    for other in nodes {
-        if *other != node {
-            others.push(*other)?;
-        }
-    }
-    Ok(())
+    let rest = without(node, mem::replace(nodes, Seq::new(alloc)));
+    drop(mem::replace(nodes, rest));
 }
 
-/// The nodes with one among them, in their order.
-pub fn with_node(alloc: Global, node: Node, nodes: &Seq<Node>) -> Mem<Seq<Node>>
-    ensures { IfOk result (λ all. all ≡ all_with node nodes.now) }
+fn without(node: Node, nodes: Seq<Node>) -> Seq<Node>
+    ensures { result ≡ all_but node nodes }
 {
-    if has(node, nodes.as_slice()) {
-        nodes.copy(alloc)
+    let mut rest = nodes.into_vec();
+    rest.retain(|other| *other != node);
+    Seq::from_vec(rest)
+}
+
+/// Puts a node among them, in their order.
+pub fn put_in(alloc: Global, node: Node, nodes: &mut Seq<Node>) -> Mem<()>
+    ensures ok { OnOk result (nodes.new ≡ all_with node nodes.old) }
+    ensures err { OnErr result (nodes.new ≡ nodes.old) }
+{
+    if is_above(node, nodes.as_slice()) {
+        nodes.push(node)
+    } else if has(node, nodes.as_slice()) {
+        Ok(())
     } else {
-        put_in(alloc, node, nodes.as_slice())
+        put_between(alloc, node, nodes)
     }
 }
 
-// A node between those below and those above it.
-fn put_in(alloc: Global, node: Node, nodes: &[Node]) -> Mem<Seq<Node>>
-    ensures { IfOk result (λ all. all ≡ filter (λ j. nat_lt j.0 node.0) nodes.now ++ node ∷ [] ++ filter (λ j. nat_lt node.0 j.0) nodes.now) }
+// Whether a node is above all of these.
+fn is_above(node: Node, nodes: &[Node]) -> bool
+    ensures { result ≡ list_all (λ j. nat_lt j.0 node.0) nodes.now }
+{
+    nodes.iter().all(|other| *other < node)
+}
+
+// Puts a node between those below and those above it.
+fn put_between(alloc: Global, node: Node, nodes: &mut Seq<Node>) -> Mem<()>
+    ensures ok { OnOk result (nodes.new ≡ filter (λ j. nat_lt j.0 node.0) nodes.old ++ node ∷ [] ++ filter (λ j. nat_lt node.0 j.0) nodes.old) }
+    ensures err { OnErr result (nodes.new ≡ nodes.old) }
 {
     let mut all = Vec::new(alloc);
-    push_below(node, nodes, &mut all)?;
+    push_below(node, nodes.as_slice(), &mut all)?;
     all.push(node)?;
-    push_above(node, nodes, &mut all)?;
-    Ok(Seq::from_vec(all))
+    push_above(node, nodes.as_slice(), &mut all)?;
+    drop(mem::replace(nodes, Seq::from_vec(all)));
+    Ok(())
 }
 
 fn push_below(node: Node, nodes: &[Node], below: &mut Vec<Node>) -> Mem<()>

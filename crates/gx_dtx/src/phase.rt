@@ -1,7 +1,9 @@
 ghost use Rattle.std.specs.Prelude.{◌≡◌};
 
+use crate::nodes::take_out;
 use crate::status::Status;
 use gx_ids::{Node, Seq};
+use std::alloc::Global;
 
 /// Where a transaction stands, with those whose answers the coordinator awaits.
 #[derive(Drop)]
@@ -25,6 +27,7 @@ pub enum Phase {
 
 impl Phase {
     ghost use Rattle.gx_dtx.specs.Table.{status_in, is_active as acts_in, is_running as runs_in};
+    ghost use Rattle.gx_dtx.specs.Due.{struck, writers_in};
 
     /// The status, without those whose answers are awaited.
     pub fn status(&self) -> Status
@@ -51,5 +54,50 @@ impl Phase {
         ensures { result ≡ acts_in self.now }
     {
         matches!(self, Phase::Active)
+    }
+
+    /// No answer of the node is awaited any more.
+    pub fn strike(&mut self, alloc: Global, node: Node)
+        ensures { self.new ≡ struck node self.old }
+    {
+        match self {
+            Phase::Active | Phase::CommittingOne(_) => {}
+            Phase::Preparing {
+                writers: _,
+                awaited,
+            } => take_out(alloc, node, awaited),
+            Phase::CommittingTwo(awaited) => take_out(alloc, node, awaited),
+            Phase::Ended(awaited) => take_out(alloc, node, awaited),
+            Phase::Aborting(awaited) => take_out(alloc, node, awaited),
+        }
+    }
+
+    /// The writers that are asked to prepare.
+    pub fn writers(&self) -> &[Node]
+        ensures { result.now ≡ writers_in self.now }
+    {
+        match self {
+            Phase::Preparing {
+                writers,
+                awaited: _,
+            } => writers.as_slice(),
+            _ => &[],
+        }
+    }
+
+    /// The writers that were asked to prepare.
+    pub fn into_writers(self, alloc: Global) -> Seq<Node>
+        ensures { result ≡ writers_in self }
+    {
+        match self {
+            Phase::Preparing { writers, awaited } => {
+                drop(awaited);
+                writers
+            }
+            other => {
+                drop(other);
+                Seq::new(alloc)
+            }
+        }
     }
 }

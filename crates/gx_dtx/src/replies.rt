@@ -1,27 +1,32 @@
 // Answers of participants.
-ghost use Rattle.std.specs.Prelude.{◌≡◌, [], true, false, IfOk, OnErr};
+ghost use Rattle.std.specs.Prelude.{◌≡◌, Bool, List, true, false, IfOk, OnErr, if◌then◌else◌};
+ghost use Rattle.gx_ids.specs.declared.ids.Gxid.{Gxid as Id};
+ghost use Rattle.gx_ids.specs.declared.ids.Node.{Node as Place};
+ghost use Rattle.gx_dtx.specs.declared.due.Due.TheVariants as dues;
 ghost use Rattle.gx_outside.specs.Shelves.{HasKept, IsAppended};
 ghost use Rattle.gx_msg.specs.ItemBytes.{bytes_of_item};
 ghost use Rattle.gx_msg.specs.declared.item.JournalItem.TheVariants as item;
-ghost use Rattle.gx_dtx.specs.Rules.{is_awaited as is_awaited_in, takes, prepares, decides, decides_in, is_refused, is_last, goes_to};
+ghost use Rattle.gx_dtx.specs.Rules.{decides, decides_in, is_refused};
 ghost use Rattle.gx_dtx.specs.Deciding.{HasDecided};
-ghost use Rattle.gx_dtx.specs.Nodes.{without as all_but};
-ghost use Rattle.gx_dtx.specs.declared.outcome.Outcome.TheVariants as outcome;
-ghost use Rattle.gx_dtx.specs.declared.phase.Phase.TheVariants as phase;
+ghost use Rattle.gx_dtx.specs.Due.{IsMade, answered, change_due, is_decision, once_all as due_once_all, writers_in};
 
-use crate::change::Change;
-use crate::changes::{decide, end_committed, finish, forget, give_up, refuse};
-use crate::nodes::{has, without};
+use crate::changes::{end_committed, refuse};
+use crate::due::Due;
+use crate::nodes::{has, is_only};
+use crate::order::Order;
+use crate::outcome::Outcome;
 use crate::phase::Phase;
+use crate::taken::Taken;
 use crate::txn::Txn;
-use gx_ids::{Duplicate, Gxid, Mem, Node, OutOfMemory, Seq};
+use gx_ids::{Gxid, Mem, Node, OutOfMemory, Seq};
 use gx_msg::{JournalItem, Reply, item_bytes};
 use gx_outside::{AppendFault, Journal};
 use std::alloc::Global;
 
-// Whether this answer of a node is awaited.
-pub(crate) fn is_awaited(phase: &Phase, node: Node, answer: &Reply) -> bool
-    ensures { result ≡ is_awaited_in phase.now node answer.now }
+// What an answer of a node asks for.
+fn due(phase: &Phase, node: Node, answer: &Reply) -> Due
+    ensures value { (g : Id) (participants : List Place) (refused : Bool) → answered g participants node refused phase.now answer.now ≡ change_due result g participants node refused phase.now }
+    ensures decision { decides_in phase.now node answer.now ≡ is_decision result }
 {
     match (phase, answer) {
         (
@@ -30,108 +35,116 @@ pub(crate) fn is_awaited(phase: &Phase, node: Node, answer: &Reply) -> bool
                 awaited,
             },
             Reply::Prepared,
-        ) => has(node, awaited.as_slice()),
+        ) => once_all(node, awaited, Due::Decision),
         (
             Phase::Preparing {
                 writers: _,
                 awaited,
             },
             Reply::Jfault,
-        ) => has(node, awaited.as_slice()),
-        (Phase::CommittingOne(writer), Reply::Committed) => *writer == node,
-        (Phase::CommittingOne(writer), Reply::Jfault) => *writer == node,
-        (Phase::CommittingTwo(awaited), Reply::Committed) => has(node, awaited.as_slice()),
-        (Phase::Ended(awaited), Reply::Forgotten) => has(node, awaited.as_slice()),
-        (Phase::Aborting(awaited), Reply::Aborted) => has(node, awaited.as_slice()),
-        _ => false,
+        ) => abort_if(has(node, awaited.as_slice())),
+        (Phase::CommittingOne(writer), Reply::Committed) => commit_if(*writer == node),
+        (Phase::CommittingOne(writer), Reply::Jfault) => abort_if(*writer == node),
+        (Phase::CommittingTwo(awaited), Reply::Committed) => once_all(node, awaited, Due::Commit),
+        (Phase::Ended(awaited), Reply::Forgotten) => once_all(node, awaited, Due::Forgotten),
+        (Phase::Aborting(awaited), Reply::Aborted) => once_all(node, awaited, Due::Aborted),
+        _ => Due::Nothing,
     }
 }
 
-// What an awaited answer makes of a transaction.
+// What is due with the last of the answers that are awaited.
+fn once_all(node: Node, awaited: &Seq<Node>, last: Due) -> Due
+    ensures { result ≡ due_once_all node awaited.now last }
+{
+    if !has(node, awaited.as_slice()) {
+        Due::Nothing
+    } else if is_only(node, awaited.as_slice()) {
+        last
+    } else {
+        Due::Wait
+    }
+}
+
+fn abort_if(awaited: bool) -> Due
+    ensures { result ≡ (if awaited then dues.Abort else dues.Nothing) }
+{
+    if awaited { Due::Abort } else { Due::Nothing }
+}
+
+fn commit_if(awaited: bool) -> Due
+    ensures { result ≡ (if awaited then dues.Commit else dues.Nothing) }
+{
+    if awaited { Due::Commit } else { Due::Nothing }
+}
+
+// What an answer makes of a transaction.
 pub(crate) fn take_answer<J: Journal>(
     alloc: Global,
     gxid: Gxid,
-    txn: &Txn,
+    txn: &mut Txn,
     node: Node,
     answer: &Reply,
     journal: &mut J,
-) -> Mem<Change>
-    requires { is_awaited_in txn.now.phase node answer.now ≡ true }
-    ensures value { IfOk result (λ change. change ≡ takes gxid txn.now.participants node (is_refused change.out.outcome) txn.now.phase answer.now) }
-    ensures decided { IfOk result (λ change. HasDecided (J.shelf journal.old) (J.shelf journal.new) gxid (decides_in txn.now.phase node answer.now) change.out.outcome) }
-    ensures untouched { decides_in txn.now.phase node answer.now ≡ false → journal.new ≡ journal.old }
+) -> Mem<Taken>
+    ensures value { IfOk result (λ taken. IsMade (answered gxid txn.old.participants node (is_refused taken.out.outcome) txn.old.phase answer.now) txn.old txn.new taken) }
+    ensures err { OnErr result (txn.new ≡ txn.old) }
+    ensures decided { IfOk result (λ taken. HasDecided (J.shelf journal.old) (J.shelf journal.new) gxid (decides_in txn.old.phase node answer.now) taken.out.outcome) }
+    ensures untouched { decides_in txn.old.phase node answer.now ≡ false → journal.new ≡ journal.old }
     ensures kept { OnErr result (HasKept (J.shelf journal.old) (J.shelf journal.new)) }
 {
-    let participants = &txn.participants;
-    match (&txn.phase, answer) {
-        (Phase::Preparing { writers, awaited }, Reply::Prepared) => {
-            prepare(alloc, gxid, writers, participants, node, awaited, journal)
-        }
-        (Phase::Preparing { .. }, Reply::Jfault) => refuse(alloc, gxid, participants, node),
-        (Phase::CommittingOne(_), Reply::Committed) => end_committed(alloc, gxid, participants),
-        (Phase::CommittingOne(_), Reply::Jfault) => refuse(alloc, gxid, participants, node),
-        (Phase::CommittingTwo(awaited), Reply::Committed) => {
-            finish(alloc, gxid, participants, node, awaited)
-        }
-        (Phase::Ended(awaited), Reply::Forgotten) => forget(alloc, node, awaited),
-        (Phase::Aborting(awaited), Reply::Aborted) => give_up(alloc, node, awaited),
-        _ => Ok(Change::stays(alloc)),
-    }
+    let due = due(&txn.phase, node, answer);
+    take_due(alloc, gxid, txn, node, due, journal)
 }
 
-// A writer has prepared; of those that were awaited the others haven't yet.
-fn prepare<J: Journal>(
+// What is due is made of a transaction.
+fn take_due<J: Journal>(
     alloc: Global,
     gxid: Gxid,
-    writers: &Seq<Node>,
-    participants: &Seq<Node>,
+    txn: &mut Txn,
     node: Node,
-    awaited: &Seq<Node>,
+    due: Due,
     journal: &mut J,
-) -> Mem<Change>
-    ensures value { IfOk result (λ change. change ≡ prepares gxid writers.now participants.now (all_but node awaited.now) (is_refused change.out.outcome)) }
-    ensures decided { IfOk result (λ change. HasDecided (J.shelf journal.old) (J.shelf journal.new) gxid true change.out.outcome) }
-    ensures untouched { is_last (all_but node awaited.now) ≡ false → journal.new ≡ journal.old }
+) -> Mem<Taken>
+    ensures value { IfOk result (λ taken. IsMade (change_due due gxid txn.old.participants node (is_refused taken.out.outcome) txn.old.phase) txn.old txn.new taken) }
+    ensures err { OnErr result (txn.new ≡ txn.old) }
+    ensures decided { IfOk result (λ taken. HasDecided (J.shelf journal.old) (J.shelf journal.new) gxid (is_decision due) taken.out.outcome) }
+    ensures untouched { is_decision due ≡ false → journal.new ≡ journal.old }
     ensures kept { OnErr result (HasKept (J.shelf journal.old) (J.shelf journal.new)) }
 {
-    let rest = without(alloc, node, awaited.as_slice())?;
-    if rest.is_empty() {
-        drop(rest);
-        decide_now(alloc, gxid, writers, participants, journal)
-    } else {
-        wait_for(alloc, writers, rest)
+    match due {
+        Due::Nothing => Ok(Taken::silent(alloc)),
+        Due::Wait => {
+            txn.wait_without(alloc, node);
+            Ok(Taken::silent(alloc))
+        }
+        Due::Decision => decide(alloc, gxid, txn, journal),
+        Due::Commit => end_committed(alloc, gxid, txn),
+        Due::Abort => refuse(alloc, gxid, txn, node),
+        Due::Forgotten => Ok(Taken::leaves(alloc, Outcome::Pending)),
+        Due::Aborted => Ok(Taken::leaves(alloc, Outcome::Ended)),
     }
 }
 
-// Waits for these writers to prepare.
-fn wait_for(alloc: Global, writers: &Seq<Node>, awaited: Seq<Node>) -> Mem<Change>
-    ensures { IfOk result (λ change. change ≡ goes_to (phase.Preparing writers.now awaited) [] outcome.Pending) }
-{
-    let writers = writers.copy(alloc)?;
-    Ok(Change::waits(alloc, Phase::Preparing { writers, awaited }))
-}
-
-// Appends the decide item. What comes after it is made before, so that no memory is needed once it is appended.
-fn decide_now<J: Journal>(
-    alloc: Global,
-    gxid: Gxid,
-    writers: &Seq<Node>,
-    participants: &Seq<Node>,
-    journal: &mut J,
-) -> Mem<Change>
-    ensures value { IfOk result (λ change. change ≡ decides gxid writers.now participants.now (is_refused change.out.outcome)) }
-    ensures decided { IfOk result (λ change. HasDecided (J.shelf journal.old) (J.shelf journal.new) gxid true change.out.outcome) }
+// All writers are prepared: appends the decide item. What is to be sent is made before, so that no memory is needed
+// once it is appended.
+fn decide<J: Journal>(alloc: Global, gxid: Gxid, txn: &mut Txn, journal: &mut J) -> Mem<Taken>
+    ensures value { IfOk result (λ taken. IsMade (decides gxid (writers_in txn.old.phase) txn.old.participants (is_refused taken.out.outcome)) txn.old txn.new taken) }
+    ensures err { OnErr result (txn.new ≡ txn.old) }
+    ensures decided { IfOk result (λ taken. HasDecided (J.shelf journal.old) (J.shelf journal.new) gxid true taken.out.outcome) }
     ensures kept { OnErr result (HasKept (J.shelf journal.old) (J.shelf journal.new)) }
 {
-    let decided = decide(alloc, gxid, writers)?;
+    let outs = Order::CommitPrepared.to_each(alloc, gxid, txn.phase.writers())?;
     match append_decide(alloc, gxid, journal) {
-        Ok(()) => Ok(decided),
+        Ok(()) => {
+            txn.commit_prepared(alloc);
+            Ok(Taken::sends(outs, Outcome::Decided))
+        }
         Err(AppendFault::Failed) => {
-            drop(decided);
-            refuse(alloc, gxid, participants, Node(0))
+            drop(outs);
+            refuse(alloc, gxid, txn, Node(0))
         }
         Err(AppendFault::OutOfMemory) => {
-            drop(decided);
+            drop(outs);
             Err(OutOfMemory)
         }
     }
@@ -141,11 +154,7 @@ fn append_decide<J: Journal>(alloc: Global, gxid: Gxid, journal: &mut J) -> Resu
     ensures { IsAppended (J.shelf journal.old) (J.shelf journal.new) (bytes_of_item (item.Decide gxid)) result }
 {
     match decide_item(alloc, gxid) {
-        Ok(item) => {
-            let appended = journal.append(item.as_slice());
-            drop(item);
-            appended
-        }
+        Ok(item) => journal.append(item),
         Err(OutOfMemory) => Err(AppendFault::OutOfMemory),
     }
 }

@@ -18,6 +18,8 @@ pub struct Txn {
 impl Txn {
     ghost use Rattle.gx_dtx.specs.Table.{new_txn};
     ghost use Rattle.gx_dtx.specs.Rules.{moved};
+    ghost use Rattle.gx_dtx.specs.Due.{struck, writers_in};
+    ghost use Rattle.gx_dtx.specs.declared.phase.Phase.TheVariants.{CommittingTwo};
 
     /// A transaction that begins.
     pub fn new(alloc: Global) -> Txn
@@ -30,13 +32,36 @@ impl Txn {
         }
     }
 
-    /// Goes on to a phase. A snapshot lives until the commit or the abort at the latest.
+    /// Goes on to a phase.
     pub fn go_to(&mut self, phase: Phase)
         ensures { self.new ≡ moved phase self.old }
     {
-        if matches!(phase, Phase::Ended(_) | Phase::Aborting(_)) {
+        drop(mem::replace(&mut self.phase, phase));
+        self.end_snapshot();
+    }
+
+    /// Waits for other nodes than this one.
+    pub fn wait_without(&mut self, alloc: Global, node: Node)
+        ensures { self.new ≡ moved (struck node self.old.phase) self.old }
+    {
+        self.phase.strike(alloc, node);
+        self.end_snapshot();
+    }
+
+    /// Tells the writers to commit, who are all prepared.
+    pub fn commit_prepared(&mut self, alloc: Global)
+        ensures { self.new ≡ moved (CommittingTwo (writers_in self.old.phase)) self.old }
+    {
+        let preparing = mem::replace(&mut self.phase, Phase::Active);
+        self.go_to(Phase::CommittingTwo(preparing.into_writers(alloc)));
+    }
+
+    // A snapshot lives until the commit or the abort at the latest.
+    fn end_snapshot(&mut self)
+        ensures { self.new ≡ moved self.old.phase self.old }
+    {
+        if matches!(self.phase, Phase::Ended(_) | Phase::Aborting(_)) {
             self.live = None;
         }
-        drop(mem::replace(&mut self.phase, phase));
     }
 }

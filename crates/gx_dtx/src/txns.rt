@@ -1,4 +1,4 @@
-ghost use Rattle.std.specs.Prelude.{◌≡◌, ◌+◌, ◌<◌, ◌^◌, [], IfOk, OnOk, OnErr, None, Some, map, filter};
+ghost use Rattle.std.specs.Prelude.{◌≡◌, ◌+◌, ◌<◌, ◌^◌, [], IfOk, OnOk, OnErr, None, false, map, filter};
 ghost use Rattle.std.specs.Option.{ForSome, option_copied};
 ghost use Rattle.std.specs.List.{flat_map};
 ghost use Rattle.std.specs.Map.{lookup};
@@ -6,45 +6,40 @@ ghost use Rattle.std.specs.BTreeMap.{is_at, insert_entry};
 ghost use Rattle.gx_dsnap.specs.Gxids.{gxid_cmp, after_ended, is_below, first_or, least_of};
 ghost use Rattle.gx_dtx.specs.Rules.{with_ended, ends};
 
-use crate::change::{Change, Step};
-use crate::lives::{Lives, file, least_with, settle, unfile};
 use crate::map;
 use crate::outcome::{DtxOut, Outcome};
-use crate::phase::Phase;
 use crate::txn::Txn;
 use gx_dsnap::Snapshot;
 use gx_ids::{Gxid, Mem, Node};
+use gx_msg::Reply;
+use gx_outside::Journal;
 use std::alloc::Global;
-use std::collections::{BTreeMap, BTreeSet};
+use std::collections::BTreeMap;
 use std::marker::Model;
 
-/// The transactions by gxid, with an index of their live snapshots. Contracts see them as the list of both, rising.
+/// The transactions by gxid. Contracts see them as the list of both, rising.
 #[derive(Drop)]
 pub struct Txns {
     alloc: Global,
     map: map::Map,
-    lives: Lives,
 }
 
 impl Model for Txns {
     ghost use Rattle.std.specs.Prelude.{List};
     ghost use Rattle.gx_ids.specs.declared.ids.Gxid.{Gxid};
     ghost use Rattle.gx_dtx.specs.declared.txn.Txn.{Txn};
-    ghost use Rattle.gx_dtx.specs.Lives.{IsIndexed};
 
     ghost Value = { List (Gxid × Txn) };
 
     ghost view = { λ a. a.map.entries };
-
-    ghost invariant = { λ a. IsIndexed a.map.entries a.lives };
 }
 
 impl Txns {
     ghost use Rattle.gx_dtx.specs.Table.{is_active, is_running, holds_back, new_txn};
-    ghost use Rattle.gx_dtx.specs.Rules.{with_txn, with_step, moved};
-    ghost use Rattle.gx_dtx.specs.Whole.{AreRisen};
+    ghost use Rattle.gx_dtx.specs.Rules.{with_txn, with_step, commit_found, abort_found, reply_found, decides_found, is_refused};
+    ghost use Rattle.gx_dtx.specs.Deciding.{HasDecided};
     ghost use Rattle.gx_dtx.specs.Nodes.{with_node as all_with};
-    ghost use Rattle.gx_dtx.specs.declared.change.Step.TheVariants.{Leaves};
+    ghost use Rattle.gx_outside.specs.Shelves.{HasKept};
 
     /// No transactions.
     pub fn new(alloc: Global) -> Txns
@@ -53,7 +48,6 @@ impl Txns {
         Txns {
             alloc,
             map: BTreeMap::new(alloc),
-            lives: BTreeSet::new(alloc),
         }
     }
 
@@ -90,26 +84,11 @@ impl Txns {
         map::active(self.alloc, &self.map)
     }
 
-    /// A transaction has a live snapshot of this `xmin`.
-    pub fn set_live(&mut self, gxid: Gxid, xmin: Gxid) -> Mem<()>
-        ensures ok { OnOk result (self.new ≡ with_txn self.old gxid (λ t. record t { live = Some xmin })) }
-        ensures err { OnErr result (self.new ≡ self.old) }
+    /// Sets the `xmin` of a transaction's live snapshot, or that it has none.
+    pub fn set_live(&mut self, gxid: Gxid, live: Option<Gxid>)
+        ensures { self.new ≡ with_txn self.old gxid (λ t. record t { live = live }) }
     {
-        if !self.map.contains_key(&gxid) {
-            return Ok(());
-        }
-        let old = map::live_of(&self.map, gxid);
-        file(&mut self.lives, gxid, old, xmin)?;
-        map::set_live(&mut self.map, gxid, Some(xmin));
-        Ok(())
-    }
-
-    /// A transaction's live snapshot ends.
-    pub fn drop_live(&mut self, gxid: Gxid)
-        ensures { self.new ≡ with_txn self.old gxid (λ t. record t { live = None }) }
-    {
-        unfile(&mut self.lives, gxid, map::live_of(&self.map, gxid));
-        map::set_live(&mut self.map, gxid, None);
+        map::set_live(&mut self.map, gxid, live);
     }
 
     /// Makes a node a participant.
@@ -120,53 +99,58 @@ impl Txns {
         map::enlist(self.alloc, &mut self.map, gxid, node)
     }
 
-    /// Makes a change of a transaction, and tells what it has come to.
-    pub fn make(&mut self, latest_ended: &mut Option<Gxid>, gxid: Gxid, change: Change) -> DtxOut
-        ensures txns { self.new ≡ with_step self.old gxid change.step }
-        ensures latest { latest_ended.new ≡ with_ended (ends change.out.outcome) gxid latest_ended.old }
-        ensures out { result ≡ change.out }
+    /// Commits a transaction with these writers.
+    pub fn commit(&mut self, gxid: Gxid, writers: &[Node]) -> Mem<DtxOut>
+        ensures txns { OnOk result (self.new ≡ with_step self.old gxid (commit_found gxid writers.now (lookup (is_at (gxid_cmp gxid)) self.old)).step) }
+        ensures out { IfOk result (λ out. out ≡ (commit_found gxid writers.now (lookup (is_at (gxid_cmp gxid)) self.old)).out) }
+        ensures err { OnErr result (self.new ≡ self.old) }
     {
-        let Change { step, out } = change;
-        *latest_ended = latest_after(out.outcome, gxid, *latest_ended);
-        self.take_step(gxid, step);
-        out
+        let taken = map::commit(self.alloc, &mut self.map, gxid, writers)?;
+        map::settle(&mut self.map, gxid, taken.leaves);
+        Ok(taken.out)
     }
 
-    fn take_step(&mut self, gxid: Gxid, step: Step)
-        ensures { self.new ≡ with_step self.old gxid step }
+    /// Aborts a transaction.
+    pub fn abort(&mut self, gxid: Gxid) -> Mem<DtxOut>
+        ensures txns { OnOk result (self.new ≡ with_step self.old gxid (abort_found gxid (lookup (is_at (gxid_cmp gxid)) self.old)).step) }
+        ensures out { IfOk result (λ out. out ≡ (abort_found gxid (lookup (is_at (gxid_cmp gxid)) self.old)).out) }
+        ensures err { OnErr result (self.new ≡ self.old) }
     {
-        match step {
-            Step::Stays => {}
-            Step::GoesTo(phase) => self.go_to(gxid, phase),
-            Step::Leaves => self.remove(gxid),
-        }
+        let taken = map::abort(self.alloc, &mut self.map, gxid)?;
+        map::settle(&mut self.map, gxid, taken.leaves);
+        Ok(taken.out)
     }
 
-    fn go_to(&mut self, gxid: Gxid, phase: Phase)
-        ensures { self.new ≡ with_txn self.old gxid (moved phase) }
+    /// Takes a node's answer about a transaction.
+    pub fn reply<J: Journal>(
+        &mut self,
+        gxid: Gxid,
+        node: Node,
+        answer: &Reply,
+        journal: &mut J,
+    ) -> Mem<DtxOut>
+        ensures txns { IfOk result (λ out. self.new ≡ with_step self.old gxid (reply_found gxid node answer.now (is_refused out.outcome) (lookup (is_at (gxid_cmp gxid)) self.old)).step) }
+        ensures out { IfOk result (λ out. out ≡ (reply_found gxid node answer.now (is_refused out.outcome) (lookup (is_at (gxid_cmp gxid)) self.old)).out) }
+        ensures err { OnErr result (self.new ≡ self.old) }
+        ensures decided { IfOk result (λ out. HasDecided (J.shelf journal.old) (J.shelf journal.new) gxid (decides_found (lookup (is_at (gxid_cmp gxid)) self.old) node answer.now) out.outcome) }
+        ensures untouched { decides_found (lookup (is_at (gxid_cmp gxid)) self.old) node answer.now ≡ false → journal.new ≡ journal.old }
+        ensures kept { OnErr result (HasKept (J.shelf journal.old) (J.shelf journal.new)) }
     {
-        settle(&mut self.lives, gxid, map::live_of(&self.map, gxid), &phase);
-        map::set_phase(&mut self.map, gxid, phase);
-    }
-
-    fn remove(&mut self, gxid: Gxid)
-        ensures { self.new ≡ with_step self.old gxid Leaves }
-    {
-        unfile(&mut self.lives, gxid, map::live_of(&self.map, gxid));
-        map::remove(&mut self.map, gxid);
+        let taken = map::reply(self.alloc, &mut self.map, gxid, node, answer, journal)?;
+        map::settle(&mut self.map, gxid, taken.leaves);
+        Ok(taken.out)
     }
 
     /// The least gxid that some transaction holds the horizon at, or the next gxid.
     pub fn horizon(&self, next: Gxid) -> Gxid
-        requires { AreRisen self.now }
         ensures { result ≡ least_of (flat_map holds_back self.now) next }
     {
-        least_with(&self.lives, map::first_with(&self.map, next))
+        map::horizon(&self.map, next)
     }
 }
 
 // The greatest gxid that has ended, after a call of this outcome.
-fn latest_after(outcome: Outcome, gxid: Gxid, latest: Option<Gxid>) -> Option<Gxid>
+pub(crate) fn latest_after(outcome: Outcome, gxid: Gxid, latest: Option<Gxid>) -> Option<Gxid>
     ensures { result ≡ with_ended (ends outcome) gxid latest }
 {
     match outcome {

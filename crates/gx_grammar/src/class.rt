@@ -7,8 +7,8 @@ ghost use Rattle.gx_grammar.specs.declared.fault.Limits.{Limits};
 ghost use Rattle.gx_lex.specs.declared.token.Token.{Token};
 
 use crate::fault::{Fault, Limits, LineLimit, ReadError};
-use gx_ids::{Duplicate, Mem};
-use gx_lex::Token;
+use gx_ids::Mem;
+use gx_lex::{Name, Token};
 use gx_tree::Txt;
 use std::alloc::Global;
 
@@ -30,11 +30,11 @@ pub trait TokenClass: Sized + Drop {
 }
 
 /// Reads the token that stands first, and hands back those behind it.
-pub fn read_one<'a, T: TokenClass>(
+pub fn read_one<'a, 't, T: TokenClass>(
     alloc: Global,
     limits: Limits,
-    tokens: &'a [Token],
-) -> Result<(T, &'a [Token]), ReadError>
+    tokens: &'a [Token<'t>],
+) -> Result<(T, &'a [Token<'t>]), ReadError>
     ensures { Gives (λ r. (r.0, r.1.now)) result (one_at (T.class limits) tokens.now) }
 {
     match tokens.split_first() {
@@ -56,12 +56,45 @@ impl TokenClass for Txt {
         match token {
             Token::Name(name) => {
                 if name.as_slice().len() <= limits.name {
-                    Ok(Picked::Is(name.copy(alloc)?))
+                    Ok(Picked::Is(name.to_txt(alloc)?))
                 } else {
                     Ok(Picked::Passes(LineLimit::Name))
                 }
             }
             _ => Ok(Picked::Isnt),
         }
+    }
+}
+
+/// The name that a token is, where it is short enough.
+fn name_at<'t>(limits: Limits, token: &Token<'t>) -> Picked<Name<'t>>
+    ensures { pick_of result ≡ of.name_of limits token.now }
+{
+    match token {
+        Token::Name(name) => {
+            if name.as_slice().len() <= limits.name {
+                Picked::Is(name.again())
+            } else {
+                Picked::Passes(LineLimit::Name)
+            }
+        }
+        _ => Picked::Isnt,
+    }
+}
+
+/// Reads the name that stands first, and hands back the tokens behind it.
+pub fn read_name<'a, 't>(
+    limits: Limits,
+    tokens: &'a [Token<'t>],
+) -> Result<(Name<'t>, &'a [Token<'t>]), ReadError>
+    ensures { Gives (λ r. (r.0, r.1.now)) result (one_at (of.name_of limits) tokens.now) }
+{
+    match tokens.split_first() {
+        None => Err(ReadError::Fault(Fault::Syntax)),
+        Some((token, rest)) => match name_at(limits, token) {
+            Picked::Is(name) => Ok((name, rest)),
+            Picked::Isnt => Err(ReadError::Fault(Fault::Syntax)),
+            Picked::Passes(limit) => Err(ReadError::Fault(Fault::TooMany(limit))),
+        },
     }
 }

@@ -7,9 +7,10 @@ ghost use Rattle.gx_grammar.specs.declared.fault.Limits.{Limits};
 ghost use Rattle.gx_grammar.specs.Code.{stack, turn_of, mode_of, Gives};
 
 use crate::fault::{Fault, Limits, LineLimit, ReadError};
+use crate::rest::Rest;
 use crate::syn::{Op, Syn};
 use gx_ids::{Boxed, Duplicate, Mem};
-use gx_lex::{Symbol, Token, Word};
+use gx_lex::{Name, Symbol, Token, Word};
 use gx_tree::Txt;
 use std::alloc::Global;
 
@@ -300,11 +301,11 @@ fn leaf(limits: Limits, count: usize, frames: &[Frame], operand: Syn) -> Turn
     }
 }
 
-fn name(alloc: Global, limits: Limits, count: usize, frames: &[Frame], name: &Txt) -> Mem<Turn>
+fn name(alloc: Global, limits: Limits, count: usize, frames: &[Frame], name: &Name) -> Mem<Turn>
     ensures { IfOk result (λ turn. turn_of turn (reverse frames.now) ≡ machine.on_name limits count (reverse frames.now) name.now) }
 {
     if name.as_slice().len() <= limits.name {
-        Ok(leaf(limits, count, frames, Syn::Column(name.copy(alloc)?)))
+        Ok(leaf(limits, count, frames, Syn::Column(name.to_txt(alloc)?)))
     } else {
         Ok(Turn::Stop(Fault::TooMany(LineLimit::Name)))
     }
@@ -517,28 +518,28 @@ fn finish(alloc: Global, frames: &mut Vec<Frame>, wait: Wait) -> Mem<Turn>
 }
 
 /// Reads the expression that stands first step by step, and hands back the tokens behind it.
-fn expr_by_steps<'a>(
+pub fn expr_by_steps<'a, 't>(
     alloc: Global,
     limits: Limits,
-    tokens: &'a [Token],
-) -> Result<(Syn, &'a [Token]), ReadError>
+    tokens: &'a [Token<'t>],
+) -> Result<(Syn, &'a [Token<'t>]), ReadError>
     ensures { Gives (λ r. (r.0, r.1.now)) result (machine.expr_at limits tokens.now) }
 {
     let mut frames = Vec::new(alloc);
     let mut wait = Wait::Operand(0);
-    let mut rest = tokens;
-    while let Some((token, others)) = rest.split_first() {
+    let mut rest = Rest { tokens };
+    while let Some((token, others)) = rest.tokens.split_first() {
         match step(alloc, limits, &mut frames, wait, token)? {
             Turn::Stop(fault) => return Err(ReadError::Fault(fault)),
             Turn::Go(next) => {
                 wait = next;
-                rest = others;
+                rest = Rest { tokens: others };
             }
-            Turn::Done(tree) => return Ok((tree, rest)),
+            Turn::Done(tree) => return Ok((tree, rest.tokens)),
         }
     }
     match finish(alloc, &mut frames, wait)? {
-        Turn::Done(tree) => Ok((tree, rest)),
+        Turn::Done(tree) => Ok((tree, rest.tokens)),
         _ => Err(ReadError::Fault(Fault::Syntax)),
     }
 }
@@ -554,7 +555,7 @@ fn begins_with_operator(tokens: &[Token]) -> bool
 
 /// The number that stands first, where it is the whole expression, and the tokens behind it.
 #[tactic(auto, using(crate::proofs::Alone::number_alone))]
-fn lone_number(tokens: &[Token]) -> Option<(Syn, &[Token])>
+pub fn lone_number<'a, 't>(tokens: &'a [Token<'t>]) -> Option<(Syn, &'a [Token<'t>])>
     ensures { IfSome result (λ r. (limits : Limits) → machine.expr_at limits tokens.now ≡ Ok (r.0, r.1.now)) }
 {
     match tokens.split_first() {
@@ -570,11 +571,11 @@ fn lone_number(tokens: &[Token]) -> Option<(Syn, &[Token])>
 }
 
 /// Reads the expression that stands first, and hands back the tokens behind it.
-pub fn expr<'a>(
+pub fn expr<'a, 't>(
     alloc: Global,
     limits: Limits,
-    tokens: &'a [Token],
-) -> Result<(Syn, &'a [Token]), ReadError>
+    tokens: &'a [Token<'t>],
+) -> Result<(Syn, &'a [Token<'t>]), ReadError>
     ensures { Gives (λ r. (r.0, r.1.now)) result (machine.expr_at limits tokens.now) }
 {
     match lone_number(tokens) {

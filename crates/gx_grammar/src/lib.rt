@@ -5,11 +5,12 @@ pub mod class;
 pub mod expr;
 pub mod fault;
 pub mod part;
+pub mod rest;
 pub mod signs;
 pub mod syn;
 pub mod whole;
 
-pub use class::{Picked, TokenClass, read_one};
+pub use class::{Picked, TokenClass, read_name, read_one};
 pub use expr::expr as read_first_expr;
 pub use fault::{Fault, Limits, LineLimit, ReadError};
 pub use part::{Part, read_list};

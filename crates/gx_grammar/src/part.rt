@@ -7,8 +7,9 @@ ghost use Rattle.gx_grammar.specs.declared.fault.Limits.{Limits};
 ghost use Rattle.gx_lex.specs.declared.token.Token.{Token};
 
 use crate::class::read_one;
-use crate::expr::expr;
+use crate::expr::{expr_by_steps, lone_number};
 use crate::fault::{Limits, ReadError};
+use crate::rest::Rest;
 use crate::signs::{begins_with_sign, read_sign};
 use crate::syn::Syn;
 use gx_ids::Seq;
@@ -21,20 +22,20 @@ pub trait Part: Sized + Drop {
     ghost reads: { Limits → List Token → Reading Self };
 
     /// Reads the part that stands first, and hands back the tokens behind it.
-    fn read<'a>(
+    fn read<'a, 't>(
         alloc: Global,
         limits: Limits,
-        tokens: &'a [Token],
-    ) -> Result<(Self, &'a [Token]), ReadError>
+        tokens: &'a [Token<'t>],
+    ) -> Result<(Self, &'a [Token<'t>]), ReadError>
         ensures { Gives (λ r. (r.0, r.1.now)) result (reads limits tokens.now) };
 }
 
 /// Reads a part behind a comma.
-fn next_part<'a, T: Part>(
+fn next_part<'a, 't, T: Part>(
     alloc: Global,
     limits: Limits,
-    tokens: &'a [Token],
-) -> Result<(T, &'a [Token]), ReadError>
+    tokens: &'a [Token<'t>],
+) -> Result<(T, &'a [Token<'t>]), ReadError>
     ensures { Gives (λ r. (r.0, r.1.now)) result (behind_at is_comma (T.reads limits) tokens.now) }
 {
     let rest = read_sign(Symbol::Comma, tokens)?;
@@ -42,32 +43,32 @@ fn next_part<'a, T: Part>(
 }
 
 /// Adds the parts that stand behind commas.
-fn more_parts<'a, T: Part>(
+fn more_parts<'a, 't, T: Part>(
     alloc: Global,
     limits: Limits,
     parts: &mut Vec<T>,
-    tokens: &'a [Token],
-) -> Result<&'a [Token], ReadError>
+    tokens: &'a [Token<'t>],
+) -> Result<&'a [Token<'t>], ReadError>
     ensures { Gives (λ r. (parts.new.items, r.now)) result (many_on is_comma (behind_at is_comma (T.reads limits)) (length tokens.now) parts.old.items tokens.now) }
 {
-    let mut rest = tokens;
+    let mut rest = Rest { tokens };
     for _turn in 0..tokens.len() {
-        if !begins_with_sign(Symbol::Comma, rest) {
-            return Ok(rest);
+        if !begins_with_sign(Symbol::Comma, rest.tokens) {
+            return Ok(rest.tokens);
         }
-        let (part, others) = next_part(alloc, limits, rest)?;
+        let (part, others) = next_part(alloc, limits, rest.tokens)?;
         parts.push(part)?;
-        rest = others;
+        rest = Rest { tokens: others };
     }
-    Ok(rest)
+    Ok(rest.tokens)
 }
 
 /// Reads the list that stands first, of one part at least, and hands back the tokens behind it.
-pub fn read_list<'a, T: Part>(
+pub fn read_list<'a, 't, T: Part>(
     alloc: Global,
     limits: Limits,
-    tokens: &'a [Token],
-) -> Result<(Seq<T>, &'a [Token]), ReadError>
+    tokens: &'a [Token<'t>],
+) -> Result<(Seq<T>, &'a [Token<'t>]), ReadError>
     ensures { Gives (λ r. (r.0, r.1.now)) result (listed_at (T.reads limits) tokens.now) }
 {
     let (first, rest) = T::read(alloc, limits, tokens)?;
@@ -83,11 +84,11 @@ impl Part for Txt {
 
     ghost reads = { λ limits. one_at (name_of limits) };
 
-    fn read<'a>(
+    fn read<'a, 't>(
         alloc: Global,
         limits: Limits,
-        tokens: &'a [Token],
-    ) -> Result<(Txt, &'a [Token]), ReadError> {
+        tokens: &'a [Token<'t>],
+    ) -> Result<(Txt, &'a [Token<'t>]), ReadError> {
         read_one(alloc, limits, tokens)
     }
 }
@@ -97,11 +98,15 @@ impl Part for Syn {
 
     ghost reads = { expr_at };
 
-    fn read<'a>(
+    fn read<'a, 't>(
         alloc: Global,
         limits: Limits,
-        tokens: &'a [Token],
-    ) -> Result<(Syn, &'a [Token]), ReadError> {
-        expr(alloc, limits, tokens)
+        tokens: &'a [Token<'t>],
+    ) -> Result<(Syn, &'a [Token<'t>]), ReadError> {
+        // Most values are numbers, so they are looked at here, and the steps stand apart.
+        match lone_number(tokens) {
+            Some(read) => Ok(read),
+            None => expr_by_steps(alloc, limits, tokens),
+        }
     }
 }

@@ -48,7 +48,7 @@ pub fn begins_with_sign(sign: Symbol, tokens: &[Token]) -> bool
 }
 
 /// The tokens behind this keyword, where it is the first.
-pub fn read_word<'a>(word: Word, tokens: &'a [Token]) -> Result<&'a [Token], ReadError>
+pub fn read_word<'a, 't>(word: Word, tokens: &'a [Token<'t>]) -> Result<&'a [Token<'t>], ReadError>
     ensures { Gives (λ r. (tt, r.now)) result (one_at (marked (of.is_word word)) tokens.now) }
 {
     match tokens.split_first() {
@@ -64,7 +64,10 @@ pub fn read_word<'a>(word: Word, tokens: &'a [Token]) -> Result<&'a [Token], Rea
 }
 
 /// The tokens behind this sign, where it is the first.
-pub fn read_sign<'a>(sign: Symbol, tokens: &'a [Token]) -> Result<&'a [Token], ReadError>
+pub fn read_sign<'a, 't>(
+    sign: Symbol,
+    tokens: &'a [Token<'t>],
+) -> Result<&'a [Token<'t>], ReadError>
     ensures { Gives (λ r. (tt, r.now)) result (one_at (marked (of.is_sign sign)) tokens.now) }
 {
     match tokens.split_first() {

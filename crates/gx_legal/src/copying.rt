@@ -4,8 +4,8 @@ ghost use Rattle.gx_store.specs.declared.mark.Mark.TheVariants.{Recheck};
 ghost use Rattle.gx_store.specs.Points.{marks_in};
 ghost use Rattle.gx_legal.specs.Copies.{is_of_claim, is_of_message, is_of_node, is_of_row, is_of_transaction};
 
-use gx_ids::{Duplicate, Mem, Shared};
-use gx_store::{Mark, Step, StmtAnswer};
+use gx_ids::{Duplicate, Mem, Seq, Shared};
+use gx_store::{Mark, Step, StepView, Steps, StmtAnswer};
 use gx_waits::{LocalGraph, Verdict};
 use std::alloc::Global;
 
@@ -238,6 +238,30 @@ pub fn all_marks(alloc: Global, steps: &[Step]) -> Mem<Vec<Mark>>
     let mut all = Vec::new(alloc);
     for step in steps {
         push_marks(alloc, &mut all, step.marks.as_slice())?;
+    }
+    Ok(all)
+}
+
+// A step of its own.
+fn step_copy(alloc: Global, step: &StepView<'_>) -> Mem<Step>
+    ensures { IfOk result (λ copy. copy ≡ step.now) }
+{
+    let mut marks = Vec::new(alloc);
+    push_marks(alloc, &mut marks, step.marks())?;
+    Ok(Step {
+        stamp: step.stamp(),
+        event: step.event(),
+        marks: Seq::from_vec(marks),
+    })
+}
+
+/// The steps of a run as a list of their own.
+pub fn all_steps(alloc: Global, steps: &Steps) -> Mem<Vec<Step>>
+    ensures { IfOk result (λ all. all.items ≡ steps.now) }
+{
+    let mut all = Vec::new(alloc);
+    for place in 0..steps.len() {
+        all.push(step_copy(alloc, &steps.at(place))?)?;
     }
     Ok(all)
 }

@@ -9,7 +9,7 @@ ghost use Rattle.gx_legal.specs.Stretches.{MayBegin, MayFollow};
 ghost use Rattle.gx_legal.specs.Tallies.{IsTally};
 
 use crate::answers::is_legal_answer;
-use crate::copying::all_marks;
+use crate::copying::{all_marks, all_steps};
 use crate::doing::{is_legal_fault, is_legal_skip, is_legal_write};
 use crate::ends::{is_legal_abort, is_legal_commit};
 use crate::events::{is_drawn, is_legal_event};
@@ -132,7 +132,8 @@ pub fn legal(alloc: Global, script: &Script, run: &Run) -> Mem<bool>
     requires { IsScript script.now }
     ensures { IfOk result (λ is. IsTrue is ↔ IsLegalHistory script.now run.now) }
 {
-    let steps = run.steps.as_slice();
+    let own = all_steps(alloc, &run.steps)?;
+    let steps = own.as_slice();
     let all = all_marks(alloc, steps)?;
     are_legal_steps(alloc, script, steps, &all)
 }

@@ -2,7 +2,7 @@
 use Rattle.std.proofs.Common.{◌≡◌, ℕ, ◌==◌, nat_eq, Bool, true, false, if◌then◌else◌, List, [], ◌∷◌, filter, length, Some, refl, ◌∙◌, ap, sym, subst, arith}
 use Rattle.std.specs.Cmp.Lexicographic.{pointwise}
 use Rattle.gx_lex.specs.declared.word.Word.{Word}
-use Rattle.gx_lex.specs.Words.{text_of, find, all_words, keyword_of}
+use Rattle.gx_lex.specs.Words.{text_of, find, all_words, of_length, keyword_of}
 
 spelled_length : (xs ys : List ℕ) → pointwise nat_eq xs ys ≡ true → (length xs == length ys) ≡ true
 spelled_length [] [] e = grind arith
@@ -21,5 +21,5 @@ found_in text [] = refl
 found_in text (k ∷ ks) = found_step text k ks (filter (λ word. length (text_of word) == length text) ks) (pointwise nat_eq (text_of k) text) (length (text_of k) == length text)
     (spelled_length (text_of k) text) refl (found_in text ks)
 
-pub found_by_length : (n : ℕ) (text : List ℕ) → length text ≡ n → find text (filter (λ word. length (text_of word) == n) all_words) ≡ keyword_of text
-found_by_length n text e = subst (λ m. find text (filter (λ word. length (text_of word) == m) all_words) ≡ keyword_of text) e (found_in text all_words)
+pub found_by_length : (n : ℕ) (text : List ℕ) → length text ≡ n → find text (of_length n) ≡ keyword_of text
+found_by_length n text e = subst (λ m. find text (of_length m) ≡ keyword_of text) e (found_in text all_words)

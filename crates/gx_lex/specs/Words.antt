@@ -1,5 +1,5 @@
 -- The keywords of the script language.
-use Rattle.std.specs.Prelude.{ℕ, nat_eq, if◌then◌else◌, List, [], ◌∷◌, Option, Some, None, codes}
+use Rattle.std.specs.Prelude.{ℕ, ◌==◌, nat_eq, if◌then◌else◌, List, [], ◌∷◌, length, filter, Option, Some, None, codes}
 use Rattle.std.specs.Cmp.Lexicographic.{pointwise}
 use Rattle.gx_lex.specs.declared.word.Word.{Word}
 use Rattle.gx_lex.specs.declared.word.Word.TheVariants.{Segments, Detector, On, Off, Table, Bigint, Text, Distributed, By, Randomly, Lose, Repeat, To, From, Number, Begin, Isolation, Level, Read, Committed, Repeatable, Commit, Rollback, Select, Group, Order, Limit, Insert, Into, Values, Update, Set, Delete, Where, Lock, In, Mode, Access, Share, Row, Exclusive, Count, Sum, Min, Max, Asc, Desc, Or, And, Not}
@@ -123,3 +123,7 @@ find text (k ∷ ks) = if pointwise nat_eq (text_of k) text then Some k else fin
 -- the keyword that is spelled so
 abbrev pub keyword_of : List ℕ → Option Word
 keyword_of text = find text all_words
+
+-- the keywords of so many letters
+abbrev pub of_length : ℕ → List Word
+of_length n = filter (λ word. length (text_of word) == n) all_words

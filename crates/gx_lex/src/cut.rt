@@ -1,5 +1,5 @@
 // Cuts a line into tokens, one after the other.
-ghost use Rattle.std.specs.Prelude.{◌≡◌, ◌≤◌, ◌-◌, List, ◌∷◌, [], ◌++◌, true, false, drop, length, IfOk, MatchOption, Some};
+ghost use Rattle.std.specs.Prelude.{◌≡◌, ◌≤◌, ◌-◌, List, ◌∷◌, [], ◌++◌, true, false, drop, length, IfOk, OnOk, MatchOption, Some};
 ghost use Rattle.std.specs.List.{list_any, prefix_len};
 ghost use Rattle.gx_lex.specs.Lexing as of;
 ghost use Rattle.gx_lex.specs.Reader as reader;
@@ -7,6 +7,7 @@ ghost use Rattle.gx_lex.specs.Symbols.{symbol_of};
 ghost use Rattle.gx_lex.specs.declared.token.Token.{Token};
 
 use crate::byte::{is_blank, is_capital, is_digit, is_letter, is_word_byte};
+use crate::name::Name;
 use crate::symbol::{Symbol, lone_symbol};
 use crate::token::Token;
 use crate::word::keyword_in_any_case;
@@ -29,28 +30,28 @@ fn has_capital(word: &[u8]) -> bool
 
 /// The token of a word.
 #[tactic(auto, using(crate::proofs::Runs::small_already))]
-fn word_token(alloc: Global, word: &[u8]) -> Mem<Token>
-    ensures { IfOk result (λ t. t ≡ reader.word_token (of.smalls word.now) (list_any of.is_capital word.now)) }
+fn word_token<'a>(word: &'a [u8]) -> Token<'a>
+    ensures { result ≡ reader.word_token (of.smalls word.now) (list_any of.is_capital word.now) }
 {
     match keyword_in_any_case(word) {
-        Some(keyword) => Ok(Token::Word(keyword)),
+        Some(keyword) => Token::Word(keyword),
         None => {
             if has_capital(word) {
-                Ok(Token::Bad)
+                Token::Bad
             } else {
-                Ok(Token::Name(Txt::from_vec(Vec::from_slice(alloc, word)?)))
+                Token::Name(Name::new(word))
             }
         }
     }
 }
 
 /// The word that stands first, and the bytes behind it.
-fn word<'a>(alloc: Global, line: &'a [u8]) -> Mem<(Token, &'a [u8])>
-    ensures said { IfOk result (λ r. (out : List Token) → reader.lex_on line.now out (reader.InWord [] false) ≡ reader.lex_on r.1.now (out ++ r.0 ∷ []) reader.Gap) }
-    ensures behind { IfOk result (λ r. r.1.now ≡ drop (prefix_len of.is_word_byte line.now) line.now) }
+fn word<'a>(line: &'a [u8]) -> (Token<'a>, &'a [u8])
+    ensures said { (out : List Token) → reader.lex_on line.now out (reader.InWord [] false) ≡ reader.lex_on result.1.now (out ++ result.0 ∷ []) reader.Gap }
+    ensures behind { result.1.now ≡ drop (prefix_len of.is_word_byte line.now) line.now }
 {
     let (word, behind) = line.split_at(word_len(line));
-    Ok((word_token(alloc, word)?, behind))
+    (word_token(word), behind)
 }
 
 /// The number that a further digit makes.
@@ -62,7 +63,7 @@ fn grown(number: Option<u64>, digit: u8) -> Option<u64>
 }
 
 /// The number that begins with this digit, and the bytes behind it.
-fn number(first: u8, behind: &[u8]) -> (Token, &[u8])
+fn number<'a>(first: u8, behind: &'a [u8]) -> (Token<'a>, &'a [u8])
     requires { of.is_digit first ≡ true }
     ensures said { (out : List Token) → reader.lex_on behind.now out (reader.InNumber (Some (first - 48))) ≡ reader.lex_on result.1.now (out ++ result.0 ∷ []) reader.Gap }
     ensures within { length result.1.now ≤ length behind.now }
@@ -90,7 +91,7 @@ fn behind_quote(line: &[u8]) -> Option<&[u8]>
 }
 
 /// The text of which these bytes are left behind its first quote, and the bytes behind it.
-fn text<'a>(alloc: Global, line: &'a [u8]) -> Mem<(Token, &'a [u8])>
+fn text<'a>(alloc: Global, line: &'a [u8]) -> Mem<(Token<'a>, &'a [u8])>
     ensures said { IfOk result (λ r. (out : List Token) → reader.lex_on line.now out (reader.InText []) ≡ reader.lex_on r.1.now (out ++ r.0 ∷ []) reader.Gap) }
     ensures within { IfOk result (λ r. length r.1.now ≤ length line.now) }
 {
@@ -114,7 +115,7 @@ fn text<'a>(alloc: Global, line: &'a [u8]) -> Mem<(Token, &'a [u8])>
 }
 
 /// The sign that begins with `<`, and the bytes behind it.
-fn less(behind: &[u8]) -> (Token, &[u8])
+fn less<'a>(behind: &'a [u8]) -> (Token<'a>, &'a [u8])
     ensures said { (out : List Token) → reader.lex_on behind.now out reader.BehindLess ≡ reader.lex_on result.1.now (out ++ result.0 ∷ []) reader.Gap }
     ensures within { length result.1.now ≤ length behind.now }
 {
@@ -133,7 +134,7 @@ fn less(behind: &[u8]) -> (Token, &[u8])
 }
 
 /// The sign that begins with `>`, and the bytes behind it.
-fn greater(behind: &[u8]) -> (Token, &[u8])
+fn greater<'a>(behind: &'a [u8]) -> (Token<'a>, &'a [u8])
     ensures said { (out : List Token) → reader.lex_on behind.now out reader.BehindGreater ≡ reader.lex_on result.1.now (out ++ result.0 ∷ []) reader.Gap }
     ensures within { length result.1.now ≤ length behind.now }
 {
@@ -150,7 +151,7 @@ fn greater(behind: &[u8]) -> (Token, &[u8])
 }
 
 /// The sign of one byte, or what no token begins with, and the bytes behind it.
-fn lone(first: u8, behind: &[u8]) -> (Token, &[u8])
+fn lone<'a>(first: u8, behind: &'a [u8]) -> (Token<'a>, &'a [u8])
     ensures said { (out : List Token) → reader.lex_on behind.now (reader.put_symbol out (symbol_of first)).0 (reader.put_symbol out (symbol_of first)).1
         ≡ reader.lex_on result.1.now (out ++ result.0 ∷ []) reader.Gap }
     ensures within { length result.1.now ≤ length behind.now }
@@ -162,14 +163,19 @@ fn lone(first: u8, behind: &[u8]) -> (Token, &[u8])
 }
 
 /// The token that begins with this byte, which is no blank, and the bytes behind it.
-fn token<'a>(alloc: Global, line: &'a [u8], first: u8, behind: &'a [u8]) -> Mem<(Token, &'a [u8])>
+fn token<'a>(
+    alloc: Global,
+    line: &'a [u8],
+    first: u8,
+    behind: &'a [u8],
+) -> Mem<(Token<'a>, &'a [u8])>
     requires first { line.now ≡ first ∷ behind.now }
     requires begins { of.is_blank first ≡ false }
     ensures said { IfOk result (λ r. (out : List Token) → reader.lex_on line.now out reader.Gap ≡ reader.lex_on r.1.now (out ++ r.0 ∷ []) reader.Gap) }
     ensures within { IfOk result (λ r. length r.1.now ≤ length behind.now) }
 {
     if is_letter(first) {
-        word(alloc, line)
+        Ok(word(line))
     } else if is_digit(first) {
         Ok(number(first, behind))
     } else if first == 39 {
@@ -183,30 +189,32 @@ fn token<'a>(alloc: Global, line: &'a [u8], first: u8, behind: &'a [u8]) -> Mem<
     }
 }
 
-fn cut(alloc: Global, line: &[u8]) -> Mem<Vec<Token>>
-    ensures { IfOk result (λ tokens. tokens.items ≡ reader.lex line.now) }
+/// Cuts the bytes into tokens, which take the place of those that the list had.
+fn cut<'a>(alloc: Global, line: &'a [u8], tokens: &mut Vec<Token<'a>>) -> Mem<()>
+    ensures { OnOk result (tokens.new.items ≡ reader.lex line.now) }
 {
-    let mut out = Vec::with_capacity(alloc, 32)?;
+    tokens.clear();
     let mut rest = line;
     while let Some((byte, behind)) = rest.split_first() {
         if is_blank(*byte) {
             rest = behind;
         } else {
             let (token, others) = token(alloc, rest, *byte, behind)?;
-            out.push(token)?;
+            tokens.push(token)?;
             rest = others;
         }
     }
-    Ok(out)
+    Ok(())
 }
 
-/// The tokens of a line's bytes, which are those without its line feed and a carriage return before it. Each token is
-/// the longest that can stand at its place, and tokens need no blank between them where they can be told apart.
-pub fn cut_line(alloc: Global, line: &[u8]) -> Mem<Vec<Token>>
+/// Gives the tokens of a line's bytes, which are those without its line feed and a carriage return before it, in a list whose
+/// room serves one line after the other. Each token is the longest that can stand at its place, and tokens need no blank
+/// between them where they can be told apart.
+pub fn cut_line<'a>(alloc: Global, line: &'a [u8], tokens: &mut Vec<Token<'a>>) -> Mem<()>
     // The line is written as the tokens say.
-    ensures cut { IfOk result (λ tokens. of.Lexes tokens.items line.now) }
+    ensures cut { OnOk result (of.Lexes tokens.new.items line.now) }
     // No other tokens write the line.
-    ensures only { (ts : List Token) → of.Lexes ts line.now → IfOk result (λ tokens. tokens.items ≡ ts) }
+    ensures only { (ts : List Token) → of.Lexes ts line.now → OnOk result (tokens.new.items ≡ ts) }
 {
-    cut(alloc, line)
+    cut(alloc, line, tokens)
 }

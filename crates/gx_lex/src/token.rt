@@ -1,3 +1,4 @@
+use crate::name::Name;
 use crate::symbol::Symbol;
 use crate::word::Word;
 use gx_tree::Txt;
@@ -5,9 +6,9 @@ use gx_tree::Txt;
 /// A token of a line. A number above 18446744073709551615 is `Number(None)`; `Bad` is a word with capitals that is
 /// no keyword, or the rest of a line from a byte that begins no token or from a text without its end.
 #[derive(Drop)]
-pub enum Token {
+pub enum Token<'a> {
     Word(Word),
-    Name(Txt),
+    Name(Name<'a>),
     Number(Option<u64>),
     Text(Txt),
     Symbol(Symbol),

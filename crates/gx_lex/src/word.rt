@@ -1,4 +1,4 @@
-ghost use Rattle.std.specs.Prelude.{◌≡◌, ℕ, List, length, nat_eq};
+ghost use Rattle.std.specs.Prelude.{◌≡◌, nat_eq};
 ghost use Rattle.std.specs.Cmp.Lexicographic.{pointwise};
 ghost use Rattle.gx_lex.specs.Lexing.{smalls};
 ghost use Rattle.gx_lex.specs.Words;
@@ -6,6 +6,7 @@ ghost use Rattle.gx_lex.specs.Words.{number_of, text_of, keyword_of};
 ghost use Rattle.gx_lex.specs.declared.word.Word.{Word};
 
 use crate::byte::small;
+use crate::shape::of_shape;
 
 /// A keyword of the script language.
 #[derive(Clone, Copy)]
@@ -186,91 +187,6 @@ impl Word {
     }
 }
 
-// The keywords of so many letters; none has seven, and none more than eleven.
-const TWO: [Word; 5] = [Word::On, Word::By, Word::To, Word::In, Word::Or];
-
-const THREE: [Word; 9] = [
-    Word::Off,
-    Word::Set,
-    Word::Row,
-    Word::Sum,
-    Word::Min,
-    Word::Max,
-    Word::Asc,
-    Word::And,
-    Word::Not,
-];
-
-const FOUR: [Word; 8] = [
-    Word::Text,
-    Word::Lose,
-    Word::From,
-    Word::Read,
-    Word::Into,
-    Word::Lock,
-    Word::Mode,
-    Word::Desc,
-];
-
-const FIVE: [Word; 9] = [
-    Word::Table,
-    Word::Begin,
-    Word::Level,
-    Word::Group,
-    Word::Order,
-    Word::Limit,
-    Word::Where,
-    Word::Share,
-    Word::Count,
-];
-
-const SIX: [Word; 10] = [
-    Word::Bigint,
-    Word::Repeat,
-    Word::Number,
-    Word::Commit,
-    Word::Select,
-    Word::Insert,
-    Word::Values,
-    Word::Update,
-    Word::Delete,
-    Word::Access,
-];
-
-const EIGHT: [Word; 4] = [
-    Word::Segments,
-    Word::Detector,
-    Word::Randomly,
-    Word::Rollback,
-];
-
-const NINE: [Word; 3] = [Word::Isolation, Word::Committed, Word::Exclusive];
-
-const TEN: [Word; 1] = [Word::Repeatable];
-
-const ELEVEN: [Word; 1] = [Word::Distributed];
-
-// Keywords among which one of so many letters is found.
-fn of_length(letters: usize) -> &'static [Word]
-    ensures { (text : List ℕ) → length text ≡ letters → Words.find text result.now ≡ keyword_of text }
-{
-    match letters {
-        0 => &[],
-        1 => &[],
-        2 => &TWO,
-        3 => &THREE,
-        4 => &FOUR,
-        5 => &FIVE,
-        6 => &SIX,
-        7 => &[],
-        8 => &EIGHT,
-        9 => &NINE,
-        10 => &TEN,
-        11 => &ELEVEN,
-        _ => &WORDS,
-    }
-}
-
 /// Whether a word is spelled so, in letters of either case.
 fn is_spelled(spelling: &[u8], word: &[u8]) -> bool
     ensures { result ≡ pointwise nat_eq spelling.now (smalls word.now) }
@@ -306,5 +222,8 @@ fn find(words: &[Word], word: &[u8]) -> Option<Word>
 pub fn keyword_in_any_case(word: &[u8]) -> Option<Word>
     ensures { result ≡ keyword_of (smalls word.now) }
 {
-    find(of_length(word.len()), word)
+    match word.split_first() {
+        None => None,
+        Some((first, _others)) => find(of_shape(word.len(), small(*first)), word),
+    }
 }

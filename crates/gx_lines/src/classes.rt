@@ -312,11 +312,11 @@ fn number_within(least: u64, greatest: u64, token: &Token) -> Option<u64>
 }
 
 /// The number that stands first, where it is within a range, and the tokens behind it.
-pub fn read_number(
+pub fn read_number<'a, 't>(
     least: u64,
     greatest: u64,
-    tokens: &[Token],
-) -> Result<(u64, &[Token]), ReadError>
+    tokens: &'a [Token<'t>],
+) -> Result<(u64, &'a [Token<'t>]), ReadError>
     ensures { Gives (λ r. (r.0, r.1.now)) result (one_at (of.number_in least greatest) tokens.now) }
 {
     match tokens.split_first() {

@@ -14,15 +14,19 @@ use crate::query::{Reading, enclosed_name};
 use crate::stmts::stmt;
 use crate::syn::{ColumnSyn, DistSyn, LineSyn, LinkSyn, StmtSyn, TableSyn};
 use gx_grammar::{
-    Limits, Part, ReadError, begins_with_word, is_sign, is_word, read_list, read_one, read_sign,
-    read_word,
+    Limits, Part, ReadError, begins_with_word, is_sign, is_word, read_list, read_name, read_one,
+    read_sign, read_word,
 };
 use gx_ids::Seq;
 use gx_lex::{Symbol, Token, Word};
 use std::alloc::Global;
 
 /// Reads the number of segments that stands first.
-pub fn segments<'a>(alloc: Global, limits: Limits, tokens: &'a [Token]) -> Reading<'a, Segments>
+pub fn segments<'a, 't>(
+    alloc: Global,
+    limits: Limits,
+    tokens: &'a [Token<'t>],
+) -> Reading<'a, 't, Segments>
     ensures { Gives (λ r. (r.0, r.1.now)) result (of.segments_at limits tokens.now) }
 {
     let rest = read_word(Word::Segments, tokens)?;
@@ -30,7 +34,11 @@ pub fn segments<'a>(alloc: Global, limits: Limits, tokens: &'a [Token]) -> Readi
     Ok((segments, rest))
 }
 
-fn detector<'a>(alloc: Global, limits: Limits, tokens: &'a [Token]) -> Reading<'a, LineSyn>
+fn detector<'a, 't>(
+    alloc: Global,
+    limits: Limits,
+    tokens: &'a [Token<'t>],
+) -> Reading<'a, 't, LineSyn<'t>>
     ensures { Gives (λ r. (r.0, r.1.now)) result (of.detector_at tokens.now) }
 {
     let rest = read_word(Word::Detector, tokens)?;
@@ -43,18 +51,22 @@ impl Part for ColumnSyn {
 
     ghost reads = { column_at };
 
-    fn read<'a>(
+    fn read<'a, 't>(
         alloc: Global,
         limits: Limits,
-        tokens: &'a [Token],
-    ) -> Result<(ColumnSyn, &'a [Token]), ReadError> {
+        tokens: &'a [Token<'t>],
+    ) -> Result<(ColumnSyn, &'a [Token<'t>]), ReadError> {
         let (name, rest) = read_one(alloc, limits, tokens)?;
         let (kind, rest) = read_one(alloc, limits, rest)?;
         Ok((ColumnSyn { name, kind }, rest))
     }
 }
 
-fn columns<'a>(alloc: Global, limits: Limits, tokens: &'a [Token]) -> Reading<'a, Seq<ColumnSyn>>
+fn columns<'a, 't>(
+    alloc: Global,
+    limits: Limits,
+    tokens: &'a [Token<'t>],
+) -> Reading<'a, 't, Seq<ColumnSyn>>
     ensures { Gives (λ r. (r.0, r.1.now)) result (enclosed_at (listed_at (of.column_at limits)) tokens.now) }
 {
     let rest = read_sign(Symbol::Open, tokens)?;
@@ -62,7 +74,7 @@ fn columns<'a>(alloc: Global, limits: Limits, tokens: &'a [Token]) -> Reading<'a
     before_sign(columns, Symbol::Close, rest)
 }
 
-fn dist<'a>(alloc: Global, limits: Limits, tokens: &'a [Token]) -> Reading<'a, DistSyn>
+fn dist<'a, 't>(alloc: Global, limits: Limits, tokens: &'a [Token<'t>]) -> Reading<'a, 't, DistSyn>
     ensures { Gives (λ r. (r.0, r.1.now)) result (of.dist_at limits tokens.now) }
 {
     if begins_with_word(Word::By, tokens) {
@@ -75,7 +87,11 @@ fn dist<'a>(alloc: Global, limits: Limits, tokens: &'a [Token]) -> Reading<'a, D
     }
 }
 
-fn table<'a>(alloc: Global, limits: Limits, tokens: &'a [Token]) -> Reading<'a, LineSyn>
+fn table<'a, 't>(
+    alloc: Global,
+    limits: Limits,
+    tokens: &'a [Token<'t>],
+) -> Reading<'a, 't, LineSyn<'t>>
     ensures { Gives (λ r. (r.0, r.1.now)) result (of.table_at limits tokens.now) }
 {
     let rest = read_word(Word::Table, tokens)?;
@@ -93,12 +109,12 @@ fn table<'a>(alloc: Global, limits: Limits, tokens: &'a [Token]) -> Reading<'a, 
     ))
 }
 
-fn link<'a>(
+fn link<'a, 't>(
     alloc: Global,
     segments: u64,
     limits: Limits,
-    tokens: &'a [Token],
-) -> Reading<'a, LineSyn>
+    tokens: &'a [Token<'t>],
+) -> Reading<'a, 't, LineSyn<'t>>
     ensures { Gives (λ r. (r.0, r.1.now)) result (of.link_at segments tokens.now) }
 {
     let (fate, rest) = read_one(alloc, limits, tokens)?;
@@ -118,7 +134,7 @@ fn link<'a>(
 }
 
 /// The semicolon that may end a line.
-fn end<'a>(tokens: &'a [Token]) -> Reading<'a, Option<()>>
+fn end<'a, 't>(tokens: &'a [Token<'t>]) -> Reading<'a, 't, Option<()>>
     ensures { Gives (λ r. (r.0, r.1.now)) result (of.end_at tokens.now) }
 {
     match tokens.split_first() {
@@ -134,11 +150,11 @@ fn end<'a>(tokens: &'a [Token]) -> Reading<'a, Option<()>>
 }
 
 // The statement behind the name of a session.
-fn command<'a>(
+fn command<'a, 't>(
     alloc: Global,
     limits: Limits,
-    tokens: &'a [Token],
-) -> Reading<'a, (StmtSyn, Option<()>)>
+    tokens: &'a [Token<'t>],
+) -> Reading<'a, 't, (StmtSyn<'t>, Option<()>)>
     ensures { Gives (λ r. (r.0, r.1.now)) result (both_at (behind_at (class.is_sign sign.Colon) (stmt_at limits)) of.end_at tokens.now) }
 {
     let rest = read_sign(Symbol::Colon, tokens)?;
@@ -147,10 +163,14 @@ fn command<'a>(
 }
 
 /// Reads the session's line that stands first.
-pub fn session<'a>(alloc: Global, limits: Limits, tokens: &'a [Token]) -> Reading<'a, LineSyn>
+pub fn session<'a, 't>(
+    alloc: Global,
+    limits: Limits,
+    tokens: &'a [Token<'t>],
+) -> Reading<'a, 't, LineSyn<'t>>
     ensures { Gives (λ r. (r.0, r.1.now)) result (of.session_at limits tokens.now) }
 {
-    let (name, rest) = read_one(alloc, limits, tokens)?;
+    let (name, rest) = read_name(limits, tokens)?;
     let ((name, (stmt, _end)), rest) = paired(name, command(alloc, limits, rest))?;
     Ok((LineSyn::Session(name, stmt), rest))
 }
@@ -171,12 +191,12 @@ fn begins_with_fate(tokens: &[Token]) -> bool
 }
 
 /// Reads the head or the session's line that stands first.
-pub fn head<'a>(
+pub fn head<'a, 't>(
     alloc: Global,
     segments: u64,
     limits: Limits,
-    tokens: &'a [Token],
-) -> Reading<'a, LineSyn>
+    tokens: &'a [Token<'t>],
+) -> Reading<'a, 't, LineSyn<'t>>
     ensures { Gives (λ r. (r.0, r.1.now)) result (of.head_at segments limits tokens.now) }
 {
     if begins_with_word(Word::Detector, tokens) {

@@ -9,7 +9,11 @@ use gx_grammar::read_sign;
 use gx_lex::{Symbol, Token};
 
 /// What was read, where this sign stands behind it.
-pub fn before_sign<'a, T: Drop>(part: T, sign: Symbol, tokens: &'a [Token]) -> Reading<'a, T>
+pub fn before_sign<'a, 't, T: Drop>(
+    part: T,
+    sign: Symbol,
+    tokens: &'a [Token<'t>],
+) -> Reading<'a, 't, T>
     ensures { Gives (λ r. (r.0, r.1.now)) result (made_at (λ _. part) (one_at (marked (class.is_sign sign))) tokens.now) }
 {
     match read_sign(sign, tokens) {
@@ -22,9 +26,9 @@ pub fn before_sign<'a, T: Drop>(part: T, sign: Symbol, tokens: &'a [Token]) -> R
 }
 
 /// What was read first, with what was read behind it.
-pub fn paired<'a, A: Drop, B: Drop>(first: A, second: Reading<'a, B>) -> Reading<'a, (A, B)>
-    ensures pair { IfOk result (λ r. (r.0.0 ≡ first) × (second.entry ≡ Ok (r.0.1, r.1))) }
-    ensures fault { IfErr result (λ e. second.entry ≡ Err e) }
+pub fn paired<A: Drop, B, R, E>(first: A, second: Result<(B, R), E>) -> Result<((A, B), R), E>
+    ensures pair { IfOk result (λ r. (r.0.0 ≡ first) × (second ≡ Ok (r.0.1, r.1))) }
+    ensures fault { IfErr result (λ e. second ≡ Err e) }
 {
     match second {
         Ok((second, rest)) => Ok(((first, second), rest)),

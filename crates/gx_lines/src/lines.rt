@@ -24,12 +24,12 @@ fn whole_segments(alloc: Global, limits: Limits, tokens: &[Token]) -> Result<Seg
     }
 }
 
-fn whole_head(
+fn whole_head<'t>(
     alloc: Global,
     segments: u64,
     limits: Limits,
-    tokens: &[Token],
-) -> Result<LineSyn, ReadError>
+    tokens: &[Token<'t>],
+) -> Result<LineSyn<'t>, ReadError>
     ensures { Says result (whole_at (of.head_at segments limits) tokens.now) }
 {
     let (line, rest) = head(alloc, segments, limits, tokens)?;
@@ -41,7 +41,11 @@ fn whole_head(
     }
 }
 
-fn whole_session(alloc: Global, limits: Limits, tokens: &[Token]) -> Result<LineSyn, ReadError>
+fn whole_session<'t>(
+    alloc: Global,
+    limits: Limits,
+    tokens: &[Token<'t>],
+) -> Result<LineSyn<'t>, ReadError>
     ensures { Says result (whole_at (of.session_at limits) tokens.now) }
 {
     let (line, rest) = session(alloc, limits, tokens)?;
@@ -69,12 +73,12 @@ pub fn read_segments_line(
 
 /// Reads the tokens of a line behind that of the segments, of which there are so many, where no session's line came
 /// before.
-pub fn read_head_line(
+pub fn read_head_line<'t>(
     alloc: Global,
     segments: u64,
     limits: Limits,
-    tokens: &[Token],
-) -> Result<LineSyn, ReadError>
+    tokens: &[Token<'t>],
+) -> Result<LineSyn<'t>, ReadError>
     requires { 1 ≤ segments }
     // What is read is written so; a fault is the first token that can't continue a reading, or not within the limits.
     ensures verdict { Judged (of.head_line segments) limits tokens.now result }
@@ -85,11 +89,11 @@ pub fn read_head_line(
 }
 
 /// Reads the tokens of a line where a session's line came before.
-pub fn read_session_line(
+pub fn read_session_line<'t>(
     alloc: Global,
     limits: Limits,
-    tokens: &[Token],
-) -> Result<LineSyn, ReadError>
+    tokens: &[Token<'t>],
+) -> Result<LineSyn<'t>, ReadError>
     // What is read is written so; a fault is the first token that can't continue a reading, or not within the limits.
     ensures verdict { Judged of.session_line limits tokens.now result }
     // What is written so is read, unless memory runs out.

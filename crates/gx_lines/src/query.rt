@@ -14,18 +14,22 @@ use crate::classes::{Direction, Size};
 use crate::joining::{before_sign, paired};
 use crate::syn::{ItemSyn, ItemsSyn, KeySyn, SelectSyn};
 use gx_grammar::{
-    Limits, Part, ReadError, Syn, begins_with_sign, begins_with_word, is_word, read_list, read_one,
-    read_sign, read_word,
+    Limits, Part, ReadError, Syn, begins_with_sign, begins_with_word, is_word, read_list,
+    read_name, read_one, read_sign, read_word,
 };
 use gx_ids::Seq;
-use gx_lex::{Symbol, Token, Word};
+use gx_lex::{Name, Symbol, Token, Word};
 use gx_tree::Txt;
 use std::alloc::Global;
 
-pub type Reading<'a, T> = Result<(T, &'a [Token]), ReadError>;
+pub type Reading<'a, 't, T> = Result<(T, &'a [Token<'t>]), ReadError>;
 
 /// A name in parentheses.
-pub fn enclosed_name<'a>(alloc: Global, limits: Limits, tokens: &'a [Token]) -> Reading<'a, Txt>
+pub fn enclosed_name<'a, 't>(
+    alloc: Global,
+    limits: Limits,
+    tokens: &'a [Token<'t>],
+) -> Reading<'a, 't, Txt>
     ensures { Gives (λ r. (r.0, r.1.now)) result (enclosed_at (of.name_at limits) tokens.now) }
 {
     let rest = read_sign(Symbol::Open, tokens)?;
@@ -34,7 +38,7 @@ pub fn enclosed_name<'a>(alloc: Global, limits: Limits, tokens: &'a [Token]) -> 
 }
 
 /// `COUNT(*)`.
-fn count<'a>(tokens: &'a [Token]) -> Reading<'a, ItemSyn>
+fn count<'a, 't>(tokens: &'a [Token<'t>]) -> Reading<'a, 't, ItemSyn>
     ensures { Gives (λ r. (r.0, r.1.now)) result (of.count_at tokens.now) }
 {
     let rest = read_word(Word::Count, tokens)?;
@@ -45,7 +49,7 @@ fn count<'a>(tokens: &'a [Token]) -> Reading<'a, ItemSyn>
 }
 
 /// `SUM`, `MIN` or `MAX` of a column.
-fn agg<'a>(alloc: Global, limits: Limits, tokens: &'a [Token]) -> Reading<'a, ItemSyn>
+fn agg<'a, 't>(alloc: Global, limits: Limits, tokens: &'a [Token<'t>]) -> Reading<'a, 't, ItemSyn>
     ensures { Gives (λ r. (r.0, r.1.now)) result (of.agg_at limits tokens.now) }
 {
     let (agg, rest) = read_one(alloc, limits, tokens)?;
@@ -53,7 +57,11 @@ fn agg<'a>(alloc: Global, limits: Limits, tokens: &'a [Token]) -> Reading<'a, It
     Ok((ItemSyn::Agg(agg, name), rest))
 }
 
-fn column<'a>(alloc: Global, limits: Limits, tokens: &'a [Token]) -> Reading<'a, ItemSyn>
+fn column<'a, 't>(
+    alloc: Global,
+    limits: Limits,
+    tokens: &'a [Token<'t>],
+) -> Reading<'a, 't, ItemSyn>
     ensures { Gives (λ r. (r.0, r.1.now)) result (made_at item_syn.Column (of.name_at limits) tokens.now) }
 {
     let (name, rest) = read_one(alloc, limits, tokens)?;
@@ -75,7 +83,7 @@ fn begins_with_agg(tokens: &[Token]) -> bool
     }
 }
 
-fn item<'a>(alloc: Global, limits: Limits, tokens: &'a [Token]) -> Reading<'a, ItemSyn>
+fn item<'a, 't>(alloc: Global, limits: Limits, tokens: &'a [Token<'t>]) -> Reading<'a, 't, ItemSyn>
     ensures { Gives (λ r. (r.0, r.1.now)) result (of.item_at limits tokens.now) }
 {
     if begins_with_word(Word::Count, tokens) {
@@ -92,16 +100,20 @@ impl Part for ItemSyn {
 
     ghost reads = { item_at };
 
-    fn read<'a>(
+    fn read<'a, 't>(
         alloc: Global,
         limits: Limits,
-        tokens: &'a [Token],
-    ) -> Result<(ItemSyn, &'a [Token]), ReadError> {
+        tokens: &'a [Token<'t>],
+    ) -> Result<(ItemSyn, &'a [Token<'t>]), ReadError> {
         item(alloc, limits, tokens)
     }
 }
 
-fn items<'a>(alloc: Global, limits: Limits, tokens: &'a [Token]) -> Reading<'a, ItemsSyn>
+fn items<'a, 't>(
+    alloc: Global,
+    limits: Limits,
+    tokens: &'a [Token<'t>],
+) -> Reading<'a, 't, ItemsSyn>
     ensures { Gives (λ r. (r.0, r.1.now)) result (of.items_at limits tokens.now) }
 {
     if begins_with_sign(Symbol::Star, tokens) {
@@ -119,11 +131,11 @@ fn is_direction(token: &Token) -> bool
     is_word(Word::Asc, token) || is_word(Word::Desc, token)
 }
 
-fn direction<'a>(
+fn direction<'a, 't>(
     alloc: Global,
     limits: Limits,
-    tokens: &'a [Token],
-) -> Reading<'a, Option<Direction>>
+    tokens: &'a [Token<'t>],
+) -> Reading<'a, 't, Option<Direction>>
     ensures { Gives (λ r. (r.0, r.1.now)) result (maybe_at of.is_direction (one_at direction_of) tokens.now) }
 {
     match tokens.split_first() {
@@ -144,11 +156,11 @@ impl Part for KeySyn {
 
     ghost reads = { key_at };
 
-    fn read<'a>(
+    fn read<'a, 't>(
         alloc: Global,
         limits: Limits,
-        tokens: &'a [Token],
-    ) -> Result<(KeySyn, &'a [Token]), ReadError> {
+        tokens: &'a [Token<'t>],
+    ) -> Result<(KeySyn, &'a [Token<'t>]), ReadError> {
         let (column, rest) = read_one(alloc, limits, tokens)?;
         let (direction, rest) = direction(alloc, limits, rest)?;
         Ok((KeySyn { column, direction }, rest))
@@ -161,22 +173,22 @@ impl Part for Size {
 
     ghost reads = { λ limits. one_at size_of };
 
-    fn read<'a>(
+    fn read<'a, 't>(
         alloc: Global,
         limits: Limits,
-        tokens: &'a [Token],
-    ) -> Result<(Size, &'a [Token]), ReadError> {
+        tokens: &'a [Token<'t>],
+    ) -> Result<(Size, &'a [Token<'t>]), ReadError> {
         read_one(alloc, limits, tokens)
     }
 }
 
 /// A part behind a word, where the word stands first.
-pub fn part_behind<'a, T: Part>(
+pub fn part_behind<'a, 't, T: Part>(
     word: Word,
     alloc: Global,
     limits: Limits,
-    tokens: &'a [Token],
-) -> Reading<'a, Option<T>>
+    tokens: &'a [Token<'t>],
+) -> Reading<'a, 't, Option<T>>
     ensures { Gives (λ r. (r.0, r.1.now)) result (maybe_at (class.is_word word) (behind_at (class.is_word word) (T.reads limits)) tokens.now) }
 {
     match tokens.split_first() {
@@ -194,12 +206,12 @@ pub fn part_behind<'a, T: Part>(
 }
 
 // A list behind a word and BY, where the word stands first.
-fn list_by<'a, T: Part>(
+fn list_by<'a, 't, T: Part>(
     word: Word,
     alloc: Global,
     limits: Limits,
-    tokens: &'a [Token],
-) -> Reading<'a, Option<Seq<T>>>
+    tokens: &'a [Token<'t>],
+) -> Reading<'a, 't, Option<Seq<T>>>
     ensures { Gives (λ r. (r.0, r.1.now)) result (maybe_at (class.is_word word) (behind_at (class.is_word word) (behind_at (class.is_word keyword.By) (listed_at (T.reads limits)))) tokens.now) }
 {
     match tokens.split_first() {
@@ -223,10 +235,10 @@ type Grouping = (Option<Seq<Txt>>, Ending);
 
 type Filter = (Option<Syn>, Grouping);
 
-type Source = (Txt, Filter);
+type Source<'t> = (Name<'t>, Filter);
 
 // ORDER BY and LIMIT.
-fn ending<'a>(alloc: Global, limits: Limits, tokens: &'a [Token]) -> Reading<'a, Ending>
+fn ending<'a, 't>(alloc: Global, limits: Limits, tokens: &'a [Token<'t>]) -> Reading<'a, 't, Ending>
     ensures { Gives (λ r. (r.0, r.1.now)) result (both_at (of.order_at limits) of.limit_at tokens.now) }
 {
     let (order, rest) = list_by(Word::Order, alloc, limits, tokens)?;
@@ -234,7 +246,11 @@ fn ending<'a>(alloc: Global, limits: Limits, tokens: &'a [Token]) -> Reading<'a,
 }
 
 // GROUP BY and what stands behind it.
-fn grouping<'a>(alloc: Global, limits: Limits, tokens: &'a [Token]) -> Reading<'a, Grouping>
+fn grouping<'a, 't>(
+    alloc: Global,
+    limits: Limits,
+    tokens: &'a [Token<'t>],
+) -> Reading<'a, 't, Grouping>
     ensures { Gives (λ r. (r.0, r.1.now)) result (both_at (of.group_at limits) (both_at (of.order_at limits) of.limit_at) tokens.now) }
 {
     let (group, rest) = list_by(Word::Group, alloc, limits, tokens)?;
@@ -242,7 +258,7 @@ fn grouping<'a>(alloc: Global, limits: Limits, tokens: &'a [Token]) -> Reading<'
 }
 
 // WHERE and what stands behind it.
-fn filter<'a>(alloc: Global, limits: Limits, tokens: &'a [Token]) -> Reading<'a, Filter>
+fn filter<'a, 't>(alloc: Global, limits: Limits, tokens: &'a [Token<'t>]) -> Reading<'a, 't, Filter>
     ensures { Gives (λ r. (r.0, r.1.now)) result (both_at (of.where_at limits) (both_at (of.group_at limits) (both_at (of.order_at limits) of.limit_at)) tokens.now) }
 {
     let (cond, rest) = part_behind(Word::Where, alloc, limits, tokens)?;
@@ -250,17 +266,25 @@ fn filter<'a>(alloc: Global, limits: Limits, tokens: &'a [Token]) -> Reading<'a,
 }
 
 // FROM and what stands behind it.
-fn source<'a>(alloc: Global, limits: Limits, tokens: &'a [Token]) -> Reading<'a, Source>
+fn source<'a, 't>(
+    alloc: Global,
+    limits: Limits,
+    tokens: &'a [Token<'t>],
+) -> Reading<'a, 't, Source<'t>>
     ensures { Gives (λ r. (r.0, r.1.now)) result (both_at (behind_at (class.is_word keyword.From) (of.name_at limits))
         (both_at (of.where_at limits) (both_at (of.group_at limits) (both_at (of.order_at limits) of.limit_at))) tokens.now) }
 {
     let rest = read_word(Word::From, tokens)?;
-    let (table, rest) = read_one(alloc, limits, rest)?;
+    let (table, rest) = read_name(limits, rest)?;
     paired(table, filter(alloc, limits, rest))
 }
 
 /// Reads the SELECT that stands first, and hands back the tokens behind it.
-pub fn select<'a>(alloc: Global, limits: Limits, tokens: &'a [Token]) -> Reading<'a, SelectSyn>
+pub fn select<'a, 't>(
+    alloc: Global,
+    limits: Limits,
+    tokens: &'a [Token<'t>],
+) -> Reading<'a, 't, SelectSyn<'t>>
     ensures { Gives (λ r. (r.0, r.1.now)) result (of.select_at limits tokens.now) }
 {
     let rest = read_word(Word::Select, tokens)?;

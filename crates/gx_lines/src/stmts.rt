@@ -11,15 +11,16 @@ use crate::joining::before_sign;
 use crate::query::{Reading, part_behind, select};
 use crate::syn::{AssignSyn, StmtSyn, TupleSyn};
 use gx_grammar::{
-    Limits, Part, ReadError, begins_with_word, is_word, read_first_expr, read_list, read_one,
-    read_sign, read_word,
+    Limits, Part, ReadError, begins_with_word, is_word, read_first_expr, read_list, read_name,
+    read_one, read_sign, read_word,
 };
+use gx_ids::Boxed;
 use gx_lex::{Symbol, Token, Word};
 use gx_modes::Mode;
 use gx_tree::{Level, Txt};
 use std::alloc::Global;
 
-fn level<'a>(tokens: &'a [Token]) -> Reading<'a, Level>
+fn level<'a, 't>(tokens: &'a [Token<'t>]) -> Reading<'a, 't, Level>
     ensures { Gives (λ r. (r.0, r.1.now)) result (of.level_at tokens.now) }
 {
     if begins_with_word(Word::Read, tokens) {
@@ -33,7 +34,7 @@ fn level<'a>(tokens: &'a [Token]) -> Reading<'a, Level>
     }
 }
 
-fn isolation<'a>(tokens: &'a [Token]) -> Reading<'a, Option<Level>>
+fn isolation<'a, 't>(tokens: &'a [Token<'t>]) -> Reading<'a, 't, Option<Level>>
     ensures { Gives (λ r. (r.0, r.1.now)) result (of.isolation_at tokens.now) }
 {
     match tokens.split_first() {
@@ -51,7 +52,7 @@ fn isolation<'a>(tokens: &'a [Token]) -> Reading<'a, Option<Level>>
     }
 }
 
-fn level_or(level: Option<Level>) -> StmtSyn
+fn level_or<'t>(level: Option<Level>) -> StmtSyn<'t>
     ensures { result ≡ of.level_or level }
 {
     match level {
@@ -60,7 +61,7 @@ fn level_or(level: Option<Level>) -> StmtSyn
     }
 }
 
-fn begin<'a>(tokens: &'a [Token]) -> Reading<'a, StmtSyn>
+fn begin<'a, 't>(tokens: &'a [Token<'t>]) -> Reading<'a, 't, StmtSyn<'t>>
     ensures { Gives (λ r. (r.0, r.1.now)) result (of.begin_at tokens.now) }
 {
     let rest = read_word(Word::Begin, tokens)?;
@@ -68,25 +69,29 @@ fn begin<'a>(tokens: &'a [Token]) -> Reading<'a, StmtSyn>
     Ok((level_or(level), rest))
 }
 
-fn commit<'a>(tokens: &'a [Token]) -> Reading<'a, StmtSyn>
+fn commit<'a, 't>(tokens: &'a [Token<'t>]) -> Reading<'a, 't, StmtSyn<'t>>
     ensures { Gives (λ r. (r.0, r.1.now)) result (of.commit_at tokens.now) }
 {
     let rest = read_word(Word::Commit, tokens)?;
     Ok((StmtSyn::Commit, rest))
 }
 
-fn rollback<'a>(tokens: &'a [Token]) -> Reading<'a, StmtSyn>
+fn rollback<'a, 't>(tokens: &'a [Token<'t>]) -> Reading<'a, 't, StmtSyn<'t>>
     ensures { Gives (λ r. (r.0, r.1.now)) result (of.rollback_at tokens.now) }
 {
     let rest = read_word(Word::Rollback, tokens)?;
     Ok((StmtSyn::Rollback, rest))
 }
 
-fn selection<'a>(alloc: Global, limits: Limits, tokens: &'a [Token]) -> Reading<'a, StmtSyn>
+fn selection<'a, 't>(
+    alloc: Global,
+    limits: Limits,
+    tokens: &'a [Token<'t>],
+) -> Reading<'a, 't, StmtSyn<'t>>
     ensures { Gives (λ r. (r.0, r.1.now)) result (made_at stmt_syn.Select (queries.select_at limits) tokens.now) }
 {
     let (select, rest) = select(alloc, limits, tokens)?;
-    Ok((StmtSyn::Select(select), rest))
+    Ok((StmtSyn::Select(Boxed::new(alloc, select)?), rest))
 }
 
 impl Part for TupleSyn {
@@ -94,23 +99,27 @@ impl Part for TupleSyn {
 
     ghost reads = { tuple_at };
 
-    fn read<'a>(
+    fn read<'a, 't>(
         alloc: Global,
         limits: Limits,
-        tokens: &'a [Token],
-    ) -> Result<(TupleSyn, &'a [Token]), ReadError> {
+        tokens: &'a [Token<'t>],
+    ) -> Result<(TupleSyn, &'a [Token<'t>]), ReadError> {
         let rest = read_sign(Symbol::Open, tokens)?;
         let (values, rest) = read_list(alloc, limits, rest)?;
         before_sign(TupleSyn { values }, Symbol::Close, rest)
     }
 }
 
-fn insert<'a>(alloc: Global, limits: Limits, tokens: &'a [Token]) -> Reading<'a, StmtSyn>
+fn insert<'a, 't>(
+    alloc: Global,
+    limits: Limits,
+    tokens: &'a [Token<'t>],
+) -> Reading<'a, 't, StmtSyn<'t>>
     ensures { Gives (λ r. (r.0, r.1.now)) result (of.insert_at limits tokens.now) }
 {
     let rest = read_word(Word::Insert, tokens)?;
     let rest = read_word(Word::Into, rest)?;
-    let (table, rest) = read_one(alloc, limits, rest)?;
+    let (table, rest) = read_name(limits, rest)?;
     let rest = read_word(Word::Values, rest)?;
     let (tuples, rest) = read_list(alloc, limits, rest)?;
     Ok((StmtSyn::Insert(table, tuples), rest))
@@ -121,11 +130,11 @@ impl Part for AssignSyn {
 
     ghost reads = { assign_at };
 
-    fn read<'a>(
+    fn read<'a, 't>(
         alloc: Global,
         limits: Limits,
-        tokens: &'a [Token],
-    ) -> Result<(AssignSyn, &'a [Token]), ReadError> {
+        tokens: &'a [Token<'t>],
+    ) -> Result<(AssignSyn, &'a [Token<'t>]), ReadError> {
         let (column, rest) = read_one(alloc, limits, tokens)?;
         let rest = read_sign(Symbol::Equal, rest)?;
         let (value, rest) = read_first_expr(alloc, limits, rest)?;
@@ -133,23 +142,31 @@ impl Part for AssignSyn {
     }
 }
 
-fn update<'a>(alloc: Global, limits: Limits, tokens: &'a [Token]) -> Reading<'a, StmtSyn>
+fn update<'a, 't>(
+    alloc: Global,
+    limits: Limits,
+    tokens: &'a [Token<'t>],
+) -> Reading<'a, 't, StmtSyn<'t>>
     ensures { Gives (λ r. (r.0, r.1.now)) result (of.update_at limits tokens.now) }
 {
     let rest = read_word(Word::Update, tokens)?;
-    let (table, rest) = read_one(alloc, limits, rest)?;
+    let (table, rest) = read_name(limits, rest)?;
     let rest = read_word(Word::Set, rest)?;
     let (assigns, rest) = read_list(alloc, limits, rest)?;
     let (cond, rest) = part_behind(Word::Where, alloc, limits, rest)?;
     Ok((StmtSyn::Update(table, assigns, cond), rest))
 }
 
-fn delete<'a>(alloc: Global, limits: Limits, tokens: &'a [Token]) -> Reading<'a, StmtSyn>
+fn delete<'a, 't>(
+    alloc: Global,
+    limits: Limits,
+    tokens: &'a [Token<'t>],
+) -> Reading<'a, 't, StmtSyn<'t>>
     ensures { Gives (λ r. (r.0, r.1.now)) result (of.delete_at limits tokens.now) }
 {
     let rest = read_word(Word::Delete, tokens)?;
     let rest = read_word(Word::From, rest)?;
-    let (table, rest) = read_one(alloc, limits, rest)?;
+    let (table, rest) = read_name(limits, rest)?;
     let (cond, rest) = part_behind(Word::Where, alloc, limits, rest)?;
     Ok((StmtSyn::Delete(table, cond), rest))
 }
@@ -181,7 +198,7 @@ fn share_mode(mode: Option<Mode>) -> Mode
     }
 }
 
-fn share_end<'a>(tokens: &'a [Token]) -> Reading<'a, Mode>
+fn share_end<'a, 't>(tokens: &'a [Token<'t>]) -> Reading<'a, 't, Mode>
     ensures { Gives (λ r. (r.0, r.1.now)) result (of.share_end_at tokens.now) }
 {
     if begins_with_word(Word::Update, tokens) {
@@ -201,7 +218,7 @@ fn begins_share_end(token: &Token) -> bool
     is_word(Word::Update, token) || is_word(Word::Row, token)
 }
 
-fn maybe_share_end<'a>(tokens: &'a [Token]) -> Reading<'a, Option<Mode>>
+fn maybe_share_end<'a, 't>(tokens: &'a [Token<'t>]) -> Reading<'a, 't, Option<Mode>>
     ensures { Gives (λ r. (r.0, r.1.now)) result (maybe_at of.begins_share_end of.share_end_at tokens.now) }
 {
     match tokens.split_first() {
@@ -217,7 +234,7 @@ fn maybe_share_end<'a>(tokens: &'a [Token]) -> Reading<'a, Option<Mode>>
     }
 }
 
-fn share<'a>(tokens: &'a [Token]) -> Reading<'a, Mode>
+fn share<'a, 't>(tokens: &'a [Token<'t>]) -> Reading<'a, 't, Mode>
     ensures { Gives (λ r. (r.0, r.1.now)) result (of.share_at tokens.now) }
 {
     let rest = read_word(Word::Share, tokens)?;
@@ -225,7 +242,7 @@ fn share<'a>(tokens: &'a [Token]) -> Reading<'a, Mode>
     Ok((share_mode(mode), rest))
 }
 
-fn access<'a>(alloc: Global, limits: Limits, tokens: &'a [Token]) -> Reading<'a, Mode>
+fn access<'a, 't>(alloc: Global, limits: Limits, tokens: &'a [Token<'t>]) -> Reading<'a, 't, Mode>
     ensures { Gives (λ r. (r.0, r.1.now)) result (of.access_at tokens.now) }
 {
     let rest = read_word(Word::Access, tokens)?;
@@ -233,7 +250,7 @@ fn access<'a>(alloc: Global, limits: Limits, tokens: &'a [Token]) -> Reading<'a,
     Ok((access_mode(strength), rest))
 }
 
-fn row<'a>(alloc: Global, limits: Limits, tokens: &'a [Token]) -> Reading<'a, Mode>
+fn row<'a, 't>(alloc: Global, limits: Limits, tokens: &'a [Token<'t>]) -> Reading<'a, 't, Mode>
     ensures { Gives (λ r. (r.0, r.1.now)) result (of.row_at tokens.now) }
 {
     let rest = read_word(Word::Row, tokens)?;
@@ -241,14 +258,14 @@ fn row<'a>(alloc: Global, limits: Limits, tokens: &'a [Token]) -> Reading<'a, Mo
     Ok((row_mode(strength), rest))
 }
 
-fn exclusive<'a>(tokens: &'a [Token]) -> Reading<'a, Mode>
+fn exclusive<'a, 't>(tokens: &'a [Token<'t>]) -> Reading<'a, 't, Mode>
     ensures { Gives (λ r. (r.0, r.1.now)) result (of.exclusive_at tokens.now) }
 {
     let rest = read_word(Word::Exclusive, tokens)?;
     Ok((Mode::Exclusive, rest))
 }
 
-fn mode<'a>(alloc: Global, limits: Limits, tokens: &'a [Token]) -> Reading<'a, Mode>
+fn mode<'a, 't>(alloc: Global, limits: Limits, tokens: &'a [Token<'t>]) -> Reading<'a, 't, Mode>
     ensures { Gives (λ r. (r.0, r.1.now)) result (of.mode_at tokens.now) }
 {
     if begins_with_word(Word::Access, tokens) {
@@ -262,12 +279,16 @@ fn mode<'a>(alloc: Global, limits: Limits, tokens: &'a [Token]) -> Reading<'a, M
     }
 }
 
-fn lock<'a>(alloc: Global, limits: Limits, tokens: &'a [Token]) -> Reading<'a, StmtSyn>
+fn lock<'a, 't>(
+    alloc: Global,
+    limits: Limits,
+    tokens: &'a [Token<'t>],
+) -> Reading<'a, 't, StmtSyn<'t>>
     ensures { Gives (λ r. (r.0, r.1.now)) result (of.lock_at limits tokens.now) }
 {
     let rest = read_word(Word::Lock, tokens)?;
     let rest = read_word(Word::Table, rest)?;
-    let (table, rest) = read_one(alloc, limits, rest)?;
+    let (table, rest) = read_name(limits, rest)?;
     let rest = read_word(Word::In, rest)?;
     let (mode, rest) = mode(alloc, limits, rest)?;
     let rest = read_word(Word::Mode, rest)?;
@@ -275,7 +296,11 @@ fn lock<'a>(alloc: Global, limits: Limits, tokens: &'a [Token]) -> Reading<'a, S
 }
 
 /// Reads the statement that stands first, and hands back the tokens behind it.
-pub fn stmt<'a>(alloc: Global, limits: Limits, tokens: &'a [Token]) -> Reading<'a, StmtSyn>
+pub fn stmt<'a, 't>(
+    alloc: Global,
+    limits: Limits,
+    tokens: &'a [Token<'t>],
+) -> Reading<'a, 't, StmtSyn<'t>>
     ensures { Gives (λ r. (r.0, r.1.now)) result (of.stmt_at limits tokens.now) }
 {
     if begins_with_word(Word::Begin, tokens) {

@@ -1,6 +1,7 @@
 use crate::classes::{Agg, Direction, Fate, KindSyn, Size, Switch, Way};
 use gx_grammar::Syn;
-use gx_ids::Seq;
+use gx_ids::{Boxed, Seq};
+use gx_lex::Name;
 use gx_modes::Mode;
 use gx_tree::{Level, Txt};
 
@@ -27,9 +28,9 @@ pub struct KeySyn {
 }
 
 #[derive(Drop)]
-pub struct SelectSyn {
+pub struct SelectSyn<'t> {
     pub items: ItemsSyn,
-    pub table: Txt,
+    pub table: Name<'t>,
     pub cond: Option<Syn>,
     pub group: Option<Seq<Txt>>,
     pub order: Option<Seq<KeySyn>>,
@@ -50,15 +51,15 @@ pub struct AssignSyn {
 }
 
 #[derive(Drop)]
-pub enum StmtSyn {
+pub enum StmtSyn<'t> {
     Begin(Level),
     Commit,
     Rollback,
-    Select(SelectSyn),
-    Insert(Txt, Seq<TupleSyn>),
-    Update(Txt, Seq<AssignSyn>, Option<Syn>),
-    Delete(Txt, Option<Syn>),
-    Lock(Txt, Mode),
+    Select(Boxed<SelectSyn<'t>>),
+    Insert(Name<'t>, Seq<TupleSyn>),
+    Update(Name<'t>, Seq<AssignSyn>, Option<Syn>),
+    Delete(Name<'t>, Option<Syn>),
+    Lock(Name<'t>, Mode),
 }
 
 /// A column of a table line.
@@ -92,9 +93,9 @@ pub struct LinkSyn {
 
 /// A line behind the segments.
 #[derive(Drop)]
-pub enum LineSyn {
+pub enum LineSyn<'t> {
     Detector(Switch),
     Table(TableSyn),
     Link(LinkSyn),
-    Session(Txt, StmtSyn),
+    Session(Name<'t>, StmtSyn<'t>),
 }

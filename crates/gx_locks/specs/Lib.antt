@@ -1,6 +1,7 @@
 pub mod Book
 pub mod Claims
 pub mod Graphs
+pub mod HoldLists
 pub mod Holds
 pub mod Index
 pub mod Kept

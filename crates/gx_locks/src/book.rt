@@ -4,11 +4,13 @@ ghost use Rattle.gx_waits.specs.declared.claim.Claim.{Claim};
 ghost use Rattle.gx_waits.specs.Claim.{same_claim};
 ghost use Rattle.gx_locks.specs.Claims.{is_of};
 ghost use Rattle.gx_locks.specs.Holds.{same_hold, claims_of, is_under};
+ghost use Rattle.gx_locks.specs.HoldLists.{held};
 ghost use Rattle.gx_locks.specs.Kept.{AreOnce};
 ghost use Rattle.gx_locks.specs.Locks.{is_free, without, blockers, AreRisen};
 
 use crate::claims::{copy_claims, find_same, is_any_met, is_any_same, risen_blockers};
 use crate::hold::Hold;
+use crate::hold_list::HoldList;
 use crate::index::Index;
 use crate::key::Key;
 use crate::ledger::Ledger;
@@ -179,11 +181,11 @@ impl Book {
     }
 
     /// Gives all claims of a transaction back, for which there are no places any more, and hands out its holds.
-    pub fn release_all(&mut self, gxid: Gxid) -> Vec<Hold>
+    pub fn release_all(&mut self, gxid: Gxid) -> HoldList
         requires filed { IsFiled self.old }
         requires once { AreOnce (claims_in self.old) }
         ensures filed { IsFiled self.new }
-        ensures taken { claims_of result.items ≡ filter (is_of gxid) (claims_in self.old) }
+        ensures taken { claims_of (held result) ≡ filter (is_of gxid) (claims_in self.old) }
         ensures claims { claims_in self.new ≡ without gxid (claims_in self.old) }
         ensures places { self.new.ledger.places ≡ self.old.ledger.places }
         ensures room { (k : Key) → k ≢ Of gxid → places_at self.new.index k ≡ places_at self.old.index k }

@@ -1,8 +1,10 @@
 ghost use Rattle.std.specs.Prelude.{◌≡◌, ◌≢◌, ◌<◌, ◌+◌, ◌-◌, ◌++◌, ◌∷◌, [], ◌==◌, ◌&&◌, length, true, false, ◌≤◌, filter, not, OnOk, OnErr};
 ghost use Rattle.gx_locks.specs.Holds.{same_hold, is_under};
+ghost use Rattle.gx_locks.specs.HoldLists.{held};
 ghost use Rattle.gx_locks.specs.Room.{bit};
 
 use crate::hold::Hold;
+use crate::hold_list::HoldList;
 use crate::key::Key;
 use crate::shelf::Shelf;
 use gx_ids::Mem;
@@ -58,10 +60,10 @@ impl Index {
         ensures err { OnErr result (places_at self.new key ≡ places_at self.old key) }
     {
         match self.shelves.get_mut(&key) {
-            Some(shelf) => shelf.reserve(),
+            Some(shelf) => shelf.reserve(self.alloc),
             None => {
-                let mut shelf = Shelf::new(self.alloc);
-                shelf.reserve()?;
+                let mut shelf = Shelf::new();
+                shelf.reserve(self.alloc)?;
                 self.put(key, shelf)
             }
         }
@@ -110,10 +112,10 @@ impl Index {
         ensures places_elsewhere { (k : Key) → k ≢ key → places_at self.new k ≡ places_at self.old k }
     {
         match self.shelves.get_mut(&key) {
-            Some(shelf) => shelf.add(hold),
+            Some(shelf) => shelf.add(self.alloc, hold),
             None => {
-                let mut shelf = Shelf::new(self.alloc);
-                shelf.add(hold)?;
+                let mut shelf = Shelf::new();
+                shelf.add(self.alloc, hold)?;
                 self.put(key, shelf)
             }
         }
@@ -179,15 +181,15 @@ impl Index {
     }
 
     /// Takes out all holds under a key, and the room that was kept for more.
-    pub fn take(&mut self, key: Key) -> Vec<Hold>
-        ensures taken { result.items ≡ holds_at self.old key }
+    pub fn take(&mut self, key: Key) -> HoldList
+        ensures taken { held result ≡ holds_at self.old key }
         ensures there { holds_at self.new key ≡ [] }
         ensures elsewhere { (k : Key) → k ≢ key → holds_at self.new k ≡ holds_at self.old k }
         ensures places { (k : Key) → k ≢ key → places_at self.new k ≡ places_at self.old k }
     {
         match self.shelves.remove(&key) {
             Some(shelf) => shelf.into_holds(),
-            None => Vec::new(self.alloc),
+            None => HoldList::Empty,
         }
     }
 

@@ -1,8 +1,9 @@
 ghost use Rattle.std.specs.Prelude.{◌≡◌, ◌<◌, ◌+◌, ◌-◌, ◌++◌, ◌∷◌, [], ◌==◌, ◌&&◌, length, filter, not, OnOk, OnErr};
 ghost use Rattle.gx_locks.specs.Holds.{same_hold};
+ghost use Rattle.gx_locks.specs.HoldLists.{held};
 
-use crate::claims::is_same_hold;
 use crate::hold::Hold;
+use crate::hold_list::HoldList;
 use gx_ids::{Mem, OutOfMemory};
 use std::alloc::Global;
 use std::marker::Model;
@@ -10,28 +11,28 @@ use std::marker::Model;
 /// The holds under one key, and for how many more there is room.
 #[derive(Drop)]
 pub struct Shelf {
-    holds: Vec<Hold>,
+    holds: HoldList,
     places: usize,
 }
 
 impl Model for Shelf {
-    ghost use Rattle.std.specs.Prelude.{◌+◌, ◌≤◌, length};
-    ghost use Rattle.std.specs.Vec.{vec_capacity};
+    ghost use Rattle.std.specs.Prelude.{◌≤◌};
+    ghost use Rattle.gx_locks.specs.HoldLists.{held, spare};
     ghost use Rattle.gx_locks.specs.Rack.{Rack};
 
     ghost Value = { Rack };
 
-    ghost view = { λ a. record { holds = a.holds.items; places = a.places } };
+    ghost view = { λ a. record { holds = held a.holds; places = a.places } };
 
-    ghost invariant = { λ a. length a.holds.items + a.places ≤ vec_capacity a.holds };
+    ghost invariant = { λ a. a.places ≤ spare a.holds };
 }
 
 impl Shelf {
-    pub fn new(alloc: Global) -> Shelf
+    pub fn new() -> Shelf
         ensures { result ≡ record { holds = []; places = 0 } }
     {
         Shelf {
-            holds: Vec::new(alloc),
+            holds: HoldList::Empty,
             places: 0,
         }
     }
@@ -46,7 +47,7 @@ impl Shelf {
     pub fn is_idle(&self) -> bool
         ensures { result ≡ ((length self.now.holds == 0) && (self.now.places == 0)) }
     {
-        self.holds.len() == 0 && self.places == 0
+        self.holds.is_empty() && self.places == 0
     }
 
     /// Whether there is no room for more.
@@ -57,13 +58,13 @@ impl Shelf {
     }
 
     /// Makes room for one hold more.
-    pub fn reserve(&mut self) -> Mem<()>
+    pub fn reserve(&mut self, alloc: Global) -> Mem<()>
         ensures holds { self.new.holds ≡ self.old.holds }
         ensures ok { OnOk result (self.new.places ≡ self.old.places + 1) }
         ensures err { OnErr result (self.new.places ≡ self.old.places) }
     {
         let places = self.places.checked_add(1).ok_or(OutOfMemory)?;
-        self.holds.reserve(places)?;
+        self.holds.reserve(alloc, places)?;
         self.places = places;
         Ok(())
     }
@@ -82,19 +83,17 @@ impl Shelf {
         ensures holds { self.new.holds ≡ self.old.holds ++ hold ∷ [] }
         ensures places { self.new.places + 1 ≡ self.old.places }
     {
-        let _ = self.holds.push(hold);
+        self.holds.fill(hold);
         self.places -= 1;
     }
 
     /// Adds a hold, beside the room that is kept for others.
-    pub fn add(&mut self, hold: Hold) -> Mem<()>
+    pub fn add(&mut self, alloc: Global, hold: Hold) -> Mem<()>
         ensures ok { OnOk result (self.new.holds ≡ self.old.holds ++ hold ∷ []) }
         ensures err { OnErr result (self.new.holds ≡ self.old.holds) }
         ensures places { self.new.places ≡ self.old.places }
     {
-        self.reserve()?;
-        self.fill(hold);
-        Ok(())
+        self.holds.add(alloc, hold, self.places)
     }
 
     /// Takes out a hold.
@@ -102,11 +101,11 @@ impl Shelf {
         ensures holds { self.new.holds ≡ filter (λ other. not (same_hold hold.now other)) self.old.holds }
         ensures places { self.new.places ≡ self.old.places }
     {
-        self.holds.retain(|other| !is_same_hold(hold, other));
+        self.holds.strike(hold);
     }
 
-    pub fn into_holds(self) -> Vec<Hold>
-        ensures { result.items ≡ self.holds }
+    pub fn into_holds(self) -> HoldList
+        ensures { held result ≡ self.holds }
     {
         let Shelf { holds, places: _ } = self;
         holds

@@ -4,6 +4,7 @@ ghost use Rattle.gx_ids.specs.declared.ids.Gxid.{Gxid};
 ghost use Rattle.gx_waits.specs.Claim.{AreEdges, same_claim};
 ghost use Rattle.gx_locks.specs.Claims.{is_of};
 ghost use Rattle.gx_locks.specs.Graphs.{graph_at};
+ghost use Rattle.gx_locks.specs.HoldLists.{held};
 ghost use Rattle.gx_locks.specs.Holds.{claims_of};
 ghost use Rattle.gx_locks.specs.Locks.{IsAnswer, blockers, is_free, ready_ones, least_with, IsLeast, wait_of, is_ready, resumed, without, without_claim};
 ghost use Rattle.gx_locks.specs.Kept.{AreExclusive, AreOnce, WaitOnce};
@@ -13,7 +14,7 @@ use crate::answer::LockAnswer;
 use crate::book::Book;
 use crate::claims::{find_of, is_any_of, put, take_out};
 use crate::graph::graph_of;
-use crate::hold::Hold;
+use crate::hold_list::HoldList;
 use gx_ids::{Gxid, Mem, Node, Seq};
 use gx_modes::Mode;
 use gx_waits::{Claim, LocalGraph, Object};
@@ -160,9 +161,9 @@ impl LockTable {
     }
 
     /// Gives back all locks of a transaction, drops its wait, and hands out its holds in the order in which they came.
-    pub fn take_all(&mut self, gxid: Gxid) -> Vec<Hold>
+    pub fn take_all(&mut self, gxid: Gxid) -> HoldList
         ensures table { self.new ≡ record self.old { holds = without gxid self.old.holds; waits = without gxid self.old.waits } }
-        ensures taken { claims_of result.items ≡ filter (is_of gxid) self.old.holds }
+        ensures taken { claims_of (held result) ≡ filter (is_of gxid) self.old.holds }
     {
         self.drop_wait(gxid);
         self.book.release_all(gxid)
@@ -172,6 +173,9 @@ impl LockTable {
     fn drop_wait(&mut self, gxid: Gxid)
         ensures { self.new ≡ record self.old { waits = without gxid self.old.waits } }
     {
+        if self.waits.is_empty() {
+            return;
+        }
         if self.book.is_full(gxid) {
             return;
         }

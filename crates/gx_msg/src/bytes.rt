@@ -6,7 +6,7 @@ ghost use Rattle.gx_msg.specs.ItemBytes.{bytes_of_value, bytes_of_row, bytes_of_
 
 use crate::item::{JournalItem, Kept};
 use gx_ids::{Gxid, Mem, Rid};
-use gx_text::{push_bytes, push_count, push_integer, push_quoted};
+use gx_text::{push_byte, push_bytes, push_count, push_integer, push_quoted};
 use gx_tree::{Row, Value};
 use std::alloc::Global;
 
@@ -27,7 +27,7 @@ fn push_row(text: &mut Vec<u8>, values: &[Value]) -> Mem<()>
     };
     push_value(text, first)?;
     for value in others {
-        push_bytes(text, b"|")?;
+        push_byte(text, b'|')?;
         push_value(text, value)?;
     }
     Ok(())
@@ -47,9 +47,9 @@ fn push_rid(text: &mut Vec<u8>, rid: &Rid) -> Mem<()>
     ensures { OnOk result (text.new.items ≡ text.old.items ++ text_of rid.now) }
 {
     push_count(text, u128::from(rid.gxid.0))?;
-    push_bytes(text, b".")?;
+    push_byte(text, b'.')?;
     push_count(text, u128::from(rid.cid.0))?;
-    push_bytes(text, b".")?;
+    push_byte(text, b'.')?;
     push_count(text, u128::from(rid.ordinal))
 }
 
@@ -57,20 +57,20 @@ fn push_kept(text: &mut Vec<u8>, kept: &Kept) -> Mem<()>
     ensures { OnOk result (text.new.items ≡ text.old.items ++ line_of_kept kept.now) }
 {
     push_rid(text, &kept.rid)?;
-    push_bytes(text, b" ")?;
+    push_byte(text, b' ')?;
     push_count(text, u128::from(kept.table.0))?;
-    push_bytes(text, b" ")?;
+    push_byte(text, b' ')?;
     push_image(text, &kept.image)?;
-    push_bytes(text, b"\n")
+    push_byte(text, b'\n')
 }
 
 fn push_rows(text: &mut Vec<u8>, gxid: Gxid, rows: &[Kept]) -> Mem<()>
     ensures { OnOk result (text.new.items ≡ text.old.items ++ lines_of_rows gxid rows.now) }
 {
     push_count(text, u128::from(gxid.0))?;
-    push_bytes(text, b" ")?;
+    push_byte(text, b' ')?;
     push_count(text, rows.len() as u128)?;
-    push_bytes(text, b"\n")?;
+    push_byte(text, b'\n')?;
     for kept in rows {
         push_kept(text, kept)?;
     }
@@ -82,7 +82,7 @@ fn push_line(text: &mut Vec<u8>, name: &[u8], gxid: Gxid) -> Mem<()>
 {
     push_bytes(text, name)?;
     push_count(text, u128::from(gxid.0))?;
-    push_bytes(text, b"\n")
+    push_byte(text, b'\n')
 }
 
 fn push_item(text: &mut Vec<u8>, item: &JournalItem) -> Mem<()>
@@ -102,14 +102,24 @@ fn push_item(text: &mut Vec<u8>, item: &JournalItem) -> Mem<()>
     }
 }
 
-// The room that an item of one row takes.
-const ROOM: usize = 64;
+// The room that most items take: for the item's line, and for the line of each row.
+const LINE_ROOM: usize = 16;
+
+const ROW_ROOM: usize = 24;
+
+fn room_for(item: &JournalItem) -> usize {
+    let rows = match item {
+        JournalItem::Prepare(_, rows) | JournalItem::Commit(_, rows) => rows.len(),
+        JournalItem::Finish(_) | JournalItem::Decide(_) => 0,
+    };
+    LINE_ROOM.saturating_add(rows.saturating_mul(ROW_ROOM))
+}
 
 /// A journal item as bytes: a line for the item, and one for each of its rows.
 pub fn item_bytes(alloc: Global, item: &JournalItem) -> Mem<Vec<u8>>
     ensures { IfOk result (λ bytes. bytes.items ≡ bytes_of_item item.now) }
 {
-    let mut bytes = Vec::with_capacity(alloc, ROOM)?;
+    let mut bytes = Vec::with_capacity(alloc, room_for(item))?;
     push_item(&mut bytes, item)?;
     Ok(bytes)
 }

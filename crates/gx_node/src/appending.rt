@@ -16,7 +16,7 @@ pub(crate) fn append<J: Journal>(alloc: Global, item: JournalItem, journal: &mut
     let bytes = item_bytes(alloc, &item);
     drop(item);
     let bytes = bytes?;
-    match journal.append(bytes.as_slice()) {
+    match journal.append(bytes) {
         Ok(()) => Ok(false),
         Err(AppendFault::Failed) => Ok(true),
         Err(AppendFault::OutOfMemory) => Err(OutOfMemory),

@@ -2,6 +2,7 @@ ghost use Rattle.std.specs.Prelude.{◌≡◌, ◌++◌, ◌∷◌, [], filter, 
 ghost use Rattle.std.specs.Cmp.{IsTotalOrder};
 ghost use Rattle.std.specs.List.{list_any};
 ghost use Rattle.gx_locks.specs.Claims.{is_of};
+ghost use Rattle.gx_locks.specs.HoldLists.{held};
 ghost use Rattle.gx_locks.specs.Holds.{claims_of};
 ghost use Rattle.gx_locks.specs.Locks.{is_free, is_ready, resumed, wait_of};
 ghost use Rattle.gx_meaning.specs.Order.{in_order};
@@ -12,7 +13,7 @@ ghost use Rattle.gx_waits.specs.Claim.{same_claim};
 ghost use Rattle.gx_node.specs.Locking.{asked_locks, asked_mark, end_marks, granted_locks, granted_marks, resumed_marks, without_end};
 
 use gx_ids::{Gxid, Mem, Node, Table};
-use gx_locks::{Hold, LockAnswer, LockTable, is_same_claim};
+use gx_locks::{Hold, HoldList, LockAnswer, LockTable, is_same_claim};
 use gx_modes::Mode;
 use gx_script::Script;
 use gx_store::Mark;
@@ -34,12 +35,25 @@ fn is_ordered<T: Ord>()
     ensures { IsTotalOrder T.cmp }
 {}
 
-fn sorted_holds(mut holds: Vec<Hold>) -> Mem<Vec<Hold>>
+fn sort_holds(mut holds: Vec<Hold>) -> Mem<Vec<Hold>>
     ensures { IfOk result (λ sorted. claims_of sorted.items ≡ in_order rule.claim_order (claims_of holds.items)) }
 {
     is_ordered::<Object>();
     holds.sort_by(|left, right| compare_claims(&left.claim, &right.claim))?;
     Ok(holds)
+}
+
+fn sorted_holds(holds: HoldList) -> Mem<HoldList>
+    ensures { IfOk result (λ sorted. claims_of (held sorted) ≡ in_order rule.claim_order (claims_of (held holds))) }
+{
+    match holds {
+        HoldList::Empty => Ok(HoldList::Empty),
+        HoldList::One(hold) => Ok(HoldList::One(hold)),
+        HoldList::Many(holds) => {
+            let sorted = sort_holds(holds)?;
+            Ok(HoldList::Many(sorted))
+        }
+    }
 }
 
 // GIVEN BACK

@@ -14,8 +14,8 @@ pub trait Journal: Drop {
     ghost shelf: { Self → Shelf };
 
     /// Adds an item behind those that are kept.
-    fn append(&mut self, item: &[u8]) -> Result<(), AppendFault>
-        ensures appended { IsAppended (shelf self.old) (shelf self.new) item.now result };
+    fn append(&mut self, item: Vec<u8>) -> Result<(), AppendFault>
+        ensures appended { IsAppended (shelf self.old) (shelf self.new) item.items result };
 
     /// How often it has failed, up to the greatest u64. The count never falls.
     fn faults(&self) -> u64

@@ -3,3 +3,4 @@ pub mod Texts
 pub mod Balances
 pub mod Edges
 pub mod Adding
+mod Counting

@@ -6,7 +6,7 @@ ghost use Rattle.gx_report.specs.Summary as of;
 use crate::words::push_count_behind;
 use gx_ids::Mem;
 use gx_script::Script;
-use gx_store::{Mark, Run, Step, StmtAnswer};
+use gx_store::{Mark, Run, Steps, StmtAnswer};
 use gx_text::{push_bytes, push_integer};
 use gx_tree::{KeyedRow, Value};
 use std::alloc::Global;
@@ -73,22 +73,22 @@ fn refusals_in(marks: &[Mark]) -> usize
     count
 }
 
-fn count_commits(steps: &[Step]) -> u128
+fn count_commits(steps: &Steps) -> u128
     ensures { result ≡ sum_by of.commits_in steps.now }
 {
     let mut count: u128 = 0;
-    for step in steps {
-        count += commits_in(step.marks.as_slice()) as u128;
+    for place in 0..steps.len() {
+        count += commits_in(steps.at(place).marks()) as u128;
     }
     count
 }
 
-fn count_refusals(steps: &[Step]) -> u128
+fn count_refusals(steps: &Steps) -> u128
     ensures { result ≡ sum_by of.refusals_in steps.now }
 {
     let mut count: u128 = 0;
-    for step in steps {
-        count += refusals_in(step.marks.as_slice()) as u128;
+    for place in 0..steps.len() {
+        count += refusals_in(steps.at(place).marks()) as u128;
     }
     count
 }
@@ -140,7 +140,7 @@ pub fn summary(
 ) -> Mem<Vec<u8>>
     ensures { IfOk result (λ text. text.items ≡ of.summary_of number script.now run.now tables.now) }
 {
-    let steps = run.steps.as_slice();
+    let steps = &run.steps;
     let accounts = accounts_in(tables);
     let mut text = Vec::new(alloc);
     push_count_behind(&mut text, b"gen ", u128::from(number))?;

@@ -3,7 +3,7 @@ ghost use Rattle.std.specs.Prelude.{◌≡◌, ◌++◌, ◌∷◌, ◌<◌, ℕ
 ghost use Rattle.gx_report.specs.Places.{ArePlaces, IsNoted, nth_places, place_in, places_among};
 
 use gx_ids::{Mem, Seq};
-use gx_store::{Mark, Step};
+use gx_store::{Mark, Steps};
 use std::alloc::Global;
 
 /// Where an answer stands in a run: the step, and the mark in it, from 0.
@@ -14,12 +14,12 @@ pub struct Place {
 }
 
 /// The places of the answers of each session of so many, by the session's number, in the order of the run.
-pub fn answer_places(alloc: Global, sessions: usize, steps: &[Step]) -> Mem<Vec<Seq<Place>>>
+pub fn answer_places(alloc: Global, sessions: usize, steps: &Steps) -> Mem<Vec<Seq<Place>>>
     ensures { IfOk result (λ index. ArePlaces sessions steps.now index.items) }
 {
     let mut index = no_places(alloc, sessions)?;
-    for (step, done) in steps.iter().enumerate() {
-        note_step(&mut index, step, done.marks.as_slice())?;
+    for step in 0..steps.len() {
+        note_step(&mut index, step, steps.at(step).marks())?;
     }
     Ok(index)
 }

@@ -7,7 +7,7 @@ use crate::error::push_error;
 use crate::words::push_count_behind;
 use gx_ids::Mem;
 use gx_store::StmtAnswer;
-use gx_text::{push_bytes, push_integer, push_quoted};
+use gx_text::{push_byte, push_bytes, push_integer, push_quoted};
 use gx_tree::{Cell, OutRow};
 
 fn push_cell(text: &mut Vec<u8>, cell: &Cell) -> Mem<()>
@@ -28,7 +28,7 @@ fn push_cells(text: &mut Vec<u8>, cells: &[Cell]) -> Mem<()>
     };
     push_cell(text, first)?;
     for cell in others {
-        push_bytes(text, b"|")?;
+        push_byte(text, b'|')?;
         push_cell(text, cell)?;
     }
     Ok(())
@@ -40,7 +40,7 @@ fn push_row(text: &mut Vec<u8>, cells: &[Cell]) -> Mem<()>
 {
     push_bytes(text, b"  ")?;
     push_cells(text, cells)?;
-    push_bytes(text, b"\n")
+    push_byte(text, b'\n')
 }
 
 fn push_rows(text: &mut Vec<u8>, rows: &[OutRow]) -> Mem<()>
@@ -57,7 +57,7 @@ fn push_counted(text: &mut Vec<u8>, name: &[u8], count: u128) -> Mem<()>
     ensures { OnOk result (text.new.items ≡ text.old.items ++ counted_text name.now count) }
 {
     push_count_behind(text, name, count)?;
-    push_bytes(text, b"\n")
+    push_byte(text, b'\n')
 }
 
 fn push_answer(text: &mut Vec<u8>, answer: &StmtAnswer) -> Mem<()>
@@ -85,6 +85,6 @@ pub fn push_line(text: &mut Vec<u8>, name: &[u8], number: u32, answer: &StmtAnsw
 {
     push_bytes(text, name)?;
     push_count_behind(text, b".", u128::from(number))?;
-    push_bytes(text, b" ")?;
+    push_byte(text, b' ')?;
     push_answer(text, answer)
 }

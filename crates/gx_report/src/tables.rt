@@ -8,7 +8,7 @@ use crate::words::push_count_behind;
 use gx_ids::Mem;
 use gx_script::Script;
 use gx_store::Run;
-use gx_text::{push_bytes, push_integer, push_quoted};
+use gx_text::{push_byte, push_bytes, push_integer, push_quoted};
 use gx_tree::{KeyedRow, Schema, Value};
 use std::alloc::Global;
 
@@ -30,7 +30,7 @@ fn push_values(text: &mut Vec<u8>, values: &[Value]) -> Mem<()>
     };
     push_value(text, first)?;
     for value in others {
-        push_bytes(text, b"|")?;
+        push_byte(text, b'|')?;
         push_value(text, value)?;
     }
     Ok(())
@@ -41,7 +41,7 @@ fn push_keyed_row(text: &mut Vec<u8>, row: &KeyedRow) -> Mem<()>
 {
     push_bytes(text, b"  ")?;
     push_values(text, row.row.as_slice())?;
-    push_bytes(text, b"\n")
+    push_byte(text, b'\n')
 }
 
 fn push_table(text: &mut Vec<u8>, name: &[u8], rows: &[KeyedRow]) -> Mem<()>
@@ -50,7 +50,7 @@ fn push_table(text: &mut Vec<u8>, name: &[u8], rows: &[KeyedRow]) -> Mem<()>
     push_bytes(text, b"table ")?;
     push_bytes(text, name)?;
     push_count_behind(text, b" ", rows.len() as u128)?;
-    push_bytes(text, b"\n")?;
+    push_byte(text, b'\n')?;
     for row in rows {
         push_keyed_row(text, row)?;
     }

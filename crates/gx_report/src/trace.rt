@@ -7,7 +7,7 @@ use crate::marks::push_mark;
 use crate::words::push_count_behind;
 use gx_ids::Mem;
 use gx_script::Script;
-use gx_store::{Mark, Run, Step};
+use gx_store::{Mark, Run, StepView};
 use gx_text::{push_bytes, push_count};
 use std::alloc::Global;
 
@@ -19,21 +19,21 @@ fn push_mark_line(alloc: Global, text: &mut Vec<u8>, script: &Script, mark: &Mar
     push_bytes(text, b"\n")
 }
 
-fn push_event_line(text: &mut Vec<u8>, script: &Script, step: &Step) -> Mem<()>
+fn push_event_line(text: &mut Vec<u8>, script: &Script, step: &StepView<'_>) -> Mem<()>
     ensures { OnOk result (text.new.items ≡ text.old.items ++ event_line script.now step.now) }
 {
-    push_count(text, u128::from(step.stamp.clock))?;
-    push_count_behind(text, b".", u128::from(step.stamp.node.0))?;
+    push_count(text, u128::from(step.stamp().clock))?;
+    push_count_behind(text, b".", u128::from(step.stamp().node.0))?;
     push_bytes(text, b" ")?;
-    push_event(text, script, step.event)?;
+    push_event(text, script, step.event())?;
     push_bytes(text, b"\n")
 }
 
-fn push_step(alloc: Global, text: &mut Vec<u8>, script: &Script, step: &Step) -> Mem<()>
+fn push_step(alloc: Global, text: &mut Vec<u8>, script: &Script, step: &StepView<'_>) -> Mem<()>
     ensures { OnOk result (text.new.items ≡ text.old.items ++ step_lines script.now step.now) }
 {
     push_event_line(text, script, step)?;
-    for mark in step.marks.as_slice() {
+    for mark in step.marks() {
         push_mark_line(alloc, text, script, mark)?;
     }
     Ok(())
@@ -45,8 +45,8 @@ pub fn push_trace(alloc: Global, text: &mut Vec<u8>, script: &Script, run: &Run)
 {
     push_count_behind(text, b"run ", run.steps.len() as u128)?;
     push_bytes(text, b"\n")?;
-    for step in run.steps.as_slice() {
-        push_step(alloc, text, script, step)?;
+    for place in 0..run.steps.len() {
+        push_step(alloc, text, script, &run.steps.at(place))?;
     }
     Ok(())
 }

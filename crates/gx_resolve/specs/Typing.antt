@@ -1,5 +1,5 @@
 -- What written expressions are over the columns of a table, by one node of the tree with what its parts are.
-use Rattle.std.specs.Prelude.{ℕ, nat_le, Bool, true, false, if◌then◌else◌, List, Option, Some, None, pos, ◌-ℤ◌}
+use Rattle.std.specs.Prelude.{ℕ, ℤ, nat_le, Bool, true, false, if◌then◌else◌, List, Option, Some, None, pos, ◌-ℤ◌}
 use Rattle.gx_tree.specs.declared.schema.Column.{Column}
 use Rattle.gx_tree.specs.declared.schema.Kind.{Kind}
 use Rattle.gx_tree.specs.declared.schema.Kind.TheVariants as kind
@@ -19,6 +19,11 @@ use Rattle.gx_grammar.specs.declared.syn.Syn.TheFolds.{fold-Syn}
 use Rattle.gx_resolve.specs.declared.typed.Typed.{Typed}
 use Rattle.gx_resolve.specs.declared.typed.Typed.TheVariants.{Value, Cond, Unknown, Mismatch}
 use Rattle.gx_resolve.specs.Columns.{column_of}
+
+-- a number of 64 bits with its sign, where there is one
+abbrev pub value_typed : Option ℤ → Typed
+value_typed None = Mismatch
+value_typed (Some n) = Value kind.Int (expr.Lit (value.Int n))
 
 -- numbers are those of 64 bits with a sign
 abbrev pub negative_typed : ℕ → Typed

@@ -101,10 +101,20 @@ fn knows_select(columns: &[Column], select: &SelectSyn) -> bool
         && knows_order(columns, &select.order)
 }
 
+// A number has no names, and most values are numbers.
+fn knows_value(columns: &[Column], value: &Syn) -> bool
+    ensures { result ≡ list_all (of.is_column columns.now) (of.names_in value.now) }
+{
+    match value {
+        Syn::Number(_, _) => true,
+        _ => knows(columns, value),
+    }
+}
+
 fn knows_values(columns: &[Column], values: &[Syn]) -> bool
     ensures { result ≡ list_all (λ value. list_all (of.is_column columns.now) (of.names_in value)) values.now }
 {
-    values.iter().all(|value| knows(columns, value))
+    values.iter().all(|value| knows_value(columns, value))
 }
 
 #[tactic(auto, using(crate::proofs::Names::lists))]
@@ -196,7 +206,7 @@ pub fn check_names(columns: &[Column], stmt: &StmtSyn) -> Result<(), NameFault>
     ensures { result ≡ of.names_right columns.now [] (of.names_of stmt.now) }
 {
     match stmt {
-        StmtSyn::Select(select) => known(knows_select(columns, select)),
+        StmtSyn::Select(select) => known(knows_select(columns, select.get())),
         StmtSyn::Insert(_, tuples) => known(knows_tuples(columns, tuples.as_slice())),
         StmtSyn::Update(_, assigns, cond) => check_update(columns, assigns.as_slice(), cond),
         StmtSyn::Delete(_, cond) => known(knows_condition(columns, cond)),

@@ -13,33 +13,45 @@ use gx_ids::{Boxed, Duplicate, Mem};
 use gx_tree::{ArithOp, CmpOp, Cond, Expr, Kind, Txt, Value};
 use std::alloc::Global;
 
-/// A number, which is of 64 bits with its sign.
-pub fn number(negative: bool, size: Option<u64>) -> Typed
-    ensures { result ≡ of.number_typed negative size }
+/// The value of a number, where it is of 64 bits with its sign.
+pub fn number_value(negative: bool, size: Option<u64>) -> Option<i64>
+    ensures { of.value_typed result ≡ of.number_typed negative size }
 {
-    match size {
-        None => Typed::Mismatch,
-        Some(size) => {
-            if negative {
-                negative_number(size)
-            } else if size <= 9223372036854775807 {
-                Typed::Value(Kind::Int, Expr::Lit(Value::Int(size as i64)))
-            } else {
-                Typed::Mismatch
-            }
-        }
+    if negative {
+        negative_value(size?)
+    } else {
+        positive_value(size?)
     }
 }
 
-fn negative_number(size: u64) -> Typed
-    ensures { result ≡ of.negative_typed size }
+fn positive_value(size: u64) -> Option<i64>
+    ensures { of.value_typed result ≡ of.positive_typed size }
 {
     if size <= 9223372036854775807 {
-        Typed::Value(Kind::Int, Expr::Lit(Value::Int(0 - size as i64)))
-    } else if size == 9223372036854775808 {
-        Typed::Value(Kind::Int, Expr::Lit(Value::Int(i64::MIN)))
+        Some(size as i64)
     } else {
-        Typed::Mismatch
+        None
+    }
+}
+
+fn negative_value(size: u64) -> Option<i64>
+    ensures { of.value_typed result ≡ of.negative_typed size }
+{
+    if size <= 9223372036854775807 {
+        Some(0 - size as i64)
+    } else if size == 9223372036854775808 {
+        Some(i64::MIN)
+    } else {
+        None
+    }
+}
+
+pub fn number(negative: bool, size: Option<u64>) -> Typed
+    ensures { result ≡ of.number_typed negative size }
+{
+    match number_value(negative, size) {
+        Some(value) => Typed::Value(Kind::Int, Expr::Lit(Value::Int(value))),
+        None => Typed::Mismatch,
     }
 }
 

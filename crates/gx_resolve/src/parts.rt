@@ -4,13 +4,15 @@ ghost use Rattle.gx_tree.specs.declared.schema.Column.{Column as ColumnOf};
 ghost use Rattle.gx_resolve.specs.declared.fault.NameFault.{NameFault as Fault};
 ghost use Rattle.gx_resolve.specs.Results.{Says, each};
 ghost use Rattle.gx_resolve.specs.Kinding as of;
+ghost use Rattle.gx_resolve.specs.Typing.{number_typed};
 
 use crate::fault::{NameFault, ResolveError};
+use crate::node::number_value;
 use crate::{Typed, find_column, type_expression};
 use gx_grammar::Syn;
 use gx_ids::Seq;
 use gx_lines::{AssignSyn, TupleSyn};
-use gx_tree::{Assign, Column, Cond, Expr, Kind, Txt};
+use gx_tree::{Assign, Column, Cond, Expr, Kind, Txt, Value};
 use std::alloc::Global;
 
 /// What is something else over the columns of its table than as it is written.
@@ -96,11 +98,31 @@ pub fn where_as(
     }
 }
 
+// A number of a kind.
+fn number_as(kind: Kind, negative: bool, size: Option<u64>) -> Result<Expr, NameFault>
+    ensures { result ≡ of.value_as kind (number_typed negative size) }
+{
+    match (kind, number_value(negative, size)) {
+        (Kind::Int, Some(value)) => Ok(Expr::Lit(Value::Int(value))),
+        _ => Err(NameFault::TypeMismatch),
+    }
+}
+
+// An expression that stands in VALUES.
+fn expression_as(alloc: Global, kind: Kind, value: &Syn) -> Result<Expr, ResolveError>
+    ensures { Says result (of.constant_as kind value.now) }
+{
+    Ok(value_as(kind, type_expression(alloc, &[], value)?)?)
+}
+
 // A value that stands in VALUES.
 fn constant_as(alloc: Global, kind: Kind, value: &Syn) -> Result<Expr, ResolveError>
     ensures { Says result (of.constant_as kind value.now) }
 {
-    Ok(value_as(kind, type_expression(alloc, &[], value)?)?)
+    match value {
+        Syn::Number(negative, size) => Ok(number_as(kind, *negative, *size)?),
+        _ => expression_as(alloc, kind, value),
+    }
 }
 
 // As many values as there are columns.

@@ -12,16 +12,17 @@ use crate::parts::{resolve_each, where_as};
 use crate::select::query_as;
 use gx_grammar::Syn;
 use gx_ids::{Seq, Shared, Table};
+use gx_lex::Name;
 use gx_lines::{AssignSyn, StmtSyn};
-use gx_tree::{Assign, Column, Dist, Schema, Stmt, Txt};
+use gx_tree::{Assign, Column, Dist, Schema, Stmt};
 use std::alloc::Global;
 
 /// The table that a statement names, where it names one.
-pub fn named_table(stmt: &StmtSyn) -> Option<&Txt>
+pub fn named_table<'s, 'a>(stmt: &'s StmtSyn<'a>) -> Option<&'s Name<'a>>
     ensures { option_copied result ≡ of.table_named stmt.now }
 {
     match stmt {
-        StmtSyn::Select(select) => Some(&select.table),
+        StmtSyn::Select(select) => Some(&select.get().table),
         StmtSyn::Insert(table, _) => Some(table),
         StmtSyn::Update(table, _, _) => Some(table),
         StmtSyn::Delete(table, _) => Some(table),
@@ -62,7 +63,7 @@ fn kinded(
         StmtSyn::Commit => Ok(Stmt::Commit),
         StmtSyn::Rollback => Ok(Stmt::Rollback),
         StmtSyn::Select(select) => {
-            let query = query_as(alloc, table, columns, select)?;
+            let query = query_as(alloc, table, columns, select.get())?;
             Ok(Stmt::Select(Shared::new(alloc, query)?))
         }
         StmtSyn::Insert(_, tuples) => {

@@ -5,7 +5,7 @@ use Rattle.std.proofs.lemmas.Bool.Decides.{nat_tests}
 use Rattle.std.proofs.lemmas.Map.Keys.{sorted_head, sorted_tail}
 use Rattle.std.proofs.lemmas.Map.Steps.{set_value_same}
 use Rattle.std.specs.Cmp.{IsTotalOrder}
-use Rattle.std.specs.Prelude.{Option, None, Some, Result, Ok, Err, OnOk, OnErr, unwrap_or}
+use Rattle.std.specs.Prelude.{None, Some, Result, Ok, Err, OnOk, OnErr, unwrap_or}
 use Rattle.std.specs.List.{AllByRecursion}
 use Rattle.std.specs.List.Sorted.{IsStrictlySortedBy}
 use Rattle.std.specs.Map.{keys_of, lookup, set_value}
@@ -81,17 +81,12 @@ module _ (rows rows' : List (Rid × List Version)) (r : Rid) (v : Version) where
       ap (λ rows. versions_of rows q) is ∙ ap (λ found. unwrap_or found []) (lookup-insert_entry_other rid_cmp-total r (versions_of rows r ++ v ∷ []) q rows (rids_apart q r other))
   versions_of-added_other (Err e) is = tt
 
-module _ (rows rows' : List (Rid × List Version)) (r : Rid) (v : Version) (list list' : List Version) where
-  -- where the push succeeded, the rows have the version more
-  pub added_from_push : (o : Result (Unit {0}) OutOfMemory) → IsStrictlySortedBy rid_cmp (keys_of rows) → Some list ≡ lookup (is_at (rid_cmp r)) rows → OnOk o (list' ≡ list ++ v ∷ []) → rows' ≡ set_value (is_at (rid_cmp r)) rows list' → OnOk o (rows' ≡ added rows r v)
-  added_from_push (Ok u) sorted found pushed written =
-      written
-      ∙ set_value-insert_entry rid_cmp-total r list' list rows sorted (sym found)
-      ∙ ap (insert_entry rid_cmp rows r) (pushed ∙ ap (λ (found' : Option (List Version)). unwrap_or found' [] ++ v ∷ []) found)
-  added_from_push (Err e) sorted found pushed written = tt
-
-  -- where it failed, they are the same
-  pub same_from_push : (o : Result (Unit {0}) OutOfMemory) → Some list ≡ lookup (is_at (rid_cmp r)) rows → OnErr o (list' ≡ list) → rows' ≡ set_value (is_at (rid_cmp r)) rows list' → OnErr o (rows' ≡ rows)
-  same_from_push (Ok u) found same written = tt
-  same_from_push (Err e) found same written =
-      written ∙ ap (set_value (is_at (rid_cmp r)) rows) same ∙ set_value_same (is_at (rid_cmp r)) rows list (sym found)
+-- where a push to a row's versions failed, the rows are the same
+pub same_from_entry : (rows rows' : List (Rid × List Version)) (r : Rid) (list list' : List Version) (o : Result (Unit {0}) OutOfMemory) → IsStrictlySortedBy rid_cmp (keys_of rows) → lookup (is_at (rid_cmp r)) rows ≡ Some list → OnErr o (list' ≡ list)
+    → rows' ≡ insert_entry rid_cmp rows r list' → OnErr o (rows' ≡ rows)
+same_from_entry rows rows' r list list' (Ok u) sorted found same written = tt
+same_from_entry rows rows' r list list' (Err e) sorted found same written =
+    written
+    ∙ ap (insert_entry rid_cmp rows r) same
+    ∙ sym (set_value-insert_entry rid_cmp-total r list list rows sorted found)
+    ∙ set_value_same (is_at (rid_cmp r)) rows list found

@@ -14,6 +14,7 @@ use gx_ids::{Cid, Lxid, Mem, Rid, Seq, Table};
 use gx_tree::Row;
 use std::alloc::Global;
 use std::collections::BTreeMap;
+use std::collections::btree_map::Entry;
 use std::marker::Model;
 use std::mem;
 
@@ -133,11 +134,10 @@ fn push_version(
     ensures ok { OnOk result (lists.new.entries ≡ added lists.old.entries rid version) }
     ensures err { OnErr result (IsUnchanged lists.old lists.new) }
 {
-    match lists.get_mut(&rid) {
-        Some(list) => list.push(version),
-        None => {
-            let list = first(alloc, version)?;
-            lists.insert(rid, list)?;
+    match lists.entry(rid)? {
+        Entry::Occupied(list) => list.into_mut().push(version),
+        Entry::Vacant(place) => {
+            place.insert(first(alloc, version)?);
             Ok(())
         }
     }

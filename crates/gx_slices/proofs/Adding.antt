@@ -1,5 +1,5 @@
 -- A row is written.
-use Rattle.std.proofs.Common.{◌≡◌, ◌≢◌, ◌≤◌, arith, Bool, true, false, if◌then◌else◌, eqb, ltb, not, ◌&&◌, ◌||◌, List, [], ◌∷◌, ◌++◌, Option, Some, None, map, filter, append-nil, refl, sym, ap, ◌∙◌, subst}
+use Rattle.std.proofs.Common.{◌≡◌, ◌≢◌, ◌≤◌, arith, Bool, true, false, if◌then◌else◌, eqb, ltb, not, ◌&&◌, ◌||◌, List, [], ◌∷◌, ◌++◌, Option, Some, None, map, filter, append-nil, append_assoc, refl, sym, ap, ◌∙◌, subst}
 use Rattle.std.proofs.lemmas.Bool.Decides.{nat_tests}
 use Rattle.std.proofs.lemmas.List.{map-append}
 use Rattle.std.proofs.lemmas.List.Elements.{filter-append}
@@ -328,10 +328,24 @@ module _ (start : Seg) (first held held' : Held) (g : Gxid) (c : Cid) (node : No
   free-written free =
       subst (λ (n : Moved). list_any (is_of g) n.seg.locks.waits ≡ false) (sym (takes_own-with g was marked)) (ap (list_any (is_of g)) (waits-own_locks g was s.locks) ∙ free)
 
-  pub told-written : node ≡ start.node → marks ≡ m.marks → marks' ≡ (writes_row g c table m rid image).marks
-  told-written at told =
-      put.mark
-      ∙ ap (λ (ms : List Mark). ms ++ mark.Write g c node table rid image ∷ [] ++ own_marks node g (phase_of entry.local.phase)) told
-      ∙ ap (λ (n : Node). m.marks ++ mark.Write g c n table rid image ∷ [] ++ own_marks n g (phase_of entry.local.phase)) (at ∙ sym is.node)
+  -- the marks of its own lock
+  abbrev lock_marks : List Mark
+  lock_marks = own_marks node g (phase_of entry.local.phase)
+
+  marks-written : node ≡ start.node → m.marks ++ mark.Write g c node table rid image ∷ [] ++ lock_marks ≡ (writes_row g c table m rid image).marks
+  marks-written at =
+      ap (λ (n : Node). m.marks ++ mark.Write g c n table rid image ∷ [] ++ own_marks n g (phase_of entry.local.phase)) (at ∙ sym is.node)
       ∙ ap (λ (p : Phase). marked.marks ++ own_marks s.node g p) same_phase
       ∙ ap (λ (n : Moved). n.marks) (sym (takes_own-with g was marked))
+
+  pub told-written : node ≡ start.node → marks ≡ m.marks → marks' ≡ (writes_row g c table m rid image).marks
+  told-written at told = put.mark ∙ ap (λ (ms : List Mark). ms ++ mark.Write g c node table rid image ∷ [] ++ lock_marks) told ∙ marks-written at
+
+  -- behind marks before it
+  pub told-behind : (before : List Mark) → node ≡ start.node → marks ≡ before ++ m.marks → marks' ≡ before ++ (writes_row g c table m rid image).marks
+  told-behind before at told =
+      put.mark
+      ∙ ap (λ (ms : List Mark). ms ++ mark.Write g c node table rid image ∷ [] ++ lock_marks) told
+      ∙ ap (λ (ms : List Mark). ms ++ lock_marks) (append_assoc before m.marks (mark.Write g c node table rid image ∷ []))
+      ∙ append_assoc before (m.marks ++ mark.Write g c node table rid image ∷ []) lock_marks
+      ∙ ap (λ (ms : List Mark). before ++ ms) (marks-written at)

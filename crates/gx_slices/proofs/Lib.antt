@@ -1,4 +1,5 @@
 pub mod Adding
+pub mod InsertedRows
 pub mod Closing
 pub mod Counting
 pub mod Gxids

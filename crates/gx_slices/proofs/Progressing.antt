@@ -147,6 +147,7 @@ pub adds-some : (s : Seg) (g : Gxid) (c : Cid) (table : Table) (rows : List Keye
 adds-some s g c table rows None e = absurd (cc)
 adds-some s g c table rows (Some snapshot) e = refl
 
-pub HasProgressed-slice : (tables : List Schema) (held : Held) (g : Gxid) (result : Result Progress OutOfMemory) (s : Seg) (c : Cid) (level : Level) (snapshot : Option Snapshot) (it other : Slice) → it ≡ other
-    → IfOk result (λ progress. HasProgressed tables held g progress (runs_slice s g c level snapshot other)) → IfOk result (λ progress. HasProgressed tables held g progress (runs_slice s g c level snapshot it))
-HasProgressed-slice tables held g result s c level snapshot it other same did = subst (λ (x : Slice). IfOk result (λ progress. HasProgressed tables held g progress (runs_slice s g c level snapshot x))) (sym same) did
+pub HasProgressed-slice : (tables : List Schema) (held : Held) (g : Gxid) (result : Result Progress OutOfMemory) (marks : List Mark) (s : Seg) (c : Cid) (level : Level) (snapshot : Option Snapshot) (it other : Slice) → it ≡ other
+    → IfOk result (λ progress. HasProgressed tables held g progress (after_marks marks (runs_slice s g c level snapshot other))) → IfOk result (λ progress. HasProgressed tables held g progress (after_marks marks (runs_slice s g c level snapshot it)))
+HasProgressed-slice tables held g result marks s c level snapshot it other same did =
+    subst (λ (x : Slice). IfOk result (λ progress. HasProgressed tables held g progress (after_marks marks (runs_slice s g c level snapshot x)))) (sym same) did

@@ -45,8 +45,8 @@ pub record IsPut (g : Gxid) (c : Cid) (node : Node) (table : Table) (rid : Rid) 
   pub kept : entry'.kept ≡ kept_with (record { rid = rid; table = table; image = image }) entry.kept
   pub mark : marks' ≡ marks ++ Write g c node table rid image ∷ [] ++ own_marks node g (phase_of entry.local.phase)
 
--- these rows are in, and the transaction waits for nothing
-pub record IsInserted (start : Seg) (g : Gxid) (c : Cid) (table : Table) (rows : List KeyedRow) (first held : Held) (entry : Entry) (marks : List Mark) : Type 0 where
+-- these rows are in, behind the marks before them, and the transaction waits for nothing
+pub record IsInserted (start : Seg) (g : Gxid) (c : Cid) (table : Table) (rows : List KeyedRow) (first held : Held) (entry : Entry) (before marks : List Mark) : Type 0 where
   pub apart : IsApart start first held entry g (inserted start g c table rows).seg
   pub free : list_any (is_of g) (inserted start g c table rows).seg.locks.waits ≡ false
-  pub told : marks ≡ (inserted start g c table rows).marks
+  pub told : marks ≡ before ++ (inserted start g c table rows).marks

@@ -29,13 +29,12 @@ pub(crate) fn no_rows(alloc: Global) -> Mem<Shared<Part>>
     Shared::new(alloc, Part::Rows(Seq::new(alloc)))
 }
 
-// The entry with its last command and the answer to it.
-fn answered(mut entry: Entry, cid: Cid, reply: Reply) -> Entry
-    ensures { result ≡ answered entry cid reply }
+// A transaction's last command, and the answer to it.
+fn note_answer(entry: &mut Entry, cid: Cid, reply: Reply)
+    ensures { entry.new ≡ answered entry.old cid reply }
 {
     entry.local.last = cid.0;
     drop(entry.local.answer.replace(reply));
-    entry
 }
 
 fn put_back(held: &mut Held, gxid: Gxid, cid: Cid, entry: Entry) -> Mem<()>
@@ -51,13 +50,16 @@ pub(crate) fn keep_answer(
     held: &mut Held,
     gxid: Gxid,
     cid: Cid,
-    entry: Entry,
+    mut entry: Entry,
     reply: &Reply,
 ) -> Mem<()>
     ensures { OnOk result (IsBack held.old held.new gxid cid (answered entry cid reply.now)) }
 {
     match reply.copy(alloc) {
-        Ok(reply) => put_back(held, gxid, cid, answered(entry, cid, reply)),
+        Ok(reply) => {
+            note_answer(&mut entry, cid, reply);
+            put_back(held, gxid, cid, entry)
+        }
         Err(error) => {
             drop(entry);
             Err(error)

@@ -1,10 +1,10 @@
 // An INSERT at a segment.
-ghost use Rattle.std.specs.Prelude.{◌≡◌, ◌≤◌, true, false, length, nat_lt, IfOk};
+ghost use Rattle.std.specs.Prelude.{◌≡◌, ◌≤◌, true, false, length, nat_lt, IfOk, OnOk};
 ghost use Rattle.std.specs.List.{list_any};
 ghost use Rattle.gx_locks.specs.Claims.{is_of};
 ghost use Rattle.gx_node.specs.Right.{IsRightFor};
 ghost use Rattle.gx_rules.specs.Fits.{is_waiting};
-ghost use Rattle.gx_rules.specs.Segments.{Seg, local_of};
+ghost use Rattle.gx_rules.specs.Segments.{Seg, after_marks, local_of};
 ghost use Rattle.gx_rules.specs.Slices.{inserted, inserts};
 ghost use Rattle.gx_tree.specs.declared.slice.Slice.TheVariants as slice;
 ghost use Rattle.gx_slices.specs.Agrees.{IsHeld};
@@ -18,7 +18,7 @@ use crate::changing::{Writer, write_row};
 use crate::entries::take_entry;
 use crate::held::{Entry, Held};
 use crate::running::Ran;
-use gx_ids::{Duplicate, Mem, Seq, Shared};
+use gx_ids::{Duplicate, Mem, Seq};
 use gx_msg::Reply;
 use gx_store::Mark;
 use gx_tree::{KeyedRow, Schema};
@@ -29,25 +29,26 @@ pub(crate) fn insert(
     tables: &[Schema],
     held: &mut Held,
     writer: Writer,
-    rows: Shared<Seq<KeyedRow>>,
+    rows: &[KeyedRow],
+    mut marks: Vec<Mark>,
 ) -> Mem<Ran>
     ghost s: { Seg }
     requires held { IsHeld tables.now held.old s }
     requires alive { s.horizon.0 ≤ writer.gxid.0 }
     requires open_here { is_open (local_of s writer.gxid).phase ≡ true }
     requires free { is_waiting (local_of s writer.gxid) ≡ false }
-    requires right { IsRightFor tables.now writer.gxid writer.cid (slice.Insert writer.table rows) true }
+    requires right { IsRightFor tables.now writer.gxid writer.cid (slice.Insert writer.table rows.now) true }
     requires node { writer.node ≡ s.node }
     requires new { nat_lt 0 writer.cid.0 ≡ true }
-    ensures { IfOk result (λ ran. HasRun tables.now held.new writer.gxid ran (inserts writer.gxid writer.cid (length rows) (inserted s writer.gxid writer.cid writer.table rows))) }
+    ensures { IfOk result (λ ran. HasRun tables.now held.new writer.gxid ran
+        (after_marks marks.items (inserts writer.gxid writer.cid (length rows.now) (inserted s writer.gxid writer.cid writer.table rows.now)))) }
 {
     let Writer { gxid, cid, .. } = writer;
     let part = no_rows(alloc)?;
-    let rows = own_rows(alloc, rows)?;
     let count = rows.len() as u64;
     let mut entry = take_entry(alloc, &mut held.entries, gxid);
-    match insert_rows(alloc, writer, held, &mut entry, rows.into_vec()) {
-        Ok(marks) => {
+    match insert_rows(alloc, writer, held, &mut entry, rows, &mut marks) {
+        Ok(()) => {
             let reply = Reply::Done {
                 cid,
                 wrote: has_written(entry.local.phase),
@@ -68,34 +69,25 @@ pub(crate) fn insert(
     }
 }
 
-// The slice's rows, to be taken apart.
-fn own_rows(alloc: Global, rows: Shared<Seq<KeyedRow>>) -> Mem<Seq<KeyedRow>>
-    ensures { IfOk result (λ own. own ≡ rows) }
-{
-    let own = rows.get().copy(alloc);
-    drop(rows);
-    own
-}
-
-// Adds the rows, in order.
+// Adds the rows, in order, with their marks behind those so far.
 fn insert_rows(
     alloc: Global,
     writer: Writer,
     held: &mut Held,
     entry: &mut Entry,
-    rows: Vec<KeyedRow>,
-) -> Mem<Vec<Mark>>
+    rows: &[KeyedRow],
+    marks: &mut Vec<Mark>,
+) -> Mem<()>
     ghost s: { Seg }
     requires node { writer.node ≡ s.node }
     requires alive { s.horizon.0 ≤ writer.gxid.0 }
     requires apart { IsApart s held.old held.old entry.old writer.gxid s }
     requires free { list_any (is_of writer.gxid) s.locks.waits ≡ false }
-    ensures { IfOk result (λ marks. IsInserted s writer.gxid writer.cid writer.table rows.items held.old held.new entry.new marks.items) }
+    ensures { OnOk result (IsInserted s writer.gxid writer.cid writer.table rows.now held.old held.new entry.new marks.old.items marks.new.items) }
 {
-    let mut marks = Vec::new(alloc);
     for row in rows {
-        let KeyedRow { rid, row } = row;
-        write_row(alloc, writer, held, entry, rid, Some(row), &mut marks)?;
+        let image = row.row.copy(alloc)?;
+        write_row(alloc, writer, held, entry, row.rid, Some(image), marks)?;
     }
-    Ok(marks)
+    Ok(())
 }

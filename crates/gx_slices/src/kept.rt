@@ -1,5 +1,5 @@
-ghost use Rattle.std.specs.Prelude.{◌≡◌, [], IfOk, OnOk};
-ghost use Rattle.gx_slices.specs.Kept.{listed};
+ghost use Rattle.std.specs.Prelude.{◌≡◌, ◌∷◌, [], IfOk, OnOk};
+ghost use Rattle.gx_slices.specs.Kept.{kept_in, kept_rows, listed};
 ghost use Rattle.gx_store.specs.Journals.{kept_with};
 
 use gx_ids::{Duplicate, Mem, Rid, Seq, Table};
@@ -8,6 +8,7 @@ use gx_tree::Row;
 use std::alloc::Global;
 use std::collections::BTreeMap;
 use std::marker::Model;
+use std::mem;
 
 /// The last that a transaction wrote of a row here; an image of `None` is a row that is gone.
 #[derive(Drop)]
@@ -16,22 +17,30 @@ pub struct Last {
     pub image: Option<Row>,
 }
 
+/// Rows by their identities. Most transactions write one here.
+#[derive(Drop)]
+pub(crate) enum Rows {
+    Empty,
+    One(Rid, Last),
+    Many(BTreeMap<Rid, Last>),
+}
+
 /// What a transaction wrote here: the last of each row, by the rows' identities. Contracts see the list that stands in the
 /// items of the journal.
 #[derive(Drop)]
 pub struct KeptRows {
     alloc: Global,
-    rows: BTreeMap<Rid, Last>,
+    rows: Rows,
 }
 
 impl Model for KeptRows {
     ghost use Rattle.std.specs.Prelude.{List};
     ghost use Rattle.gx_msg.specs.declared.item.Kept.{Kept};
-    ghost use Rattle.gx_slices.specs.Kept.{listed};
+    ghost use Rattle.gx_slices.specs.Kept.{kept_rows};
 
     ghost Value = { List Kept };
 
-    ghost view = { λ a. listed a.rows.entries };
+    ghost view = { λ a. kept_rows a.rows };
 }
 
 impl KeptRows {
@@ -41,7 +50,7 @@ impl KeptRows {
     {
         KeptRows {
             alloc,
-            rows: BTreeMap::new(alloc),
+            rows: Rows::Empty,
         }
     }
 
@@ -49,7 +58,7 @@ impl KeptRows {
     pub fn put(&mut self, rid: Rid, table: Table, image: Option<Row>) -> Mem<()>
         ensures { OnOk result (self.new ≡ kept_with (record { rid = rid; table = table; image = image }) self.old) }
     {
-        put_row(&mut self.rows, rid, table, image)
+        put_row(self.alloc, &mut self.rows, rid, Last { table, image })
     }
 
     /// The rows, by their identities.
@@ -60,14 +69,76 @@ impl KeptRows {
     }
 }
 
-fn put_row(rows: &mut BTreeMap<Rid, Last>, rid: Rid, table: Table, image: Option<Row>) -> Mem<()>
-    ensures { OnOk result (listed rows.new.entries ≡ kept_with (record { rid = rid; table = table; image = image }) (listed rows.old.entries)) }
+fn put_row(alloc: Global, rows: &mut Rows, rid: Rid, last: Last) -> Mem<()>
+    ensures { OnOk result (kept_rows rows.new ≡ kept_with (kept_in (rid, last)) (kept_rows rows.old)) }
 {
-    rows.insert(rid, Last { table, image })?;
+    let before = mem::replace(rows, Rows::Empty);
+    *rows = with_row(alloc, before, rid, last)?;
     Ok(())
 }
 
-fn list_rows(alloc: Global, rows: &BTreeMap<Rid, Last>) -> Mem<Seq<Kept>>
+// The rows with one more, or with a later image of one.
+fn with_row(alloc: Global, rows: Rows, rid: Rid, last: Last) -> Mem<Rows>
+    ensures { IfOk result (λ all. kept_rows all ≡ kept_with (kept_in (rid, last)) (kept_rows rows)) }
+{
+    match rows {
+        Rows::Empty => Ok(Rows::One(rid, last)),
+        Rows::One(first, before) => {
+            let rows = both(alloc, first, before, rid, last)?;
+            Ok(Rows::Many(rows))
+        }
+        Rows::Many(mut rows) => {
+            insert_row(&mut rows, rid, last)?;
+            Ok(Rows::Many(rows))
+        }
+    }
+}
+
+fn both(
+    alloc: Global,
+    first: Rid,
+    before: Last,
+    second: Rid,
+    last: Last,
+) -> Mem<BTreeMap<Rid, Last>>
+    ensures { IfOk result (λ rows. listed rows.entries ≡ kept_with (kept_in (second, last)) (kept_in (first, before) ∷ [])) }
+{
+    let mut rows = BTreeMap::new(alloc);
+    insert_row(&mut rows, first, before)?;
+    insert_row(&mut rows, second, last)?;
+    Ok(rows)
+}
+
+fn insert_row(rows: &mut BTreeMap<Rid, Last>, rid: Rid, last: Last) -> Mem<()>
+    ensures { OnOk result (listed rows.new.entries ≡ kept_with (kept_in (rid, last)) (listed rows.old.entries)) }
+{
+    rows.insert(rid, last)?;
+    Ok(())
+}
+
+fn list_rows(alloc: Global, rows: &Rows) -> Mem<Seq<Kept>>
+    ensures { IfOk result (λ kept. kept ≡ kept_rows rows.now) }
+{
+    match rows {
+        Rows::Empty => Ok(Seq::new(alloc)),
+        Rows::One(rid, last) => list_one(alloc, *rid, last),
+        Rows::Many(rows) => list_many(alloc, rows),
+    }
+}
+
+fn list_one(alloc: Global, rid: Rid, last: &Last) -> Mem<Seq<Kept>>
+    ensures { IfOk result (λ kept. kept ≡ kept_in (rid, last.now) ∷ []) }
+{
+    let mut kept = Vec::with_capacity(alloc, 1)?;
+    kept.push(Kept {
+        rid,
+        table: last.table,
+        image: last.image.copy(alloc)?,
+    })?;
+    Ok(Seq::from_vec(kept))
+}
+
+fn list_many(alloc: Global, rows: &BTreeMap<Rid, Last>) -> Mem<Seq<Kept>>
     ensures { IfOk result (λ kept. kept ≡ listed rows.now.entries) }
 {
     let mut kept = Vec::with_capacity(alloc, rows.len())?;

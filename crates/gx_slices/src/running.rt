@@ -3,7 +3,7 @@ ghost use Rattle.std.specs.Option.{ForSome};
 ghost use Rattle.gx_rules.specs.Changes.{change_of, changes_rows, goes_on_at};
 ghost use Rattle.gx_rules.specs.Fits.{is_waiting};
 ghost use Rattle.gx_rules.specs.Running.{goes_on, runs_slice};
-ghost use Rattle.gx_rules.specs.Segments.{local_of};
+ghost use Rattle.gx_rules.specs.Segments.{after_marks, local_of};
 ghost use Rattle.gx_rules.specs.Slices.{adds, locks, reads};
 ghost use Rattle.gx_tree.specs.declared.slice.Slice.TheVariants as slice;
 ghost use Rattle.gx_node.specs.Phases.{suspended_of};
@@ -45,6 +45,7 @@ fn change_by(
     snapshot: Option<Snapshot>,
     set: Option<Shared<Seq<Assign>>>,
     cond: Shared<Option<Cond>>,
+    marks: Vec<Mark>,
 ) -> Mem<Progress>
     ghost found: { Found }
     requires was { held.old ≡ found.was }
@@ -52,7 +53,7 @@ fn change_by(
     requires may { MayRun found.tables found.start writer.gxid writer.cid snapshot (slice_in writer.table set cond) }
     requires node { writer.node ≡ found.start.node }
     ensures { IfOk result (λ progress. HasProgressed found.tables held.new writer.gxid progress
-        (changes_rows found.start writer.gxid (change_of writer.cid level snapshot (slice_in writer.table set cond)))) }
+        (after_marks marks.items (changes_rows found.start writer.gxid (change_of writer.cid level snapshot (slice_in writer.table set cond))))) }
 {
     match snapshot {
         Some(snapshot) => {
@@ -63,7 +64,9 @@ fn change_by(
                 set,
                 cond,
             };
-            change_rows(alloc, held, change)
+            let progress = change_rows(alloc, held, change)?;
+            let all = after(marks, progress)?;
+            Ok(all)
         }
         None => unreachable!(),
     }
@@ -77,6 +80,7 @@ fn delete_by(
     level: Level,
     snapshot: Option<Snapshot>,
     cond: Shared<Option<Cond>>,
+    marks: Vec<Mark>,
 ) -> Mem<Progress>
     ghost found: { Found }
     requires was { held.old ≡ found.was }
@@ -84,9 +88,9 @@ fn delete_by(
     requires may { MayRun found.tables found.start writer.gxid writer.cid snapshot (slice.Delete writer.table cond) }
     requires node { writer.node ≡ found.start.node }
     ensures { IfOk result (λ progress. HasProgressed found.tables held.new writer.gxid progress
-        (changes_rows found.start writer.gxid (change_of writer.cid level snapshot (slice.Delete writer.table cond)))) }
+        (after_marks marks.items (changes_rows found.start writer.gxid (change_of writer.cid level snapshot (slice.Delete writer.table cond))))) }
 {
-    change_by(alloc, held, writer, level, snapshot, None, cond)
+    change_by(alloc, held, writer, level, snapshot, None, cond, marks)
 }
 
 // A query has an answer.
@@ -98,15 +102,17 @@ fn run_select(
     cid: Cid,
     snapshot: Option<Snapshot>,
     query: Shared<Query>,
+    marks: Vec<Mark>,
 ) -> Mem<Progress>
     ghost found: { Found }
     requires tables { tables.now ≡ found.tables }
     requires held { IsHeld found.tables held.old found.start }
     requires may { MayRun found.tables found.start gxid cid snapshot (slice.Select query) }
-    ensures { IfOk result (λ progress. HasProgressed found.tables held.new gxid progress (reads found.start gxid cid query snapshot)) }
+    ensures { IfOk result (λ progress. HasProgressed found.tables held.new gxid progress (after_marks marks.items (reads found.start gxid cid query snapshot))) }
 {
     let ran = select(alloc, tables, held, gxid, cid, &snapshot, query)?;
-    Ok(answered(ran))
+    let all = after(marks, answered(ran))?;
+    Ok(all)
 }
 
 fn run_insert(
@@ -116,16 +122,17 @@ fn run_insert(
     writer: Writer,
     snapshot: Option<Snapshot>,
     rows: Shared<Seq<KeyedRow>>,
+    marks: Vec<Mark>,
 ) -> Mem<Progress>
     ghost found: { Found }
     requires tables { tables.now ≡ found.tables }
     requires held { IsHeld found.tables held.old found.start }
     requires may { MayRun found.tables found.start writer.gxid writer.cid snapshot (slice.Insert writer.table rows) }
     requires node { writer.node ≡ found.start.node }
-    ensures { IfOk result (λ progress. HasProgressed found.tables held.new writer.gxid progress (adds found.start writer.gxid writer.cid writer.table rows snapshot)) }
+    ensures { IfOk result (λ progress. HasProgressed found.tables held.new writer.gxid progress (after_marks marks.items (adds found.start writer.gxid writer.cid writer.table rows snapshot))) }
 {
     drop(snapshot);
-    let ran = insert(alloc, tables, held, writer, rows)?;
+    let ran = insert(alloc, tables, held, writer, rows.get().as_slice(), marks)?;
     Ok(answered(ran))
 }
 
@@ -136,6 +143,7 @@ fn run_lock(
     gxid: Gxid,
     cid: Cid,
     snapshot: Option<Snapshot>,
+    marks: Vec<Mark>,
 ) -> Mem<Progress>
     ghost found: { Found }
     requires tables { tables.now ≡ found.tables }
@@ -144,14 +152,15 @@ fn run_lock(
     requires open_here { is_open (local_of found.start gxid).phase ≡ true }
     requires free { is_waiting (local_of found.start gxid) ≡ false }
     requires new { nat_lt 0 cid.0 ≡ true }
-    ensures { IfOk result (λ progress. HasProgressed found.tables held.new gxid progress (locks found.start gxid cid)) }
+    ensures { IfOk result (λ progress. HasProgressed found.tables held.new gxid progress (after_marks marks.items (locks found.start gxid cid))) }
 {
     drop(snapshot);
     let ran = lock(alloc, tables, held, gxid, cid)?;
-    Ok(answered(ran))
+    let all = after(marks, answered(ran))?;
+    Ok(all)
 }
 
-// Runs a command's slice for a transaction that reads or writes here, and keeps its answer. A SELECT answers the rows that
+// Runs a command's slice for a transaction that reads or writes here, behind the marks so far, and keeps its answer. A SELECT answers the rows that
 // the snapshot shows and on which its condition is true, or FAILED for the first fault; an INSERT adds its rows; an UPDATE or DELETE
 // goes through those that it selects; a LOCK TABLE, of which the lock is held, has nothing more to do.
 fn run_slice(
@@ -161,6 +170,7 @@ fn run_slice(
     held: &mut Held,
     gxid: Gxid,
     command: Suspended,
+    marks: Vec<Mark>,
 ) -> Mem<Progress>
     ghost found: { Found }
     requires tables { tables.now ≡ found.tables }
@@ -168,7 +178,8 @@ fn run_slice(
     requires held { IsHeld found.tables held.old found.start }
     requires may { MayRun found.tables found.start gxid command.cid command.snapshot command.slice }
     requires node { node ≡ found.start.node }
-    ensures { IfOk result (λ progress. HasProgressed found.tables held.new gxid progress (runs_slice found.start gxid command.cid command.level command.snapshot command.slice)) }
+    ensures { IfOk result (λ progress. HasProgressed found.tables held.new gxid progress
+        (after_marks marks.items (runs_slice found.start gxid command.cid command.level command.snapshot command.slice))) }
 {
     let Suspended {
         cid,
@@ -180,7 +191,9 @@ fn run_slice(
     } = command;
     drop(rows);
     match slice {
-        Slice::Select(query) => run_select(alloc, tables, held, gxid, cid, snapshot, query),
+        Slice::Select(query) => {
+            run_select(alloc, tables, held, gxid, cid, snapshot, query, marks)
+        }
         Slice::Insert(table, rows) => {
             let writer = Writer {
                 node,
@@ -188,7 +201,7 @@ fn run_slice(
                 cid,
                 table,
             };
-            run_insert(alloc, tables, held, writer, snapshot, rows)
+            run_insert(alloc, tables, held, writer, snapshot, rows, marks)
         }
         Slice::Update(table, assigns, cond) => {
             let writer = Writer {
@@ -197,7 +210,8 @@ fn run_slice(
                 cid,
                 table,
             };
-            change_by(alloc, held, writer, level, snapshot, Some(assigns), cond)
+            let given = Some(assigns);
+            change_by(alloc, held, writer, level, snapshot, given, cond, marks)
         }
         Slice::Delete(table, cond) => {
             let writer = Writer {
@@ -206,9 +220,9 @@ fn run_slice(
                 cid,
                 table,
             };
-            delete_by(alloc, held, writer, level, snapshot, cond)
+            delete_by(alloc, held, writer, level, snapshot, cond, marks)
         }
-        Slice::Lock(_table, _mode) => run_lock(alloc, tables, held, gxid, cid, snapshot),
+        Slice::Lock(_table, _mode) => run_lock(alloc, tables, held, gxid, cid, snapshot, marks),
     }
 }
 
@@ -322,10 +336,6 @@ pub fn go_on(
     let node = passed.node();
     match command.row {
         Some(row) => go_on_at_row(alloc, node, held, gxid, command, row, marks),
-        None => {
-            let progress = run_slice(alloc, tables, node, held, gxid, command)?;
-            let all = after(marks, progress)?;
-            Ok(all)
-        }
+        None => run_slice(alloc, tables, node, held, gxid, command, marks),
     }
 }

@@ -1,11 +1,11 @@
 -- What the maps by names hold.
-use Rattle.std.proofs.Common.{◌≡◌, ℕ, ◌+◌, ◌≤◌, ◌<◌, nat_eq, nat_lt, nat_le, Bool, true, false, not, cond, if◌then◌else◌, ◌||◌, ◌&&◌, List, [], ◌∷◌, ◌++◌, length, map, position, Option, Some, None, Vec, refl, sym, ◌∙◌, ap, subst, arith}
+use Rattle.std.proofs.Common.{◌≡◌, ℕ, zero, suc, ◌+◌, ◌≤◌, ◌<◌, nat_eq, nat_lt, nat_le, Bool, true, false, not, cond, if◌then◌else◌, ◌||◌, ◌&&◌, List, [], ◌∷◌, ◌++◌, length, map, position, Option, Some, None, Vec, refl, sym, ◌∙◌, ap, subst, arith}
 use Rattle.std.specs.Option.{is_some, unwrap_or}
 use Rattle.std.specs.List.{position_or_len}
 use Rattle.std.specs.Map.{lookup, keys_of}
 use Rattle.std.specs.Cmp.Lexicographic.{pointwise}
 use Rattle.std.specs.declared.alloc.Global.{Global}
-use Rattle.indexmap.specs.IndexMap.{insert_entry}
+use Rattle.indexmap.specs.IndexMap.{insert_entry, set_value_at}
 use Rattle.gx_ids.specs.declared.ids.Table.{Table}
 use Rattle.gx_tree.specs.declared.schema.Schema.{Schema}
 use Rattle.gx_resolve.specs.Resolving.{table_after}
@@ -196,17 +196,46 @@ counts_to n name (e ∷ es) h = at (pointwise nat_eq name e.0.items) (counts_to 
     at true q = h.0
     at false q = q
 
-counts_more : (n m : ℕ) (es : List (Vec ℕ Global × ℕ)) → n ≤ m → AreCounts n es → AreCounts m es
-counts_more n m [] l h = tt
-counts_more n m (e ∷ es) l h = let first = h.0 in (omega arith, counts_more n m es l h.1)
+-- the same of the sessions' names with their counts
+abbrev AreNumbers : ℕ → List (List ℕ × ℕ) → Type 0
+AreNumbers n [] = Unit {0}
+AreNumbers n (s ∷ ss) = (s.1 ≤ n) × AreNumbers n ss
 
-pub counts_insert : (n m v : ℕ) (es : List (Vec ℕ Global × ℕ)) (key : Vec ℕ Global) → AreCounts n es → n ≤ m → v ≤ m → AreCounts m (insert_entry same_key es key v)
-counts_insert n m v [] key h l k = (k, tt)
-counts_insert n m v (e ∷ es) key h l k = at (same_key key e.0) (counts_insert n m v es key h.1 l k)
+numbers_named : (n : ℕ) (es : List (Vec ℕ Global × ℕ)) → AreCounts n es → AreNumbers n (named es)
+numbers_named n [] h = tt
+numbers_named n (e ∷ es) h = (h.0, numbers_named n es h.1)
+
+counts_named : (n : ℕ) (es : List (Vec ℕ Global × ℕ)) → AreNumbers n (named es) → AreCounts n es
+counts_named n [] h = tt
+counts_named n (e ∷ es) h = (h.0, counts_named n es h.1)
+
+numbers_more : (n m : ℕ) (ss : List (List ℕ × ℕ)) → n ≤ m → AreNumbers n ss → AreNumbers m ss
+numbers_more n m [] l h = tt
+numbers_more n m (s ∷ ss) l h = let first = h.0 in (omega arith, numbers_more n m ss l h.1)
+
+numbers_counted : (n m v : ℕ) (name : List ℕ) (ss : List (List ℕ × ℕ)) → AreNumbers n ss → n ≤ m → v ≤ m → AreNumbers m (counted name v ss)
+numbers_counted n m v name [] h l k = (k, tt)
+numbers_counted n m v name (s ∷ ss) h l k = at (pointwise nat_eq name s.0) (numbers_counted n m v name ss h.1 l k)
   where
-    at : (b : Bool) → AreCounts m (insert_entry same_key es key v) → AreCounts m (if b then (e.0, v) ∷ es else e ∷ insert_entry same_key es key v)
-    at true q = (k, counts_more n m es l h.1)
+    at : (b : Bool) → AreNumbers m (counted name v ss) → AreNumbers m (if b then (s.0, v) ∷ ss else s ∷ counted name v ss)
+    at true q = (k, numbers_more n m ss l h.1)
     at false q = let first = h.0 in (omega arith, q)
+
+pub counts_counted : (n m v : ℕ) (name : List ℕ) (es fs : List (Vec ℕ Global × ℕ)) → AreCounts n es → n ≤ m → v ≤ m → named fs ≡ counted name v (named es) → AreCounts m fs
+counts_counted n m v name es fs h l k e = counts_named m fs (subst (λ (ss : List (List ℕ × ℕ)). AreNumbers m ss) (sym e) (numbers_counted n m v name (named es) (numbers_named n es h) l k))
+
+-- the place of a name is that of its count
+pub named_set : (name : List ℕ) (v : ℕ) (es : List (Vec ℕ Global × ℕ)) (i : ℕ) → i ≡ place_of name (named es) → i < length es → named (set_value_at es i v) ≡ counted name v (named es)
+named_set name v [] i q l = absurd (omega (arith, l))
+named_set name v (e ∷ es) i q l = at (pointwise nat_eq name e.0.items) i q l (named_set name v es)
+  where
+    at : (b : Bool) (i : ℕ) → i ≡ (if b then 0 else place_of name (named es) + 1) → i < length (e ∷ es)
+        → ((i : ℕ) → i ≡ place_of name (named es) → i < length es → named (set_value_at es i v) ≡ counted name v (named es))
+        → named (set_value_at (e ∷ es) i v) ≡ (if b then (e.0.items, v) ∷ named es else (e.0.items, e.1) ∷ counted name v (named es))
+    at true zero q l more = refl
+    at true (suc i) q l more = absurd (omega (arith, q))
+    at false zero q l more = absurd (omega (arith, q))
+    at false (suc i) q l more = ap (λ (t : List (List ℕ × ℕ)). (e.0.items, e.1) ∷ t) (more i (omega (arith, q)) (omega (arith, l)))
 
 pub named_insert : (es : List (Vec ℕ Global × ℕ)) (key : Vec ℕ Global) (v : ℕ) → named (insert_entry same_key es key v) ≡ counted key.items v (named es)
 named_insert [] key v = refl
@@ -248,32 +277,36 @@ place_room name ss l h = at (is_session name ss) refl
         let few : length ss < 64 = grind arith in
         omega arith
 
-insert_length : (es : List (Vec ℕ Global × ℕ)) (key : Vec ℕ Global) (v : ℕ) → length (insert_entry same_key es key v) ≡ (if is_session key.items (named es) then length es else length es + 1)
-insert_length [] key v = refl
-insert_length (e ∷ es) key v = at (pointwise nat_eq key.items e.0.items) (insert_length es key v)
+length_counted : (name : List ℕ) (v : ℕ) (ss : List (List ℕ × ℕ)) → length (counted name v ss) ≡ (if is_session name ss then length ss else length ss + 1)
+length_counted name v [] = refl
+length_counted name v (s ∷ ss) = at (pointwise nat_eq name s.0) (is_session name ss) (length_counted name v ss)
   where
-    at : (b : Bool) → length (insert_entry same_key es key v) ≡ (if is_session key.items (named es) then length es else length es + 1)
-        → length (if b then (e.0, v) ∷ es else e ∷ insert_entry same_key es key v) ≡ (if (b || is_session key.items (named es)) then length (e ∷ es) else length (e ∷ es) + 1)
-    at true q = refl
-    at false q = inner (is_session key.items (named es)) q
-      where
-        inner : (c : Bool) → length (insert_entry same_key es key v) ≡ (if c then length es else length es + 1) → length (e ∷ insert_entry same_key es key v) ≡ (if c then length (e ∷ es) else length (e ∷ es) + 1)
-        inner true q = omega arith
-        inner false q = omega arith
+    at : (b c : Bool) → length (counted name v ss) ≡ (if c then length ss else length ss + 1)
+        → length (if b then (s.0, v) ∷ ss else s ∷ counted name v ss) ≡ (if (b || c) then length (s ∷ ss) else length (s ∷ ss) + 1)
+    at true c q = refl
+    at false true q = omega (arith, q)
+    at false false q = omega (arith, q)
 
-pub insert_room : (es : List (Vec ℕ Global × ℕ)) (key : Vec ℕ Global) (v : ℕ) → length es ≤ 64 → HasRoom key.items (named es) → length (insert_entry same_key es key v) ≤ 64
-insert_room es key v l h = at (is_session key.items (named es)) refl
+counted_room : (name : List ℕ) (v : ℕ) (ss : List (List ℕ × ℕ)) → length ss ≤ 64 → HasRoom name ss → length (counted name v ss) ≤ 64
+counted_room name v ss l h = at (is_session name ss) refl
   where
-    at : (b : Bool) → is_session key.items (named es) ≡ b → length (insert_entry same_key es key v) ≤ 64
+    at : (b : Bool) → is_session name ss ≡ b → length (counted name v ss) ≤ 64
     at true e =
-        let len : length (insert_entry same_key es key v) ≡ length es = insert_length es key v ∙ ap (λ (b : Bool). if b then length es else length es + 1) e in
+        let len : length (counted name v ss) ≡ length ss = length_counted name v ss ∙ ap (λ (b : Bool). if b then length ss else length ss + 1) e in
         omega arith
     at false e =
-        let len : length (insert_entry same_key es key v) ≡ length es + 1 = insert_length es key v ∙ ap (λ (b : Bool). if b then length es else length es + 1) e in
-        let same = length_named es in
-        let room : nat_le 64 (length (named es)) ≡ false = grind arith in
-        let few : length (named es) < 64 = grind arith in
+        let len : length (counted name v ss) ≡ length ss + 1 = length_counted name v ss ∙ ap (λ (b : Bool). if b then length ss else length ss + 1) e in
+        let room : nat_le 64 (length ss) ≡ false = grind arith in
+        let few : length ss < 64 = grind arith in
         omega arith
+
+pub few_counted : (name : List ℕ) (v : ℕ) (es fs : List (Vec ℕ Global × ℕ)) → length es ≤ 64 → HasRoom name (named es) → named fs ≡ counted name v (named es) → length fs ≤ 64
+few_counted name v es fs l h e =
+    let was = length_named es in
+    let now = length_named fs in
+    let room = counted_room name v (named es) (omega arith) h in
+    let same = ap length e in
+    omega arith
 
 pub length_schemas : (es : List (Vec ℕ Global × Schema)) → length (schemas es) ≡ length es
 length_schemas [] = refl

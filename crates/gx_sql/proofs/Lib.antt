@@ -9,3 +9,4 @@ pub mod Unique
 pub mod Steps
 pub mod Numbered
 pub mod Language
+mod Feeds

@@ -1,6 +1,7 @@
 // What the lines of a script have said so far.
 ghost use Rattle.std.specs.Prelude.{◌≡◌, ◌++◌, ◌∷◌, [], ◌-◌, IfErr, ◌≤◌, ◌<◌, ◌+◌, ◌^◌, ◌&&◌, not, nat_le, false, length, vec_len, OnOk, IfOk, List, Option, Some, None};
 ghost use Rattle.std.specs.Option.{option_and_then, option_map, ForSome};
+ghost use Rattle.indexmap.specs.IndexMap.{set_value_at};
 ghost use Rattle.gx_resolve.specs.Resolving.{table_after, table_named, table_from, stmt_of};
 ghost use Rattle.gx_sql.specs.Counts.{is_session};
 ghost use Rattle.gx_sql.specs.Held.{named, schemas, progress_of, AreTables, AreCounts, IsHeld, HasRoom, Ends, Gives};
@@ -147,6 +148,49 @@ fn push_table(
     insert_table(alloc, tables, schema)
 }
 
+/// Sets how many lines the session at a place has.
+fn set_count(sessions: &mut IndexMap<Vec<u8>, u32>, place: usize, count: u32)
+    requires { place < length sessions.old.entries }
+    ensures { sessions.new.entries ≡ set_value_at sessions.old.entries place count }
+{
+    sessions[place] = count;
+}
+
+/// Adds a session, or sets how many lines the one of this name has.
+fn insert_count(
+    alloc: Global,
+    sessions: &mut IndexMap<Vec<u8>, u32>,
+    name: &[u8],
+    count: u32,
+) -> Result<(), LineError>
+    ensures never { IfErr result (λ e. e ≡ error.OutOfMemory) }
+    ensures counted { OnOk result (named sessions.new.entries ≡ said.counted name.now count (named sessions.old.entries)) }
+{
+    let key = key_of(alloc, name)?;
+    sessions.insert(key, count)?;
+    Ok(())
+}
+
+/// Notes how many lines the session of this name has, which stands at this place or is new.
+fn note_count(
+    alloc: Global,
+    sessions: &mut IndexMap<Vec<u8>, u32>,
+    name: &[u8],
+    place: usize,
+    count: u32,
+) -> Result<(), LineError>
+    requires { place ≡ said.place_of name.now (named sessions.old.entries) }
+    ensures never { IfErr result (λ e. e ≡ error.OutOfMemory) }
+    ensures counted { OnOk result (named sessions.new.entries ≡ said.counted name.now count (named sessions.old.entries)) }
+{
+    if place < sessions.len() {
+        set_count(sessions, place, count);
+        Ok(())
+    } else {
+        insert_count(alloc, sessions, name, count)
+    }
+}
+
 /// Adds a line of a session.
 fn push_line(
     alloc: Global,
@@ -169,8 +213,7 @@ fn push_line(
     let (place, count) = find_session(sessions, name);
     let session = SessionId(place as u8);
     let number = count + 1;
-    let key = key_of(alloc, name)?;
-    sessions.insert(key, number)?;
+    note_count(alloc, sessions, name, place, number)?;
     lines.push(Line {
         session,
         number,
@@ -219,15 +262,15 @@ impl Progress {
         Ok(())
     }
 
-    fn add_table(&mut self, alloc: Global, table: TableSyn) -> Result<(), LineError>
+    fn add_table(&mut self, alloc: Global, table: &TableSyn) -> Result<(), LineError>
         requires held { IsHeld self.old }
         requires few { length self.old.tables.entries < 64 }
-        requires bounded { length table.columns ≤ 32 }
-        ensures said { Ends result (progress_of self.new) (said.with_table (progress_of self.old) table) }
+        requires bounded { length table.now.columns ≤ 32 }
+        ensures said { Ends result (progress_of self.new) (said.with_table (progress_of self.old) table.now) }
         ensures held { OnOk result (IsHeld self.new) }
         ensures lines { vec_len self.new.lines ≤ vec_len self.old.lines + 1 }
     {
-        push_table(alloc, &mut self.tables, &table)
+        push_table(alloc, &mut self.tables, table)
     }
 
     fn add_line(&mut self, alloc: Global, name: &[u8], stmt: &StmtSyn) -> Result<(), LineError>
@@ -245,19 +288,19 @@ impl Progress {
     }
 
     /// Adds what a line says for which there is room.
-    pub fn add(&mut self, alloc: Global, line: LineSyn) -> Result<(), LineError>
+    pub fn add(&mut self, alloc: Global, line: &LineSyn) -> Result<(), LineError>
         requires held { IsHeld self.old }
-        requires room { HasRoom (length self.old.tables.entries) (named self.old.sessions.entries) line }
+        requires room { HasRoom (length self.old.tables.entries) (named self.old.sessions.entries) line.now }
         requires short { vec_len self.old.lines < 2 ^ 32 - 1 }
-        ensures said { Ends result (progress_of self.new) (said.with_line_syn (progress_of self.old) line) }
+        ensures said { Ends result (progress_of self.new) (said.with_line_syn (progress_of self.old) line.now) }
         ensures held { OnOk result (IsHeld self.new) }
         ensures lines { vec_len self.new.lines ≤ vec_len self.old.lines + 1 }
     {
         match line {
-            LineSyn::Detector(switch) => self.add_detector(switch),
+            LineSyn::Detector(switch) => self.add_detector(*switch),
             LineSyn::Table(table) => self.add_table(alloc, table),
-            LineSyn::Link(link) => self.add_link(link),
-            LineSyn::Session(name, stmt) => self.add_line(alloc, name.as_slice(), &stmt),
+            LineSyn::Link(link) => self.add_link(*link),
+            LineSyn::Session(name, stmt) => self.add_line(alloc, name.as_slice(), stmt),
         }
     }
 }

@@ -13,6 +13,7 @@ use crate::progress::Progress;
 use crate::refusal::{Limit, LineError, LineFault, Refusal};
 use crate::split::{first_line, is_skipped};
 use gx_ids::{Mem, OutOfMemory, Seq};
+use gx_lex::Token;
 use gx_script::Script;
 use gx_tree::{Schema, Txt};
 use indexmap::IndexMap;
@@ -34,12 +35,13 @@ fn refused(number: u32, fault: LineFault) -> Refusal
     }
 }
 
-/// Reads the line of this number.
-fn read_line(
+/// Reads the line of this number. The list is for its tokens.
+fn read_line<'t>(
     alloc: Global,
     progress: &mut Progress,
+    tokens: &mut Vec<Token<'t>>,
     number: u32,
-    line: &[u8],
+    line: &'t [u8],
 ) -> Result<(), Refusal>
     requires held { IsHeld progress.old }
     requires short { vec_len progress.old.lines < 2 ^ 32 - 1 }
@@ -50,7 +52,7 @@ fn read_line(
     if is_skipped(line) {
         return Ok(());
     }
-    match progress.read_line(alloc, line) {
+    match progress.read_line(alloc, tokens, line) {
         Ok(()) => Ok(()),
         Err(LineError::Fault(fault)) => Err(refused(number, fault)),
         Err(LineError::OutOfMemory) => Err(Refusal::OutOfMemory),
@@ -119,12 +121,13 @@ fn read_lines(alloc: Global, bytes: &[u8]) -> Result<Script, Refusal>
     ensures { Answers (of.ReadsOn 1 start (lines_of bytes.now)) result }
 {
     let mut progress = Progress::new(alloc);
+    let mut tokens = Vec::new(alloc);
     let mut rest = bytes;
     for number in 1..LINES + 1 {
         match first_line(rest) {
             None => return ended(alloc, progress, number),
             Some((line, others)) => {
-                match read_line(alloc, &mut progress, number, line) {
+                match read_line(alloc, &mut progress, &mut tokens, number, line) {
                     Ok(()) => rest = others,
                     Err(refusal) => return Err(refusal),
                 }

@@ -5,11 +5,16 @@ ghost use Rattle.gx_sql.specs.Lines as of;
 ghost use Rattle.gx_lex.specs.Lexing as lexing;
 ghost use Rattle.gx_sql.specs.Cutting as cutting;
 
+use memchr::memchr;
+
 fn line_len(bytes: &[u8]) -> usize
     ensures value { result ≡ prefix_len cutting.is_within bytes.now }
     ensures within { result ≤ length bytes.now }
 {
-    bytes.iter().take_while(|byte| **byte != 10).count()
+    match memchr(10, bytes) {
+        Some(len) => len,
+        None => bytes.len(),
+    }
 }
 
 /// The line without a carriage return at its end.

@@ -95,7 +95,7 @@ impl Progress {
         ensures lines { vec_len self.new.lines ≤ vec_len self.old.lines + 1 }
     {
         match read_head_line(alloc, segments, limits(), tokens) {
-            Ok(line) => self.add(alloc, line),
+            Ok(line) => self.add(alloc, &line),
             Err(error) => Err(LineError::from(error)),
         }
     }
@@ -125,7 +125,7 @@ impl Progress {
         ensures lines { vec_len self.new.lines ≤ vec_len self.old.lines + 1 }
     {
         match read_session_line(alloc, limits(), tokens) {
-            Ok(line) => self.add(alloc, line),
+            Ok(line) => self.add(alloc, &line),
             Err(error) => Err(LineError::from(error)),
         }
     }
@@ -173,15 +173,20 @@ impl Progress {
         }
     }
 
-    /// Adds what the bytes of a line say.
-    pub fn read_line(&mut self, alloc: Global, line: &[u8]) -> Result<(), LineError>
+    /// Adds what the bytes of a line say. The list is for its tokens.
+    pub fn read_line<'t>(
+        &mut self,
+        alloc: Global,
+        tokens: &mut Vec<Token<'t>>,
+        line: &'t [u8],
+    ) -> Result<(), LineError>
         requires held { IsHeld self.old }
         requires short { vec_len self.old.lines < 2 ^ 32 - 1 }
         ensures said { Stands (LineSays (progress_of self.old) line.now) result (progress_of self.new) }
         ensures held { OnOk result (IsHeld self.new) }
         ensures lines { vec_len self.new.lines ≤ vec_len self.old.lines + 1 }
     {
-        let tokens = cut_line(alloc, line)?;
+        cut_line(alloc, line, tokens)?;
         self.read_tokens(alloc, tokens.as_slice())
     }
 }

@@ -11,3 +11,4 @@ mod RefusedParts
 mod RefusedHistories
 mod RefusedCommits
 mod RefusedLocks
+mod Kept

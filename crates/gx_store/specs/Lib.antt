@@ -27,3 +27,4 @@ pub mod RefusedWaits
 pub mod RefusedRounds
 pub mod Cancelled
 pub mod Told
+pub mod Kept

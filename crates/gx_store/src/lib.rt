@@ -12,6 +12,7 @@ pub mod refused_histories;
 pub mod refused_rounds;
 pub mod refused_waits;
 pub mod run;
+pub mod steps;
 pub mod told;
 
 pub use answer::{Refused, StmtAnswer};
@@ -20,4 +21,5 @@ pub use event::{Event, drawn};
 pub use mark::Mark;
 pub use node::NodeEvent;
 pub use run::{Run, Step};
+pub use steps::{StepView, Steps};
 pub use told::{Report, told_of};

@@ -2,6 +2,7 @@ ghost use Rattle.std.specs.Prelude.{◌≡◌, []};
 
 use crate::event::Event;
 use crate::mark::Mark;
+use crate::steps::Steps;
 use gx_ids::{Seq, Stamp};
 use std::alloc::Global;
 
@@ -16,7 +17,7 @@ pub struct Step {
 /// What was done, step by step.
 #[derive(Drop)]
 pub struct Run {
-    pub steps: Seq<Step>,
+    pub steps: Steps,
 }
 
 impl Run {
@@ -25,7 +26,7 @@ impl Run {
         ensures { result ≡ record { steps = [] } }
     {
         Run {
-            steps: Seq::new(alloc),
+            steps: Steps::new(alloc),
         }
     }
 }

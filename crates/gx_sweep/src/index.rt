@@ -11,6 +11,7 @@ use gx_ids::{Duplicate, Mem, Rid, Table};
 use gx_tree::Value;
 use std::alloc::Global;
 use std::collections::HashMap;
+use std::collections::hash_map::Entry;
 
 /// Which rows were put under a value of a table's distribution column. It only grows.
 #[derive(Drop)]
@@ -50,10 +51,10 @@ impl KeyIndex {
         ensures elsewhere { (q : TableKey) → q ≢ at → rids_under self.new q ≡ rids_under self.old q }
         ensures err { OnErr result (rids_under self.new at ≡ rids_under self.old at) }
     {
-        match self.places.get_mut(&at) {
-            Some(rids) => add_rid(self.alloc, rids, rid),
-            None => {
-                self.places.insert(at, Rids::One(rid))?;
+        match self.places.entry(at)? {
+            Entry::Occupied(rids) => add_rid(self.alloc, rids.into_mut(), rid),
+            Entry::Vacant(place) => {
+                place.insert(Rids::One(rid));
                 Ok(())
             }
         }

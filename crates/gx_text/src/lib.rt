@@ -4,5 +4,5 @@
 mod numbers;
 mod quoted;
 
-pub use numbers::{push_bytes, push_count, push_integer};
+pub use numbers::{push_byte, push_bytes, push_count, push_integer};
 pub use quoted::push_quoted;

@@ -1,8 +1,16 @@
-ghost use Rattle.std.specs.Prelude.{◌≡◌, ◌++◌, OnOk};
+ghost use Rattle.std.specs.Prelude.{◌≡◌, ◌++◌, ◌∷◌, [], OnOk};
 ghost use Rattle.std.specs.Fmt.{decimal, signed_decimal};
 
 use gx_ids::Mem;
-use itoa::Buffer;
+use itoa::{Buffer, Integer};
+
+/// Adds one byte.
+pub fn push_byte(text: &mut Vec<u8>, byte: u8) -> Mem<()>
+    ensures { OnOk result (text.new.items ≡ text.old.items ++ byte ∷ []) }
+{
+    text.push(byte)?;
+    Ok(())
+}
 
 /// Adds bytes as they are.
 pub fn push_bytes(text: &mut Vec<u8>, bytes: &[u8]) -> Mem<()>
@@ -12,18 +20,30 @@ pub fn push_bytes(text: &mut Vec<u8>, bytes: &[u8]) -> Mem<()>
     Ok(())
 }
 
+// Adds a number as it is printed.
+fn push_printed<I: Integer>(text: &mut Vec<u8>, number: I) -> Mem<()>
+    ensures { OnOk result (text.new.items ≡ text.old.items ++ I.text number) }
+{
+    let mut digits = Buffer::new();
+    push_bytes(text, digits.format(number).as_bytes())
+}
+
 /// Adds the decimal digits of a count.
 pub fn push_count(text: &mut Vec<u8>, number: u128) -> Mem<()>
     ensures { OnOk result (text.new.items ≡ text.old.items ++ decimal number) }
 {
-    let mut digits = Buffer::new();
-    push_bytes(text, digits.format(number).as_bytes())
+    match u64::try_from(number) {
+        Ok(number) => push_printed(text, number),
+        Err(_) => push_printed(text, number),
+    }
 }
 
 /// Adds the decimal digits of a whole number, behind its sign where it is negative.
 pub fn push_integer(text: &mut Vec<u8>, number: i128) -> Mem<()>
     ensures { OnOk result (text.new.items ≡ text.old.items ++ signed_decimal number) }
 {
-    let mut digits = Buffer::new();
-    push_bytes(text, digits.format(number).as_bytes())
+    match u64::try_from(number) {
+        Ok(number) => push_printed(text, number),
+        Err(_) => push_printed(text, number),
+    }
 }

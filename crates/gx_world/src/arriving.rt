@@ -49,7 +49,7 @@ fn arrived(network: &Network, from: Node, to: Node, number: u64) -> Mem<Option<E
     requires stands { Stands network.now.script.value w network.now }
     ensures { IfOk result (λ envelope. envelope ≡ found from to number w.sent) }
 {
-    let steps = network.run.steps.as_slice();
+    let steps = &network.run.steps;
     let envelope = network
         .letters
         .letter(network.alloc, steps, from, to, number)?;

@@ -5,7 +5,7 @@ ghost use Rattle.gx_world.specs.Links.{IsAddressed, IsLong, letter_at, link_in, 
 
 use gx_ids::{Duplicate, Mem, Node, Seq};
 use gx_msg::{Envelope, Message};
-use gx_store::{Mark, Step};
+use gx_store::{Mark, StepView, Steps};
 use std::alloc::Global;
 
 /// Where a message's sending stands in a run: the step, and the mark in it, from 0.
@@ -53,7 +53,7 @@ impl Letters {
     pub fn letter(
         &self,
         alloc: Global,
-        steps: &[Step],
+        steps: &Steps,
         from: Node,
         to: Node,
         number: u64,
@@ -69,7 +69,7 @@ impl Letters {
     /// The message of a number on a link, from 1, as it stands in the run; none where there is no such message.
     pub fn message<'a>(
         &self,
-        steps: &'a [Step],
+        steps: &'a Steps,
         from: Node,
         to: Node,
         number: u64,
@@ -161,20 +161,20 @@ fn place_in(places: &[Place], number: u64) -> Option<Place>
 }
 
 // The message that stands at a place.
-fn envelope_at(alloc: Global, steps: &[Step], place: Place, number: u64) -> Mem<Option<Envelope>>
+fn envelope_at(alloc: Global, steps: &Steps, place: Place, number: u64) -> Mem<Option<Envelope>>
     ensures { IfOk result (λ letter. letter ≡ stands_at steps.now number (Some place)) }
 {
     match steps.get(place.step) {
-        Some(step) => envelope_of(alloc, step, place.mark, number),
+        Some(step) => envelope_of(alloc, &step, place.mark, number),
         None => Ok(None),
     }
 }
 
 // A message where it stands.
-fn message_at(steps: &[Step], place: Place) -> Option<&Message>
+fn message_at(steps: &Steps, place: Place) -> Option<&Message>
     ensures { (number : ℕ) → option_copied result ≡ option_map (λ letter. letter.message) (stands_at steps.now number (Some place)) }
 {
-    match steps.get(place.step)?.marks.as_slice().get(place.mark) {
+    match steps.get(place.step)?.marks().get(place.mark) {
         Some(
             Mark::Sent {
                 to: _,
@@ -186,10 +186,15 @@ fn message_at(steps: &[Step], place: Place) -> Option<&Message>
     }
 }
 
-fn envelope_of(alloc: Global, step: &Step, mark: usize, number: u64) -> Mem<Option<Envelope>>
+fn envelope_of(
+    alloc: Global,
+    step: &StepView<'_>,
+    mark: usize,
+    number: u64,
+) -> Mem<Option<Envelope>>
     ensures { IfOk result (λ letter. letter ≡ sent_in_step number mark (Some step.now)) }
 {
-    match step.marks.as_slice().get(mark) {
+    match step.marks().get(mark) {
         Some(
             Mark::Sent {
                 to: _,
@@ -198,7 +203,7 @@ fn envelope_of(alloc: Global, step: &Step, mark: usize, number: u64) -> Mem<Opti
             },
         ) => Ok(Some(Envelope {
             number,
-            clock: step.stamp.clock,
+            clock: step.stamp().clock,
             message: message.copy(alloc)?,
         })),
         _ => Ok(None),

@@ -26,7 +26,7 @@ pub(crate) fn message(network: &Network, from: Node, to: Node, number: u64) -> O
     requires is { IsNetwork network.now }
     ensures { network.now.spent ≡ false → option_copied result ≡ sent_message from to number network.now.run.steps }
 {
-    let steps = network.run.steps.as_slice();
+    let steps = &network.run.steps;
     network.letters.message(steps, from, to, number)
 }
 

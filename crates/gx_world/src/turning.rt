@@ -10,16 +10,20 @@ ghost use Rattle.gx_rules.specs.Sending.{heard_in};
 ghost use Rattle.gx_store.specs.Journals.{is_same_node};
 ghost use Rattle.gx_store.specs.Refusals.{the_coordinator};
 ghost use Rattle.gx_rules.specs.Segments.{Seg};
+ghost use Rattle.gx_coord.specs.Steps.{HasStepped, IsCoord};
+ghost use Rattle.gx_rules.specs.Coordinators.{Coord as RuleCoord};
 ghost use Rattle.gx_segment.specs.Steps.{IsSegment};
 ghost use Rattle.gx_segment.specs.declared.segment.Segment.{Segment as OneSegment};
 ghost use Rattle.gx_world.specs.Turns.{HasSteppedAt, IsNext};
 ghost use Rattle.gx_world.specs.Networks.{HasRoom, HasTurned, Stands};
 
 use crate::network::Network;
+use gx_coord::Coord;
 use gx_ids::{Mem, Node, Seq, Stamp};
 use gx_outside::{Gate, Journal};
 use gx_segment::Segment;
-use gx_store::{Event, Mark, NodeEvent, Step};
+use gx_store::{Event, Mark, NodeEvent, Step, Steps};
+use std::alloc::Global;
 
 // The coordinator does an event.
 pub(crate) fn coord_turn<J: Journal>(
@@ -39,9 +43,40 @@ pub(crate) fn coord_turn<J: Journal>(
     ensures script { network.new.script ≡ network.old.script }
     ensures err { OnErr result (network.new.run ≡ network.old.run) }
 {
-    let marks = network.coord.step(there, journal)?;
+    let marks = coord_step(
+        network.alloc,
+        &mut network.coord,
+        &mut network.run.steps,
+        there,
+        journal,
+    )?;
     let step = step_of(network.coord.clock, Node(0), event, marks);
     push_step(network, step)
+}
+
+// The coordinator's step, with the list that the run has for its marks.
+fn coord_step<J: Journal>(
+    alloc: Global,
+    coord: &mut Coord,
+    steps: &mut Steps,
+    there: NodeEvent,
+    journal: &mut J,
+) -> Mem<Seq<Mark>>
+    ghost c: { RuleCoord }
+    requires usable { coord.old.spent ≡ false }
+    requires is { IsCoord coord.old c }
+    requires admitted { coord_can coord.old.script.value c there ≡ true }
+    requires clock { coord.old.clock < 2 ^ 62 }
+    requires heard { heard_in there < 2 ^ 62 }
+    requires numbers { All (λ sent. sent < 2 ^ 62) coord.old.sent.items }
+    requires drawn { coord.old.dtx.next.0 < 2 ^ 62 }
+    requires rounds { coord.old.detector.begun < 2 ^ 62 }
+    ensures stepped { IfOk result (HasStepped coord.old coord.new c there (J.shelf journal.old) (J.shelf journal.new)) }
+    ensures later { IsLater (J.shelf journal.old) (J.shelf journal.new) }
+    ensures steps { steps.new ≡ steps.old }
+{
+    let blank = steps.blank(alloc);
+    coord.step(there, journal, blank)
 }
 
 // A segment does an event.
@@ -102,7 +137,7 @@ fn step_of(clock: u64, node: Node, event: Event, marks: Seq<Mark>) -> Step
     Step {
         stamp: Stamp { clock, node },
         event,
-        marks: fitted(marks),
+        marks,
     }
 }
 
@@ -122,14 +157,10 @@ fn push_step(network: &mut Network, step: Step) -> Mem<()>
     network
         .letters
         .note(step.stamp.node, place, step.marks.as_slice())?;
-    network.run.steps.push(step)
-}
-
-// The marks without spare room, since a run keeps them.
-fn fitted(marks: Seq<Mark>) -> Seq<Mark>
-    ensures { result ≡ marks }
-{
-    let mut items = marks.into_vec();
-    items.shrink_to_fit();
-    Seq::from_vec(items)
+    let Step {
+        stamp,
+        event,
+        marks,
+    } = step;
+    network.run.steps.push(stamp, event, marks.into_vec())
 }

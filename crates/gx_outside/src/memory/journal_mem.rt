@@ -1,4 +1,4 @@
-ghost use Rattle.std.specs.Prelude.{◌≡◌, ◌++◌, ◌∷◌, [], ◌↔◌, IfOk, OnOk, OnErr, IsErrOf};
+ghost use Rattle.std.specs.Prelude.{◌≡◌, [], ◌↔◌, IfOk, IsErrOf};
 ghost use Rattle.gx_outside.specs.Memory.{IsFailingNext, IsAppendCounted, shelf_of};
 ghost use Rattle.gx_outside.specs.Shelves.{IsAppended};
 
@@ -49,8 +49,8 @@ impl JournalMem {
 impl Journal for JournalMem {
     ghost shelf = { λ j. shelf_of j };
 
-    fn append(&mut self, item: &[u8]) -> Result<(), AppendFault>
-        ensures appended { IsAppended (shelf_of self.old) (shelf_of self.new) item.now result }
+    fn append(&mut self, item: Vec<u8>) -> Result<(), AppendFault>
+        ensures appended { IsAppended (shelf_of self.old) (shelf_of self.new) item.items result }
         ensures fails { IsErrOf result AppendFault.Failed ↔ IsFailingNext self.old.calls self.old.fail }
         ensures counted { IsAppendCounted self.old.calls self.new.calls self.old.faults self.new.faults result }
         ensures same { self.new.fail ≡ self.old.fail }
@@ -58,10 +58,11 @@ impl Journal for JournalMem {
         let is_failing = is_failing_next(self.calls, self.fail.as_slice());
         self.calls = self.calls.saturating_add(1);
         if is_failing {
+            drop(item);
             self.faults = self.faults.saturating_add(1);
             return Err(AppendFault::Failed);
         }
-        match keep(&mut self.items, item) {
+        match self.items.push(Seq::from_vec(item)) {
             Ok(()) => Ok(()),
             Err(_) => Err(AppendFault::OutOfMemory),
         }
@@ -70,14 +71,4 @@ impl Journal for JournalMem {
     fn faults(&self) -> u64 {
         self.faults
     }
-}
-
-// Adds a copy of an item.
-fn keep(items: &mut Vec<Seq<u8>>, item: &[u8]) -> Mem<()>
-    ensures ok { OnOk result (items.new.items ≡ items.old.items ++ item.now ∷ []) }
-    ensures err { OnErr result (items.new.items ≡ items.old.items) }
-{
-    let copy = Vec::from_slice(*items.allocator(), item)?;
-    items.push(Seq::from_vec(copy))?;
-    Ok(())
 }

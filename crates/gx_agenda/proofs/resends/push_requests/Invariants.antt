@@ -1,4 +1,4 @@
-use Rattle.std.proofs.Common.{◌≡◌, ◌++◌, map}
+use Rattle.std.proofs.Common.{◌≡◌, ◌++◌, drop, map}
 use Rattle.std.specs.List.{filter}
 use Rattle.gx_agenda.specs.declared.expected.Expected.{Expected}
 use Rattle.gx_agenda.specs.declared.request.Request.{Request}
@@ -7,5 +7,5 @@ use Rattle.gx_agenda.proofs.resends.push_requests.Given as goal
 
 abbrev pub invariant-loop-request : goal.invariant-loop-request
 invariant-loop-request l =
-    l.events.items ++ map (λ (e : Request × Expected). resend_of e.0) l.request-iterator
-    ≡ l.initial.events.items ++ map (λ (e : Request × Expected). resend_of e.0) (filter (λ (e : Request × Expected). is_of l.fn.segment e.0) l.pending.entries)
+    l.events.items ++ map (λ (e : Request × Expected). resend_of e.0) (filter (λ (e : Request × Expected). is_of l.segment e.0) (drop l.request-index l.pending))
+    ≡ l.initial.events.items ++ map (λ (e : Request × Expected). resend_of e.0) (filter (λ (e : Request × Expected). is_of l.segment e.0) l.pending)

@@ -38,7 +38,7 @@ returns-clause-gone g c =
     let e = c.in_ok-turned.ensures in
     let same = sym c.requires.same in
     let is =
-    step-is old c.take_event.new.coord c.send_and_cancel.new.coord c.args.script.now c.args.event fails c.clock_after-clock.result _ _ _ _ _ same c.new-marks.ensures.items c.clock_after-clock.ensures e.turn e.outs e.victims c.in_ok-all.ensures.turn in
+    step-is old c.take_event.new.coord c.send_and_cancel.new.coord c.args.script.now c.args.event fails c.clock_after-clock.result _ _ _ _ _ same c.requires.blank c.clock_after-clock.ensures e.turn e.outs e.victims c.in_ok-all.ensures.turn in
     record {
       fails = fails;
       small = c.take_event.ensures.small;

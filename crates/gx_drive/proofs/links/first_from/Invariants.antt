@@ -1,12 +1,6 @@
-use Rattle.std.proofs.Common.{◌≡◌, ◌+◌, ◌-◌}
-use Rattle.std.specs.List.{flat_map}
-use Rattle.gx_ids.specs.declared.ids.Node.{Node}
-use Rattle.gx_meaning.specs.Plan.{nodes_from}
-use Rattle.gx_store.specs.Refusals.{the_coordinator}
-use Rattle.gx_store.specs.Schedule.{first_of, left_on, segments_of}
+use Rattle.std.proofs.Common.{◌≡◌}
+use Rattle.gx_agenda.specs.Quiet.{AreQuiet}
 use Rattle.gx_drive.proofs.links.first_from.Given as goal
 
 abbrev pub invariant-loop-number : goal.invariant-loop-number
-invariant-loop-number l =
-    first_of (flat_map (λ (segment : Node). first_of (left_on l.world.script l.world.run.steps segment the_coordinator)) (nodes_from l.number (l.world.script.segments + 1 - l.number)))
-    ≡ first_of (flat_map (λ (segment : Node). first_of (left_on l.world.script l.world.run.steps segment the_coordinator)) (segments_of l.world.script))
+invariant-loop-number l = AreQuiet l.world.script l.world.run.steps l.quiet × (l.quiet.from ≡ l.number)

@@ -1,9 +1,8 @@
-use Rattle.std.proofs.Common.{◌∙◌, sym}
-use Rattle.gx_drive.proofs.Firsts.{first-twice, none-first, some-first}
+use Rattle.gx_drive.proofs.Quieter.{delivered-first, resuming-first}
 use Rattle.gx_drive.proofs.moves.first_move.Goals as goal
 
 pub returns-in-Some-clause-first : goal.returns-in-Some-clause-first
-returns-in-Some-clause-first c = some-first _ _ _ c.in-Some.ensures.first
+returns-in-Some-clause-first c = delivered-first c.args.world.now.script c.args.world.now.run.steps c.in-Some.event c.in-Some.ensures.first
 
 pub returns-in-None-clause-first : goal.returns-in-None-clause-first
-returns-in-None-clause-first c = none-first _ _ _ c.in-None.ensures.first (c.resumption.ensures.first ∙ sym (first-twice _))
+returns-in-None-clause-first c = resuming-first c.args.world.now.script c.args.world.now.run.steps _ c.in-None.ensures.first c.first_there.ensures.first

@@ -1,8 +1,6 @@
-use Rattle.gx_drive.proofs.Firsts.{none-first, some-first}
+use Rattle.std.proofs.Common.{◌∙◌}
+use Rattle.gx_drive.proofs.Quieter.{nobody-resumes}
 use Rattle.gx_drive.proofs.moves.first_there.Goals as goal
 
-pub returns-in-Some-clause-first : goal.returns-in-Some-clause-first
-returns-in-Some-clause-first c = some-first _ _ _ c.in-Some.ensures.first
-
-pub returns-in-None-clause-first : goal.returns-in-None-clause-first
-returns-in-None-clause-first c = none-first _ _ _ c.in-None.ensures.first c.first_segment_move.ensures.first
+pub returns-else-waiting-clause-first : goal.returns-else-waiting-clause-first
+returns-else-waiting-clause-first c = c.first_to.ensures.first ∙ nobody-resumes c.args.world.now.script c.args.world.now.run.steps (c.requires.waiting c.if-waiting.false)

@@ -1,6 +1,10 @@
 use Rattle.std.proofs.Common.{ap, ◌∙◌, length, ◌-◌, subst, sym}
 use Rattle.std.specs.Prelude.{slice_get}
+use Rattle.gx_ids.specs.declared.stamp.Stamp.{Stamp}
+use Rattle.gx_agenda.specs.Awaited.{told_in}
 use Rattle.gx_agenda.specs.Queued.{AreCounted}
+use Rattle.gx_store.specs.Journals.{is_same_node}
+use Rattle.gx_store.specs.Refusals.{the_coordinator}
 use Rattle.gx_store.specs.declared.run.Run.{Run}
 use Rattle.gx_drive.specs.Agrees.{IsAgreed}
 use Rattle.gx_drive.proofs.Answers.{on_ok}
@@ -13,8 +17,8 @@ returns-in-Some c =
     (λ noted steps step same agreed due admitted reached.
     let script = c.args.world.now.script in
     let some = c.requires.language.some_segments in
-    let is = last-is c.args.world.now.run.steps steps step c.in-Some.step.now same (c.in-Some.ensures.value ∙ ap (λ ss. slice_get ss (length ss - 1)) (c.as_slice.ensures ∙ ap (λ (r : Run). r.steps) c.run.ensures.value)) in
-    let whole = last-all script some c.args.world.now.run.steps steps step c.in-Some.step.now same is in
+    let is = last-is c.args.world.now.run.steps steps step c.in-Some.step same (sym c.in-Some.is ∙ c.last.ensures ∙ ap (λ (r : Run). slice_get r.steps (length r.steps - 1)) c.run.ensures.value) in
+    let whole = last-all script some c.args.world.now.run.steps steps step c.in-Some.step same is in
     subst (λ ss. IsAgreed script ss c.note.new.self) whole
-    (noted script steps agreed (last-due script some c.args.world.now.run.steps steps step c.in-Some.step.now same is due) (subst AreCounted (sym whole) (counted script some c.args.world.now.run.steps c.requires.reached c.requires.room))
-    (c.told.ensures ∙ last-told script some c.args.world.now.run.steps steps step c.in-Some.step.now same is reached admitted)))
+    (noted script steps agreed (last-due script some c.args.world.now.run.steps steps step c.in-Some.step same is due) (subst AreCounted (sym whole) (counted script some c.args.world.now.run.steps c.requires.reached c.requires.room))
+    (λ here. c.told.ensures (ap (λ (s : Stamp). is_same_node s.node the_coordinator) c.stamp.ensures ∙ here) ∙ ap (told_in c.args.world.now.run.steps) c.event.ensures ∙ last-told script some c.args.world.now.run.steps steps step c.in-Some.step same is reached admitted)))

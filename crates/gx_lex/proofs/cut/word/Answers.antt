@@ -13,5 +13,5 @@ returns-clause-said c out =
     let back : c.split_at.result.1.now ≡ drop (prefix_len is_word_byte line) line = c.split_at.ensures.back ∙ ap (λ (n : ℕ). drop n line) c.word_len.ensures.value in
     word_read line out
     ∙ ap (λ (w : List ℕ). lex_on (drop (prefix_len is_word_byte line) line) (out ++ word_token (smalls w) (list_any is_capital w) ∷ []) Gap) (sym front)
-    ∙ ap (λ (t : Token). lex_on (drop (prefix_len is_word_byte line) line) (out ++ t ∷ []) Gap) (sym c.in_ok-word_token.ensures)
-    ∙ ap (λ (rest : List ℕ). lex_on rest (out ++ c.in_ok-word_token.field-0 ∷ []) Gap) (sym back)
+    ∙ ap (λ (t : Token). lex_on (drop (prefix_len is_word_byte line) line) (out ++ t ∷ []) Gap) (sym c.word_token.ensures)
+    ∙ ap (λ (rest : List ℕ). lex_on rest (out ++ c.word_token.result ∷ []) Gap) (sym back)

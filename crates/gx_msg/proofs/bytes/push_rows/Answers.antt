@@ -10,5 +10,5 @@ loop-kept-preserved c =
     let before = take c.loop-kept.kept-index c.args.rows.now in
     c.in_ok-push_kept.ensures
     ∙ ap (λ t. t ++ line_of_kept kept) c.loop-kept.invariant
-    ∙ flat_map_more line_of_kept c.push_bytes-2.new.text.items before kept
-    ∙ ap (λ l. c.push_bytes-2.new.text.items ++ flat_map line_of_kept l) (ap (λ k. before ++ k ∷ []) c.kept-item.is ∙ sym (take_more c.args.rows.now c.loop-kept.kept-index kept c.loop-kept-test.true))
+    ∙ flat_map_more line_of_kept c.push_byte-2.new.text.items before kept
+    ∙ ap (λ l. c.push_byte-2.new.text.items ++ flat_map line_of_kept l) (ap (λ k. before ++ k ∷ []) c.kept-item.is ∙ sym (take_more c.args.rows.now c.loop-kept.kept-index kept c.loop-kept-test.true))

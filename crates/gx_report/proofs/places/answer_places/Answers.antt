@@ -5,4 +5,4 @@ use Rattle.gx_report.proofs.places.answer_places.Goals as goal
 -- src/places.rt:21:5
 pub loop-step-preserved : goal.loop-step-preserved
 loop-step-preserved c =
-    places-next c.args.sessions c.args.steps.now c.loop-step.step c.index-steps-step.result _ _ (search rules) c.index-steps-step.is c.loop-step.invariant (search rules)
+    places-next c.args.sessions c.args.steps.now c.loop-step.step c.at.result _ _ (search rules) (c.at.ensures _) c.loop-step.invariant (search rules)

@@ -11,5 +11,5 @@ loop-cell-preserved c =
     added : c.push_cell-in-loop-cell.new.text.items ≡ c.loop-cell.text.items ++ behind_bar c.cell-item.result
     added =
         c.in_ok-push_cell-2.ensures
-        ∙ ap (λ t. t ++ cell_text c.cell-item.result) c.in_ok-push_bytes.ensures
+        ∙ ap (λ t. t ++ cell_text c.cell-item.result) c.in_ok-push_byte.ensures
         ∙ append_assoc c.loop-cell.text.items (codes "|") (cell_text c.cell-item.result)

@@ -12,5 +12,5 @@ loop-value-preserved c =
     added : c.push_value-in-loop-value.new.text.items ≡ c.loop-value.text.items ++ behind_bar (cell_of c.value-item.result)
     added =
         c.in_ok-push_value-2.ensures
-        ∙ ap (λ t. t ++ cell_text (cell_of c.value-item.result)) c.in_ok-push_bytes.ensures
+        ∙ ap (λ t. t ++ cell_text (cell_of c.value-item.result)) c.in_ok-push_byte.ensures
         ∙ append_assoc c.loop-value.text.items (codes "|") (cell_text (cell_of c.value-item.result))

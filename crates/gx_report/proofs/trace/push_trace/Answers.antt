@@ -3,6 +3,6 @@ use Rattle.gx_report.specs.TraceText.{step_lines}
 use Rattle.gx_report.proofs.Adding.{added-next}
 use Rattle.gx_report.proofs.trace.push_trace.Goals as goal
 
-pub loop-step-preserved : goal.loop-step-preserved
-loop-step-preserved c =
-    added-next (step_lines c.args.script.now) c.args.run.now.steps c.loop-step.step-index c.step-item.result _ _ _ (search rules) (search rules) c.loop-step.invariant c.in_ok-push_step.ensures
+pub loop-place-preserved : goal.loop-place-preserved
+loop-place-preserved c =
+    added-next (step_lines c.args.script.now) c.args.run.now.steps c.loop-place.place c.at.result _ _ _ (search rules) (c.at.ensures _) c.loop-place.invariant c.in_ok-push_step.ensures

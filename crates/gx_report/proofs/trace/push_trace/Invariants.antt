@@ -3,5 +3,5 @@ use Rattle.std.specs.List.{flat_map}
 use Rattle.gx_report.specs.TraceText.{step_lines}
 use Rattle.gx_report.proofs.trace.push_trace.Given as goal
 
-abbrev pub invariant-loop-step : goal.invariant-loop-step
-invariant-loop-step l = l.text.items ≡ l.initial.text.items ++ flat_map (step_lines l.script) (take l.step-index l.run.steps)
+abbrev pub invariant-loop-place : goal.invariant-loop-place
+invariant-loop-place l = l.text.items ≡ l.initial.text.items ++ flat_map (step_lines l.script) (take l.place l.run.steps)

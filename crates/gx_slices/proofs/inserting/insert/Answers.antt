@@ -1,12 +1,10 @@
-use Rattle.std.proofs.Common.{◌∙◌, ℕ, Bool, List, [], length, refl, subst, ap}
+use Rattle.std.proofs.Common.{◌∙◌, ◌++◌, Bool, [], length, refl, ap}
 use Rattle.gx_tree.specs.declared.part.Part.{Part}
 use Rattle.gx_tree.specs.declared.part.Part.TheVariants.{Rows}
-use Rattle.gx_tree.specs.declared.row.KeyedRow.{KeyedRow}
 use Rattle.gx_msg.specs.declared.reply.Reply.{Reply}
 use Rattle.gx_msg.specs.declared.reply.Reply.TheVariants.{Done}
 use Rattle.gx_rules.specs.Segments.{Local, local_of}
 use Rattle.gx_rules.specs.Slices.{has_written, inserted}
-use Rattle.gx_slices.specs.Inserts.{IsInserted}
 use Rattle.gx_slices.specs.declared.held.Held.{Held}
 use Rattle.gx_slices.specs.declared.running.Ran.{Ran}
 use Rattle.gx_slices.proofs.Closing.{IsApart-taken, IsHeld-answered, no-wait}
@@ -33,7 +31,8 @@ returns-in_ok-keep_answer-in-Ok g c =
     let gxid = c.args.writer.gxid in
     let cid = c.args.writer.cid in
     let table = c.args.writer.table in
-    let rows = c.args.rows in
+    let rows = c.args.rows.now in
+    let before = c.args.marks.items in
     let is = c.requires.0 in
     let alive = c.requires.1.0 in
     let free = c.requires.1.1.1.0 in
@@ -43,14 +42,13 @@ returns-in_ok-keep_answer-in-Ok g c =
     let entry = c.insert_rows.new.entry in
     let new = c.keep_answer.new.held in
     let m = inserted g.s gxid cid table rows in
-    let put = subst (λ (l : List KeyedRow). IsInserted g.s gxid cid table l first mid entry c.in-Ok.marks.items) (c.into_vec.ensures ∙ c.in_ok-rows.ensures) c.in-Ok.ensures in
+    let put = c.in-Ok.ensures in
     let typed = typed-inserted tables gxid cid table g.s rows is.typed (right-insert tables gxid cid table rows right) in
-    let reply : Reply = Done cid c.has_written.result c.len-count.result c.in_ok-part.part in
+    let reply : Reply = Done cid c.has_written.result (length rows) c.in_ok-part.part in
     let back = IsHeld-answered tables held first mid new g.s m.seg gxid cid entry is c.requires.1.1.1.1.1.1 put.apart c.take_entry-entry.ensures.others refl typed reply free put.free c.in_ok-keep_answer-in-Ok.ensures in
     let ran : Ran = record { marks = c.from_vec.result; reply = reply } in
     let wrote = c.has_written.ensures ∙ ap (λ (l : Local). has_written l.phase) put.apart.local in
-    HasRun-answers tables new gxid cid m.seg ran m.marks (Done cid (has_written (local_of m.seg gxid).phase) (length rows) (Rows [])) back
+    HasRun-answers tables new gxid cid m.seg ran (before ++ m.marks) (Done cid (has_written (local_of m.seg gxid).phase) (length rows) (Rows [])) back
     (c.from_vec.ensures ∙ put.told)
-    (ap (λ (b : Bool). Done cid b c.len-count.result c.in_ok-part.part) wrote
-    ∙ ap (λ (n : ℕ). Done cid (has_written (local_of m.seg gxid).phase) n c.in_ok-part.part) (c.len-count.ensures ∙ ap length c.in_ok-rows.ensures)
+    (ap (λ (b : Bool). Done cid b (length rows) c.in_ok-part.part) wrote
     ∙ ap (λ (p : Part). Done cid (has_written (local_of m.seg gxid).phase) (length rows) p) c.in_ok-part.ensures)

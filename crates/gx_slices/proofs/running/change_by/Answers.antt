@@ -1,8 +1,10 @@
 use Rattle.std.proofs.Common.{◌∙◌, Option, ap, sym}
 use Rattle.gx_dsnap.specs.declared.snapshot.Snapshot.{Snapshot}
+use Rattle.gx_rules.specs.Changes as rule
 use Rattle.gx_rules.specs.Changes.{change_of, changes_rows}
+use Rattle.gx_rules.specs.Segments.{after_marks}
 use Rattle.gx_slices.specs.Changing.{slice_in}
-use Rattle.gx_slices.proofs.Progressing.{HasProgressed-if, change_of-in, has-snapshot}
+use Rattle.gx_slices.proofs.Progressing.{HasProgressed-after, HasProgressed-same, change_of-in, has-snapshot}
 use Rattle.gx_slices.proofs.running.change_by.Goals as goal
 
 pub change_rows-requires : goal.change_rows-requires
@@ -14,10 +16,11 @@ pub returns : goal.returns
 returns g c =
     let w = c.args.writer in
     let slice = slice_in w.table c.args.set c.args.cond in
-    HasProgressed-if g.found.tables c.change_rows.new.held w.gxid c.change_rows.result _ _
-    (ap (changes_rows g.found.start w.gxid) (sym (change_of-in w c.args.level c.in-Some.snapshot c.args.set c.args.cond))
-    ∙ ap (λ (o : Option Snapshot). changes_rows g.found.start w.gxid (change_of w.cid c.args.level o slice)) (sym c.in-Some.is))
-    c.change_rows.ensures
+    let before = c.args.marks.items in
+    HasProgressed-same g.found.tables c.change_rows.new.held w.gxid c.in_ok-all-in-Some.all _ _
+    (ap (λ (k : Option rule.Change). after_marks before (changes_rows g.found.start w.gxid k)) (sym (change_of-in w c.args.level c.in-Some.snapshot c.args.set c.args.cond))
+    ∙ ap (λ (o : Option Snapshot). after_marks before (changes_rows g.found.start w.gxid (change_of w.cid c.args.level o slice))) (sym c.in-Some.is))
+    (HasProgressed-after g.found.tables c.change_rows.new.held w.gxid c.in_ok-progress-in-Some.progress c.in_ok-all-in-Some.all _ before c.in_ok-progress-in-Some.ensures c.in_ok-all-in-Some.ensures)
 
 pub unreachable-requires : goal.unreachable-requires
 unreachable-requires g c =

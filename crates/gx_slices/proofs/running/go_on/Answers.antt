@@ -1,8 +1,8 @@
 use Rattle.std.proofs.Common.{◌∙◌, Option, ap, sym}
 use Rattle.gx_ids.specs.declared.rid.Rid.{Rid}
 use Rattle.gx_node.specs.Phases.{suspended_of}
-use Rattle.gx_rules.specs.Running.{goes_on, runs_slice}
-use Rattle.gx_slices.proofs.Progressing.{HasProgressed-after, HasProgressed-if, HasProgressed-same}
+use Rattle.gx_rules.specs.Running.{goes_on}
+use Rattle.gx_slices.proofs.Progressing.{HasProgressed-if}
 use Rattle.gx_slices.proofs.running.go_on.Goals as goal
 
 pub go_on_at_row-requires : goal.go_on_at_row-requires
@@ -20,9 +20,8 @@ returns-in-Some g c =
     (ap (λ (o : Option Rid). goes_on (record { seg = g.found.start; marks = c.args.marks.items }) c.args.gxid (suspended_of c.args.command) o) (sym c.in-Some.is))
     c.go_on_at_row.ensures
 
-pub returns-in_ok-all-in-None : goal.returns-in_ok-all-in-None
-returns-in_ok-all-in-None g c =
-    let w = c.args.command in
-    HasProgressed-same g.found.tables c.run_slice.new.held c.args.gxid c.in_ok-all-in-None.all _ _
-    (ap (λ (o : Option Rid). goes_on (record { seg = g.found.start; marks = c.args.marks.items }) c.args.gxid (suspended_of w) o) (sym c.in-None.is))
-    (HasProgressed-after g.found.tables c.run_slice.new.held c.args.gxid c.in_ok-progress-in-None.progress c.in_ok-all-in-None.all (runs_slice g.found.start c.args.gxid w.cid w.level w.snapshot w.slice) c.args.marks.items c.in_ok-progress-in-None.ensures c.in_ok-all-in-None.ensures)
+pub returns-in-None : goal.returns-in-None
+returns-in-None g c =
+    HasProgressed-if g.found.tables c.run_slice.new.held c.args.gxid c.run_slice.result _ _
+    (ap (λ (o : Option Rid). goes_on (record { seg = g.found.start; marks = c.args.marks.items }) c.args.gxid (suspended_of c.args.command) o) (sym c.in-None.is))
+    c.run_slice.ensures

@@ -1,5 +1,5 @@
 use Rattle.gx_rules.specs.Slices.{locks}
-use Rattle.gx_slices.proofs.Progressing.{HasProgressed-ran, IsHeld-tables}
+use Rattle.gx_slices.proofs.Progressing.{HasProgressed-after, HasProgressed-ran, IsHeld-tables}
 use Rattle.gx_slices.proofs.running.run_lock.Goals as goal
 
 pub lock-requires : goal.lock-requires
@@ -8,4 +8,8 @@ lock-requires g c =
 
 pub returns : goal.returns
 returns g c =
-    HasProgressed-ran c.args.tables.now g.found.tables c.requires.0 c.lock.new.held c.args.gxid c.in_ok-ran.ran (locks g.found.start c.args.gxid c.args.cid) c.in_ok-ran.ensures c.answered.result c.answered.ensures
+    let w = c.args in
+    let turn = locks g.found.start w.gxid w.cid in
+    HasProgressed-after g.found.tables c.lock.new.held w.gxid c.answered.result c.in_ok-all.all turn w.marks.items
+    (HasProgressed-ran w.tables.now g.found.tables c.requires.0 c.lock.new.held w.gxid c.in_ok-ran.ran turn c.in_ok-ran.ensures c.answered.result c.answered.ensures)
+    c.in_ok-all.ensures

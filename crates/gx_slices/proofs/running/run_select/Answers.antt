@@ -1,6 +1,6 @@
 use Rattle.gx_tree.specs.declared.slice.Slice.TheVariants as slice
 use Rattle.gx_rules.specs.Slices.{reads}
-use Rattle.gx_slices.proofs.Progressing.{HasProgressed-ran, IsHeld-tables, MayRun-tables}
+use Rattle.gx_slices.proofs.Progressing.{HasProgressed-after, HasProgressed-ran, IsHeld-tables, MayRun-tables}
 use Rattle.gx_slices.proofs.running.run_select.Goals as goal
 
 pub select-requires : goal.select-requires
@@ -12,4 +12,8 @@ select-requires g c =
 
 pub returns : goal.returns
 returns g c =
-    HasProgressed-ran c.args.tables.now g.found.tables c.requires.0 c.select.new.held c.args.gxid c.in_ok-ran.ran (reads g.found.start c.args.gxid c.args.cid c.args.query c.args.snapshot) c.in_ok-ran.ensures c.answered.result c.answered.ensures
+    let w = c.args in
+    let turn = reads g.found.start w.gxid w.cid w.query w.snapshot in
+    HasProgressed-after g.found.tables c.select.new.held w.gxid c.answered.result c.in_ok-all.all turn w.marks.items
+    (HasProgressed-ran w.tables.now g.found.tables c.requires.0 c.select.new.held w.gxid c.in_ok-ran.ran turn c.in_ok-ran.ensures c.answered.result c.answered.ensures)
+    c.in_ok-all.ensures

@@ -10,7 +10,7 @@ run_select-requires g c =
 pub returns-in-Select : goal.returns-in-Select
 returns-in-Select g c =
     let w = c.args.command in
-    HasProgressed-slice g.found.tables c.run_select.new.held c.args.gxid c.run_select.result g.found.start w.cid w.level w.snapshot w.slice (slice.Select c.in-Select.query) c.in-Select.is c.run_select.ensures
+    HasProgressed-slice g.found.tables c.run_select.new.held c.args.gxid c.run_select.result c.args.marks.items g.found.start w.cid w.level w.snapshot w.slice (slice.Select c.in-Select.query) c.in-Select.is c.run_select.ensures
 
 pub run_insert-requires : goal.run_insert-requires
 run_insert-requires g c =
@@ -20,7 +20,7 @@ run_insert-requires g c =
 pub returns-in-Insert : goal.returns-in-Insert
 returns-in-Insert g c =
     let w = c.args.command in
-    HasProgressed-slice g.found.tables c.run_insert.new.held c.args.gxid c.run_insert.result g.found.start w.cid w.level w.snapshot w.slice (slice.Insert c.in-Insert.table c.in-Insert.rows) c.in-Insert.is c.run_insert.ensures
+    HasProgressed-slice g.found.tables c.run_insert.new.held c.args.gxid c.run_insert.result c.args.marks.items g.found.start w.cid w.level w.snapshot w.slice (slice.Insert c.in-Insert.table c.in-Insert.rows) c.in-Insert.is c.run_insert.ensures
 
 pub change_by-requires : goal.change_by-requires
 change_by-requires g c =
@@ -30,7 +30,7 @@ change_by-requires g c =
 pub returns-in-Update : goal.returns-in-Update
 returns-in-Update g c =
     let w = c.args.command in
-    HasProgressed-slice g.found.tables c.change_by.new.held c.args.gxid c.change_by.result g.found.start w.cid w.level w.snapshot w.slice (slice.Update c.in-Update.table c.in-Update.assigns c.in-Update.cond) c.in-Update.is c.change_by.ensures
+    HasProgressed-slice g.found.tables c.change_by.new.held c.args.gxid c.change_by.result c.args.marks.items g.found.start w.cid w.level w.snapshot w.slice (slice.Update c.in-Update.table c.in-Update.assigns c.in-Update.cond) c.in-Update.is c.change_by.ensures
 
 pub delete_by-requires : goal.delete_by-requires
 delete_by-requires g c =
@@ -40,7 +40,7 @@ delete_by-requires g c =
 pub returns-in-Delete : goal.returns-in-Delete
 returns-in-Delete g c =
     let w = c.args.command in
-    HasProgressed-slice g.found.tables c.delete_by.new.held c.args.gxid c.delete_by.result g.found.start w.cid w.level w.snapshot w.slice (slice.Delete c.in-Delete.table c.in-Delete.cond) c.in-Delete.is c.delete_by.ensures
+    HasProgressed-slice g.found.tables c.delete_by.new.held c.args.gxid c.delete_by.result c.args.marks.items g.found.start w.cid w.level w.snapshot w.slice (slice.Delete c.in-Delete.table c.in-Delete.cond) c.in-Delete.is c.delete_by.ensures
 
 pub run_lock-requires : goal.run_lock-requires
 run_lock-requires g c =

@@ -5,6 +5,7 @@ use Rattle.gx_store.specs.Waits.{added}
 use Rattle.gx_waits.specs.declared.claim.Claim.{Claim}
 use Rattle.gx_agenda.specs.Awaited.{awaited_at, waits_in}
 use Rattle.gx_agenda.specs.Requests.{request_cmp}
+use Rattle.gx_agenda.specs.VecMap.{at}
 use Rattle.gx_agenda.proofs.Oks.{on_ok, on_ok-three}
 use Rattle.gx_agenda.proofs.Waiting.{index-put, waits-put}
 use Rattle.gx_agenda.proofs.asked.Asked.begin.Goals as goal
@@ -18,5 +19,5 @@ returns-clause-waits c = on_ok c.put.result _ _ c.put.ensures.waits
 pub returns-clause-due : goal.returns-clause-due
 returns-clause-due c = on_ok-three c.put.result _ _ _ _ c.put.ensures.waits c.put.ensures.awaited c.put.ensures.due
     (λ put awaited due. index-put (record { segment = c.args.node; gxid = c.args.claim.gxid }) c.in_ok-claims.claims (get request_cmp c.args.self.now.waiting) (get request_cmp c.remove.new.self) (waits_in c.put.new.self.waiting)
-    c.remove.ensures.updates.0 put (awaited_at c.args.self.now) (awaited_at c.put.new.self) (get request_cmp c.args.self.now.due) (get request_cmp c.put.new.self.due)
+    c.remove.ensures.updates.0 put (awaited_at c.args.self.now) (awaited_at c.put.new.self) (at request_cmp c.args.self.now.due) (at request_cmp c.put.new.self.due)
     awaited due)

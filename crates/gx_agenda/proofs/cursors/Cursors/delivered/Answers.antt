@@ -1,15 +1,18 @@
-use Rattle.std.proofs.Common.{◌+◌, ◌<◌, ◌^◌, subst}
-use Rattle.gx_agenda.specs.Faults.{Follows}
+use Rattle.std.proofs.Common.{◌<◌, length, refl, subst, sym}
+use Rattle.gx_agenda.specs.Agrees.{cursor_at}
+use Rattle.gx_agenda.specs.Links.{link_of}
 use Rattle.gx_agenda.proofs.Agreeing.{Delivers, agree_delivered}
 use Rattle.gx_agenda.proofs.cursors.Cursors.delivered.Goals as goal
 
 pub returns-clause-agree : goal.returns-clause-agree
 returns-clause-agree c = λ script steps step number agree link small first event.
-    let does : Delivers c.args.self.now c.set.new.self c.link_between-link.result c.after-cursor.result = record {
-      faults = c.set.ensures.faults;
-      whole = c.set.ensures.whole;
-      here = c.set.ensures.here;
-      others = c.set.ensures.others;
-      follows = subst (λ k. k.done + 1 < 2 ^ 64 → Follows c.args.self.now.faults c.link_between-link.result k c.after-cursor.result) c.cursor.ensures c.after-cursor.ensures;
-    } in
-    agree_delivered script steps step c.args.self.now c.set.new.self c.args.from c.args.to c.after-cursor.result number agree link (subst (λ l. Delivers c.args.self.now c.set.new.self l c.after-cursor.result) c.link_between-link.ensures does) small first event
+    let old = c.args.self.now in
+    let new = c.advance.new.self in
+    let does : Delivers old new (link_of c.args.from c.args.to) (cursor_at new (link_of c.args.from c.args.to)) = subst (λ l. Delivers old new l (cursor_at new l)) c.link_between.ensures (record {
+      faults = c.advance.ensures.faults;
+      whole = c.advance.ensures.whole;
+      here = λ inside. refl;
+      others = c.advance.ensures.others;
+      follows = c.advance.ensures.here (subst (λ n. n < length old.links.items) (sym c.link_between.ensures) (agree.whole c.args.from c.args.to link));
+    }) in
+    agree_delivered script steps step old new c.args.from c.args.to (cursor_at new (link_of c.args.from c.args.to)) number agree link does small first event

@@ -1,28 +1,28 @@
-use Rattle.std.proofs.Common.{◌≡◌, ◌∙◌, ap, subst, sym}
+use Rattle.std.proofs.Common.{◌∙◌, ap, subst, sym}
 use Rattle.gx_dtx.specs.Table.{Table, IsActive, find_txn}
-use Rattle.gx_dtx.specs.Rules.{on_commit, commit_found, Turn, turns}
+use Rattle.gx_dtx.specs.Rules.{on_commit, commit_found, Turn}
 use Rattle.gx_dtx.proofs.Fitting.{Fits-commit}
-use Rattle.gx_dtx.proofs.Made.{IsWhole-made, on_commit-alone, turns-made}
+use Rattle.gx_dtx.proofs.Made.{IsWhole-taken, on_commit-alone, turns-taken}
 use Rattle.gx_dtx.proofs.dtx.Dtx.commit.Goals as goal
 
-abbrev table : goal.After-make → Table
-table c = record { next = c.self.inside.next; latest_ended = c.self.inside.latest_ended; txns = c.self.inside.txns }
+pub invariant_of-self-2 : goal.invariant_of-self-2
+invariant_of-self-2 c =
+    let d : Table = record { next = c.self.inside.next; latest_ended = c.self.inside.latest_ended; txns = c.self.inside.txns } in
+    let active : IsActive d c.args.gxid = subst (λ (d : Table). IsActive d c.args.gxid) (sym c.self.view_is) c.requires.active in
+    IsWhole-taken d c.args.gxid (commit_found c.args.gxid c.args.writers.now (find_txn d c.args.gxid)) c.in_ok-out.out c.latest_after-self-inside.result c.commit.new.self c.in_ok-out.ensures.txns c.in_ok-out.ensures.out c.latest_after-self-inside.ensures c.self.invariant
+    (Fits-commit (find_txn d c.args.gxid) c.args.gxid c.args.writers.now active)
 
-change : (c : goal.After-make) → c.in_ok-change.change ≡ commit_found c.args.gxid c.args.writers.now (find_txn (table c) c.args.gxid)
-change c = c.in_ok-change.ensures ∙ ap (commit_found c.args.gxid c.args.writers.now) c.find.ensures
+pub returns-clause-table : goal.returns-clause-table
+returns-clause-table c =
+    let d : Table = record { next = c.self.inside.next; latest_ended = c.self.inside.latest_ended; txns = c.self.inside.txns } in
+    turns-taken d c.args.gxid (commit_found c.args.gxid c.args.writers.now (find_txn d c.args.gxid)) c.in_ok-out.out c.latest_after-self-inside.result c.commit.new.self c.in_ok-out.ensures.txns c.in_ok-out.ensures.out c.latest_after-self-inside.ensures
+    ∙ ap (λ (d : Table). (on_commit d c.args.gxid c.args.writers.now).table) c.self.view_is
 
-pub invariant_of-self : goal.invariant_of-self
-invariant_of-self c =
-    let active : IsActive (table c) c.args.gxid = subst (λ (d : Table). IsActive d c.args.gxid) (sym c.self.view_is) c.requires.active in
-    IsWhole-made (table c) c.args.gxid c.in_ok-change.change c.make.new.latest_ended c.make.new.self c.make.ensures.txns c.make.ensures.latest c.self.invariant (rw (change c) (Fits-commit (find_txn (table c) c.args.gxid) c.args.gxid c.args.writers.now active))
-
-turn : (c : goal.After-make) → turns (table c) c.args.gxid c.in_ok-change.change ≡ on_commit c.args.self.now c.args.gxid c.args.writers.now
-turn c = ap (turns (table c) c.args.gxid) (change c) ∙ ap (λ (d : Table). on_commit d c.args.gxid c.args.writers.now) c.self.view_is
+pub returns-clause-out : goal.returns-clause-out
+returns-clause-out c = c.in_ok-out.ensures.out ∙ ap (λ (d : Table). (on_commit d c.args.gxid c.args.writers.now).out) c.self.view_is
 
 pub returns-clause-alone : goal.returns-clause-alone
-returns-clause-alone c = λ alone.
-    turns-made (table c) c.args.gxid c.in_ok-change.change c.make.new.latest_ended c.make.new.self c.make.ensures.txns c.make.ensures.latest ∙ ap (λ (t : Turn). t.table) (turn c ∙ on_commit-alone c.args.self.now c.args.gxid c.args.writers.now c.requires.active c.requires.writers alone)
+returns-clause-alone c = λ alone. returns-clause-table c ∙ ap (λ (t : Turn). t.table) (on_commit-alone c.args.self.now c.args.gxid c.args.writers.now c.requires.active c.requires.writers alone)
 
 pub returns-clause-told : goal.returns-clause-told
-returns-clause-told c = λ alone.
-    c.make.ensures.out ∙ ap (λ (t : Turn). t.out) (turn c ∙ on_commit-alone c.args.self.now c.args.gxid c.args.writers.now c.requires.active c.requires.writers alone)
+returns-clause-told c = λ alone. returns-clause-out c ∙ ap (λ (t : Turn). t.out) (on_commit-alone c.args.self.now c.args.gxid c.args.writers.now c.requires.active c.requires.writers alone)

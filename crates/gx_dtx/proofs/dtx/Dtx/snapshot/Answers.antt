@@ -8,11 +8,11 @@ use Rattle.gx_dtx.proofs.Made.{IsWhole-live}
 use Rattle.gx_dtx.proofs.Sees.{sees-ended}
 use Rattle.gx_dtx.proofs.dtx.Dtx.snapshot.Goals as goal
 
-abbrev table : goal.In_ok-set_live → Table
+abbrev table : goal.After-set_live → Table
 table c = record { next = c.self.inside.next; latest_ended = c.self.inside.latest_ended; txns = c.self.inside.txns }
 
-pub invariant_of-self-2 : goal.invariant_of-self-2
-invariant_of-self-2 c = IsWhole-live (table c) c.args.gxid (Some c.in_ok-snapshot.snapshot.xmin) c.set_live.new.self c.in_ok-set_live.ensures.ok c.self.invariant
+pub invariant_of-self : goal.invariant_of-self
+invariant_of-self c = IsWhole-live (table c) c.args.gxid (Some c.in_ok-snapshot.snapshot.xmin) c.set_live.new.self c.set_live.ensures c.self.invariant
 
 pub returns-clause-seen : goal.returns-clause-seen
 returns-clause-seen c = λ g first.

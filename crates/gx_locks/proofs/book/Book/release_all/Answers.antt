@@ -9,7 +9,7 @@ use Rattle.gx_locks.proofs.book.Book.release_all.Goals as goal
 
 pub loop-hold-init : goal.loop-hold-init
 loop-hold-init c =
-    IsEmptied-taken c.args.gxid c.args.self.now _ c.as_slice-hold-items.result.now c.requires.filed c.requires.once refl (c.as_slice-hold-items.ensures.value ∙ c.take-holds.ensures.taken) c.take-holds.ensures.there c.take-holds.ensures.elsewhere
+    IsEmptied-taken c.args.gxid c.args.self.now _ c.as_slice-hold-items.result.now c.requires.filed c.requires.once refl (c.as_slice-hold-items.ensures ∙ c.take-holds.ensures.taken) c.take-holds.ensures.there c.take-holds.ensures.elsewhere
 
 pub loop-hold-preserved : goal.loop-hold-preserved
 loop-hold-preserved c =

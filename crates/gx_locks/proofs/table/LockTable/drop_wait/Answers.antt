@@ -1,4 +1,5 @@
-use Rattle.std.proofs.Common.{◌≡◌, ◌∙◌, List, sym, ap, subst}
+use Rattle.std.proofs.Common.{◌≡◌, ◌∙◌, List, [], sym, ap, subst, refl, arith}
+use Rattle.std.proofs.lemmas.Grind.{common_steps}
 use Rattle.std.specs.Prelude.{Some, None, find}
 use Rattle.gx_waits.specs.declared.claim.Claim.{Claim}
 use Rattle.gx_locks.specs.Claims.{is_of}
@@ -22,3 +23,9 @@ returns-then-is_full c =
     let same = without-full c.self.inside.book c.self.inside.waits.items c.args.gxid c.self.invariant (sym c.is_full.ensures ∙ c.if-is_full.true) in
     let waits : c.self.inside.waits.items ≡ c.args.self.now.waits = ap (λ (locks : Locks). locks.waits) c.self.view_is in
     ap (λ (ws : List Claim). record c.args.self.now { waits = ws }) (sym (subst (λ (ws : List Claim). without c.args.gxid ws ≡ ws) waits same))
+
+pub returns-then-is_empty : goal.returns-then-is_empty
+returns-then-is_empty c =
+    let none : c.self.inside.waits.items ≡ [] = grind (arith, common_steps, c.is_empty.ensures, c.if-is_empty.true) in
+    let waits : c.self.inside.waits.items ≡ c.args.self.now.waits = ap (λ (locks : Locks). locks.waits) c.self.view_is in
+    ap (λ (ws : List Claim). record c.args.self.now { waits = ws }) (subst (λ (ws : List Claim). ws ≡ without c.args.gxid ws) (sym none ∙ waits) refl)

@@ -1,0 +1,6 @@
+use Rattle.gx_dtx.proofs.Settled.{set_value-kept}
+use Rattle.gx_dtx.proofs.map.abort.Goals as goal
+
+pub returns-in-Some-clause-err : goal.returns-in-Some-clause-err
+returns-in-Some-clause-err c =
+    set_value-kept c.args.txns.now.entries c.args.gxid c.abort.result c.in-Some.txn.now c.abort.new.txn _ c.in-Some.ensures.value c.abort.ensures.err (c.get_mut.follows.holds c.abort.new.txn).0

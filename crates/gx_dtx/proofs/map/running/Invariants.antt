@@ -1,6 +1,0 @@
-use Rattle.std.proofs.Common.{◌≡◌, ◌++◌, map, filter}
-use Rattle.gx_dtx.specs.Table.{is_running}
-use Rattle.gx_dtx.proofs.map.running.Given as goal
-
-abbrev pub invariant-loop-gxid : goal.invariant-loop-gxid
-invariant-loop-gxid l = l.running.items ++ map (λ e. e.0) (filter (λ e. is_running e.1.phase) l.gxid-iterator) ≡ map (λ e. e.0) (filter (λ e. is_running e.1.phase) l.txns.entries)

@@ -1,0 +1,15 @@
+use Rattle.std.proofs.Common.{◌∙◌, List, ap}
+use Rattle.std.specs.Map.{lookup}
+use Rattle.std.specs.BTreeMap.{is_at}
+use Rattle.gx_ids.specs.declared.ids.Gxid.{Gxid}
+use Rattle.gx_dsnap.specs.Gxids.{gxid_cmp}
+use Rattle.gx_dtx.specs.declared.txn.Txn.{Txn}
+use Rattle.gx_dtx.specs.Rules.{with_step, commit_found}
+use Rattle.gx_dtx.proofs.Settled.{with_step-settled}
+use Rattle.gx_dtx.proofs.txns.Txns.commit.Goals as goal
+
+pub returns-clause-txns : goal.returns-clause-txns
+returns-clause-txns c =
+    let es = c.self.inside.map.entries in
+    with_step-settled es c.args.gxid (commit_found c.args.gxid c.args.writers.now (lookup (is_at (gxid_cmp c.args.gxid)) es)) c.commit.new.txns.entries c.settle.new.txns.entries c.in_ok-taken.taken c.in_ok-taken.ensures.value c.settle.ensures
+    ∙ ap (λ (es : List (Gxid × Txn)). with_step es c.args.gxid (commit_found c.args.gxid c.args.writers.now (lookup (is_at (gxid_cmp c.args.gxid)) es)).step) c.self.view_is
