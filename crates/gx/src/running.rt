@@ -3,6 +3,7 @@ ghost use Rattle.std.specs.Prelude.{◌≡◌, ◌≤◌, false, IfOk, length, m
 ghost use Rattle.gx_store.specs.Whole.{AreInsertsWhole};
 ghost use Rattle.gx_drive.specs.Ends.{IsEnd};
 ghost use Rattle.gx_drive.specs.declared.end.End.TheVariants.{Done, Stuck, Turns};
+ghost use Rattle.gx_law_runs.specs.Reached.{IsReached};
 ghost use Rattle.gx_outside.specs.Shelves.{AreEmpty};
 ghost use Rattle.gx_store.specs.Language.{IsScript};
 ghost use Rattle.gx.specs.Top.{AreDriven, AreKept, IsRan};
@@ -19,6 +20,7 @@ use gx_waits::LocalGraph;
 use gx_words::Options;
 use gx_world::World;
 use std::alloc::Global;
+use std::mem;
 
 /// Runs a script by the schedule that is asked for, for so many turns at most as are asked for, and tells its run.
 pub fn run_script<J: Journal, G: Gate>(
@@ -44,7 +46,7 @@ pub fn run_script<J: Journal, G: Gate>(
     };
     match drive(alloc, &mut world, options, journals, gate) {
         Ok(end) => ended(alloc, world, options, end),
-        Err(_) => Attempt::OutOfMemory(world.into_run()),
+        Err(_) => Attempt::OutOfMemory(into_run(world)),
     }
 }
 
@@ -75,8 +77,8 @@ fn finished(alloc: Global, world: World, options: Options) -> Attempt
     ensures run { run_in result ≡ world.run }
 {
     match ended_text(alloc, &world, options) {
-        Ok(text) => Attempt::Done(world.into_run(), text),
-        Err(_) => Attempt::OutOfMemory(world.into_run()),
+        Ok(text) => Attempt::Done(into_run(world), text),
+        Err(_) => Attempt::OutOfMemory(into_run(world)),
     }
 }
 
@@ -89,8 +91,8 @@ fn stopped(alloc: Global, world: World, options: Options) -> Attempt
     ensures run { run_in result ≡ world.run }
 {
     match stopped_text(alloc, &world, options) {
-        Ok(text) => Attempt::Stopped(world.into_run(), text),
-        Err(_) => Attempt::OutOfMemory(world.into_run()),
+        Ok(text) => Attempt::Stopped(into_run(world), text),
+        Err(_) => Attempt::OutOfMemory(into_run(world)),
     }
 }
 
@@ -103,7 +105,17 @@ fn stuck(alloc: Global, world: World, options: Options, graphs: Seq<LocalGraph>)
     ensures run { run_in result ≡ world.run }
 {
     match stuck_text(alloc, &world, options, graphs.as_slice()) {
-        Ok(text) => Attempt::Stuck(world.into_run(), text),
-        Err(_) => Attempt::OutOfMemory(world.into_run()),
+        Ok(text) => Attempt::Stuck(into_run(world), text),
+        Err(_) => Attempt::OutOfMemory(into_run(world)),
     }
+}
+
+// A world's run. The process ends soon, and the memory of the nodes with it.
+fn into_run(world: World) -> Run
+    ensures value { result ≡ world.run }
+    ensures reached { IsReached world.script world.run.steps }
+{
+    let (run, nodes) = world.into_parts();
+    mem::forget(nodes);
+    run
 }

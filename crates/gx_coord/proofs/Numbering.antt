@@ -1,8 +1,8 @@
 -- Messages are numbered one by one.
-use Rattle.std.proofs.Common.{◌≡◌, ◌<◌, All, ℕ, zero, suc, ◌+◌, ◌^◌, List, [], ◌∷◌, ◌++◌, Bool, true, false, refl, sym, subst, ap, ◌∙◌, if◌then◌else◌, length, get_or, slice_set, slice_index, arith, eqb}
+use Rattle.std.proofs.Common.{◌≡◌, ◌<◌, All, ℕ, zero, suc, ◌+◌, ◌^◌, List, [], ◌∷◌, ◌++◌, Bool, true, false, refl, sym, subst, ap, ◌∙◌, if◌then◌else◌, length, get_or, reverse, slice_set, slice_index, arith, eqb}
 use Rattle.std.proofs.Math.Path.{fun_ext}
 use Rattle.std.proofs.lemmas.Bool.Decides.{nat_tests}
-use Rattle.std.proofs.lemmas.List.{append_assoc, length-append}
+use Rattle.std.proofs.lemmas.List.{append_assoc, length-append, reverse-append}
 use Rattle.std.specs.Global.{Vec}
 use Rattle.gx_msg.specs.declared.message.Out.{Out}
 use Rattle.gx_store.specs.declared.mark.Mark.{Mark}
@@ -51,6 +51,10 @@ module _ (sent : List ℕ) (k number : ℕ) (out : Out) (at : k ≡ out.node.0) 
 
   pub counted-is : slice_index (slice_set sent k number) ≡ counted (slice_index sent) out
   counted-is = slice_index-set sent k number inside ∙ ap (λ n. with_at (slice_index sent) k n) next-number ∙ ap (λ j. with_at (slice_index sent) j (slice_index sent j + 1)) at
+
+-- the last of a list is the first from behind
+pub reverse-last : (xs ys : List Out) (x : Out) → xs ≡ ys ++ x ∷ [] → reverse xs ≡ x ∷ reverse ys
+reverse-last xs ys x e = ap reverse e ∙ reverse-append ys (x ∷ [])
 
 -- the first of those that are left is sent
 module _ (old new : ℕ → ℕ) (out : Out) (left rest : List Out) (before after : List Mark) (m : Mark) (first : left ≡ out ∷ rest) (counts : new ≡ counted old out) where

@@ -22,6 +22,7 @@ use Rattle.gx_locks.proofs.table.LockTable.TheSendSync as locks
 use Rattle.gx_coord.proofs.work.Session.TheSendSync as session
 use Rattle.gx_coord.specs.contracts.coord.Coord as Coord
 use Rattle.gx_coord.specs.contracts.work.Command as Command
+use Rattle.gx_coord.specs.contracts.work.Spare as Spare
 use Rattle.gx_coord.specs.contracts.work.Work as Work
 
 pub command_field_send : IsSend Command.the_field.row
@@ -30,8 +31,11 @@ command_field_send = search (sendable, cid.the_field_send, seq.the_send, out_sen
 pub work_field_send : IsSend Work.the_field.row
 work_field_send = search (sendable, session_id.the_field_send, level.the_field_send, option.the_field_send, snapshot.the_field_send, seq.the_send, node.the_field_send, command_field_send) depth 20
 
+pub spare_field_send : IsSend Spare.the_field.row
+spare_field_send = search (sendable, vec.the_send, heap.the_field_send, frees, out_send, node.the_field_send, part.the_field_send) depth 20
+
 pub coord_field_send : IsSend Coord.the_field.row
-coord_field_send = search (sendable, arc.the_send, vec.the_send, map.the_send, heap.the_field_send, heap.the_field_sync, frees, script_send, script_sync, seq.the_send, dtx.the_send, locks.the_send, detector.the_send, gxid.the_field_send, work_field_send, session.the_field_send) depth 20
+coord_field_send = search (sendable, arc.the_send, vec.the_send, map.the_send, heap.the_field_send, heap.the_field_sync, frees, script_send, script_sync, seq.the_send, dtx.the_send, locks.the_send, detector.the_send, gxid.the_field_send, work_field_send, spare_field_send, session.the_field_send) depth 20
 
 pub coord_send : IsSend Coord.the_row
 coord_send = search (sendable, coord_field_send)

@@ -5,7 +5,7 @@ ghost use Rattle.gx_rules.specs.Coordinators.{no_work, with_session, with_state,
 ghost use Rattle.gx_coord.specs.Books.{IsFramed, command_of, coord_of, session_of as session_data, work_of};
 
 use crate::coord::Coord;
-use crate::work::{Command, Session, Work};
+use crate::work::{Command, Session, Spare, Work};
 use gx_ids::{Gxid, Mem, SessionId};
 use gx_script::SessionState;
 
@@ -22,7 +22,19 @@ pub(crate) fn forget_work(coord: &mut Coord, gxid: Gxid)
     ensures framed { IsFramed coord.old coord.new }
     ensures coord { coord_of coord.new ≡ with_work (coord_of coord.old) gxid no_work }
 {
-    drop(coord.works.remove(&gxid));
+    match coord.works.remove(&gxid) {
+        Some(work) => keep_spare(&mut coord.spare, work),
+        None => {}
+    }
+}
+
+// The lists of a command that is over are spare.
+fn keep_spare(spare: &mut Spare, work: Work) {
+    let Work { command, .. } = work;
+    match command {
+        Some(command) => spare.keep(command),
+        None => {}
+    }
 }
 
 // The command of a transaction that is under way.

@@ -75,7 +75,8 @@ fn turn_of_victim(alloc: Global, coord: &mut Coord, gxid: Gxid, marks: &mut Vec<
     ensures room { OnOk result (All (λ n. n < 2 ^ 62 + length marks.new.items) coord.new.sent.items) }
 {
     let more = cancel(alloc, coord, gxid, marks)?;
-    number(&mut coord.sent, more.into_vec(), marks)?;
+    let mut outs = more.into_vec();
+    number(&mut coord.sent, &mut outs, marks)?;
     Ok(())
 }
 

@@ -16,7 +16,7 @@ use crate::making::{new_sessions, nothing_sent};
 use crate::places::places_of;
 use crate::snapshots::snapshot_of;
 use crate::stepping::step_on;
-use crate::work::{Session, Work};
+use crate::work::{Session, Spare, Work};
 use crate::{admitted, again, finished, rounds};
 use gx_detect::Detector;
 use gx_dsnap::Snapshot;
@@ -40,6 +40,7 @@ pub struct Coord {
     pub places: Vec<Seq<usize>>,
     pub dtx: Dtx,
     pub works: BTreeMap<Gxid, Work>,
+    pub(crate) spare: Spare,
     pub sessions: Vec<Session>,
     pub locks: LockTable,
     pub detector: Detector,
@@ -68,6 +69,7 @@ impl Coord {
             places,
             dtx,
             works: BTreeMap::new(alloc),
+            spare: Spare::new(alloc),
             sessions,
             locks,
             detector,

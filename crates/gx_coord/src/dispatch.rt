@@ -20,13 +20,13 @@ use crate::completing::level_of;
 use crate::coord::Coord;
 use crate::faults::push_fault;
 use crate::locking::{lock_for, take_lock};
-use crate::orders::{Ordering, enlist_all, nodes, orders};
+use crate::orders::{Ordering, copied, enlist_all, nodes, orders};
 use crate::replies::refuse;
 use crate::snapshots::read_for;
-use crate::work::{Command, Work};
+use crate::work::{Command, Work, taken};
 use gx_dsnap::Snapshot;
 use gx_eval::EvalFault;
-use gx_ids::{Cid, Duplicate, Gxid, Mem, OutOfMemory, Seq, SessionId, Shared, Table};
+use gx_ids::{Cid, Gxid, Mem, OutOfMemory, Seq, SessionId, Shared, Table};
 use gx_meaning::{ArithFault, Piece};
 use gx_msg::Out;
 use gx_plan::plan;
@@ -78,7 +78,7 @@ fn begin_command(alloc: Global, coord: &mut Coord, gxid: Gxid, command: Command)
         (record ((coord_of coord.old).works gxid.0) { last = command.cid.0; command = Some (command_of coord.old.script.value.lines command) })) }
     ensures outs { IfOk result (λ outs. outs ≡ command.orders) }
 {
-    match command.orders.copy(alloc) {
+    match copied(alloc, &mut coord.spare.outs, command.orders.as_slice()) {
         Ok(outs) => match set_command(alloc, coord, gxid, command) {
             Ok(()) => Ok(outs),
             Err(fault) => {
@@ -117,16 +117,16 @@ fn send(
         snapshot: Shared::new(alloc, snapshot)?,
         horizon: coord.dtx.horizon(),
     };
-    let awaited = nodes(alloc, pieces.as_slice())?;
+    let awaited = nodes(alloc, &mut coord.spare.awaited, pieces.as_slice())?;
     enlist_all(&mut coord.dtx, gxid, awaited.as_slice())?;
-    let orders = orders(alloc, &of, pieces)?;
+    let orders = orders(alloc, &mut coord.spare.orders, &of, pieces)?;
     let command = Command {
         line: place,
         cid,
         orders,
         awaited,
         count: 0,
-        parts: Seq::new(alloc),
+        parts: Seq::from_vec(taken(alloc, &mut coord.spare.parts)),
     };
     begin_command(alloc, coord, gxid, command)
 }

@@ -207,8 +207,10 @@ fn commit_writers(coord: &mut Coord, gxid: Gxid) -> Mem<DtxOut>
     ensures out { IfOk result (λ out. out ≡ (on_commit coord.old.dtx gxid ((coord_of coord.old).works gxid.0).writers).out) }
 {
     match coord.works.get(&gxid) {
-        Some(work) => coord.dtx.commit(gxid, work.writers.as_slice()),
-        None => coord.dtx.commit(gxid, &[]),
+        Some(work) => coord
+            .dtx
+            .commit(&mut coord.spare.outs, gxid, work.writers.as_slice()),
+        None => coord.dtx.commit(&mut coord.spare.outs, gxid, &[]),
     }
 }
 

@@ -88,7 +88,7 @@ pub(crate) fn abort(coord: &mut Coord, gxid: Gxid, marks: &mut Vec<Mark>) -> Mem
     ensures outs { IfOk result (λ outs. outs ≡ (on_abort coord.old.dtx gxid).out.outs) }
 {
     marks.push(Mark::Abort { gxid })?;
-    let out = coord.dtx.abort(gxid)?;
+    let out = coord.dtx.abort(&mut coord.spare.outs, gxid)?;
     forget_work(coord, gxid);
     Ok(out.outs)
 }

@@ -3,6 +3,7 @@ ghost use Rattle.std.specs.Prelude.{◌≡◌, IfOk, OnOk, OnErr};
 ghost use Rattle.gx_dtx.specs.Table.{IsActive};
 ghost use Rattle.gx_rules.specs.AtCoordinator.{enlisted_all, nodes_in, order_of, orders_of};
 
+use crate::work::taken;
 use gx_dsnap::Snapshot;
 use gx_dtx::Dtx;
 use gx_ids::{Cid, Duplicate, Gxid, Mem, Node, Seq, Shared};
@@ -41,22 +42,41 @@ fn order(alloc: Global, of: &Ordering, piece: Piece) -> Mem<Out>
     })
 }
 
-// The EXECs of the pieces, in their order.
-pub(crate) fn orders(alloc: Global, of: &Ordering, pieces: Vec<Piece>) -> Mem<Seq<Out>>
+// The EXECs of the pieces, in their order. They take the memory of a spare list.
+pub(crate) fn orders(
+    alloc: Global,
+    spare: &mut Vec<Out>,
+    of: &Ordering,
+    pieces: Vec<Piece>,
+) -> Mem<Seq<Out>>
     ensures { IfOk result (λ outs. outs ≡ orders_of of.now.gxid of.now.cid of.now.level of.now.snapshot of.now.horizon pieces.items) }
 {
-    let mut outs = Vec::with_capacity(alloc, pieces.len())?;
+    let mut outs = taken(alloc, spare);
+    outs.reserve(pieces.len())?;
     for piece in pieces {
         outs.push(order(alloc, of, piece)?)?;
     }
     Ok(Seq::from_vec(outs))
 }
 
-// The nodes that they go to.
-pub(crate) fn nodes(alloc: Global, pieces: &[Piece]) -> Mem<Seq<Node>>
+// The same messages once more, in the memory of a spare list.
+pub(crate) fn copied(alloc: Global, spare: &mut Vec<Out>, orders: &[Out]) -> Mem<Seq<Out>>
+    ensures { IfOk result (λ outs. outs ≡ orders.now) }
+{
+    let mut outs = taken(alloc, spare);
+    outs.reserve(orders.len())?;
+    for order in orders {
+        outs.push(order.copy(alloc)?)?;
+    }
+    Ok(Seq::from_vec(outs))
+}
+
+// The nodes that they go to, in the memory of a spare list.
+pub(crate) fn nodes(alloc: Global, spare: &mut Vec<Node>, pieces: &[Piece]) -> Mem<Seq<Node>>
     ensures { IfOk result (λ nodes. nodes ≡ nodes_in pieces.now) }
 {
-    let mut nodes = Vec::with_capacity(alloc, pieces.len())?;
+    let mut nodes = taken(alloc, spare);
+    nodes.reserve(pieces.len())?;
     for piece in pieces {
         nodes.push(piece.node)?;
     }

@@ -148,7 +148,7 @@ pub(crate) fn refuse(
     ensures turn { OnOk result (IsTurn coord.old coord.new marks.old.items marks.new.items (turns.is_refused (coord_of coord.old) gxid (on_abort coord.old.dtx gxid) [] reason)) }
     ensures outs { IfOk result (λ outs. outs ≡ (on_abort coord.old.dtx gxid).out.outs) }
 {
-    let out = coord.dtx.abort(gxid)?;
+    let out = coord.dtx.abort(&mut coord.spare.outs, gxid)?;
     match refuse_line(coord, gxid, reason, marks) {
         Ok(()) => Ok(out.outs),
         Err(fault) => {

@@ -38,18 +38,20 @@ fn send_one(sent: &mut Vec<u64>, out: Out) -> Mark
     }
 }
 
-// Each message has the next number of its link.
-pub(crate) fn number(sent: &mut Vec<u64>, outs: Vec<Out>, marks: &mut Vec<Mark>) -> Mem<()>
+// Each message has the next number of its link. Their list is left empty, with its memory.
+pub(crate) fn number(sent: &mut Vec<u64>, outs: &mut Vec<Out>, marks: &mut Vec<Mark>) -> Mem<()>
     requires room { All (λ n. n < 2 ^ 62 + length marks.old.items) sent.old.items }
-    requires links { All (λ out. out.node.0 < length sent.old.items) outs.items }
-    ensures marks { OnOk result (marks.new.items ≡ marks.old.items ++ numbered (slice_index sent.old.items) outs.items) }
-    ensures sent { OnOk result (slice_index sent.new.items ≡ counted_all (slice_index sent.old.items) outs.items) }
+    requires links { All (λ out. out.node.0 < length sent.old.items) outs.old.items }
+    ensures marks { OnOk result (marks.new.items ≡ marks.old.items ++ numbered (slice_index sent.old.items) outs.old.items) }
+    ensures sent { OnOk result (slice_index sent.new.items ≡ counted_all (slice_index sent.old.items) outs.old.items) }
     ensures links { OnOk result (length sent.new.items ≡ length sent.old.items) }
     ensures room { OnOk result (All (λ n. n < 2 ^ 62 + length marks.new.items) sent.new.items) }
 {
-    for out in outs {
+    marks.reserve_exact(outs.len())?;
+    outs.reverse();
+    while let Some(out) = outs.pop() {
         let mark = send_one(sent, out);
-        marks.push(mark)?;
+        marks.push_reserved(mark);
     }
     Ok(())
 }

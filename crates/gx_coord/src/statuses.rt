@@ -55,7 +55,9 @@ pub(crate) fn take_status<J: Journal>(
     ensures later { IsLater (J.shelf journal.old) (J.shelf journal.new) }
     ensures nobody { IfOk result (λ turned. turned.victims ≡ []) }
 {
-    let out = coord.dtx.reply(gxid, node, reply, journal)?;
+    let out = coord
+        .dtx
+        .reply(&mut coord.spare.outs, gxid, node, reply, journal)?;
     let fails = is_own(out.outcome);
     let outs = follow(alloc, script, coord, gxid, out, marks)?;
     Ok(Turned {

@@ -32,9 +32,13 @@ fn send(coord: &mut Coord, outs: Vec<Out>, clock: u64, marks: &mut Vec<Mark>) ->
     ensures marks { OnOk result (marks.new.items ≡ marks.old.items ++ numbered (slice_index coord.old.sent.items) outs.items) }
     ensures room { OnOk result (All (λ n. n < 2 ^ 62 + length marks.new.items) coord.new.sent.items) }
 {
-    marks.reserve_exact(outs.len())?;
-    number(&mut coord.sent, outs, marks)?;
     coord.clock = clock;
+    if outs.is_empty() {
+        return Ok(());
+    }
+    let mut outs = outs;
+    number(&mut coord.sent, &mut outs, marks)?;
+    coord.spare.outs = outs;
     Ok(())
 }
 

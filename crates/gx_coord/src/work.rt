@@ -1,8 +1,12 @@
+ghost use Rattle.std.specs.Prelude.{◌≡◌, []};
+
 use gx_dsnap::Snapshot;
 use gx_ids::{Cid, Gxid, Node, Seq, SessionId};
 use gx_msg::Out;
 use gx_script::SessionState;
 use gx_tree::{Level, Part};
+use std::alloc::Global;
+use std::mem;
 
 /// A command under way: the place of its line in the script, its number, what was sent for it to each segment, the segments
 /// whose answers are awaited, and what was answered so far.
@@ -28,6 +32,55 @@ pub struct Work {
     pub writers: Seq<Node>,
     pub command: Option<Command>,
     pub waiting: Option<usize>,
+}
+
+/// Lists of a command that is over and of messages that were sent, whose memory the next ones take.
+#[derive(Drop)]
+pub struct Spare {
+    pub orders: Vec<Out>,
+    pub awaited: Vec<Node>,
+    pub parts: Vec<Part>,
+    pub outs: Vec<Out>,
+}
+
+impl Spare {
+    /// Lists without memory.
+    pub fn new(alloc: Global) -> Spare {
+        Spare {
+            orders: Vec::new(alloc),
+            awaited: Vec::new(alloc),
+            parts: Vec::new(alloc),
+            outs: Vec::new(alloc),
+        }
+    }
+
+    /// Keeps the lists of a command.
+    pub fn keep(&mut self, command: Command) {
+        let Command {
+            orders,
+            awaited,
+            parts,
+            ..
+        } = command;
+        self.orders = emptied(orders.into_vec());
+        self.awaited = emptied(awaited.into_vec());
+        self.parts = emptied(parts.into_vec());
+    }
+}
+
+fn emptied<T: Drop>(list: Vec<T>) -> Vec<T>
+    ensures { result.items ≡ [] }
+{
+    let mut list = list;
+    list.clear();
+    list
+}
+
+/// An empty list with the memory of a spare one.
+pub fn taken<T: Drop>(alloc: Global, spare: &mut Vec<T>) -> Vec<T>
+    ensures { result.items ≡ [] }
+{
+    emptied(mem::replace(spare, Vec::new(alloc)))
 }
 
 /// A session: where it stands, how many of its lines were started, and the transaction of its block or of its line under

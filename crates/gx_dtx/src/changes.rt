@@ -18,10 +18,16 @@ use gx_msg::Out;
 use std::alloc::Global;
 
 // A list of the nodes, and the order to each of them.
-fn told(alloc: Global, gxid: Gxid, order: Order, nodes: &[Node]) -> Mem<(Seq<Node>, Seq<Out>)>
+fn told(
+    alloc: Global,
+    spent: &mut Vec<Out>,
+    gxid: Gxid,
+    order: Order,
+    nodes: &[Node],
+) -> Mem<(Seq<Node>, Seq<Out>)>
     ensures { IfOk result (λ told. (told.0 ≡ nodes.now) × (told.1 ≡ messages (message_of order gxid) nodes.now)) }
 {
-    let outs = order.to_each(alloc, gxid, nodes)?;
+    let outs = order.to_each(alloc, spent, gxid, nodes)?;
     match copies(alloc, nodes) {
         Ok(awaited) => Ok((Seq::from_vec(awaited), outs)),
         Err(fault) => {
@@ -40,86 +46,138 @@ fn go_on(txn: &mut Txn, phase: Phase, outs: Seq<Out>, outcome: Outcome) -> Taken
 }
 
 // The transaction has ended by a commit.
-pub(crate) fn end_committed(alloc: Global, gxid: Gxid, txn: &mut Txn) -> Mem<Taken>
+pub(crate) fn end_committed(
+    alloc: Global,
+    spent: &mut Vec<Out>,
+    gxid: Gxid,
+    txn: &mut Txn,
+) -> Mem<Taken>
     ensures value { IfOk result (λ taken. IsMade (ends_committed gxid txn.old.participants) txn.old txn.new taken) }
     ensures err { OnErr result (txn.new ≡ txn.old) }
 {
     if txn.participants.is_empty() {
         Ok(Taken::leaves(alloc, Outcome::Committed))
     } else {
-        tell_forget(alloc, gxid, txn)
+        tell_forget(alloc, spent, gxid, txn)
     }
 }
 
-fn tell_forget(alloc: Global, gxid: Gxid, txn: &mut Txn) -> Mem<Taken>
+fn tell_forget(alloc: Global, spent: &mut Vec<Out>, gxid: Gxid, txn: &mut Txn) -> Mem<Taken>
     ensures value { IfOk result (λ taken. IsMade (goes_to (phase.Ended txn.old.participants) (messages (message.Forget gxid) txn.old.participants) outcome.Committed) txn.old txn.new taken) }
     ensures err { OnErr result (txn.new ≡ txn.old) }
 {
-    let (awaited, outs) = told(alloc, gxid, Order::Forget, txn.participants.as_slice())?;
+    let (awaited, outs) = told(
+        alloc,
+        spent,
+        gxid,
+        Order::Forget,
+        txn.participants.as_slice(),
+    )?;
     Ok(go_on(txn, Phase::Ended(awaited), outs, Outcome::Committed))
 }
 
-fn tell_abort(alloc: Global, gxid: Gxid, txn: &mut Txn, outcome: Outcome) -> Mem<Taken>
+fn tell_abort(
+    alloc: Global,
+    spent: &mut Vec<Out>,
+    gxid: Gxid,
+    txn: &mut Txn,
+    outcome: Outcome,
+) -> Mem<Taken>
     ensures value { IfOk result (λ taken. IsMade (goes_to (phase.Aborting txn.old.participants) (messages (message.Abort gxid) txn.old.participants) outcome) txn.old txn.new taken) }
     ensures err { OnErr result (txn.new ≡ txn.old) }
 {
-    let (awaited, outs) = told(alloc, gxid, Order::Abort, txn.participants.as_slice())?;
+    let (awaited, outs) = told(
+        alloc,
+        spent,
+        gxid,
+        Order::Abort,
+        txn.participants.as_slice(),
+    )?;
     Ok(go_on(txn, Phase::Aborting(awaited), outs, outcome))
 }
 
 // A node's journal has failed.
-pub(crate) fn refuse(alloc: Global, gxid: Gxid, txn: &mut Txn, node: Node) -> Mem<Taken>
+pub(crate) fn refuse(
+    alloc: Global,
+    spent: &mut Vec<Out>,
+    gxid: Gxid,
+    txn: &mut Txn,
+    node: Node,
+) -> Mem<Taken>
     ensures value { IfOk result (λ taken. IsMade (refuses gxid txn.old.participants node) txn.old txn.new taken) }
     ensures err { OnErr result (txn.new ≡ txn.old) }
 {
-    tell_abort(alloc, gxid, txn, Outcome::Refused(node))
+    tell_abort(alloc, spent, gxid, txn, Outcome::Refused(node))
 }
 
 // Abort.
-pub(crate) fn abort(alloc: Global, gxid: Gxid, txn: &mut Txn) -> Mem<Taken>
+pub(crate) fn abort(alloc: Global, spent: &mut Vec<Out>, gxid: Gxid, txn: &mut Txn) -> Mem<Taken>
     ensures value { IfOk result (λ taken. IsMade (aborts gxid txn.old.participants) txn.old txn.new taken) }
     ensures err { OnErr result (txn.new ≡ txn.old) }
 {
     if txn.participants.is_empty() {
         Ok(Taken::leaves(alloc, Outcome::Ended))
     } else {
-        tell_abort(alloc, gxid, txn, Outcome::Pending)
+        tell_abort(alloc, spent, gxid, txn, Outcome::Pending)
     }
 }
 
 // Commit, with these writers.
-pub(crate) fn commit(alloc: Global, gxid: Gxid, writers: &[Node], txn: &mut Txn) -> Mem<Taken>
+pub(crate) fn commit(
+    alloc: Global,
+    spent: &mut Vec<Out>,
+    gxid: Gxid,
+    writers: &[Node],
+    txn: &mut Txn,
+) -> Mem<Taken>
     ensures value { IfOk result (λ taken. IsMade (commits gxid writers.now txn.old) txn.old txn.new taken) }
     ensures err { OnErr result (txn.new ≡ txn.old) }
 {
     match writers {
-        [] => end_committed(alloc, gxid, txn),
-        [writer] => tell_commit(alloc, gxid, txn, *writer),
-        [_, _, ..] => tell_prepare(alloc, gxid, txn, writers),
+        [] => end_committed(alloc, spent, gxid, txn),
+        [writer] => tell_commit(alloc, spent, gxid, txn, *writer),
+        [_, _, ..] => tell_prepare(alloc, spent, gxid, txn, writers),
     }
 }
 
-fn tell_commit(alloc: Global, gxid: Gxid, txn: &mut Txn, writer: Node) -> Mem<Taken>
+fn tell_commit(
+    alloc: Global,
+    spent: &mut Vec<Out>,
+    gxid: Gxid,
+    txn: &mut Txn,
+    writer: Node,
+) -> Mem<Taken>
     ensures value { IfOk result (λ taken. IsMade (goes_to (phase.CommittingOne writer) (messages (message.Commit gxid) (writer ∷ [])) outcome.Pending) txn.old txn.new taken) }
     ensures err { OnErr result (txn.new ≡ txn.old) }
 {
-    let outs = Order::Commit.to_each(alloc, gxid, &[writer])?;
+    let outs = Order::Commit.to_each(alloc, spent, gxid, &[writer])?;
     Ok(go_on(txn, Phase::CommittingOne(writer), outs, Outcome::Pending))
 }
 
-fn tell_prepare(alloc: Global, gxid: Gxid, txn: &mut Txn, writers: &[Node]) -> Mem<Taken>
+fn tell_prepare(
+    alloc: Global,
+    spent: &mut Vec<Out>,
+    gxid: Gxid,
+    txn: &mut Txn,
+    writers: &[Node],
+) -> Mem<Taken>
     ensures value { IfOk result (λ taken. IsMade (goes_to (phase.Preparing writers.now writers.now) (messages (message.Prepare gxid) writers.now) outcome.Pending) txn.old txn.new taken) }
     ensures err { OnErr result (txn.new ≡ txn.old) }
 {
-    let (phase, outs) = prepared(alloc, gxid, writers)?;
+    let (phase, outs) = prepared(alloc, spent, gxid, writers)?;
     Ok(go_on(txn, phase, outs, Outcome::Pending))
 }
 
 // The phase in which these writers are asked to prepare, and what is to be sent for it.
-fn prepared(alloc: Global, gxid: Gxid, writers: &[Node]) -> Mem<(Phase, Seq<Out>)>
+fn prepared(
+    alloc: Global,
+    spent: &mut Vec<Out>,
+    gxid: Gxid,
+    writers: &[Node],
+) -> Mem<(Phase, Seq<Out>)>
     ensures { IfOk result (λ prepared. (prepared.0 ≡ phase.Preparing writers.now writers.now) × (prepared.1 ≡ messages (message.Prepare gxid) writers.now)) }
 {
-    let (awaited, outs) = told(alloc, gxid, Order::Prepare, writers)?;
+    let (awaited, outs) = told(alloc, spent, gxid, Order::Prepare, writers)?;
     match copies(alloc, writers) {
         Ok(copied) => {
             let writers = Seq::from_vec(copied);

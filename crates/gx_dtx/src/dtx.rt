@@ -129,8 +129,8 @@ impl Dtx {
     }
 
     /// Commits a transaction that has written at these nodes: at once without writers, by one phase with one, by two
-    /// with more (Lyu et al., SIGMOD 2021).
-    pub fn commit(&mut self, gxid: Gxid, writers: &[Node]) -> Mem<DtxOut>
+    /// with more (Lyu et al., SIGMOD 2021). What is to be sent takes the memory of a spent list.
+    pub fn commit(&mut self, spent: &mut Vec<Out>, gxid: Gxid, writers: &[Node]) -> Mem<DtxOut>
         requires active { IsActive self.old gxid }
         requires writers { AreWriters self.old gxid writers.now }
         ensures table { OnOk result (self.new ≡ (on_commit self.old gxid writers.now).table) }
@@ -139,13 +139,13 @@ impl Dtx {
         ensures told { participants_of self.old gxid ≡ [] → IfOk result (λ out. out ≡ silently outcome.Committed) }
         ensures err { OnErr result (self.new ≡ self.old) }
     {
-        let out = self.txns.commit(gxid, writers)?;
+        let out = self.txns.commit(spent, gxid, writers)?;
         self.latest_ended = latest_after(out.outcome, gxid, self.latest_ended);
         Ok(out)
     }
 
-    /// Aborts a transaction.
-    pub fn abort(&mut self, gxid: Gxid) -> Mem<DtxOut>
+    /// Aborts a transaction. What is to be sent takes the memory of a spent list.
+    pub fn abort(&mut self, spent: &mut Vec<Out>, gxid: Gxid) -> Mem<DtxOut>
         requires { IsActive self.old gxid }
         ensures table { OnOk result (self.new ≡ (on_abort self.old gxid).table) }
         ensures out { IfOk result (λ out. out ≡ (on_abort self.old gxid).out) }
@@ -153,16 +153,18 @@ impl Dtx {
         ensures told { participants_of self.old gxid ≡ [] → IfOk result (λ out. out ≡ silently outcome.Ended) }
         ensures err { OnErr result (self.new ≡ self.old) }
     {
-        let out = self.txns.abort(gxid)?;
+        let out = self.txns.abort(spent, gxid)?;
         self.latest_ended = latest_after(out.outcome, gxid, self.latest_ended);
         Ok(out)
     }
 
     /// Takes a node's answer about a transaction. One that isn't awaited changes nothing. With the last PREPARED the
     /// decide item is appended to the journal, and nowhere else is the journal touched. Where that append fails, or
-    /// where a JFAULT came, the transaction aborts. AGAIN leaves COMMIT PREPARED awaited.
+    /// where a JFAULT came, the transaction aborts. AGAIN leaves COMMIT PREPARED awaited. What is to be sent takes the memory
+    /// of a spent list.
     pub fn reply<J: Journal>(
         &mut self,
+        spent: &mut Vec<Out>,
         gxid: Gxid,
         node: Node,
         answer: Reply,
@@ -177,7 +179,7 @@ impl Dtx {
         ensures err { OnErr result (self.new ≡ self.old) }
         ensures kept { OnErr result (HasKept (J.shelf journal.old) (J.shelf journal.new)) }
     {
-        let out = self.txns.reply(gxid, node, &answer, journal)?;
+        let out = self.txns.reply(spent, gxid, node, &answer, journal)?;
         self.latest_ended = latest_after(out.outcome, gxid, self.latest_ended);
         Ok(out)
     }

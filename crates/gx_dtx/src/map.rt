@@ -19,7 +19,7 @@ use crate::taken::Taken;
 use crate::txn::Txn;
 use gx_dsnap::Snapshot;
 use gx_ids::{Gxid, Mem, Node, Seq, Shared};
-use gx_msg::Reply;
+use gx_msg::{Out, Reply};
 use gx_outside::Journal;
 use std::alloc::Global;
 use std::collections::BTreeMap;
@@ -102,23 +102,29 @@ pub(crate) fn add(alloc: Global, txns: &mut Map, gxid: Gxid) -> Mem<()>
 }
 
 // A transaction commits, with these writers.
-pub(crate) fn commit(alloc: Global, txns: &mut Map, gxid: Gxid, writers: &[Node]) -> Mem<Taken>
+pub(crate) fn commit(
+    alloc: Global,
+    spent: &mut Vec<Out>,
+    txns: &mut Map,
+    gxid: Gxid,
+    writers: &[Node],
+) -> Mem<Taken>
     ensures value { IfOk result (λ taken. AreMade (commit_found gxid writers.now (lookup (is_at (gxid_cmp gxid)) txns.old.entries)) txns.old.entries txns.new.entries gxid taken) }
     ensures err { OnErr result (txns.new.entries ≡ txns.old.entries) }
 {
     match txns.get_mut(&gxid) {
-        Some(txn) => changes::commit(alloc, gxid, writers, txn),
+        Some(txn) => changes::commit(alloc, spent, gxid, writers, txn),
         None => Ok(Taken::silent(alloc)),
     }
 }
 
 // A transaction aborts.
-pub(crate) fn abort(alloc: Global, txns: &mut Map, gxid: Gxid) -> Mem<Taken>
+pub(crate) fn abort(alloc: Global, spent: &mut Vec<Out>, txns: &mut Map, gxid: Gxid) -> Mem<Taken>
     ensures value { IfOk result (λ taken. AreMade (abort_found gxid (lookup (is_at (gxid_cmp gxid)) txns.old.entries)) txns.old.entries txns.new.entries gxid taken) }
     ensures err { OnErr result (txns.new.entries ≡ txns.old.entries) }
 {
     match txns.get_mut(&gxid) {
-        Some(txn) => changes::abort(alloc, gxid, txn),
+        Some(txn) => changes::abort(alloc, spent, gxid, txn),
         None => Ok(Taken::silent(alloc)),
     }
 }
@@ -126,6 +132,7 @@ pub(crate) fn abort(alloc: Global, txns: &mut Map, gxid: Gxid) -> Mem<Taken>
 // A node answers about a transaction.
 pub(crate) fn reply<J: Journal>(
     alloc: Global,
+    spent: &mut Vec<Out>,
     txns: &mut Map,
     gxid: Gxid,
     node: Node,
@@ -141,7 +148,7 @@ pub(crate) fn reply<J: Journal>(
     ensures kept { OnErr result (HasKept (J.shelf journal.old) (J.shelf journal.new)) }
 {
     match txns.get_mut(&gxid) {
-        Some(txn) => take_answer(alloc, gxid, txn, node, answer, journal),
+        Some(txn) => take_answer(alloc, spent, gxid, txn, node, answer, journal),
         None => Ok(Taken::silent(alloc)),
     }
 }

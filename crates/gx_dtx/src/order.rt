@@ -1,10 +1,11 @@
-ghost use Rattle.std.specs.Prelude.{◌≡◌, IfOk};
+ghost use Rattle.std.specs.Prelude.{◌≡◌, [], IfOk};
 ghost use Rattle.gx_dtx.specs.Nodes.{to_each as messages};
 ghost use Rattle.gx_dtx.specs.Orders.{message_of};
 
 use gx_ids::{Gxid, Mem, Node, Seq};
 use gx_msg::{Message, Out};
 use std::alloc::Global;
+use std::mem;
 
 /// What the coordinator tells nodes about a transaction's end.
 #[derive(Clone, Copy)]
@@ -40,14 +41,30 @@ impl Order {
         }
     }
 
-    /// The message to each of the nodes, in order.
-    pub fn to_each(self, alloc: Global, gxid: Gxid, nodes: &[Node]) -> Mem<Seq<Out>>
+    /// The message to each of the nodes, in order. The list takes the memory of a spent one.
+    pub fn to_each(
+        self,
+        alloc: Global,
+        spent: &mut Vec<Out>,
+        gxid: Gxid,
+        nodes: &[Node],
+    ) -> Mem<Seq<Out>>
         ensures { IfOk result (λ outs. outs ≡ messages (message_of self gxid) nodes.now) }
     {
-        let mut outs = Vec::with_capacity(alloc, nodes.len())?;
+        let mut outs = emptied(alloc, spent);
+        outs.reserve(nodes.len())?;
         for node in nodes {
             outs.push(self.out(gxid, *node))?;
         }
         Ok(Seq::from_vec(outs))
     }
+}
+
+// An empty list with the memory of a spent one.
+fn emptied(alloc: Global, spent: &mut Vec<Out>) -> Vec<Out>
+    ensures { result.items ≡ [] }
+{
+    let mut blank = mem::replace(spent, Vec::new(alloc));
+    blank.clear();
+    blank
 }

@@ -19,7 +19,7 @@ use crate::phase::Phase;
 use crate::taken::Taken;
 use crate::txn::Txn;
 use gx_ids::{Gxid, Mem, Node, OutOfMemory, Seq};
-use gx_msg::{JournalItem, Reply, item_bytes};
+use gx_msg::{JournalItem, Out, Reply, item_bytes};
 use gx_outside::{AppendFault, Journal};
 use std::alloc::Global;
 
@@ -80,6 +80,7 @@ fn commit_if(awaited: bool) -> Due
 // What an answer makes of a transaction.
 pub(crate) fn take_answer<J: Journal>(
     alloc: Global,
+    spent: &mut Vec<Out>,
     gxid: Gxid,
     txn: &mut Txn,
     node: Node,
@@ -93,12 +94,13 @@ pub(crate) fn take_answer<J: Journal>(
     ensures kept { OnErr result (HasKept (J.shelf journal.old) (J.shelf journal.new)) }
 {
     let due = due(&txn.phase, node, answer);
-    take_due(alloc, gxid, txn, node, due, journal)
+    take_due(alloc, spent, gxid, txn, node, due, journal)
 }
 
 // What is due is made of a transaction.
 fn take_due<J: Journal>(
     alloc: Global,
+    spent: &mut Vec<Out>,
     gxid: Gxid,
     txn: &mut Txn,
     node: Node,
@@ -117,9 +119,9 @@ fn take_due<J: Journal>(
             txn.wait_without(alloc, node);
             Ok(Taken::silent(alloc))
         }
-        Due::Decision => decide(alloc, gxid, txn, journal),
-        Due::Commit => end_committed(alloc, gxid, txn),
-        Due::Abort => refuse(alloc, gxid, txn, node),
+        Due::Decision => decide(alloc, spent, gxid, txn, journal),
+        Due::Commit => end_committed(alloc, spent, gxid, txn),
+        Due::Abort => refuse(alloc, spent, gxid, txn, node),
         Due::Forgotten => Ok(Taken::leaves(alloc, Outcome::Pending)),
         Due::Aborted => Ok(Taken::leaves(alloc, Outcome::Ended)),
     }
@@ -127,13 +129,19 @@ fn take_due<J: Journal>(
 
 // All writers are prepared: appends the decide item. What is to be sent is made before, so that no memory is needed
 // once it is appended.
-fn decide<J: Journal>(alloc: Global, gxid: Gxid, txn: &mut Txn, journal: &mut J) -> Mem<Taken>
+fn decide<J: Journal>(
+    alloc: Global,
+    spent: &mut Vec<Out>,
+    gxid: Gxid,
+    txn: &mut Txn,
+    journal: &mut J,
+) -> Mem<Taken>
     ensures value { IfOk result (λ taken. IsMade (decides gxid (writers_in txn.old.phase) txn.old.participants (is_refused taken.out.outcome)) txn.old txn.new taken) }
     ensures err { OnErr result (txn.new ≡ txn.old) }
     ensures decided { IfOk result (λ taken. HasDecided (J.shelf journal.old) (J.shelf journal.new) gxid true taken.out.outcome) }
     ensures kept { OnErr result (HasKept (J.shelf journal.old) (J.shelf journal.new)) }
 {
-    let outs = Order::CommitPrepared.to_each(alloc, gxid, txn.phase.writers())?;
+    let outs = Order::CommitPrepared.to_each(alloc, spent, gxid, txn.phase.writers())?;
     match append_decide(alloc, gxid, journal) {
         Ok(()) => {
             txn.commit_prepared(alloc);
@@ -141,7 +149,7 @@ fn decide<J: Journal>(alloc: Global, gxid: Gxid, txn: &mut Txn, journal: &mut J)
         }
         Err(AppendFault::Failed) => {
             drop(outs);
-            refuse(alloc, gxid, txn, Node(0))
+            refuse(alloc, spent, gxid, txn, Node(0))
         }
         Err(AppendFault::OutOfMemory) => {
             drop(outs);

@@ -11,7 +11,7 @@ use crate::outcome::{DtxOut, Outcome};
 use crate::txn::Txn;
 use gx_dsnap::Snapshot;
 use gx_ids::{Gxid, Mem, Node};
-use gx_msg::Reply;
+use gx_msg::{Out, Reply};
 use gx_outside::Journal;
 use std::alloc::Global;
 use std::collections::BTreeMap;
@@ -100,23 +100,23 @@ impl Txns {
     }
 
     /// Commits a transaction with these writers.
-    pub fn commit(&mut self, gxid: Gxid, writers: &[Node]) -> Mem<DtxOut>
+    pub fn commit(&mut self, spent: &mut Vec<Out>, gxid: Gxid, writers: &[Node]) -> Mem<DtxOut>
         ensures txns { OnOk result (self.new ≡ with_step self.old gxid (commit_found gxid writers.now (lookup (is_at (gxid_cmp gxid)) self.old)).step) }
         ensures out { IfOk result (λ out. out ≡ (commit_found gxid writers.now (lookup (is_at (gxid_cmp gxid)) self.old)).out) }
         ensures err { OnErr result (self.new ≡ self.old) }
     {
-        let taken = map::commit(self.alloc, &mut self.map, gxid, writers)?;
+        let taken = map::commit(self.alloc, spent, &mut self.map, gxid, writers)?;
         map::settle(&mut self.map, gxid, taken.leaves);
         Ok(taken.out)
     }
 
     /// Aborts a transaction.
-    pub fn abort(&mut self, gxid: Gxid) -> Mem<DtxOut>
+    pub fn abort(&mut self, spent: &mut Vec<Out>, gxid: Gxid) -> Mem<DtxOut>
         ensures txns { OnOk result (self.new ≡ with_step self.old gxid (abort_found gxid (lookup (is_at (gxid_cmp gxid)) self.old)).step) }
         ensures out { IfOk result (λ out. out ≡ (abort_found gxid (lookup (is_at (gxid_cmp gxid)) self.old)).out) }
         ensures err { OnErr result (self.new ≡ self.old) }
     {
-        let taken = map::abort(self.alloc, &mut self.map, gxid)?;
+        let taken = map::abort(self.alloc, spent, &mut self.map, gxid)?;
         map::settle(&mut self.map, gxid, taken.leaves);
         Ok(taken.out)
     }
@@ -124,6 +124,7 @@ impl Txns {
     /// Takes a node's answer about a transaction.
     pub fn reply<J: Journal>(
         &mut self,
+        spent: &mut Vec<Out>,
         gxid: Gxid,
         node: Node,
         answer: &Reply,
@@ -136,7 +137,15 @@ impl Txns {
         ensures untouched { decides_found (lookup (is_at (gxid_cmp gxid)) self.old) node answer.now ≡ false → journal.new ≡ journal.old }
         ensures kept { OnErr result (HasKept (J.shelf journal.old) (J.shelf journal.new)) }
     {
-        let taken = map::reply(self.alloc, &mut self.map, gxid, node, answer, journal)?;
+        let taken = map::reply(
+            self.alloc,
+            spent,
+            &mut self.map,
+            gxid,
+            node,
+            answer,
+            journal,
+        )?;
         map::settle(&mut self.map, gxid, taken.leaves);
         Ok(taken.out)
     }

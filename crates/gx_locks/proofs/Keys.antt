@@ -1,5 +1,5 @@
 -- Under which keys a claim stands.
-use Rattle.std.proofs.Common.{◌≡◌, ◌≢◌, ◌⊎◌, inl, inr, refl, sym, ap, subst, ◌∙◌, Bool, true, false, eqb, arith, ⊎_elim}
+use Rattle.std.proofs.Common.{◌≡◌, ◌≢◌, ◌⊎◌, inl, inr, refl, sym, ap, subst, ◌∙◌, Bool, true, false, eqb, arith, ⊎_elim, ℕ, ◌≤◌, ◌<◌}
 use Rattle.std.proofs.lemmas.Bool.Decides.{nat_tests}
 use Rattle.gx_ids.specs.declared.ids.Gxid.{Gxid}
 use Rattle.gx_waits.specs.declared.object.Object.{Object}
@@ -9,6 +9,7 @@ use Rattle.gx_locks.specs.declared.key.Key.TheVariants.{On, Of}
 use Rattle.gx_waits.specs.Claim.{same_object}
 use Rattle.gx_locks.specs.Claims.{is_of}
 use Rattle.gx_locks.specs.Holds.{is_under}
+use Rattle.gx_locks.specs.Room.{bit}
 use Rattle.gx_locks.proofs.Meets.{same_object-same, same_object-itself}
 
 -- the claim stands under its object and its transaction, and under no other key
@@ -68,3 +69,8 @@ module _ {A : Type 0} (c : Claim) (f : A → A) (p q r : Key → A) (on : q (On 
 
   pub both_apart : (k : Key) → is_under k c ≡ false → r k ≡ p k
   both_apart k isnt = of_else k (apart k (Of c.gxid) c isnt (of_own c)) ∙ on_else k (apart k (On c.object) c isnt (under_own c))
+
+-- a place under a key of the claim
+pub placed : (b : Bool) (n m : ℕ) → b ≡ true → bit b ≤ n → m ≡ n → 0 < m
+placed true n m is room same = omega (arith, room, same)
+placed false n m is room same = absurd (cc)

@@ -1,6 +1,7 @@
 pub mod Book
 pub mod Claims
 pub mod Graphs
+pub mod Hashed
 pub mod HoldLists
 pub mod Holds
 pub mod Index
@@ -10,3 +11,4 @@ pub mod Locks
 pub mod Rack
 pub mod Room
 pub mod Runs
+pub mod Shelves

@@ -190,7 +190,7 @@ impl Book {
         ensures places { self.new.ledger.places ≡ self.old.ledger.places }
         ensures room { (k : Key) → k ≢ Of gxid → places_at self.new.index k ≡ places_at self.old.index k }
     {
-        let holds = self.index.take(Key::Of(gxid));
+        let holds = self.index.take_of(gxid);
         for hold in holds.as_slice() {
             self.ledger.strike(hold);
             self.index.strike(Key::On(hold.claim.object), hold);

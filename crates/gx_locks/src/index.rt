@@ -1,27 +1,46 @@
-ghost use Rattle.std.specs.Prelude.{◌≡◌, ◌≢◌, ◌<◌, ◌+◌, ◌-◌, ◌++◌, ◌∷◌, [], ◌==◌, ◌&&◌, length, true, false, ◌≤◌, filter, not, OnOk, OnErr};
+ghost use Rattle.std.specs.Prelude.{◌≡◌, ◌≢◌, ◌<◌, ◌+◌, ◌-◌, ◌++◌, ◌∷◌, [], ◌==◌, ◌&&◌, length, true, false, ◌≤◌, filter, not, IfSome, IfNone, OnOk, OnErr, ℕ, slice_index_or, vec_len};
+ghost use Rattle.std.specs.Borrow.{sem};
 ghost use Rattle.gx_locks.specs.Holds.{same_hold, is_under};
 ghost use Rattle.gx_locks.specs.HoldLists.{held};
+ghost use Rattle.gx_locks.specs.Rack.{no_shelf};
 ghost use Rattle.gx_locks.specs.Room.{bit};
 
 use crate::hold::Hold;
 use crate::hold_list::HoldList;
 use crate::key::Key;
 use crate::shelf::Shelf;
-use gx_ids::Mem;
+use gx_ids::{Gxid, Mem, Table};
 use gx_waits::{Claim, Object};
 use std::alloc::Global;
-use std::collections::BTreeMap;
+use std::collections::HashMap;
 
-/// The holds by object and by transaction, each list in the order in which they came.
+/// The holds by object and by transaction, each list in the order in which they came. Those on tables stand by the
+/// table's number: a table has its shelf for good, since the next command on it comes.
 #[derive(Drop)]
 pub struct Index {
     alloc: Global,
-    shelves: BTreeMap<Key, Shelf>,
+    tables: Vec<Shelf>,
+    others: HashMap<Key, Shelf>,
+}
+
+// Sees to it that there are so many shelves.
+#[tactic(auto, using(crate::proofs::Written::pushed_empty))]
+fn make_shelves(shelves: &mut Vec<Shelf>, count: usize) -> Mem<()>
+    ensures same { (n : ℕ) → slice_index_or shelves.new.items n no_shelf ≡ slice_index_or shelves.old.items n no_shelf }
+    ensures enough { OnOk result (count ≤ vec_len shelves.new) }
+{
+    while shelves.len() < count {
+        shelves.push(Shelf::new())?;
+    }
+    Ok(())
 }
 
 impl Index {
     ghost use Rattle.gx_locks.specs.declared.key.Key.{Key};
+    ghost use Rattle.gx_locks.specs.declared.key.Key.TheVariants.{On, Of};
+    ghost use Rattle.gx_waits.specs.declared.object.Object.TheVariants.{Relation};
     ghost use Rattle.gx_locks.specs.Index.{holds_at, places_at, shelf_at};
+    ghost use Rattle.gx_locks.specs.Shelves.{LendsShelf};
 
     pub fn new(alloc: Global) -> Index
         ensures holds { (k : Key) → holds_at result k ≡ [] }
@@ -29,14 +48,37 @@ impl Index {
     {
         Index {
             alloc,
-            shelves: BTreeMap::new(alloc),
+            tables: Vec::new(alloc),
+            others: HashMap::new(alloc),
+        }
+    }
+
+    // The shelf of a key, where it has one.
+    fn shelf(&self, key: Key) -> Option<&Shelf>
+        ensures found { IfSome result (λ shelf. shelf.now ≡ shelf_at self.now key) }
+        ensures missing { IfNone result (shelf_at self.now key ≡ no_shelf) }
+    {
+        match key {
+            Key::On(Object::Relation(table)) => self.tables.get(usize::from(table.0)),
+            _ => self.others.get(&key),
+        }
+    }
+
+    fn shelf_mut(&mut self, key: Key) -> Option<&mut Shelf>
+        ensures* follows { sem 𝓛 (LendsShelf self.entry key result) }
+        ensures found { IfSome result (λ shelf. shelf.now ≡ shelf_at self.old key) }
+        ensures missing { IfNone result (shelf_at self.old key ≡ no_shelf) }
+    {
+        match key {
+            Key::On(Object::Relation(table)) => self.tables.get_mut(usize::from(table.0)),
+            _ => self.others.get_mut(&key),
         }
     }
 
     pub fn at(&self, key: Key) -> &[Hold]
         ensures { result.now ≡ holds_at self.now key }
     {
-        match self.shelves.get(&key) {
+        match self.shelf(key) {
             Some(shelf) => shelf.holds(),
             None => &[],
         }
@@ -46,7 +88,7 @@ impl Index {
     pub fn is_full(&self, key: Key) -> bool
         ensures { result ≡ (places_at self.now key == 0) }
     {
-        match self.shelves.get(&key) {
+        match self.shelf(key) {
             Some(shelf) => shelf.is_full(),
             None => true,
         }
@@ -59,11 +101,12 @@ impl Index {
         ensures elsewhere { (k : Key) → k ≢ key → places_at self.new k ≡ places_at self.old k }
         ensures err { OnErr result (places_at self.new key ≡ places_at self.old key) }
     {
-        match self.shelves.get_mut(&key) {
-            Some(shelf) => shelf.reserve(self.alloc),
+        let alloc = self.alloc;
+        match self.shelf_mut(key) {
+            Some(shelf) => shelf.reserve(alloc),
             None => {
                 let mut shelf = Shelf::new();
-                shelf.reserve(self.alloc)?;
+                shelf.reserve(alloc)?;
                 self.put(key, shelf)
             }
         }
@@ -84,7 +127,7 @@ impl Index {
         ensures there { places_at self.new key ≡ places_at self.old key - 1 }
         ensures elsewhere { (k : Key) → k ≢ key → places_at self.new k ≡ places_at self.old k }
     {
-        if let Some(shelf) = self.shelves.get_mut(&key) {
+        if let Some(shelf) = self.shelf_mut(key) {
             shelf.cancel();
         }
     }
@@ -97,7 +140,7 @@ impl Index {
         ensures elsewhere { (k : Key) → k ≢ key → holds_at self.new k ≡ holds_at self.old k }
         ensures places_elsewhere { (k : Key) → k ≢ key → places_at self.new k ≡ places_at self.old k }
     {
-        match self.shelves.get_mut(&key) {
+        match self.shelf_mut(key) {
             Some(shelf) => shelf.fill(hold),
             None => unreachable!(),
         }
@@ -111,11 +154,12 @@ impl Index {
         ensures places_there { places_at self.new key ≡ places_at self.old key }
         ensures places_elsewhere { (k : Key) → k ≢ key → places_at self.new k ≡ places_at self.old k }
     {
-        match self.shelves.get_mut(&key) {
-            Some(shelf) => shelf.add(self.alloc, hold),
+        let alloc = self.alloc;
+        match self.shelf_mut(key) {
+            Some(shelf) => shelf.add(alloc, hold),
             None => {
                 let mut shelf = Shelf::new();
-                shelf.add(self.alloc, hold)?;
+                shelf.add(alloc, hold)?;
                 self.put(key, shelf)
             }
         }
@@ -127,7 +171,24 @@ impl Index {
         ensures elsewhere { (k : Key) → k ≢ key → shelf_at self.new k ≡ shelf_at self.old k }
         ensures err { OnErr result (shelf_at self.new key ≡ shelf_at self.old key) }
     {
-        drop(self.shelves.insert(key, shelf)?);
+        match key {
+            Key::On(Object::Relation(table)) => self.put_table(table, shelf),
+            _ => {
+                drop(self.others.insert(key, shelf)?);
+                Ok(())
+            }
+        }
+    }
+
+    // Puts a shelf under a table.
+    fn put_table(&mut self, table: Table, shelf: Shelf) -> Mem<()>
+        ensures there { OnOk result (shelf_at self.new (On (Relation table)) ≡ shelf) }
+        ensures elsewhere { (k : Key) → k ≢ On (Relation table) → shelf_at self.new k ≡ shelf_at self.old k }
+        ensures err { OnErr result (shelf_at self.new (On (Relation table)) ≡ shelf_at self.old (On (Relation table))) }
+    {
+        let place = usize::from(table.0);
+        make_shelves(&mut self.tables, place + 1)?;
+        self.tables[place] = shelf;
         Ok(())
     }
 
@@ -146,7 +207,7 @@ impl Index {
         ensures elsewhere { (k : Key) → k ≢ key → holds_at self.new k ≡ holds_at self.old k }
         ensures places { (k : Key) → places_at self.new k ≡ places_at self.old k }
     {
-        if let Some(shelf) = self.shelves.get_mut(&key) {
+        if let Some(shelf) = self.shelf_mut(key) {
             shelf.strike(hold);
         }
     }
@@ -167,27 +228,27 @@ impl Index {
         ensures places { (k : Key) → places_at self.new k ≡ places_at self.old k }
     {
         if self.is_idle(key) {
-            drop(self.shelves.remove(&key));
+            drop(self.others.remove(&key));
         }
     }
 
     fn is_idle(&self, key: Key) -> bool
         ensures { result ≡ ((length (holds_at self.now key) == 0) && (places_at self.now key == 0)) }
     {
-        match self.shelves.get(&key) {
+        match self.shelf(key) {
             Some(shelf) => shelf.is_idle(),
             None => true,
         }
     }
 
-    /// Takes out all holds under a key, and the room that was kept for more.
-    pub fn take(&mut self, key: Key) -> HoldList
-        ensures taken { held result ≡ holds_at self.old key }
-        ensures there { holds_at self.new key ≡ [] }
-        ensures elsewhere { (k : Key) → k ≢ key → holds_at self.new k ≡ holds_at self.old k }
-        ensures places { (k : Key) → k ≢ key → places_at self.new k ≡ places_at self.old k }
+    /// Takes out all holds of a transaction, and the room that was kept for more.
+    pub fn take_of(&mut self, gxid: Gxid) -> HoldList
+        ensures taken { held result ≡ holds_at self.old (Of gxid) }
+        ensures there { holds_at self.new (Of gxid) ≡ [] }
+        ensures elsewhere { (k : Key) → k ≢ Of gxid → holds_at self.new k ≡ holds_at self.old k }
+        ensures places { (k : Key) → k ≢ Of gxid → places_at self.new k ≡ places_at self.old k }
     {
-        match self.shelves.remove(&key) {
+        match self.others.remove(&Key::Of(gxid)) {
             Some(shelf) => shelf.into_holds(),
             None => HoldList::Empty,
         }

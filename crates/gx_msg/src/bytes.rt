@@ -77,10 +77,9 @@ fn push_rows(text: &mut Vec<u8>, gxid: Gxid, rows: &[Kept]) -> Mem<()>
     Ok(())
 }
 
-fn push_line(text: &mut Vec<u8>, name: &[u8], gxid: Gxid) -> Mem<()>
-    ensures { OnOk result (text.new.items ≡ text.old.items ++ name.now ++ decimal gxid.0 ++ codes "\n") }
+fn push_gxid(text: &mut Vec<u8>, gxid: Gxid) -> Mem<()>
+    ensures { OnOk result (text.new.items ≡ text.old.items ++ decimal gxid.0 ++ codes "\n") }
 {
-    push_bytes(text, name)?;
     push_count(text, u128::from(gxid.0))?;
     push_byte(text, b'\n')
 }
@@ -97,8 +96,14 @@ fn push_item(text: &mut Vec<u8>, item: &JournalItem) -> Mem<()>
             push_bytes(text, b"commit ")?;
             push_rows(text, *gxid, rows.as_slice())
         }
-        JournalItem::Finish(gxid) => push_line(text, b"finish ", *gxid),
-        JournalItem::Decide(gxid) => push_line(text, b"decide ", *gxid),
+        JournalItem::Finish(gxid) => {
+            push_bytes(text, b"finish ")?;
+            push_gxid(text, *gxid)
+        }
+        JournalItem::Decide(gxid) => {
+            push_bytes(text, b"decide ")?;
+            push_gxid(text, *gxid)
+        }
     }
 }
 

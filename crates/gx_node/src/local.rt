@@ -4,7 +4,7 @@ ghost use Rattle.gx_rules.specs.Fits as rule;
 ghost use Rattle.gx_rules.specs.Segments.{new_local};
 
 use gx_dsnap::Snapshot;
-use gx_ids::{Cid, Rid, Seq};
+use gx_ids::{Boxed, Cid, Rid, Seq};
 use gx_msg::Reply;
 use gx_store::Mark;
 use gx_tree::{Level, Slice};
@@ -60,14 +60,14 @@ pub struct Suspended {
 }
 
 /// A transaction at a segment: where it stands, its last command here, from 1, or 0 before the first, what was answered to that
-/// command and to PREPARE or COMMIT, and the slice that waits.
+/// command and to PREPARE or COMMIT, and the slice that waits. Few wait, so that one stands apart from a record that is moved often.
 #[derive(Drop)]
 pub struct Local {
     pub phase: Phase,
     pub last: u32,
     pub answer: Option<Reply>,
     pub vote: Option<Vote>,
-    pub suspended: Option<Suspended>,
+    pub suspended: Option<Boxed<Suspended>>,
 }
 
 impl Local {

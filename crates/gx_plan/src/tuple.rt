@@ -28,6 +28,7 @@ fn constant(alloc: Global, expr: &Expr) -> Result<Value, EvalFault>
     ensures fault { (fault : ArithFault) → result ≡ Err (eval_fault fault) → value_of [] expr.now ≡ Err fault }
 {
     match expr {
+        Expr::Lit(Value::Int(number)) => Ok(Value::Int(*number)),
         Expr::Lit(value) => Ok(value.copy(alloc)?),
         _ => {
             let none = Row::from_vec(alloc, Vec::new(alloc))?;

@@ -1,5 +1,5 @@
 // COLLECT: a round asks for the graph of this segment.
-ghost use Rattle.std.specs.Prelude.{◌≡◌, None, Some, IfOk, OnOk};
+ghost use Rattle.std.specs.Prelude.{◌≡◌, [], None, Some, IfOk, OnOk};
 ghost use Rattle.gx_locks.specs.Graphs.{graph_at};
 ghost use Rattle.gx_rules.specs.AtSegment.{on_collect};
 ghost use Rattle.gx_slices.specs.Agrees.{IsHeld};
@@ -42,16 +42,18 @@ pub(crate) fn collect(
     held: &Held,
     report: &mut LastReport,
     round: u64,
+    blank: Vec<Mark>,
 ) -> Mem<Done>
     ghost was: { Before }
     requires node { node ≡ was.seg.node }
     requires held { IsHeld was.script.tables held.now was.seg }
     requires report { report.old ≡ report_in was.seg }
+    requires blank { blank.items ≡ [] }
     ensures done { IfOk result (λ done. HasDone was.script.tables held.now was.seg.horizon done (on_collect was.seg round)) }
     ensures quiet { IfOk result (λ done. IsQuiet done (on_collect was.seg round)) }
     ensures report { OnOk result (report.new ≡ report_in (on_collect was.seg round).seg) }
 {
-    let done = tell(alloc, node, &held.locks, report, round)?;
+    let done = tell(alloc, node, &held.locks, report, round, blank)?;
     Ok(done)
 }
 
@@ -62,16 +64,18 @@ fn tell(
     locks: &LockTable,
     report: &mut LastReport,
     round: u64,
+    blank: Vec<Mark>,
 ) -> Mem<Done>
+    requires blank { blank.items ≡ [] }
     ensures done { IfOk result (λ done. done ≡ told node locks.now report.old round) }
     ensures report { OnOk result (report.new ≡ kept locks.now report.old round) }
 {
     if report.round < round {
-        tell_now(alloc, node, locks, report, round)
+        tell_now(alloc, node, locks, report, round, blank)
     } else if report.round == round {
-        tell_again(alloc, round, &report.graph)
+        tell_again(alloc, round, &report.graph, blank)
     } else {
-        Ok(nothing(alloc))
+        Ok(nothing(blank))
     }
 }
 
@@ -82,42 +86,52 @@ fn tell_now(
     locks: &LockTable,
     report: &mut LastReport,
     round: u64,
+    blank: Vec<Mark>,
 ) -> Mem<Done>
+    requires blank { blank.items ≡ [] }
     ensures done { IfOk result (λ done. done ≡ told_now node round (graph_at locks.now)) }
     ensures report { OnOk result (report.new ≡ record { round = round; graph = Some (graph_at locks.now) }) }
 {
     let graph = locks.graph()?;
-    let done = with_graph(alloc, node, round, &graph)?;
+    let done = with_graph(alloc, node, round, &graph, blank)?;
     report.round = round;
     report.graph = Some(graph);
     Ok(done)
 }
 
 // The mark of a graph, and the message that has it.
-fn with_graph(alloc: Global, node: Node, round: u64, graph: &LocalGraph) -> Mem<Done>
+fn with_graph(
+    alloc: Global,
+    node: Node,
+    round: u64,
+    graph: &LocalGraph,
+    blank: Vec<Mark>,
+) -> Mem<Done>
+    requires { blank.items ≡ [] }
     ensures { IfOk result (λ done. done ≡ told_now node round graph.now) }
 {
     let marked = graph.copy(alloc)?;
     let sent = graph.copy(alloc)?;
-    let mut marks = Seq::new(alloc);
+    let mut marks = blank;
     marks.push(Mark::Report {
         node,
         round,
         graph: marked,
     })?;
     Ok(Done {
-        marks,
+        marks: Seq::from_vec(marks),
         answer: Some(Message::Graph(round, sent)),
         fails: false,
     })
 }
 
-fn tell_again(alloc: Global, round: u64, graph: &Option<LocalGraph>) -> Mem<Done>
+fn tell_again(alloc: Global, round: u64, graph: &Option<LocalGraph>, blank: Vec<Mark>) -> Mem<Done>
+    requires { blank.items ≡ [] }
     ensures { IfOk result (λ done. done ≡ told_again round graph.now) }
 {
     let graph = graph.copy(alloc)?;
     Ok(Done {
-        marks: Seq::new(alloc),
+        marks: Seq::from_vec(blank),
         answer: graph.map(|graph| Message::Graph(round, graph)),
         fails: false,
     })

@@ -5,7 +5,6 @@ ghost use Rattle.gx_segment.specs.Done.{answer_of};
 use gx_ids::{Gxid, Seq};
 use gx_msg::{Message, Reply};
 use gx_store::Mark;
-use std::alloc::Global;
 
 /// What a message came to: its marks in order, the answer to the coordinator, and whether the journal failed to take an item.
 #[derive(Drop)]
@@ -15,11 +14,13 @@ pub struct Done {
     pub fails: bool,
 }
 
-pub(crate) fn nothing(alloc: Global) -> Done
+// The marks stand in an empty list, here and in all that takes one.
+pub(crate) fn nothing(blank: Vec<Mark>) -> Done
+    requires { blank.items ≡ [] }
     ensures { result ≡ record { marks = []; answer = None; fails = false } }
 {
     Done {
-        marks: Seq::new(alloc),
+        marks: Seq::from_vec(blank),
         answer: None,
         fails: false,
     }
@@ -36,11 +37,12 @@ pub(crate) fn answer(gxid: Gxid, reply: Option<Reply>) -> Option<Message>
 }
 
 // An answer, and nothing else.
-pub(crate) fn tell(alloc: Global, gxid: Gxid, reply: Option<Reply>) -> Done
+pub(crate) fn tell(gxid: Gxid, reply: Option<Reply>, blank: Vec<Mark>) -> Done
+    requires { blank.items ≡ [] }
     ensures { result ≡ record { marks = []; answer = answer_of gxid reply; fails = false } }
 {
     Done {
-        marks: Seq::new(alloc),
+        marks: Seq::from_vec(blank),
         answer: answer(gxid, reply),
         fails: false,
     }

@@ -1,5 +1,5 @@
 // EXEC.
-ghost use Rattle.std.specs.Prelude.{◌≡◌, ◌<◌, ◌≤◌, None, IfOk};
+ghost use Rattle.std.specs.Prelude.{◌≡◌, ◌<◌, ◌≤◌, [], None, IfOk};
 ghost use Rattle.std.specs.BTreeMap.{get};
 ghost use Rattle.gx_ids.specs.declared.ids.Gxid.{Gxid};
 ghost use Rattle.gx_dsnap.specs.Gxids.{gxid_cmp};
@@ -23,6 +23,7 @@ use gx_outside::Gate;
 use gx_rows::drop_below;
 use gx_script::Script;
 use gx_slices::Held;
+use gx_store::Mark;
 use std::alloc::Global;
 
 // Takes a command's part for this segment.
@@ -36,6 +37,7 @@ pub(crate) fn exec<G: Gate>(
     command: Suspended,
     low: Gxid,
     gate: &G,
+    blank: Vec<Mark>,
 ) -> Mem<Done>
     ghost was: { Before }
     requires script { script.now ≡ was.script }
@@ -43,32 +45,36 @@ pub(crate) fn exec<G: Gate>(
     requires horizon { horizon.old ≡ was.seg.horizon }
     requires fresh { suspended_of command ≡ suspended_slice command.cid command.level command.snapshot command.slice }
     requires node { node ≡ was.seg.node }
+    requires blank { blank.items ≡ [] }
     ensures done { IfOk result (λ done. HasDone was.script.tables held.new horizon.new done (exec_turn was.script was.seg gxid command low)) }
     ensures quiet { IfOk result (λ done. IsQuiet done (exec_turn was.script was.seg gxid command low)) }
 {
     match find_way(script, held, *horizon, gxid, &command, low) {
-        Way::Runs => run(alloc, node, script, held, horizon, gxid, command, low, gate),
+        Way::Runs => run(
+            alloc, node, script, held, horizon, gxid, command, low, gate, blank,
+        ),
         Way::Repeats => {
             drop(command);
-            repeat(alloc, held, gxid)
+            repeat(alloc, held, gxid, blank)
         }
         Way::Nothing => {
             drop(command);
-            Ok(nothing(alloc))
+            Ok(nothing(blank))
         }
     }
 }
 
 // What was kept is answered again.
-fn repeat(alloc: Global, held: &Held, gxid: Gxid) -> Mem<Done>
+fn repeat(alloc: Global, held: &Held, gxid: Gxid, blank: Vec<Mark>) -> Mem<Done>
     ghost was: { Before }
     requires held { IsHeld was.script.tables held.now was.seg }
     requires alive { was.seg.horizon.0 ≤ gxid.0 }
+    requires blank { blank.items ≡ [] }
     ensures done { IfOk result (λ done. HasDone was.script.tables held.now was.seg.horizon done (tells_kept was.seg gxid (local_of was.seg gxid).answer)) }
     ensures quiet { IfOk result (λ done. IsQuiet done (tells_kept was.seg gxid (local_of was.seg gxid).answer)) }
 {
     let kept = kept_answer(alloc, &held.entries, gxid)?;
-    Ok(tell(alloc, gxid, kept))
+    Ok(tell(gxid, kept, blank))
 }
 
 // Raises the horizon, and starts the slice.
@@ -82,6 +88,7 @@ fn run<G: Gate>(
     command: Suspended,
     low: Gxid,
     gate: &G,
+    blank: Vec<Mark>,
 ) -> Mem<Done>
     ghost was: { Before }
     requires script { script.now ≡ was.script }
@@ -90,11 +97,12 @@ fn run<G: Gate>(
     requires may { MayStart was.script.tables (raised was.seg low) gxid command }
     requires fresh { suspended_of command ≡ suspended_slice command.cid command.level command.snapshot command.slice }
     requires node { node ≡ was.seg.node }
+    requires blank { blank.items ≡ [] }
     ensures done { IfOk result (λ done. HasDone was.script.tables held.new horizon.new done (starts was.script (raised was.seg low) gxid command)) }
     ensures quiet { IfOk result (λ done. IsQuiet done (starts was.script (raised was.seg low) gxid command)) }
 {
     raise(held, horizon, low);
-    let done = start(alloc, node, script, held, gxid, command, gate)?;
+    let done = start(alloc, node, script, held, gxid, command, gate, blank)?;
     Ok(done)
 }
 

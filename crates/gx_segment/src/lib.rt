@@ -14,7 +14,6 @@ mod ordering;
 mod probe;
 pub mod segment;
 mod sending;
-mod single;
 mod starting;
 mod stepping;
 mod waits;

@@ -22,7 +22,7 @@ use gx_node::Suspended;
 use gx_outside::{Gate, Journal};
 use gx_script::Script;
 use gx_slices::Held;
-use gx_store::NodeEvent;
+use gx_store::{Mark, NodeEvent};
 use gx_tree::{Level, Slice};
 use std::alloc::Global;
 
@@ -37,6 +37,7 @@ pub(crate) fn take_event<J: Journal, G: Gate>(
     event: NodeEvent,
     journal: &mut J,
     gate: &G,
+    blank: Vec<Mark>,
 ) -> Mem<Done>
     ghost was: { Before }
     requires node { node ≡ was.seg.node }
@@ -45,6 +46,7 @@ pub(crate) fn take_event<J: Journal, G: Gate>(
     requires horizon { horizon.old ≡ was.seg.horizon }
     requires report { report.old ≡ report_in was.seg }
     requires admitted { seg_can was.script was.seg event ≡ true }
+    requires blank { blank.items ≡ [] }
     ensures done { IfOk result (λ done. HasDone was.script.tables held.new horizon.new done (on_event was.script was.seg event done.fails)) }
     ensures report { OnOk result (report.new ≡ report_behind was.seg event) }
     ensures took { IfOk result (λ done. Took (J.shelf journal.old) (J.shelf journal.new) done.fails (on_event was.script was.seg event done.fails).item) }
@@ -62,10 +64,11 @@ pub(crate) fn take_event<J: Journal, G: Gate>(
                 envelope.message,
                 journal,
                 gate,
+                blank,
             )
         }
-        NodeEvent::Resume(gxid) => resume(alloc, node, script, held, gxid, gate),
-        _ => Ok(nothing(alloc)),
+        NodeEvent::Resume(gxid) => resume(alloc, node, script, held, gxid, gate, blank),
+        _ => Ok(nothing(blank)),
     }
 }
 
@@ -102,6 +105,7 @@ fn take_message<J: Journal, G: Gate>(
     message: Message,
     journal: &mut J,
     gate: &G,
+    blank: Vec<Mark>,
 ) -> Mem<Done>
     ghost was: { Before }
     requires node { node ≡ was.seg.node }
@@ -109,6 +113,7 @@ fn take_message<J: Journal, G: Gate>(
     requires held { IsHeld was.script.tables held.old was.seg }
     requires horizon { horizon.old ≡ was.seg.horizon }
     requires report { report.old ≡ report_in was.seg }
+    requires blank { blank.items ≡ [] }
     ensures done { IfOk result (λ done. HasDone was.script.tables held.new horizon.new done (on_message was.script was.seg done.fails message)) }
     ensures report { OnOk result (report.new ≡ report_after was.seg message) }
     ensures took { IfOk result (λ done. Took (J.shelf journal.old) (J.shelf journal.new) done.fails (on_message was.script was.seg done.fails message).item) }
@@ -124,12 +129,32 @@ fn take_message<J: Journal, G: Gate>(
             slice,
         } => {
             let command = just_come(alloc, cid, level, snapshot, slice)?;
-            exec(alloc, node, script, held, horizon, gxid, command, low, gate)
+            exec(
+                alloc, node, script, held, horizon, gxid, command, low, gate, blank,
+            )
         }
         Message::Prepare(gxid) => {
-            take(alloc, node, held, *horizon, gxid, Order::Prepare, journal)
+            take(
+                alloc,
+                node,
+                held,
+                *horizon,
+                gxid,
+                Order::Prepare,
+                journal,
+                blank,
+            )
         }
-        Message::Commit(gxid) => take(alloc, node, held, *horizon, gxid, Order::Commit, journal),
+        Message::Commit(gxid) => take(
+            alloc,
+            node,
+            held,
+            *horizon,
+            gxid,
+            Order::Commit,
+            journal,
+            blank,
+        ),
         Message::CommitPrepared(gxid) => {
             take(
                 alloc,
@@ -139,18 +164,37 @@ fn take_message<J: Journal, G: Gate>(
                 gxid,
                 Order::CommitPrepared,
                 journal,
+                blank,
             )
         }
-        Message::Abort(gxid) => take(alloc, node, held, *horizon, gxid, Order::Abort, journal),
-        Message::Forget(gxid) => take(alloc, node, held, *horizon, gxid, Order::Forget, journal),
-        Message::Collect(round) => collect(alloc, node, held, report, round),
+        Message::Abort(gxid) => take(
+            alloc,
+            node,
+            held,
+            *horizon,
+            gxid,
+            Order::Abort,
+            journal,
+            blank,
+        ),
+        Message::Forget(gxid) => take(
+            alloc,
+            node,
+            held,
+            *horizon,
+            gxid,
+            Order::Forget,
+            journal,
+            blank,
+        ),
+        Message::Collect(round) => collect(alloc, node, held, report, round, blank),
         Message::Answer(_, reply) => {
             drop(reply);
-            Ok(nothing(alloc))
+            Ok(nothing(blank))
         }
         Message::Graph(_, graph) => {
             drop(graph);
-            Ok(nothing(alloc))
+            Ok(nothing(blank))
         }
     }
 }

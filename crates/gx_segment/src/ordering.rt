@@ -1,5 +1,5 @@
 // PREPARE, COMMIT, COMMIT PREPARED, ABORT and FORGET.
-ghost use Rattle.std.specs.Prelude.{◌≡◌, ◌≤◌, ◌==◌, ◌&&◌, Bool, false, ◌++◌, if◌then◌else◌, None, IfOk, OnOk};
+ghost use Rattle.std.specs.Prelude.{◌≡◌, ◌≤◌, ◌==◌, ◌&&◌, Bool, false, [], ◌++◌, if◌then◌else◌, None, IfOk, OnOk};
 ghost use Rattle.std.specs.BTreeMap.{get};
 ghost use Rattle.std.specs.BTreeSet.{contains};
 ghost use Rattle.gx_ids.specs.declared.ids.Gxid.{Gxid};
@@ -17,7 +17,6 @@ ghost use Rattle.gx_segment.specs.Moves.{HasMoved, HasTaken, order_turn, status_
 
 use crate::done::{Done, answer, nothing};
 use crate::entries::{Entries, new_entry, put_in};
-use crate::single::single;
 use gx_dtx::order::Order;
 use gx_ids::{Gxid, Mem, Node, Seq};
 use gx_locks::LockTable;
@@ -30,9 +29,6 @@ use gx_store::Mark;
 use std::alloc::Global;
 use std::collections::BTreeSet;
 
-// How many marks an end is likely to leave: of a table's lock, of the transaction's own, and of the answer.
-const LIKELY_RELEASES: usize = 3;
-
 // Takes an order for a transaction.
 pub(crate) fn take<J: Journal>(
     alloc: Global,
@@ -42,25 +38,35 @@ pub(crate) fn take<J: Journal>(
     gxid: Gxid,
     order: Order,
     journal: &mut J,
+    blank: Vec<Mark>,
 ) -> Mem<Done>
     ghost was: { Before }
     requires node { node ≡ was.seg.node }
     requires held { IsHeld was.script.tables held.old was.seg }
     requires horizon { horizon ≡ was.seg.horizon }
+    requires blank { blank.items ≡ [] }
     ensures done { IfOk result (λ done. HasDone was.script.tables held.new horizon done (order_turn order was.seg gxid done.fails)) }
     ensures took { IfOk result (λ done. Took (J.shelf journal.old) (J.shelf journal.new) done.fails (order_turn order was.seg gxid done.fails).item) }
     ensures later { IsLater (J.shelf journal.old) (J.shelf journal.new) }
 {
     if gxid < horizon {
-        return Ok(nothing(alloc));
+        return Ok(nothing(blank));
     }
     let taken = obey(alloc, node, held, gxid, order, journal)?;
-    let done = done_of(alloc, node, &mut held.locks, gxid, taken)?;
+    let done = done_of(alloc, node, &mut held.locks, gxid, taken, blank)?;
     Ok(done)
 }
 
 // Who has ended here gives its locks back.
-fn done_of(alloc: Global, node: Node, locks: &mut LockTable, gxid: Gxid, taken: Taken) -> Mem<Done>
+fn done_of(
+    alloc: Global,
+    node: Node,
+    locks: &mut LockTable,
+    gxid: Gxid,
+    taken: Taken,
+    blank: Vec<Mark>,
+) -> Mem<Done>
+    requires blank { blank.items ≡ [] }
     ensures done { IfOk result (λ done. done ≡ record { marks = marks_in taken.mark ++ left_marks taken.ends node locks.old gxid; answer = answer_of gxid taken.reply; fails = taken.fails }) }
     ensures locks { OnOk result (locks.new ≡ left_locks taken.ends locks.old gxid) }
 {
@@ -70,7 +76,7 @@ fn done_of(alloc: Global, node: Node, locks: &mut LockTable, gxid: Gxid, taken: 
         fails,
         ends,
     } = taken;
-    match marks_of(alloc, node, locks, gxid, mark, ends) {
+    match marks_of(alloc, node, locks, gxid, mark, ends, blank) {
         Ok(marks) => Ok(Done {
             marks: Seq::from_vec(marks),
             answer: answer(gxid, reply),
@@ -91,11 +97,13 @@ fn marks_of(
     gxid: Gxid,
     mark: Option<Mark>,
     ends: bool,
+    blank: Vec<Mark>,
 ) -> Mem<Vec<Mark>>
+    requires blank { blank.items ≡ [] }
     ensures marks { IfOk result (λ marks. marks.items ≡ marks_in mark ++ left_marks ends node locks.old gxid) }
     ensures locks { OnOk result (locks.new ≡ left_locks ends locks.old gxid) }
 {
-    let mut marks = listed(alloc, mark)?;
+    let mut marks = listed(mark, blank)?;
     leave_locks(alloc, node, locks, gxid, ends, &mut marks)?;
     Ok(marks)
 }
@@ -112,20 +120,20 @@ fn leave_locks(
     ensures marks { OnOk result (marks.new.items ≡ marks.old.items ++ left_marks ends node locks.old gxid) }
 {
     if ends {
-        marks.reserve_exact(LIKELY_RELEASES)?;
         give_back(alloc, node, locks, gxid, marks)?;
     }
     Ok(())
 }
 
-// With room for the mark of an answer behind it.
-fn listed(alloc: Global, mark: Option<Mark>) -> Mem<Vec<Mark>>
+fn listed(mark: Option<Mark>, blank: Vec<Mark>) -> Mem<Vec<Mark>>
+    requires { blank.items ≡ [] }
     ensures { IfOk result (λ marks. marks.items ≡ marks_in mark) }
 {
-    match mark {
-        Some(mark) => single(alloc, 2, mark),
-        None => Ok(Vec::new(alloc)),
+    let mut marks = blank;
+    if let Some(mark) = mark {
+        marks.push(mark)?;
     }
+    Ok(marks)
 }
 
 // Takes the order, and notes what it made of the transaction.

@@ -1,4 +1,4 @@
-ghost use Rattle.std.specs.Prelude.{◌≡◌, ◌<◌, ◌^◌, true, false, None, IfOk, OnErr, IsErr};
+ghost use Rattle.std.specs.Prelude.{◌≡◌, ◌<◌, ◌^◌, [], true, false, None, IfOk, OnErr, IsErr};
 ghost use Rattle.gx_outside.specs.Shelves.{IsLater};
 ghost use Rattle.gx_rules.specs.Machine.{seg_can};
 ghost use Rattle.gx_rules.specs.Segments.{Seg, new_segment};
@@ -64,12 +64,14 @@ impl Segment {
 
     /// Does one event that the rule admits, by the segment's rule: a delivery, or that a slice goes on whose wait is ready. What the
     /// envelope holds is tested here; what doesn't fit changes nothing but the clock. The journal takes the items of PREPARE, COMMIT and COMMIT PREPARED before they are answered.
-    /// Each slice enters the gate first, at this node. What it did is told by its marks, the answer that it sends among them.
+    /// Each slice enters the gate first, at this node. What it did is told by its marks, the answer that it sends among them, in the list
+    /// that is given for them.
     pub fn step<J: Journal, G: Gate>(
         &mut self,
         event: NodeEvent,
         journal: &mut J,
         gate: &G,
+        blank: Vec<Mark>,
     ) -> Mem<Seq<Mark>>
         ghost s: { Seg }
         requires is { self.old.spent ≡ false → IsSegment self.old s }
@@ -77,6 +79,7 @@ impl Segment {
         requires clock { self.old.clock < 2 ^ 62 }
         requires heard { heard_in event < 2 ^ 62 }
         requires numbers { self.old.sent < 2 ^ 62 }
+        requires blank { blank.items ≡ [] }
         ensures stepped { IfOk result (HasStepped self.old self.new s event (J.shelf journal.old) (J.shelf journal.new)) }
         ensures later { IsLater (J.shelf journal.old) (J.shelf journal.new) }
         ensures spent { OnErr result (self.new.spent ≡ true) }
@@ -85,6 +88,7 @@ impl Segment {
     {
         if self.spent {
             drop(event);
+            drop(blank);
             return Err(OutOfMemory);
         }
         self.spent = true;
@@ -100,6 +104,7 @@ impl Segment {
             event,
             journal,
             gate,
+            blank,
         )?;
         self.spent = false;
         Ok(marks)

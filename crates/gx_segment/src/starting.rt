@@ -52,6 +52,7 @@ pub(crate) fn start<G: Gate>(
     gxid: Gxid,
     command: Suspended,
     gate: &G,
+    blank: Vec<Mark>,
 ) -> Mem<Done>
     ghost was: { Before }
     requires script { script.now ≡ was.script }
@@ -59,23 +60,14 @@ pub(crate) fn start<G: Gate>(
     requires may { MayRun was.script.tables was.seg gxid command.cid command.snapshot command.slice }
     requires fresh { suspended_of command ≡ suspended_slice command.cid command.level command.snapshot command.slice }
     requires node { node ≡ was.seg.node }
+    requires blank { blank.items ≡ [] }
     ensures done { IfOk result (λ done. HasDone was.script.tables held.new was.seg.horizon done (starts was.script was.seg gxid command)) }
     ensures quiet { IfOk result (λ done. IsQuiet done (starts was.script was.seg gxid command)) }
 {
     let wanted = lock_of(script, gxid, &command.slice);
-    request(alloc, node, script, held, gxid, command, wanted, gate)
-}
-
-// Room for the marks that a slice is likely to leave: of its locks, of what it writes, and of its answer.
-fn room_for(alloc: Global, slice: &Slice) -> Mem<Vec<Mark>>
-    ensures { IfOk result (λ marks. marks.items ≡ []) }
-{
-    let count = match slice {
-        Slice::Insert(_, rows) => rows.get().len().saturating_add(3),
-        _ => 2,
-    };
-    let marks = Vec::with_capacity(alloc, count)?;
-    Ok(marks)
+    request(
+        alloc, node, script, held, gxid, command, wanted, gate, blank,
+    )
 }
 
 // It asks for its lock.
@@ -88,6 +80,7 @@ fn request<G: Gate>(
     command: Suspended,
     wanted: Claim,
     gate: &G,
+    blank: Vec<Mark>,
 ) -> Mem<Done>
     ghost was: { Before }
     requires script { script.now ≡ was.script }
@@ -97,10 +90,11 @@ fn request<G: Gate>(
     requires own { wanted.gxid ≡ gxid }
     requires on_table { is_on_transaction wanted.object ≡ false }
     requires node { node ≡ was.seg.node }
+    requires blank { blank.items ≡ [] }
     ensures done { IfOk result (λ done. HasDone was.script.tables held.new was.seg.horizon done (requests was.seg gxid command.cid command.level command.snapshot command.slice wanted)) }
     ensures quiet { IfOk result (λ done. IsQuiet done (requests was.seg gxid command.cid command.level command.snapshot command.slice wanted)) }
 {
-    match ask(alloc, node, &mut held.locks, &command.slice, wanted) {
+    match ask(node, &mut held.locks, wanted, blank) {
         Ok(asked) => {
             if asked.granted {
                 let done = proceed(alloc, node, script, held, gxid, command, gate, asked.marks)?;
@@ -125,13 +119,14 @@ struct Asked {
 }
 
 // Asks for a lock, with its mark.
-fn ask(alloc: Global, node: Node, locks: &mut LockTable, slice: &Slice, wanted: Claim) -> Mem<Asked>
-    requires { list_any (is_of wanted.gxid) locks.old.waits ≡ false }
+fn ask(node: Node, locks: &mut LockTable, wanted: Claim, blank: Vec<Mark>) -> Mem<Asked>
+    requires waits { list_any (is_of wanted.gxid) locks.old.waits ≡ false }
+    requires blank { blank.items ≡ [] }
     ensures granted { IfOk result (λ asked. asked.granted ≡ is_free locks.old.holds wanted) }
     ensures locks { IfOk result (λ asked. locks.new ≡ asked_locks locks.old wanted asked.granted) }
     ensures marks { IfOk result (λ asked. asked.marks.items ≡ asked_mark node wanted asked.granted ∷ []) }
 {
-    let mut marks = room_for(alloc, slice)?;
+    let mut marks = blank;
     let granted = ask_for(node, locks, wanted, &mut marks)?;
     Ok(Asked { granted, marks })
 }
@@ -190,18 +185,20 @@ pub(crate) fn resume<G: Gate>(
     held: &mut Held,
     gxid: Gxid,
     gate: &G,
+    blank: Vec<Mark>,
 ) -> Mem<Done>
     ghost was: { Before }
     requires script { script.now ≡ was.script }
     requires held { IsHeld was.script.tables held.old was.seg }
     requires ready { is_ready was.seg.locks.holds (wait_of was.seg.locks gxid) ≡ true }
     requires node { node ≡ was.seg.node }
+    requires blank { blank.items ≡ [] }
     ensures done { IfOk result (λ done. HasDone was.script.tables held.new was.seg.horizon done (resumes was.seg gxid (wait_of was.seg.locks gxid) (local_of was.seg gxid).suspended)) }
     ensures quiet { IfOk result (λ done. IsQuiet done (resumes was.seg gxid (wait_of was.seg.locks gxid) (local_of was.seg gxid).suspended)) }
 {
     let waiting = wake(alloc, held, gxid)?;
     match waiting {
-        Some(command) => match grant(alloc, node, &mut held.locks, gxid) {
+        Some(command) => match grant(node, &mut held.locks, gxid, blank) {
             Ok(marks) => {
                 let done = proceed(alloc, node, script, held, gxid, command, gate, marks)?;
                 Ok(done)
@@ -216,12 +213,13 @@ pub(crate) fn resume<G: Gate>(
 }
 
 // What a transaction waits for is granted, with its marks.
-fn grant(alloc: Global, node: Node, locks: &mut LockTable, gxid: Gxid) -> Mem<Vec<Mark>>
-    requires { is_ready locks.old.holds (wait_of locks.old gxid) ≡ true }
+fn grant(node: Node, locks: &mut LockTable, gxid: Gxid, blank: Vec<Mark>) -> Mem<Vec<Mark>>
+    requires ready { is_ready locks.old.holds (wait_of locks.old gxid) ≡ true }
+    requires blank { blank.items ≡ [] }
     ensures locks { OnOk result (locks.new ≡ granted_locks locks.old gxid (wait_of locks.old gxid)) }
     ensures marks { IfOk result (λ marks. marks.items ≡ granted_marks node (wait_of locks.old gxid)) }
 {
-    let mut marks = Vec::new(alloc);
+    let mut marks = blank;
     take_granted(node, locks, gxid, &mut marks)?;
     Ok(marks)
 }

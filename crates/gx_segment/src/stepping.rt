@@ -1,5 +1,5 @@
 // One step on a segment's parts.
-ghost use Rattle.std.specs.Prelude.{◌≡◌, ◌<◌, ◌+◌, ◌^◌, true, nat_lt, if◌then◌else◌, IfOk};
+ghost use Rattle.std.specs.Prelude.{◌≡◌, ◌<◌, ◌+◌, ◌^◌, [], true, nat_lt, if◌then◌else◌, IfOk};
 ghost use Rattle.gx_outside.specs.Shelves.{IsLater};
 ghost use Rattle.gx_rules.specs.Machine.{seg_can};
 ghost use Rattle.gx_rules.specs.Sending.{heard_in};
@@ -31,6 +31,7 @@ pub(crate) fn step_on<J: Journal, G: Gate>(
     event: NodeEvent,
     journal: &mut J,
     gate: &G,
+    blank: Vec<Mark>,
 ) -> Mem<Seq<Mark>>
     ghost was: { Before }
     requires node { node ≡ was.seg.node }
@@ -44,12 +45,13 @@ pub(crate) fn step_on<J: Journal, G: Gate>(
     requires numbers { sent.old < 2 ^ 62 }
     requires early { clock.old < 2 ^ 62 }
     requires heard { heard_in event < 2 ^ 62 }
+    requires blank { blank.items ≡ [] }
     ensures gone { IfOk result (HasGone was event held.new horizon.new report.new sent.new clock.new (J.shelf journal.old) (J.shelf journal.new)) }
     ensures later { IsLater (J.shelf journal.old) (J.shelf journal.new) }
 {
     *clock = clock_behind(*clock, heard(&event));
     let done = take_event(
-        alloc, node, script, held, horizon, report, event, journal, gate,
+        alloc, node, script, held, horizon, report, event, journal, gate, blank,
     )?;
     let marks = send(done, sent)?;
     Ok(marks)

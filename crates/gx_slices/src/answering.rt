@@ -1,16 +1,14 @@
 // The answer of a command is kept.
-ghost use Rattle.std.specs.Prelude.{◌≡◌, [], IfOk, OnOk};
+ghost use Rattle.std.specs.Prelude.{◌≡◌, OnOk};
 ghost use Rattle.gx_node.specs.Phases.{phase_of};
 ghost use Rattle.gx_rules.specs.Slices as rule;
 ghost use Rattle.gx_slices.specs.Apart.{IsBack, answered};
-ghost use Rattle.gx_tree.specs.declared.part.Part.TheVariants as part;
 
 use crate::entries::{put_entry, set_holder};
 use crate::held::{Entry, Held};
-use gx_ids::{Cid, Duplicate, Gxid, Mem, Seq, Shared};
+use gx_ids::{Cid, Duplicate, Gxid, Mem};
 use gx_msg::Reply;
 use gx_node::Phase;
-use gx_tree::Part;
 use std::alloc::Global;
 
 pub(crate) fn has_written(phase: Phase) -> bool
@@ -22,13 +20,6 @@ pub(crate) fn has_written(phase: Phase) -> bool
     }
 }
 
-// The part of an answer that gives no rows.
-pub(crate) fn no_rows(alloc: Global) -> Mem<Shared<Part>>
-    ensures { IfOk result (λ rows. rows ≡ part.Rows []) }
-{
-    Shared::new(alloc, Part::Rows(Seq::new(alloc)))
-}
-
 // A transaction's last command, and the answer to it.
 fn note_answer(entry: &mut Entry, cid: Cid, reply: Reply)
     ensures { entry.new ≡ answered entry.old cid reply }
@@ -37,7 +28,8 @@ fn note_answer(entry: &mut Entry, cid: Cid, reply: Reply)
     drop(entry.local.answer.replace(reply));
 }
 
-fn put_back(held: &mut Held, gxid: Gxid, cid: Cid, entry: Entry) -> Mem<()>
+// The entry is back, and the transaction is a holder where its command has a number.
+pub(crate) fn put_back(held: &mut Held, gxid: Gxid, cid: Cid, entry: Entry) -> Mem<()>
     ensures { OnOk result (IsBack held.old held.new gxid cid entry) }
 {
     put_entry(&mut held.entries, gxid, entry)?;

@@ -13,7 +13,7 @@ ghost use Rattle.gx_slices.specs.Picked.{IsPicked};
 ghost use Rattle.gx_slices.specs.Ran.{HasProgressed};
 ghost use Rattle.gx_slices.specs.Waiting.{is_open};
 
-use crate::answering::{has_written, keep_answer, no_rows};
+use crate::answering::{has_written, keep_answer};
 use crate::change::{Change, slice_of};
 use crate::changing::Writer;
 use crate::changing_row::{RowEnd, does_row, is_done};
@@ -23,6 +23,7 @@ use crate::picking::{Picked, pick};
 use crate::progress::Progress;
 use crate::running::Ran;
 use crate::selecting::faulted;
+use crate::store::LocalStore;
 use crate::suspending::put_suspended;
 use gx_ids::{Mem, Rid, Seq, Shared, copies};
 use gx_meaning::ArithFault;
@@ -164,6 +165,7 @@ fn answer(
 
 // It is suspended at a row.
 fn stop(
+    alloc: Global,
     held: &mut Held,
     change: Change,
     entry: Entry,
@@ -194,21 +196,21 @@ fn stop(
         row: Some(row),
         rows,
     };
-    put_suspended(held, writer.gxid, entry, waiting)?;
+    put_suspended(alloc, held, writer.gxid, entry, waiting)?;
     Ok(Progress {
         marks: Seq::from_vec(marks),
         reply: None,
     })
 }
 
-fn done(alloc: Global, change: &Change, entry: &Entry, count: u64) -> Mem<Reply>
+fn done(store: &LocalStore, change: &Change, entry: &Entry, count: u64) -> Mem<Reply>
     ensures { IfOk result (λ reply. reply ≡ Done change.now.writer.cid (slices.has_written (phase_of entry.now.local.phase)) count (part.Rows [])) }
 {
     Ok(Reply::Done {
         cid: change.writer.cid,
         wrote: has_written(entry.local.phase),
         count,
-        part: no_rows(alloc)?,
+        part: store.no_rows()?,
     })
 }
 
@@ -236,7 +238,7 @@ fn finish(
     requires gone { HasGone ending.stage (change_in change.now) change.now.writer.gxid held.old entry marks.items ending.turn (RowsEnd.Done count) }
     ensures { IfOk result (λ progress. HasProgressed ending.stage.found.tables held.new change.now.writer.gxid progress ending.turn) }
 {
-    match done(alloc, change, &entry, count) {
+    match done(&held.store, change, &entry, count) {
         Ok(reply) => answer(alloc, held, change, entry, reply, marks),
         Err(error) => {
             drop(entry);
@@ -291,7 +293,9 @@ fn close(
             drop(change);
             progress
         }
-        RowsEnd::Waiting(row, rows, count) => stop(held, change, entry, row, rows, count, marks),
+        RowsEnd::Waiting(row, rows, count) => {
+            stop(alloc, held, change, entry, row, rows, count, marks)
+        }
         RowsEnd::Failing(cause) => {
             let progress = give_up(alloc, held, &change, entry, cause, marks);
             drop(change);

@@ -13,7 +13,7 @@ ghost use Rattle.gx_slices.specs.Inserts.{IsInserted};
 ghost use Rattle.gx_slices.specs.Ran.{HasRun};
 ghost use Rattle.gx_slices.specs.Waiting.{is_open};
 
-use crate::answering::{has_written, keep_answer, no_rows};
+use crate::answering::{has_written, keep_answer};
 use crate::changing::{Writer, write_row};
 use crate::entries::take_entry;
 use crate::held::{Entry, Held};
@@ -44,7 +44,7 @@ pub(crate) fn insert(
         (after_marks marks.items (inserts writer.gxid writer.cid (length rows.now) (inserted s writer.gxid writer.cid writer.table rows.now)))) }
 {
     let Writer { gxid, cid, .. } = writer;
-    let part = no_rows(alloc)?;
+    let part = held.store.no_rows()?;
     let count = rows.len() as u64;
     let mut entry = take_entry(alloc, &mut held.entries, gxid);
     match insert_rows(alloc, writer, held, &mut entry, rows, &mut marks) {

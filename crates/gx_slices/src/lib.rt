@@ -18,6 +18,7 @@ mod inserting;
 pub mod kept;
 mod locked;
 mod newest;
+mod no_rows;
 mod picking;
 mod probe;
 pub mod progress;

@@ -7,7 +7,7 @@ ghost use Rattle.gx_slices.specs.Agrees.{IsHeld};
 ghost use Rattle.gx_slices.specs.Ran.{HasRun};
 ghost use Rattle.gx_slices.specs.Waiting.{is_open};
 
-use crate::answering::{has_written, keep_answer, no_rows};
+use crate::answering::{has_written, keep_answer};
 use crate::entries::take_entry;
 use crate::held::Held;
 use crate::running::Ran;
@@ -32,7 +32,7 @@ pub(crate) fn lock(
     requires new { nat_lt 0 cid.0 ≡ true }
     ensures { IfOk result (λ ran. HasRun tables.now held.new gxid ran (locks s gxid cid)) }
 {
-    let part = no_rows(alloc)?;
+    let part = held.store.no_rows()?;
     let entry = take_entry(alloc, &mut held.entries, gxid);
     let reply = Reply::Done {
         cid,

@@ -6,18 +6,20 @@ ghost use Rattle.gx_ids.specs.declared.rid.Rid.{Rid};
 ghost use Rattle.gx_meaning.specs.Answer.{AreRising};
 ghost use Rattle.gx_store.specs.Rows.{row_at};
 ghost use Rattle.gx_slices.specs.Keyed.{IsShownFor};
+ghost use Rattle.gx_tree.specs.declared.part.Part.TheVariants.{Rows};
 ghost use Rattle.gx_slices.specs.Store.{empty, writes_of, status_of, shown_row, newest_of, current_of, swept, with_status, IsRaised};
 
 use crate::current::Current;
 use crate::finding::rows_to_test;
+use crate::no_rows::NoRows;
 use crate::reading::{current_in, current_row_in, own_lxid, rows_in};
 use crate::sweeping::sweep_in;
 use crate::writing::{set_status_in, status_in, write_keyed};
 use gx_dsnap::Snapshot;
-use gx_ids::{Cid, Gxid, Mem, Rid, Table};
+use gx_ids::{Cid, Gxid, Mem, Rid, Shared, Table};
 use gx_rows::{LocalStatus, Versions, XidMap};
 use gx_sweep::KeyIndex;
-use gx_tree::{Cond, Dist, KeyedRow, Row, Schema};
+use gx_tree::{Cond, Dist, KeyedRow, Part, Row, Schema};
 use std::alloc::Global;
 use std::collections::BTreeMap;
 use std::marker::Model;
@@ -25,7 +27,8 @@ use std::marker::Model;
 /// What one segment keeps of rows: the writes to each row of each table that no sweep has dropped, each with what became here of its
 /// transaction; which transactions from the horizon on have written here; and the horizon, below which nobody asks for a transaction any
 /// more (Lyu et al., SIGMOD 2021). Contracts see all of it without lxids. How the tables are distributed, and which rows stand under which
-/// value of the distribution column, is kept besides, so that rows are found by it; nobody sees that.
+/// value of the distribution column, is kept besides, so that rows are found by it; nobody sees that, nor the part that all answers
+/// without rows share.
 #[derive(Drop)]
 pub struct LocalStore {
     alloc: Global,
@@ -33,6 +36,7 @@ pub struct LocalStore {
     index: KeyIndex,
     tables: BTreeMap<Table, Versions>,
     xids: XidMap,
+    no_rows: NoRows,
 }
 
 impl Model for LocalStore {
@@ -59,6 +63,7 @@ impl LocalStore {
             index: KeyIndex::new(alloc),
             tables: BTreeMap::new(alloc),
             xids: XidMap::new(alloc)?,
+            no_rows: NoRows::new(alloc)?,
         })
     }
 
@@ -95,6 +100,13 @@ impl LocalStore {
             rid,
             image,
         )
+    }
+
+    /// The part of an answer that gives no rows.
+    pub fn no_rows(&self) -> Mem<Shared<Part>>
+        ensures { IfOk result (λ rows. rows ≡ Rows []) }
+    {
+        self.no_rows.share(self.alloc)
     }
 
     /// Whether the transaction has written here.

@@ -20,11 +20,11 @@ pub struct Head {
 pub struct Steps {
     heads: Vec<Head>,
     marks: Vec<Mark>,
-    blank: Vec<Mark>,
+    blank: Option<Vec<Mark>>,
 }
 
 impl Model for Steps {
-    ghost use Rattle.std.specs.Prelude.{◌≡◌, [], List};
+    ghost use Rattle.std.specs.Prelude.{◌≡◌, [], List, IfSome};
     ghost use Rattle.std.specs.Coded.{codes};
     ghost use Rattle.gx_tree.specs.contracts.expr.Expr as expr_type;
     ghost use Rattle.gx_tree.specs.contracts.cond.Cond as cond_type;
@@ -38,7 +38,7 @@ impl Model for Steps {
 
     ghost view = { λ s. steps_in s.heads.items s.marks.items };
 
-    ghost invariant = { λ s. AreWithin s.heads.items s.marks.items × (s.blank.items ≡ []) };
+    ghost invariant = { λ s. AreWithin s.heads.items s.marks.items × IfSome s.blank (λ blank. blank.items ≡ []) };
 }
 
 /// A step as it stands in a run.
@@ -61,17 +61,6 @@ impl<'a> Model for StepView<'a> {
     ghost coded = { Prim.hlevel (codes, expr_type.the_row.coded, cond_type.the_row.coded, snapshot_type.the_row.coded) };
 
     ghost view = { λ s. record { stamp = s.stamp; event = s.event; marks = s.marks.now } };
-}
-
-// Of two empty lists the one with more room stays.
-fn keep_roomier<T: Drop>(kept: &mut Vec<T>, other: Vec<T>)
-    requires kept { kept.old.items ≡ [] }
-    requires other { other.items ≡ [] }
-    ensures { kept.new.items ≡ [] }
-{
-    if kept.capacity() < other.capacity() {
-        *kept = other;
-    }
 }
 
 impl<'a> StepView<'a> {
@@ -107,7 +96,7 @@ impl Steps {
         Steps {
             heads: Vec::new(alloc),
             marks: Vec::new(alloc),
-            blank: Vec::new(alloc),
+            blank: None,
         }
     }
 
@@ -155,7 +144,10 @@ impl Steps {
         ensures steps { self.new ≡ self.old }
         ensures blank { result.items ≡ [] }
     {
-        std::mem::replace(&mut self.blank, Vec::new(alloc))
+        match self.blank.take() {
+            Some(blank) => blank,
+            None => Vec::new(alloc),
+        }
     }
 
     /// Adds a step behind the others.
@@ -166,7 +158,7 @@ impl Steps {
     {
         let first = self.marks.len();
         self.marks.append(&mut marks)?;
-        keep_roomier(&mut self.blank, marks);
+        self.blank = Some(marks);
         let last = self.marks.len();
         self.heads.push(Head {
             stamp,

@@ -20,7 +20,8 @@ pub fn push_bytes(text: &mut Vec<u8>, bytes: &[u8]) -> Mem<()>
     Ok(())
 }
 
-// Adds a number as it is printed.
+// Adds a number as it is printed. It stays a call of its own, since a digit alone needs none of its buffer.
+#[inline(never)]
 fn push_printed<I: Integer>(text: &mut Vec<u8>, number: I) -> Mem<()>
     ensures { OnOk result (text.new.items ≡ text.old.items ++ I.text number) }
 {
@@ -28,12 +29,24 @@ fn push_printed<I: Integer>(text: &mut Vec<u8>, number: I) -> Mem<()>
     push_bytes(text, digits.format(number).as_bytes())
 }
 
+// Adds the digits of a number. Most have one.
+#[tactic(auto, using(std::proofs::lemmas::Fmt::decimal_digit))]
+fn push_digits(text: &mut Vec<u8>, number: u64) -> Mem<()>
+    ensures { OnOk result (text.new.items ≡ text.old.items ++ decimal number) }
+{
+    if number < 10 {
+        push_byte(text, b'0' + number as u8)
+    } else {
+        push_printed(text, number)
+    }
+}
+
 /// Adds the decimal digits of a count.
 pub fn push_count(text: &mut Vec<u8>, number: u128) -> Mem<()>
     ensures { OnOk result (text.new.items ≡ text.old.items ++ decimal number) }
 {
     match u64::try_from(number) {
-        Ok(number) => push_printed(text, number),
+        Ok(number) => push_digits(text, number),
         Err(_) => push_printed(text, number),
     }
 }
@@ -43,7 +56,7 @@ pub fn push_integer(text: &mut Vec<u8>, number: i128) -> Mem<()>
     ensures { OnOk result (text.new.items ≡ text.old.items ++ signed_decimal number) }
 {
     match u64::try_from(number) {
-        Ok(number) => push_printed(text, number),
+        Ok(number) => push_digits(text, number),
         Err(_) => push_printed(text, number),
     }
 }

@@ -1,12 +1,12 @@
 -- A table's rows of all segments, by their identities.
-use Rattle.std.proofs.Common.{◌≡◌, ◌≤◌, ◌<◌, ℕ, zero, suc, ◌+◌, Bool, true, false, cond, eqb, leb, List, [], ◌∷◌, ◌++◌, Some, None, map, length, refl, sym, ap, ◌∙◌, subst, arith}
+use Rattle.std.proofs.Common.{◌≡◌, ◌≤◌, ◌<◌, ℕ, zero, suc, ◌+◌, Bool, true, false, cond, eqb, leb, List, [], ◌∷◌, ◌++◌, Option, Some, None, map, length, refl, sym, ap, ◌∙◌, subst, arith}
 use Rattle.std.proofs.lemmas.Bool.{eqb-true}
 use Rattle.std.proofs.lemmas.Bool.Decides.{nat_tests}
 use Rattle.std.specs.BTreeMap.{is_at}
 use Rattle.std.specs.List.Sorted.{IsStrictlySortedBy}
-use Rattle.std.specs.Map.{keys_of, lookup}
+use Rattle.std.specs.Map.{keys_of, lookup, update, update_all}
 use Rattle.std.specs.Option.{option_or}
-use Rattle.std.specs.Ordering.{is_eq}
+use Rattle.std.specs.Ordering.{eq_by_cmp, is_eq}
 use Rattle.std.specs.declared.alloc.Global.{Global}
 use Rattle.std.specs.declared.vec.Vec.{Vec}
 use Rattle.gx_lemmas.proofs.Options.{option_or-none}
@@ -45,6 +45,13 @@ positive : (n : ℕ) → 1 ≤ n + 1
 positive n = omega arith
 
 -- PARTS
+-- one segment more
+pub shown-more : (script : Script) (steps : List Step) (x : Snapshot) (table : Table) (n : ℕ) → shown_by script steps x table n ++ shown (segment_after script (record { 0 = n + 1 }) steps) x nobody no_command table ≡ shown_by script steps x table (n + 1)
+shown-more script steps x table n = sym (ap (shown_by script steps x table) (next n))
+  where
+    next : (k : ℕ) → k + 1 ≡ suc k
+    next k = omega arith
+
 module _ (script : Script) (steps : List Step) (x : Snapshot) (table : Table) (q : Rid) where
   abbrev part : ℕ → List KeyedRow
   part i = shown (segment_after script (record { 0 = i }) steps) x nobody no_command table
@@ -78,12 +85,6 @@ module _ (script : Script) (steps : List Step) (x : Snapshot) (table : Table) (q
           ∙ option_or-none (last_at (part (n + 1)) q) ∙ ap (λ i. last_at (part i) q) (sym (eqb-true k (n + 1) e))
       by_last false e before = ap (λ o. option_or o (last_at (shown_by script steps x table n) q)) (h (n + 1) (positive n) (differ e)) ∙ before (earlier e)
 
-  pub one-more : (n : ℕ) → option_or (last_at (part (n + 1)) q) (last_at (shown_by script steps x table n) q) ≡ last_at (shown_by script steps x table (n + 1)) q
-  one-more n = sym (ap (λ k. last_at (shown_by script steps x table k) q) (next n) ∙ last_at-append (shown_by script steps x table n) (part (n + 1)) q)
-    where
-      next : (k : ℕ) → k + 1 ≡ suc k
-      next k = omega arith
-
 -- ENTRIES
 keys-rows : (es : List (Rid × List Value)) → map (λ row. row.rid) (map entry_row es) ≡ keys_of es
 keys-rows [] = refl
@@ -95,6 +96,25 @@ same-test a b = grind (arith, nat_tests)
 row_at-entries : (es : List (Rid × List Value)) (q : Rid) → row_at (map entry_row es) q ≡ lookup (is_at (rid_order q)) es
 row_at-entries [] q = refl
 row_at-entries (e ∷ es) q = ap (λ (b : Bool). cond b (Some e.1) (row_at (map entry_row es) q)) (same-test e.0 q) ∙ ap (λ o. cond (is_eq (rid_order q e.0)) (Some e.1) o) (row_at-entries es q)
+
+eq-same : (a b : Rid) → eq_by_cmp rid_order a b ≡ is_same_rid a b
+eq-same a b = grind (arith, nat_tests)
+
+-- rows that go into a map in turn: the last of each identity stays
+updated : (rows : List KeyedRow) (f : Rid → Option (List Value)) (q : Rid) → update_all (eq_by_cmp rid_order) f (map (λ r. (r.rid, r.row)) rows) q ≡ option_or (last_at rows q) (f q)
+updated [] f q = refl
+updated (r ∷ rs) f q =
+    updated rs (update (eq_by_cmp rid_order) f r.rid (Some r.row)) q
+    ∙ ap (λ (b : Bool). option_or (last_at rs q) (cond b (Some r.row) (f q))) (eq-same r.rid q)
+    ∙ by_last (last_at rs q) (is_same_rid r.rid q)
+  where
+    by_last : (last : Option (List Value)) (b : Bool) → option_or last (cond b (Some r.row) (f q)) ≡ option_or (option_or last (cond b (Some r.row) None)) (f q)
+    by_last (Some row) b = refl
+    by_last None true = refl
+    by_last None false = refl
+
+pub updated-last : (rows : List KeyedRow) (q : Rid) → update_all (eq_by_cmp rid_order) (λ _. None) (map (λ r. (r.rid, r.row)) rows) q ≡ last_at rows q
+updated-last rows q = updated rows (λ _. None) q ∙ option_or-none (last_at rows q)
 
 -- THE ROWS OF A TABLE
 module _ (script : Script) (some : 1 ≤ script.segments) (steps : List Step) (is : IsReached script steps) (table : Table) (x : Snapshot) where

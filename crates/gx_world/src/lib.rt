@@ -15,4 +15,5 @@ mod waiting;
 pub mod world;
 
 pub use letters::{Letters, Place};
+pub use network::Nodes;
 pub use world::World;

@@ -28,6 +28,15 @@ pub struct Network {
     pub spent: bool,
 }
 
+/// The nodes of a network with which nothing more is to be done.
+#[derive(Drop)]
+pub struct Nodes {
+    script: Arc<Script, Global>,
+    coord: Coord,
+    segments: Vec<Segment>,
+    letters: Letters,
+}
+
 impl Network {
     /// A network in which nothing was done.
     pub fn new(alloc: Global, script: Script) -> Mem<Network>
@@ -83,19 +92,25 @@ impl Network {
         done
     }
 
-    /// The run.
-    pub fn into_run(self) -> Run
-        ensures { result ≡ self.run }
+    /// The run, and the nodes.
+    pub fn into_parts(self) -> (Run, Nodes)
+        ensures { result.0 ≡ self.run }
     {
         let Network {
             alloc: _,
-            script: _,
-            coord: _,
-            segments: _,
-            letters: _,
+            script,
+            coord,
+            segments,
+            letters,
             run,
             spent: _,
         } = self;
-        run
+        let nodes = Nodes {
+            script,
+            coord,
+            segments,
+            letters,
+        };
+        (run, nodes)
     }
 }

@@ -1,7 +1,6 @@
 // The tables, as all segments show them.
-ghost use Rattle.std.specs.Prelude.{◌≡◌, ◌<◌, ◌+◌, false, Some, if◌then◌else◌, IfOk, OnOk, length, map, slice_get};
+ghost use Rattle.std.specs.Prelude.{◌≡◌, ◌<◌, ◌+◌, false, Some, IfOk, length, map, slice_get};
 ghost use Rattle.std.specs.BTreeMap.{get, IsOrdered};
-ghost use Rattle.std.specs.Option.{option_or};
 ghost use Rattle.gx_coord.specs.Steps.{IsCoord};
 ghost use Rattle.gx_meaning.specs.Order.{rid_order};
 ghost use Rattle.gx_ids.specs.declared.rid.Rid.{Rid as RowId};
@@ -13,7 +12,6 @@ ghost use Rattle.gx_rules.specs.Snapshots.{snapshot_of};
 ghost use Rattle.gx_segment.specs.Steps.{IsSegment, nobody, no_command};
 ghost use Rattle.gx_segment.specs.declared.segment.Segment.{Segment as OneSegment};
 ghost use Rattle.gx_law_reads.specs.Sights.{AreRowsOf, AreRowsOfAll};
-ghost use Rattle.gx_store.specs.Marks.{is_same_rid};
 ghost use Rattle.gx_world.specs.Networks.{IsNetwork};
 ghost use Rattle.gx_world.specs.Tables.{entry_row, last_at, shown_by};
 
@@ -76,10 +74,32 @@ fn gathered(network: &Network, snapshot: &Snapshot, table: Table) -> Mem<Rows>
     requires usable { network.now.spent ≡ false }
     ensures { IfOk result (λ rows. (q : RowId) → get rid_order rows q ≡ last_at (shown_by network.now.script.value network.now.run.steps snapshot.now table (length network.now.segments.items)) q) }
 {
-    let mut rows = BTreeMap::new(network.alloc);
+    let rows = all_shown(network, snapshot, table)?;
+    by_rid(network.alloc, rows)
+}
+
+// What the segments show, one behind the other.
+fn all_shown(network: &Network, snapshot: &Snapshot, table: Table) -> Mem<Vec<KeyedRow>>
+    requires is { IsNetwork network.now }
+    requires usable { network.now.spent ≡ false }
+    ensures { IfOk result (λ rows. rows.items ≡ shown_by network.now.script.value network.now.run.steps snapshot.now table (length network.now.segments.items)) }
+{
+    let mut rows = Vec::new(network.alloc);
     for place in 0..network.segments.len() {
-        add(&mut rows, shown_at(network, place, snapshot, table)?)?;
+        let mut more = shown_at(network, place, snapshot, table)?;
+        rows.append(&mut more)?;
     }
+    Ok(rows)
+}
+
+// Rows by their identities: the last of each.
+fn by_rid(alloc: Global, rows: Vec<KeyedRow>) -> Mem<Rows>
+    ensures { IfOk result (λ map. (q : RowId) → get rid_order map q ≡ last_at rows.items q) }
+{
+    let rows: Rows = rows
+        .into_iter()
+        .map(|KeyedRow { rid, row }| (rid, row))
+        .collect(alloc)?;
     Ok(rows)
 }
 
@@ -110,23 +130,6 @@ fn shown_there(
     ensures { IfOk result (λ rows. rows.items ≡ shown s snapshot.now nobody no_command table) }
 {
     network.segments[place].final_rows(snapshot, table)
-}
-
-fn add(rows: &mut Rows, more: Vec<KeyedRow>) -> Mem<()>
-    ensures { OnOk result ((q : RowId) → get rid_order rows.new q ≡ option_or (last_at more.items q) (get rid_order rows.old q)) }
-{
-    for row in more {
-        put(rows, row)?;
-    }
-    Ok(())
-}
-
-fn put(rows: &mut Rows, row: KeyedRow) -> Mem<()>
-    ensures { OnOk result ((q : RowId) → get rid_order rows.new q ≡ (if is_same_rid row.rid q then Some row.row else get rid_order rows.old q)) }
-{
-    let KeyedRow { rid, row } = row;
-    rows.insert(rid, row)?;
-    Ok(())
 }
 
 fn listed(alloc: Global, rows: Rows) -> Mem<Vec<KeyedRow>>

@@ -101,13 +101,24 @@ pub(crate) fn seg_turn<J: Journal, G: Gate>(
     ensures script { network.new.script ≡ network.old.script }
     ensures err { OnErr result (network.new.run ≡ network.old.run) }
 {
-    let step = seg_step(&mut network.segments, event, at, there, journal, gate)?;
+    let step = seg_step(
+        network.alloc,
+        &mut network.segments,
+        &mut network.run.steps,
+        event,
+        at,
+        there,
+        journal,
+        gate,
+    )?;
     push_step(network, step)
 }
 
-// The segment of a number, from 1, does an event.
+// The segment of a number, from 1, does an event, with the list that the run has for its marks.
 fn seg_step<J: Journal, G: Gate>(
+    alloc: Global,
     segments: &mut Vec<Segment>,
+    steps: &mut Steps,
     event: Event,
     at: Node,
     there: NodeEvent,
@@ -124,9 +135,11 @@ fn seg_step<J: Journal, G: Gate>(
     requires heard { heard_in there < 2 ^ 62 }
     ensures stepped { IfOk result (λ step. HasSteppedAt at event segments.old.items segments.new.items s there (J.shelf journal.old) (J.shelf journal.new) step) }
     ensures later { IsLater (J.shelf journal.old) (J.shelf journal.new) }
+    ensures steps { steps.new ≡ steps.old }
 {
+    let blank = steps.blank(alloc);
     let segment = &mut segments[usize::from(at.0) - 1];
-    let marks = segment.step(there, journal, gate)?;
+    let marks = segment.step(there, journal, gate, blank)?;
     Ok(step_of(segment.clock, at, event, marks))
 }
 

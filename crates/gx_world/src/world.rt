@@ -25,7 +25,7 @@ ghost use Rattle.gx_world.specs.Worlds.{AreLater, HasStepped};
 use crate::admitting::can;
 use crate::graphs::graphs;
 use crate::looking::{is_unfinished, message, sent};
-use crate::network::Network;
+use crate::network::{Network, Nodes};
 use crate::tables::tables;
 use crate::waiting::{any_wait, ready};
 use gx_ids::{Gxid, Mem, Node, OutOfMemory};
@@ -196,12 +196,12 @@ impl World {
         graphs(&self.network)
     }
 
-    /// The run, when nothing more is to be done.
-    pub fn into_run(self) -> Run
-        ensures value { result ≡ self.run }
+    /// The run, when nothing more is to be done, and the nodes that made it.
+    pub fn into_parts(self) -> (Run, Nodes)
+        ensures value { result.0 ≡ self.run }
         ensures reached { IsReached self.script self.run.steps }
     {
         let World { network } = self;
-        network.into_run()
+        network.into_parts()
     }
 }

@@ -12,14 +12,14 @@ number-requires-clause-room c =
 
 pub number-requires-clause-links : goal.number-requires-clause-links
 number-requires-clause-links c =
-    links-cancelled c.args.coord.now.script.value (coord_of c.args.coord.now) c.args.gxid _ _ c.requires.sound c.requires.some (c.into_vec.ensures ∙ c.in_ok-more.ensures.outs) (ap (λ v. length v.items) c.in_ok-more.ensures.turn.framed.sent ∙ c.requires.links)
+    links-cancelled c.args.coord.now.script.value (coord_of c.args.coord.now) c.args.gxid _ _ c.requires.sound c.requires.some (c.into_vec-outs.ensures ∙ c.in_ok-more.ensures.outs) (ap (λ v. length v.items) c.in_ok-more.ensures.turn.framed.sent ∙ c.requires.links)
 
 pub returns-clause-stayed : goal.returns-clause-stayed
 returns-clause-stayed c =
     let e = c.in_ok-number.ensures in
-    victim-stayed c.args.coord.now c.cancel.new.coord c.number.new.sent c.args.gxid _ _ _ _ c.in_ok-more.ensures.turn (c.into_vec.ensures ∙ c.in_ok-more.ensures.outs) e.sent e.marks e.links
+    victim-stayed c.args.coord.now c.cancel.new.coord c.number.new.sent c.args.gxid _ _ _ _ c.in_ok-more.ensures.turn (c.into_vec-outs.ensures ∙ c.in_ok-more.ensures.outs) e.sent e.marks e.links
 
 pub returns-clause-turn : goal.returns-clause-turn
 returns-clause-turn c =
     let e = c.in_ok-number.ensures in
-    victim-turn c.args.coord.now c.cancel.new.coord c.number.new.sent c.args.gxid _ _ _ _ c.in_ok-more.ensures.turn (c.into_vec.ensures ∙ c.in_ok-more.ensures.outs) e.sent e.marks
+    victim-turn c.args.coord.now c.cancel.new.coord c.number.new.sent c.args.gxid _ _ _ _ c.in_ok-more.ensures.turn (c.into_vec-outs.ensures ∙ c.in_ok-more.ensures.outs) e.sent e.marks

@@ -7,4 +7,4 @@ pub loop-piece-init : goal.loop-piece-init
 loop-piece-init c =
     let whole : into_iter_items c.into_iter-piece-iterator.result ≡ c.args.pieces.items = search rules in
     let of = c.args.of.now in
-    (tt, tt, ap (λ os. os ++ orders_of of.gxid of.cid of.level of.snapshot of.horizon (into_iter_items c.into_iter-piece-iterator.result)) c.in_ok-outs.ensures.items ∙ ap (orders_of of.gxid of.cid of.level of.snapshot of.horizon) whole)
+    (tt, tt, ap (λ os. os ++ orders_of of.gxid of.cid of.level of.snapshot of.horizon (into_iter_items c.into_iter-piece-iterator.result)) (c.reserve.ensures.items ∙ c.taken-outs.ensures) ∙ ap (orders_of of.gxid of.cid of.level of.snapshot of.horizon) whole)

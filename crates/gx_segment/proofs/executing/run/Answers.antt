@@ -24,7 +24,7 @@ start-requires g c κs within =
         c.requires.1.0,
         (
           subst (IsHeld tables now) same risen,
-          (subst (λ (x : Seg). MayRun tables x c.args.gxid c.args.command.cid c.args.command.snapshot c.args.command.slice) same may.may, (c.requires.1.1.1.1.1.0, c.requires.1.1.1.1.1.1)),
+          (subst (λ (x : Seg). MayRun tables x c.args.gxid c.args.command.cid c.args.command.snapshot c.args.command.slice) same may.may, (c.requires.1.1.1.1.1.0, (c.requires.1.1.1.1.1.1.0, c.requires.1.1.1.1.1.1.1))),
         ),
       ),
     )

@@ -10,7 +10,10 @@ use Rattle.gx_segment.proofs.starting.resume.Goals as goal
 
 pub grant-requires : goal.grant-requires
 grant-requires g c =
-    ready-still g.was.script.tables c.args.held.now c.wake.new.held g.was.seg c.args.gxid c.in_ok-waiting.waiting c.requires.1.1.0 c.requires.1.1.1.0 c.in_ok-waiting.ensures
+    record {
+      ready = ready-still g.was.script.tables c.args.held.now c.wake.new.held g.was.seg c.args.gxid c.in_ok-waiting.waiting c.requires.1.1.0 c.requires.1.1.1.0 c.in_ok-waiting.ensures;
+      blank = c.requires.1.1.1.1.1;
+    }
 
 pub proceed-requires : goal.proceed-requires
 proceed-requires g c κs within =
@@ -24,7 +27,7 @@ proceed-requires g c κs within =
         c.requires.1.0,
         (
           IsHeld-granted tables held woke g.was.seg c.args.gxid found c.requires.1.1.0 c.requires.1.1.1.0 did c.grant.new.locks c.in-Ok.ensures.locks,
-          (MayGoOn-granted tables held woke g.was.seg c.args.gxid found c.requires.1.1.0 c.requires.1.1.1.0 did c.in-Some.command c.in-Some.is, c.requires.1.1.1.1),
+          (MayGoOn-granted tables held woke g.was.seg c.args.gxid found c.requires.1.1.0 c.requires.1.1.1.0 did c.in-Some.command c.in-Some.is, c.requires.1.1.1.1.0),
         ),
       ),
     )
@@ -40,7 +43,7 @@ returns-in_ok-done-in-Ok-clause-done g c =
     HasDone-same g.was.script.tables c.proceed.new.held s.horizon c.in_ok-done-in-Ok.done
     (goes_on (record { seg = awakened s id; marks = c.in-Ok.marks.items }) id (suspended_of command) command.row)
     (resumes s id (wait_of s.locks id) (local_of s id).suspended)
-    (turn-resumed g.was.script.tables c.args.held.now c.wake.new.held s id c.in_ok-waiting.waiting c.requires.1.1.0 c.requires.1.1.1.0 c.in_ok-waiting.ensures command c.in-Some.is c.args.node c.in-Ok.marks.items c.requires.1.1.1.1 c.in-Ok.ensures.marks)
+    (turn-resumed g.was.script.tables c.args.held.now c.wake.new.held s id c.in_ok-waiting.waiting c.requires.1.1.0 c.requires.1.1.1.0 c.in_ok-waiting.ensures command c.in-Some.is c.args.node c.in-Ok.marks.items c.requires.1.1.1.1.0 c.in-Ok.ensures.marks)
     c.in_ok-done-in-Ok.ensures.done
 
 pub returns-in_ok-done-in-Ok-clause-quiet : goal.returns-in_ok-done-in-Ok-clause-quiet
@@ -51,5 +54,5 @@ returns-in_ok-done-in-Ok-clause-quiet g c =
     IsQuiet-same c.in_ok-done-in-Ok.done
     (goes_on (record { seg = awakened s id; marks = c.in-Ok.marks.items }) id (suspended_of command) command.row)
     (resumes s id (wait_of s.locks id) (local_of s id).suspended)
-    (turn-resumed g.was.script.tables c.args.held.now c.wake.new.held s id c.in_ok-waiting.waiting c.requires.1.1.0 c.requires.1.1.1.0 c.in_ok-waiting.ensures command c.in-Some.is c.args.node c.in-Ok.marks.items c.requires.1.1.1.1 c.in-Ok.ensures.marks)
+    (turn-resumed g.was.script.tables c.args.held.now c.wake.new.held s id c.in_ok-waiting.waiting c.requires.1.1.0 c.requires.1.1.1.0 c.in_ok-waiting.ensures command c.in-Some.is c.args.node c.in-Ok.marks.items c.requires.1.1.1.1.0 c.in-Ok.ensures.marks)
     c.in_ok-done-in-Ok.ensures.quiet

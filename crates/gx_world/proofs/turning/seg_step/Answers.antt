@@ -8,7 +8,7 @@ pub step-requires : goal.step-requires
 step-requires g c κs within =
     let there = segment-read c.args.segments.now.items c.args.at.0 c.from.result c.index_mut-segment.result.now c.from.ensures c.requires.1.1.0 c.requires.1.1.1.0 c.index_mut-segment.ensures.value in
     let room = all_at (λ (s : Segment). (s.clock < 2 ^ 62) × (s.sent < 2 ^ 62)) c.args.segments.now.items (c.args.at.0 - 1) c.index_mut-segment.result.now c.requires.1.1.1.1.1.1.0 there in
-    (within.0, (within.1, (λ u. c.requires.1.1.1.1.1.0 _ there, (c.requires.1.1.1.1.1.1.1.0 _ there, (room.0, (c.requires.1.1.1.1.1.1.1.1, room.1))))))
+    (within.0, (within.1, (λ u. c.requires.1.1.1.1.1.0 _ there, (c.requires.1.1.1.1.1.1.1.0 _ there, (room.0, (c.requires.1.1.1.1.1.1.1.1, (room.1, c.blank-blank.ensures.blank)))))))
 
 pub returns-clause-stepped : goal.returns-clause-stepped
 returns-clause-stepped g c =

@@ -1,4 +1,8 @@
-use Rattle.std.proofs.Common.{ap}
+use Rattle.std.proofs.Common.{◌≡◌, ◌∙◌, ◌++◌, ◌∷◌, [], List, ap, if◌then◌else◌, length, subst}
+use Rattle.gx_ids.specs.declared.ids.Node.{Node}
+use Rattle.gx_store.specs.Journals.{is_same_node}
+use Rattle.gx_store.specs.declared.run.Step.{Step}
+use Rattle.gx_world.specs.Links.{link_in, places_from}
 use Rattle.gx_world.specs.declared.network.Network.{Network}
 use Rattle.gx_world.proofs.Answers.{both_ok, on_ok}
 use Rattle.gx_world.proofs.Segs.{seg-addressed, seg-inside, seg-is, seg-may, seg-turned, seg-usable}
@@ -34,6 +38,16 @@ push_step-requires g c =
 
 pub returns-clause-turned : goal.returns-clause-turned
 returns-clause-turned g c =
+    let old = c.args.network.now in
+    let new = c.push_step.new.network in
+    let step : Step = c.in_ok-step.step in
+    let others = c.push_step.ensures.others in
     on_ok c.push_step.result _ _ (both_ok c.push_step.result _ _ c.push_step.ensures.run (both_ok c.push_step.result _ _ c.push_step.ensures.long c.push_step.ensures.links))
-    (λ e. seg-turned _ _ c.args.network.now c.requires.1.1.0 _ c.requires.1.1.1.0 _ _ _ _ _ _ c.requires.1.1.1.1.1.1.0 c.in_ok-step.ensures.stepped
-    c.push_step.new.network (record { run = e.0; long = e.1.0; links = e.1.1 }) (ap (λ (x : Network). x.segments.items) c.push_step.ensures.others) (ap (λ (x : Network). x.coord) c.push_step.ensures.others) (ap (λ (x : Network). x.script) c.push_step.ensures.others) (ap (λ (x : Network). x.spent) c.push_step.ensures.others))
+    (λ e.
+    seg-turned _ _ old c.requires.1.1.0 _ c.requires.1.1.1.0 _ _ _ _ _ _ c.requires.1.1.1.1.1.1.0 c.in_ok-step.ensures.stepped new
+    (record {
+      run = e.0 ∙ ap (λ (steps : List Step). steps ++ step ∷ []) c.seg_step.ensures.steps;
+      long = e.1.0;
+      links = subst (λ (steps : List Step). (f t : Node) → link_in new.letters f t ≡ link_in old.letters f t ++ (if is_same_node f step.stamp.node then places_from (length steps) 0 t step.marks else [])) c.seg_step.ensures.steps e.1.1;
+    })
+    (ap (λ (x : Network). x.segments.items) others) (ap (λ (x : Network). x.coord) others) (ap (λ (x : Network). x.script) others) (ap (λ (x : Network). x.spent) others))

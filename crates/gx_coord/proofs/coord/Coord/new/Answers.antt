@@ -12,7 +12,7 @@ use Rattle.gx_coord.proofs.coord.Coord.new.Goals as goal
 pub returns-clause-new : goal.returns-clause-new
 returns-clause-new c =
     let script = c.args.script.value in
-    let k : Coord = record { alloc = c.args.alloc; script = c.args.script; places = c.in_ok-places.places; dtx = c.in_ok-dtx.dtx; works = c.new-4.result; sessions = c.in_ok-sessions.sessions; locks = c.in_ok-locks.locks; detector = c.in_ok-detector.detector; sent = c.in_ok-sent.sent; clock = 0; spent = false } in
+    let k : Coord = record { alloc = c.args.alloc; script = c.args.script; places = c.in_ok-places.places; dtx = c.in_ok-dtx.dtx; works = c.new-4.result; spare = c.new-5.result; sessions = c.in_ok-sessions.sessions; locks = c.in_ok-locks.locks; detector = c.in_ok-detector.detector; sent = c.in_ok-sent.sent; clock = 0; spent = false } in
     let lines = c.as_slice.ensures ∙ ap (λ (s : Script). s.lines) c.deref.ensures in
     let count = c.len.ensures ∙ ap (λ (s : Script). length s.sessions) c.deref-2.ensures in
     is-coord k new_coordinator

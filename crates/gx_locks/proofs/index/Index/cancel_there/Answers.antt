@@ -1,16 +1,15 @@
-use Rattle.std.proofs.Common.{◌∙◌, ◌-◌, ap, rules}
-use Rattle.std.specs.Prelude.{unwrap_or}
-use Rattle.gx_locks.specs.contracts.key.KeyOrd.TheImpl as block
-use Rattle.gx_locks.proofs.Written.{empty, written_there, written_elsewhere}
+use Rattle.std.proofs.Common.{◌∙◌, ◌-◌, ap}
+use Rattle.gx_locks.proofs.Written.{kept, some_then}
 use Rattle.gx_locks.proofs.index.Index.cancel_there.Goals as goal
+
+pub returns-in-Some-clause-holds : goal.returns-in-Some-clause-holds
+returns-in-Some-clause-holds c =
+    kept (λ rack. rack.holds) c.args.key c.args.self.now (c.shelf_mut.follows.lender c.cancel.new.self) c.cancel.new.self (some_then c.shelf_mut.result c.in-Some.shelf c.in-Some.is (c.shelf_mut.follows.holds c.cancel.new.self)) (c.cancel.ensures.holds ∙ ap (λ rack. rack.holds) c.in-Some.ensures.found)
 
 pub returns-in-Some-clause-there : goal.returns-in-Some-clause-there
 returns-in-Some-clause-there c =
-    let new = c.cancel.new.self in
-    ap (λ o. (unwrap_or o empty).places) (written_there block.ghosts.cmp c.args.self.now.shelves (c.get_mut.follows.lender new) c.args.key c.in-Some.shelf.now new c.in-Some.ensures.value (c.get_mut.follows.holds new))
-    ∙ c.cancel.ensures.places ∙ ap (λ o. (unwrap_or o empty).places - 1) c.in-Some.ensures.value
+    ap (λ rack. rack.places) (some_then c.shelf_mut.result c.in-Some.shelf c.in-Some.is (c.shelf_mut.follows.holds c.cancel.new.self)).there ∙ c.cancel.ensures.places ∙ ap (λ rack. rack.places - 1) c.in-Some.ensures.found
 
 pub returns-in-Some-clause-elsewhere : goal.returns-in-Some-clause-elsewhere
 returns-in-Some-clause-elsewhere c = λ k other.
-    let new = c.cancel.new.self in
-    ap (λ o. (unwrap_or o empty).places) (written_elsewhere block.ghosts.cmp c.args.self.now.shelves (c.get_mut.follows.lender new) c.args.key c.in-Some.shelf.now new c.in-Some.ensures.value (c.get_mut.follows.holds new) k (search rules))
+    ap (λ rack. rack.places) ((some_then c.shelf_mut.result c.in-Some.shelf c.in-Some.is (c.shelf_mut.follows.holds c.cancel.new.self)).elsewhere k other)

@@ -1,27 +1,19 @@
-use Rattle.std.proofs.Common.{◌∙◌, ◌+◌, ◌++◌, ◌∷◌, [], ap, rules}
-use Rattle.std.specs.Prelude.{unwrap_or}
-use Rattle.gx_locks.specs.contracts.key.KeyOrd.TheImpl as block
-use Rattle.gx_locks.proofs.Written.{empty, written_there, written_elsewhere}
+use Rattle.std.proofs.Common.{◌∙◌, ◌+◌, ◌++◌, ◌∷◌, [], ap}
+use Rattle.gx_locks.proofs.Written.{some_then}
 use Rattle.gx_locks.proofs.index.Index.fill.Goals as goal
 
 pub returns-clause-there : goal.returns-clause-there
 returns-clause-there c =
-    let new = c.fill.new.self in
-    ap (λ o. (unwrap_or o empty).holds) (written_there block.ghosts.cmp c.args.self.now.shelves (c.get_mut.follows.lender new) c.args.key c.in-Some.shelf.now new c.in-Some.ensures.value (c.get_mut.follows.holds new))
-    ∙ c.fill.ensures.holds ∙ ap (λ o. (unwrap_or o empty).holds ++ c.args.hold ∷ []) c.in-Some.ensures.value
+    ap (λ rack. rack.holds) (some_then c.shelf_mut.result c.in-Some.shelf c.in-Some.is (c.shelf_mut.follows.holds c.fill.new.self)).there ∙ c.fill.ensures.holds ∙ ap (λ rack. rack.holds ++ c.args.hold ∷ []) c.in-Some.ensures.found
 
 pub returns-clause-places_there : goal.returns-clause-places_there
 returns-clause-places_there c =
-    let new = c.fill.new.self in
-    ap (λ o. (unwrap_or o empty).places + 1) (written_there block.ghosts.cmp c.args.self.now.shelves (c.get_mut.follows.lender new) c.args.key c.in-Some.shelf.now new c.in-Some.ensures.value (c.get_mut.follows.holds new))
-    ∙ c.fill.ensures.places ∙ ap (λ o. (unwrap_or o empty).places) c.in-Some.ensures.value
+    ap (λ rack. rack.places + 1) (some_then c.shelf_mut.result c.in-Some.shelf c.in-Some.is (c.shelf_mut.follows.holds c.fill.new.self)).there ∙ c.fill.ensures.places ∙ ap (λ rack. rack.places) c.in-Some.ensures.found
 
 pub returns-clause-elsewhere : goal.returns-clause-elsewhere
 returns-clause-elsewhere c = λ k other.
-    let new = c.fill.new.self in
-    ap (λ o. (unwrap_or o empty).holds) (written_elsewhere block.ghosts.cmp c.args.self.now.shelves (c.get_mut.follows.lender new) c.args.key c.in-Some.shelf.now new c.in-Some.ensures.value (c.get_mut.follows.holds new) k (search rules))
+    ap (λ rack. rack.holds) ((some_then c.shelf_mut.result c.in-Some.shelf c.in-Some.is (c.shelf_mut.follows.holds c.fill.new.self)).elsewhere k other)
 
 pub returns-clause-places_elsewhere : goal.returns-clause-places_elsewhere
 returns-clause-places_elsewhere c = λ k other.
-    let new = c.fill.new.self in
-    ap (λ o. (unwrap_or o empty).places) (written_elsewhere block.ghosts.cmp c.args.self.now.shelves (c.get_mut.follows.lender new) c.args.key c.in-Some.shelf.now new c.in-Some.ensures.value (c.get_mut.follows.holds new) k (search rules))
+    ap (λ rack. rack.places) ((some_then c.shelf_mut.result c.in-Some.shelf c.in-Some.is (c.shelf_mut.follows.holds c.fill.new.self)).elsewhere k other)
