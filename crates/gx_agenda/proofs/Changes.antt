@@ -2,14 +2,15 @@
 use Rattle.std.proofs.Common.{◌≡◌, ℕ, Bool, true, false, cond, ◌&&◌, eqb, refl, sym, ap, ◌∙◌, arith}
 use Rattle.std.proofs.lemmas.Bool.Decides.{nat_tests}
 use Rattle.std.specs.BTreeMap.{is_at}
-use Rattle.std.specs.Prelude.{Option, Some, None}
+use Rattle.std.specs.Prelude.{Option, Some, None, option_map}
 use Rattle.gx_ids.specs.declared.ids.Gxid.{Gxid}
 use Rattle.gx_ids.specs.declared.ids.Node.{Node}
+use Rattle.gx_msg.specs.declared.message.Message.{Message}
 use Rattle.gx_msg.specs.declared.reply.Reply.{Reply}
 use Rattle.gx_store.specs.Journals.{is_same_node}
 use Rattle.gx_store.specs.Marks.{is_same_gxid}
 use Rattle.gx_agenda.specs.declared.expected.Expected.{Expected}
-use Rattle.gx_agenda.specs.Expected.{is_met, unless_met}
+use Rattle.gx_agenda.specs.Expected.{expected_of, is_met, unless_met}
 use Rattle.gx_agenda.specs.Requests.{request_cmp}
 
 same_numbers : (a g b h : ℕ) → is_at (request_cmp (record { segment = record { 0 = a }; gxid = record { 0 = g } })) (record { segment = record { 0 = b }; gxid = record { 0 = h } }) ≡ (eqb a b && eqb g h)
@@ -40,3 +41,6 @@ unmet-there false None e told found unmet = refl
 unmet-there false (Some x) e told found unmet = refl
 
 -- AN ORDER
+pub asked-if : (here : Bool) (told : Message) (was : Option Message) (old new : Option Expected) → old ≡ option_map expected_of was → new ≡ cond here (Some (expected_of told)) old → new ≡ option_map expected_of (cond here (Some told) was)
+asked-if true told was old new e is = is
+asked-if false told was old new e is = is ∙ e

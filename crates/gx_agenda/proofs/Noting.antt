@@ -2,8 +2,11 @@
 use Rattle.std.proofs.Common.{◌≡◌, ℕ, ◌+◌, ◌<◌, ◌^◌, Bool, true, false, cond, List, [], ◌∷◌, ◌++◌, ◌≤◌, length, take, drop, get_or, refl, sym, ap, ◌∙◌, subst, arith}
 use Rattle.std.proofs.lemmas.List.{take_all, take-append-drop, take_more}
 use Rattle.std.proofs.Math.Path.{fun_ext}
-use Rattle.std.specs.Prelude.{None, OnOk, Result, Ok, Err, Some}
+use Rattle.std.specs.Prelude.{None, OnOk, Option, Result, Ok, Err, Some}
+use Rattle.gx_ids.specs.declared.ids.Gxid.{Gxid}
+use Rattle.gx_ids.specs.declared.ids.Node.{Node}
 use Rattle.gx_ids.specs.declared.ids.SessionId.{SessionId}
+use Rattle.gx_msg.specs.declared.message.Message.{Message}
 use Rattle.gx_script.specs.declared.Line.{Line}
 use Rattle.gx_store.specs.declared.event.Event.{Event}
 use Rattle.gx_store.specs.declared.event.Event.TheVariants as event
@@ -11,7 +14,11 @@ use Rattle.gx_store.specs.declared.mark.Mark.{Mark}
 use Rattle.gx_store.specs.declared.mark.Mark.TheVariants as mark
 use Rattle.gx_store.specs.declared.run.Step.{Step}
 use Rattle.gx_store.specs.Marks.{answer_count, is_same_session}
+use Rattle.gx_store.specs.Ordered.{sent_count}
 use Rattle.gx_store.specs.Points.{marks_in, starts_by, starts_in}
+use Rattle.gx_store.specs.Schedule.{asked_by}
+use Rattle.gx_store.specs.Waits.{waits_from}
+use Rattle.gx_waits.specs.declared.claim.Claim.{Claim}
 use Rattle.gx_store.proofs.Marks.{answer_count-append}
 use Rattle.gx_store.proofs.Runs.{marks_in-push, starts_in-push}
 use Rattle.gx_agenda.specs.declared.queue.Queue.{Queue}
@@ -50,6 +57,19 @@ mark-answers _ session is g s = absurd (cc)
 pub mark-none : (m : Mark) → session_answered m ≡ None → (g : SessionId → ℕ) (s : SessionId) → g s ≡ g s + answer_count s (m ∷ [])
 mark-none (mark.Answer t n a) is g s = absurd (cc)
 mark-none _ is g s = omega arith
+
+-- a mark that answers sends nothing, asks nothing, and no wait begins or ends by it
+pub answer-sends : (m : Mark) (session : SessionId) → session_answered m ≡ Some session → (to : Node) → sent_count to (m ∷ []) ≡ 0
+answer-sends (mark.Answer t n a) session is to = refl
+answer-sends _ session is to = absurd (cc)
+
+pub answer-asks : (m : Mark) (session : SessionId) → session_answered m ≡ Some session → (i : Node) (g : Gxid) (was : Option Message) → asked_by i g was (m ∷ []) ≡ was
+answer-asks (mark.Answer t n a) session is i g was = refl
+answer-asks _ session is i g was = absurd (cc)
+
+pub answer-waits : (m : Mark) (session : SessionId) → session_answered m ≡ Some session → (node : Node) (ws : List Claim) → waits_from node ws (m ∷ []) ≡ ws
+answer-waits (mark.Answer t n a) session is node ws = refl
+answer-waits _ session is node ws = absurd (cc)
 
 -- what holds where it went well
 pub on-ok : {A E : Type 0} (r : Result A E) {P Q : Type 0} → OnOk r P → (P → Q) → OnOk r Q

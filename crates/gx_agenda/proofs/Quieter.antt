@@ -94,10 +94,10 @@ clash e = cc
 
 module _ (script : Script) (steps : List Step) (s : Step) (old : Quiet) (were : AreQuiet script steps old) where
   -- the coordinator has sent nothing to the first so many
-  pub quiet-behind-coordinator : is_same_node s.stamp.node the_coordinator ≡ true → (to : ℕ) → to ≤ old.to → ((segment : Node) → 0 < segment.0 → segment.0 ≤ to → sent_count segment s.marks ≡ 0) → AreQuiet script (steps ++ s ∷ []) (record { from = old.from; to = to })
-  quiet-behind-coordinator here to most none = record {
+  pub quiet-behind-coordinator : (new : Quiet) → is_same_node s.stamp.node the_coordinator ≡ true → new.from ≡ old.from → new.to ≤ old.to → ((segment : Node) → 0 < segment.0 → segment.0 ≤ new.to → sent_count segment s.marks ≡ 0) → AreQuiet script (steps ++ s ∷ []) new
+  quiet-behind-coordinator new here from most none = record {
     from = λ segment low high.
-        left-none script segment the_coordinator steps s (were.from segment low high) (sent-same segment the_coordinator steps s (λ same. absurd (both s.stamp.node.0 segment.0 low here same)));
+        left-none script segment the_coordinator steps s (were.from segment low (omega (arith, from, high))) (sent-same segment the_coordinator steps s (λ same. absurd (both s.stamp.node.0 segment.0 low here same)));
     to = λ segment low high. left-none script the_coordinator segment steps s (were.to segment low (omega (arith, most, high))) (sent-same the_coordinator segment steps s (λ same. none segment low high));
   }
     where
@@ -105,11 +105,11 @@ module _ (script : Script) (steps : List Step) (s : Step) (old : Quiet) (were : 
       both a n low e f = grind (arith, nat_tests)
 
   -- a segment has sent something, which isn't one of the first so many
-  pub quiet-behind-segment : is_same_node s.stamp.node the_coordinator ≡ false → (from : ℕ) → from ≤ old.from → (0 < s.stamp.node.0 → from < s.stamp.node.0) → AreQuiet script (steps ++ s ∷ []) (record { from = from; to = old.to })
-  quiet-behind-segment away from most before = record {
+  pub quiet-behind-segment : (new : Quiet) → is_same_node s.stamp.node the_coordinator ≡ false → new.to ≡ old.to → new.from ≤ old.from → (0 < s.stamp.node.0 → new.from < s.stamp.node.0) → AreQuiet script (steps ++ s ∷ []) new
+  quiet-behind-segment new away to most before = record {
     from = λ segment low high.
-        left-none script segment the_coordinator steps s (were.from segment low (omega (arith, most, high))) (sent-same segment the_coordinator steps s (λ same. absurd (apart s.stamp.node.0 segment.0 from low high before same)));
-    to = λ segment low high. left-none script the_coordinator segment steps s (were.to segment low high) (sent-same the_coordinator segment steps s (λ same. absurd (clash (sym away ∙ same))));
+        left-none script segment the_coordinator steps s (were.from segment low (omega (arith, most, high))) (sent-same segment the_coordinator steps s (λ same. absurd (apart s.stamp.node.0 segment.0 new.from low high before same)));
+    to = λ segment low high. left-none script the_coordinator segment steps s (were.to segment low (omega (arith, to, high))) (sent-same the_coordinator segment steps s (λ same. absurd (clash (sym away ∙ same))));
   }
     where
       apart : (a n from : ℕ) → 0 < n → n ≤ from → (0 < a → from < a) → (a == n) ≡ true → ⊥

@@ -97,6 +97,13 @@ module _ {K X : Type 0} {R : K → K → Ordering} (total : IsTotalOrder R) wher
       by q there Equal f = refl
       by q there Greater f = absurd (none (subst IsSome (lookup-none (is_at (R q)) (e ∷ es) (none_below_head total q e es rising (back total e.0 q Greater f))) there))
 
+  pub rising-remove : (es : List (K × X)) (i : ℕ) → IsRising R es → IsRising R (remove es i)
+  rising-remove [] zero rising = rising
+  rising-remove [] (suc i) rising = rising
+  rising-remove (e ∷ es) zero rising = sorted_tail R e.0 (keys_of es) rising
+  rising-remove (e ∷ es) (suc i) rising =
+      rising-cons R e.0 (keys_of (remove es i)) (all-remove (λ y. R e.0 y ≡ Less) es i (sorted_head R e.0 (keys_of es) rising)) (rising-remove es i (sorted_tail R e.0 (keys_of es) rising))
+
   module _ (key : K) where
     -- THE SEARCH
     searchable : (es : List (K × X)) → IsRising R es → IsNonDecreasingBy (λ e. ordering_index (R e.0 key)) es
@@ -155,13 +162,6 @@ module _ {K X : Type 0} {R : K → K → Ordering} (total : IsTotalOrder R) wher
     at-set es i d v rising stands q =
         ap (λ xs. at R xs q) (set-is es i d v rising stands)
         ∙ lookup-set_value (eq_by_cmp_equiv total) (is_at (R key)) (one total key) q v es (subst IsSome (sym (at-place es i d rising stands)) refl)
-
-    pub rising-remove : (es : List (K × X)) (i : ℕ) → IsRising R es → IsRising R (remove es i)
-    rising-remove [] zero rising = rising
-    rising-remove [] (suc i) rising = rising
-    rising-remove (e ∷ es) zero rising = sorted_tail R e.0 (keys_of es) rising
-    rising-remove (e ∷ es) (suc i) rising =
-        rising-cons R e.0 (keys_of (remove es i)) (all-remove (λ y. R e.0 y ≡ Less) es i (sorted_head R e.0 (keys_of es) rising)) (rising-remove es i (sorted_tail R e.0 (keys_of es) rising))
 
     pub at-remove : (es : List (K × X)) (i : ℕ) → IsRising R es → StandsAt (R key) es i → (q : K) → at R (remove es i) q ≡ cond (is_at (R key) q) None (at R es q)
     at-remove es i rising stands q =

@@ -23,7 +23,7 @@ use Rattle.gx_store.specs.Waits.{added, waits_at, waits_from, without}
 use Rattle.gx_agenda.specs.declared.asked.Asked.{Asked}
 use Rattle.gx_agenda.specs.declared.expected.Expected.{Expected}
 use Rattle.gx_agenda.specs.declared.request.Request.{Request}
-use Rattle.gx_agenda.specs.Awaited.{AreAsked, AreAwaited, AreWaits, IsIndexed, awaited_at, begins_wait, due_of, waits_in}
+use Rattle.gx_agenda.specs.Awaited.{AreAsked, AreAwaited, AreWaits, IsIndexed, begins_wait, due_of, waits_in}
 use Rattle.gx_agenda.specs.Requests.{request_cmp}
 use Rattle.gx_agenda.proofs.Changes.{is_same_request}
 use Rattle.gx_agenda.proofs.Lists.{same_number}
@@ -263,13 +263,13 @@ none-waits asked ms empty none standing were node g = were node g ∙ ap (of_gxi
 
 -- A STEP
 -- the answers were noted, and then the waits
-pub noted : (steps : List Step) (step : Step) (old mid new : Asked) → AreAsked steps old → AreAwaited (steps ++ step ∷ []) mid → mid.waiting ≡ old.waiting → IsIndexed mid → ((r : Request) → awaited_at new r ≡ awaited_at mid r) → (ms : List Mark) → ms ≡ step.marks
-    → ((standing : Node → List Claim) → AreWaits standing mid → AreWaits (λ node. waits_from node (standing node) ms) new) → (IsIndexed mid → IsIndexed new) → AreAsked (steps ++ step ∷ []) new
-noted steps step old mid new were answers waiting index awaited ms is waits due =
+pub noted : (steps : List Step) (step : Step) (old new : Asked) → AreAsked steps old → AreAwaited (steps ++ step ∷ []) new → (ms : List Mark) → ms ≡ step.marks
+    → ((standing : Node → List Claim) → AreWaits standing old → AreWaits (λ node. waits_from node (standing node) ms) new) → IsIndexed new → AreAsked (steps ++ step ∷ []) new
+noted steps step old new were answers ms is waits due =
     record {
-      answers = λ segment g. awaited (record { segment = segment; gxid = g }) ∙ answers segment g;
+      answers = answers;
       waits = λ node g.
-          waits (waits_at (marks_in steps)) (λ n h. ap (λ m. waits_in m (record { segment = n; gxid = h })) waiting ∙ were.waits n h) node g
+          waits (waits_at (marks_in steps)) were.waits node g
           ∙ ap (of_gxid g) (ap (waits_from node (waits_at (marks_in steps) node)) is ∙ sym (ap (λ xs. waits_at xs node) (marks_in-push steps step) ∙ waits_from-append node [] (marks_in steps) step.marks));
-      due = due index;
+      due = due;
     }

@@ -1,4 +1,4 @@
-ghost use Rattle.std.specs.Prelude.{◌≡◌, ◌++◌, ◌∷◌, [], ℕ, List, Option, Some, None, false, if◌then◌else◌, ◌&&◌, OnOk, IfSome, IfNone, IsSome, map, option_map, ◌<◌, ◌==◌, not, length};
+ghost use Rattle.std.specs.Prelude.{◌≡◌, ◌++◌, [], ℕ, List, Option, Some, None, false, if◌then◌else◌, ◌&&◌, OnOk, IfSome, IfNone, IsSome, map, option_map, ◌<◌, ◌==◌, not, length};
 ghost use Rattle.std.specs.Option.{option_copied, option_to_list};
 ghost use Rattle.std.specs.BTreeMap.{is_at};
 ghost use Rattle.std.specs.List.{filter, flat_map};
@@ -12,11 +12,11 @@ ghost use Rattle.gx_store.specs.Marks.{is_same_gxid};
 ghost use Rattle.gx_store.specs.Points.{marks_in};
 ghost use Rattle.gx_store.specs.Schedule.{asked_by, first_of, is_about, is_graph_awaited, resends, resumptions, segments_of, unless_answered};
 ghost use Rattle.gx_agenda.specs.declared.request.Request.{Request as OneRequest};
-ghost use Rattle.gx_agenda.specs.Awaited.{AreAsked, AreAwaited, AreResendable, IsFirstGraph, IsIndexed, IsResendable, IsTold, awaited_at, due_of, expected_at, told_in, waits_in};
+ghost use Rattle.gx_agenda.specs.Awaited.{AreAsked, AreResendable, IsFirstGraph, IsIndexed, IsResendable, awaited_at, due_of, expected_at, told_in, waits_in};
 ghost use Rattle.gx_agenda.specs.Expected.{expected_of, unless_met};
-ghost use Rattle.gx_agenda.specs.Following.{Follows, FollowsOrders, IsOrderOf, unless_told};
+ghost use Rattle.gx_agenda.specs.Following.{FollowsOrders, IsOrderOf, unless_told};
 ghost use Rattle.gx_agenda.specs.Requests.{request_cmp};
-ghost use Rattle.gx_agenda.specs.VecMap.{IsLeast, IsRising, at};
+ghost use Rattle.gx_agenda.specs.VecMap.{IsLeast, IsRising, StandsAt, at};
 
 use crate::expected::{Expected, expected_answer, is_met_by, transaction_of};
 use crate::repeating::is_asked_anew;
@@ -25,7 +25,7 @@ use crate::resends::{earlier, first_key, push_graph, push_requests, resend};
 use crate::vec_map::VecMap;
 use gx_ids::{Gxid, Mem, Node, Seq};
 use gx_msg::{Message, Reply};
-use gx_store::{Event, Mark, StepView};
+use gx_store::{Event, StepView};
 use gx_waits::Claim;
 use std::alloc::Global;
 use std::collections::BTreeMap;
@@ -52,15 +52,6 @@ impl Asked {
             waiting: BTreeMap::new(alloc),
             alloc,
         }
-    }
-
-    /// A step of the run was done. If it is the coordinator's, `told` is the message that its event received, if it received one. Where
-    /// memory runs out, what is awaited is no longer known.
-    pub fn note(&mut self, step: &StepView<'_>, told: Option<&Message>) -> Mem<()>
-        ensures { OnOk result ((steps : List Step) → AreAsked steps self.old → IsTold steps step.now (option_copied told.entry) → AreAsked (steps ++ step.now ∷ []) self.new) }
-    {
-        self.note_answers(step, told)?;
-        self.note_waits(step.marks())
     }
 
     /// What is sent again first, by segment: there by transaction, and the graph last. Told is the first segment whose graph is
@@ -93,21 +84,8 @@ impl Asked {
         !self.waiting.is_empty()
     }
 
-    // A step has sent or answered what it did.
-    fn note_answers(&mut self, step: &StepView<'_>, told: Option<&Message>) -> Mem<()>
-        ensures answers { OnOk result ((steps : List Step) → AreAwaited steps self.old → IsTold steps step.now (option_copied told.entry) → AreAwaited (steps ++ step.now ∷ []) self.new) }
-        ensures waiting { self.new.waiting ≡ self.old.waiting }
-        ensures due { OnOk result (IsIndexed self.old → IsIndexed self.new) }
-    {
-        if step.stamp().node == Node(0) {
-            self.hear(step, told);
-            self.sent_all(step.marks())?;
-        }
-        Ok(())
-    }
-
     // The coordinator hears what its step received. What the step asks anew is awaited whatever it hears.
-    fn hear(&mut self, step: &StepView<'_>, told: Option<&Message>)
+    pub(crate) fn hear(&mut self, step: &StepView<'_>, told: Option<&Message>)
         ensures asked { (steps : List Step) → option_copied told.entry ≡ told_in steps step.now.event → (segment : Node) (g : Gxid) (was : Option Message) → IsOrderOf g was
             → expected_at self.old segment g ≡ option_map expected_of was → (left : Option Message) × (expected_at self.new segment g ≡ option_map expected_of left)
             × (asked_by segment g left step.now.marks ≡ asked_by segment g (unless_answered steps segment g was step.now.event) step.now.marks) }
@@ -144,8 +122,25 @@ impl Asked {
         }
     }
 
-    // A node has answered for a transaction.
+    // A node has answered for a transaction. Mostly what it answers is due, and then it is looked for once.
     fn answered(&mut self, segment: Node, gxid: Gxid, reply: &Reply)
+        ensures asked { (s : Node) (g : Gxid) → expected_at self.new s g ≡ unless_met (is_same_node segment s && is_same_gxid gxid g) reply.now (expected_at self.old s g) }
+        ensures waiting { self.new.waiting ≡ self.old.waiting }
+        ensures due { IsIndexed self.old → IsIndexed self.new }
+    {
+        let request = Request { segment, gxid };
+        match self.due.find(request) {
+            Some((place, expected)) => {
+                if is_met_by(expected, reply) {
+                    self.withdraw_at(place, request);
+                }
+            }
+            None => self.meet(segment, gxid, reply),
+        }
+    }
+
+    // What is awaited of a request may be met.
+    fn meet(&mut self, segment: Node, gxid: Gxid, reply: &Reply)
         ensures asked { (s : Node) (g : Gxid) → expected_at self.new s g ≡ unless_met (is_same_node segment s && is_same_gxid gxid g) reply.now (expected_at self.old s g) }
         ensures waiting { self.new.waiting ≡ self.old.waiting }
         ensures due { IsIndexed self.old → IsIndexed self.new }
@@ -158,32 +153,8 @@ impl Asked {
         }
     }
 
-    // The coordinator's step made these marks.
-    fn sent_all(&mut self, marks: &[Mark]) -> Mem<()>
-        ensures asked { OnOk result (Follows (λ segment g was. asked_by segment g was marks.now) self.old self.new) }
-        ensures waiting { self.new.waiting ≡ self.old.waiting }
-        ensures due { OnOk result (IsIndexed self.old → IsIndexed self.new) }
-    {
-        for mark in marks {
-            self.marked(mark)?;
-        }
-        Ok(())
-    }
-
-    // The coordinator's step made a mark.
-    fn marked(&mut self, mark: &Mark) -> Mem<()>
-        ensures asked { OnOk result (Follows (λ segment g was. asked_by segment g was (mark.now ∷ [])) self.old self.new) }
-        ensures waiting { self.new.waiting ≡ self.old.waiting }
-        ensures due { OnOk result (IsIndexed self.old → IsIndexed self.new) }
-    {
-        if let Mark::Sent { to, message, .. } = mark {
-            self.sent(*to, message)?;
-        }
-        Ok(())
-    }
-
     // The coordinator has sent a message.
-    fn sent(&mut self, to: Node, message: &Message) -> Mem<()>
+    pub(crate) fn sent(&mut self, to: Node, message: &Message) -> Mem<()>
         ensures asked { OnOk result ((s : Node) (g : Gxid) → expected_at self.new s g
             ≡ (if is_same_node to s && is_about g message.now then Some (expected_of message.now) else expected_at self.old s g)) }
         ensures waiting { self.new.waiting ≡ self.old.waiting }
@@ -214,6 +185,17 @@ impl Asked {
     {
         self.due.remove(*request);
         self.withheld.remove(*request);
+    }
+
+    // The same of an answer that is due, and stands at this place.
+    fn withdraw_at(&mut self, place: usize, request: Request)
+        requires { StandsAt (request_cmp request) self.old.due place }
+        ensures awaited { (r : OneRequest) → awaited_at self.new r ≡ (if is_at (request_cmp request) r then None else awaited_at self.old r) }
+        ensures waiting { self.new.waiting ≡ self.old.waiting }
+        ensures due { IsIndexed self.old → IsIndexed self.new }
+    {
+        self.due.remove_at(place);
+        self.withheld.remove(request);
     }
 
     // An answer is awaited. Whether it may be asked for again is told by its kind and by the waits.

@@ -1,4 +1,4 @@
-ghost use Rattle.std.specs.Prelude.{◌≡◌, ◌<◌, ◌+◌, ◌++◌, ◌∷◌, [], ℕ, List, length, IfOk, OnOk, map, option_map, slice_get, Some};
+ghost use Rattle.std.specs.Prelude.{◌≡◌, ◌<◌, ◌+◌, ◌++◌, [], ℕ, List, length, IfOk, OnOk, map, option_map, slice_get, Some};
 ghost use Rattle.std.specs.Ordering.{nat_cmp};
 ghost use Rattle.std.specs.Option.{option_to_list};
 ghost use Rattle.gx_ids.specs.declared.ids.SessionId.{SessionId as OneSession};
@@ -7,12 +7,11 @@ ghost use Rattle.gx_script.specs.declared.Script.{Script};
 ghost use Rattle.gx_store.specs.Language.{IsScript};
 ghost use Rattle.gx_store.specs.declared.event.Event.TheVariants.{Start};
 ghost use Rattle.gx_store.specs.declared.run.Step.{Step};
-ghost use Rattle.gx_store.specs.Marks.{answer_count};
 ghost use Rattle.gx_store.specs.Points.{starts_by};
 ghost use Rattle.gx_store.specs.Schedule.{first_of, starts};
 ghost use Rattle.gx_agenda.specs.declared.standing.Standing.{Standing as OneStanding};
-ghost use Rattle.gx_agenda.specs.Moves.{AreFew, IsAdvancedAt, more_for, session_answered, session_started};
-ghost use Rattle.gx_agenda.specs.Queued.{AreCounted, AreQueued, AreQueuedBy};
+ghost use Rattle.gx_agenda.specs.Moves.{AreFew, IsAdvancedAt, more_for, session_started};
+ghost use Rattle.gx_agenda.specs.Queued.{AreQueued, AreQueuedBy};
 ghost use Rattle.gx_agenda.specs.VecMap.{IsRising};
 
 use crate::making::{first_lines, fresh_standings};
@@ -21,7 +20,7 @@ use crate::standing::{Move, Standing};
 use crate::vec_map::VecMap;
 use gx_ids::{Mem, SessionId};
 use gx_script::Script;
-use gx_store::{Event, Mark, StepView};
+use gx_store::Event;
 use std::alloc::Global;
 
 /// The next line of each session that is idle, by its place in the file.
@@ -60,16 +59,8 @@ impl Queue {
         push_sessions(&self.next, events)
     }
 
-    /// A step of the run was done.
-    pub fn note(&mut self, step: &StepView<'_>) -> Mem<()>
-        ensures { OnOk result ((script : Script) (steps : List Step) → AreQueued script steps self.old → AreCounted (steps ++ step.now ∷ []) → AreQueued script (steps ++ step.now ∷ []) self.new) }
-    {
-        self.note_event(step.event())?;
-        self.note_marks(step.marks())
-    }
-
     // An event may start a line.
-    fn note_event(&mut self, event: Event) -> Mem<()>
+    pub(crate) fn note_event(&mut self, event: Event) -> Mem<()>
         ensures { OnOk result ((lines : List OneLine) (started answered : OneSession → ℕ) → AreQueuedBy lines started answered self.old
             → AreFew (λ s. started s + starts_by s event) → AreFew answered → AreQueuedBy lines (λ s. started s + starts_by s event) answered self.new) }
     {
@@ -79,31 +70,8 @@ impl Queue {
         }
     }
 
-    // Marks may answer lines.
-    fn note_marks(&mut self, marks: &[Mark]) -> Mem<()>
-        ensures { OnOk result ((lines : List OneLine) (started answered : OneSession → ℕ) → AreQueuedBy lines started answered self.old
-            → AreFew started → AreFew (λ s. answered s + answer_count s marks.now)
-            → AreQueuedBy lines started (λ s. answered s + answer_count s marks.now) self.new) }
-    {
-        for mark in marks {
-            self.note_mark(mark)?;
-        }
-        Ok(())
-    }
-
-    fn note_mark(&mut self, mark: &Mark) -> Mem<()>
-        ensures { OnOk result ((lines : List OneLine) (started answered : OneSession → ℕ) → AreQueuedBy lines started answered self.old
-            → AreFew started → AreFew (λ s. answered s + answer_count s (mark.now ∷ []))
-            → AreQueuedBy lines started (λ s. answered s + answer_count s (mark.now ∷ [])) self.new) }
-    {
-        match answered_session(mark) {
-            Some(session) => self.count(session, 0, 1),
-            None => Ok(()),
-        }
-    }
-
     // So many more of a session's lines were started, and so many answered; a session that the script lacks has none.
-    fn count(&mut self, session: SessionId, starts: usize, answers: usize) -> Mem<()>
+    pub(crate) fn count(&mut self, session: SessionId, starts: usize, answers: usize) -> Mem<()>
         ensures { OnOk result ((lines : List OneLine) (started answered : OneSession → ℕ) → AreQueuedBy lines started answered self.old
             → AreFew (more_for session starts started) → AreFew (more_for session answers answered)
             → AreQueuedBy lines (more_for session starts started) (more_for session answers answered) self.new) }
@@ -141,15 +109,6 @@ fn started_session(event: Event) -> Option<SessionId>
 {
     match event {
         Event::Start(session) => Some(session),
-        _ => None,
-    }
-}
-
-fn answered_session(mark: &Mark) -> Option<SessionId>
-    ensures { result ≡ session_answered mark.now }
-{
-    match mark {
-        Mark::Answer { session, .. } => Some(*session),
         _ => None,
     }
 }

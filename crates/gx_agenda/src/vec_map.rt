@@ -1,4 +1,4 @@
-ghost use Rattle.std.specs.Prelude.{◌≡◌, [], Some, None, IfOk, IfErr, IfNone, IfSome, OnOk, if◌then◌else◌};
+ghost use Rattle.std.specs.Prelude.{◌≡◌, ◌<◌, [], ℕ, Some, None, IfOk, IfErr, IfNone, IfSome, OnOk, if◌then◌else◌, length, option_map};
 ghost use Rattle.std.specs.BTreeMap.{is_at};
 ghost use Rattle.gx_agenda.specs.VecMap.{IsGapFor, IsLeast, IsRising, StandsAt, at};
 
@@ -44,6 +44,17 @@ impl<K: Ord + Copy, V: Copy> VecMap<K, V> {
         }
     }
 
+    /// The value at a key, and where its entry stands.
+    pub fn find(&self, key: K) -> Option<(usize, V)>
+        ensures value { option_map (λ (f : ℕ × V). f.1) result ≡ at K.cmp self.now key }
+        ensures stands { IfSome result (λ f. StandsAt (K.cmp key) self.now f.0) }
+    {
+        match self.place(key) {
+            Ok(place) => Some((place, self.entries[place].1)),
+            Err(_) => None,
+        }
+    }
+
     /// The entry of the least key.
     pub fn first(&self) -> Option<(K, V)>
         ensures found { IfSome result (λ e. at K.cmp self.now e.0 ≡ Some e.1) }
@@ -82,6 +93,14 @@ impl<K: Ord + Copy, V: Copy> VecMap<K, V> {
             }
             Err(_) => {}
         }
+    }
+
+    /// Takes out the entry at a place.
+    pub fn remove_at(&mut self, place: usize)
+        requires { place < length self.old }
+        ensures { (key k : K) → StandsAt (K.cmp key) self.old place → at K.cmp self.new k ≡ (if is_at (K.cmp key) k then None else at K.cmp self.old k) }
+    {
+        self.entries.remove(place);
     }
 
     // Where the key stands, or where it would.

@@ -1,5 +1,5 @@
 // The waits at each node, mark by mark.
-ghost use Rattle.std.specs.Prelude.{◌≡◌, ◌∷◌, [], List, OnOk, IfOk, if◌then◌else◌, unwrap_or};
+ghost use Rattle.std.specs.Prelude.{◌≡◌, ◌∷◌, [], List, true, OnOk, IfOk, if◌then◌else◌, unwrap_or};
 ghost use Rattle.std.specs.BTreeMap.{is_at};
 ghost use Rattle.std.specs.List.{list_any};
 ghost use Rattle.gx_ids.specs.declared.ids.Node.{Node as OneNode};
@@ -21,33 +21,19 @@ use gx_waits::{Claim, Object};
 use std::alloc::Global;
 
 impl Asked {
-    // A step made these marks.
-    pub(crate) fn note_waits(&mut self, marks: &[Mark]) -> Mem<()>
-        ensures awaited { OnOk result ((r : OneRequest) → awaited_at self.new r ≡ awaited_at self.old r) }
-        ensures waits { OnOk result ((standing : OneNode → List OneClaim) → AreWaits standing self.old → AreWaits (λ node. waits_from node (standing node) marks.now) self.new) }
-        ensures due { OnOk result (IsIndexed self.old → IsIndexed self.new) }
+    // Whether a mark changes nothing of who waits: where nobody does, each by which no wait begins.
+    pub(crate) fn is_passed_over(&self, mark: &Mark) -> bool
+        ensures { result ≡ true → (standing : OneNode → List OneClaim) → AreWaits standing self.now → AreWaits (λ node. waits_from node (standing node) (mark.now ∷ [])) self.now }
     {
-        if self.waiting.is_empty() && !begin_any(marks) {
-            Ok(())
+        if self.waiting.is_empty() {
+            !begins(mark)
         } else {
-            self.note_each(marks)
+            false
         }
-    }
-
-    // Mark by mark.
-    fn note_each(&mut self, marks: &[Mark]) -> Mem<()>
-        ensures awaited { OnOk result ((r : OneRequest) → awaited_at self.new r ≡ awaited_at self.old r) }
-        ensures waits { OnOk result ((standing : OneNode → List OneClaim) → AreWaits standing self.old → AreWaits (λ node. waits_from node (standing node) marks.now) self.new) }
-        ensures due { OnOk result (IsIndexed self.old → IsIndexed self.new) }
-    {
-        for mark in marks {
-            self.note_wait(mark)?;
-        }
-        Ok(())
     }
 
     // A wait begins by its own mark, and ends by the hold or the release of the same lock.
-    fn note_wait(&mut self, mark: &Mark) -> Mem<()>
+    pub(crate) fn note_wait(&mut self, mark: &Mark) -> Mem<()>
         ensures awaited { OnOk result ((r : OneRequest) → awaited_at self.new r ≡ awaited_at self.old r) }
         ensures waits { OnOk result ((standing : OneNode → List OneClaim) → AreWaits standing self.old → AreWaits (λ node. waits_from node (standing node) (mark.now ∷ [])) self.new) }
         ensures due { OnOk result (IsIndexed self.old → IsIndexed self.new) }
@@ -142,18 +128,6 @@ impl Asked {
         }
         Ok(())
     }
-}
-
-// Whether one of these marks begins a wait.
-fn begin_any(marks: &[Mark]) -> bool
-    ensures { result ≡ list_any begins_wait marks.now }
-{
-    for mark in marks {
-        if begins(mark) {
-            return true;
-        }
-    }
-    false
 }
 
 fn begins(mark: &Mark) -> bool

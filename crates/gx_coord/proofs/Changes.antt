@@ -1,14 +1,19 @@
 -- A change at one gxid, or at one session.
-use Rattle.std.proofs.Common.{◌≡◌, ◌<◌, ℕ, zero, suc, List, [], ◌∷◌, Option, Some, None, Bool, true, false, refl, sym, subst, ap, ◌∙◌, cond, if◌then◌else◌, length, slice_set, arith, eqb, ltb, BTreeMap, IsSome, option_map}
+use Rattle.std.proofs.Common.{◌≡◌, ◌<◌, ◌≤◌, ◌*◌, ◌^◌, IfSome, ℕ, zero, suc, List, [], ◌∷◌, Option, Some, None, Bool, true, false, refl, sym, subst, ap, ◌∙◌, cond, if◌then◌else◌, length, get_or, slice_set, arith, eqb, ltb, option_map}
 use Rattle.std.proofs.Math.Path.{fun_ext}
 use Rattle.std.proofs.lemmas.Bool.{eqb-true, ltb-true}
 use Rattle.std.proofs.lemmas.Bool.Decides.{nat_tests}
-use Rattle.std.specs.BTreeMap.{Updates, WritesThrough, get_by, is_at}
+use Rattle.std.specs.BTreeMap.{is_at}
+use Rattle.std.specs.Map.{lookup}
 use Rattle.std.specs.Cmp.{nat_cmp_is}
 use Rattle.std.specs.Ordering.{is_eq, nat_cmp}
 use Rattle.std.specs.declared.cmp.Ordering.TheVariants.{Less, Equal, Greater}
 use Rattle.gx_ids.specs.declared.ids.Gxid.{Gxid}
 use Rattle.gx_dsnap.specs.Gxids.{gxid_cmp}
+use Rattle.gx_entries.specs.Standing.{IsUpdated, StandsAt}
+use Rattle.gx_entries.proofs.Gxids.{is_at-eqb}
+use Rattle.gx_entries.proofs.Stood.{found-there}
+use Rattle.gx_entries.proofs.Updated.{set-updates}
 use Rattle.gx_script.specs.declared.Line.{Line}
 use Rattle.gx_rules.specs.Coordinators as rule
 use Rattle.gx_rules.specs.Maps.{with_at}
@@ -16,7 +21,7 @@ use Rattle.gx_ids.specs.declared.ids.Node.{Node}
 use Rattle.gx_tree.specs.declared.part.Part.{Part}
 use Rattle.gx_rules.specs.AtCoordinator.{with_done, writers_with}
 use Rattle.gx_coord.specs.Books.{add_to, command_of, found, session_at, session_of, work_in, work_of}
-use Rattle.gx_coord.specs.Turns.{done_work}
+use Rattle.gx_coord.specs.Turns.{AreCounted, done_work}
 use Rattle.gx_coord.specs.declared.work.Command.{Command}
 use Rattle.gx_coord.specs.declared.work.Session.{Session}
 use Rattle.gx_coord.specs.declared.work.Work.{Work}
@@ -24,27 +29,13 @@ use Rattle.gx_coord.specs.declared.work.Work.{Work}
 abbrev pub gx : ℕ → Gxid
 gx h = record { 0 = h }
 
-is_at-eqb : (a b : ℕ) → is_eq (nat_cmp a b) ≡ eqb b a
-is_at-eqb a b = by_order (ltb a b) refl (eqb b a) refl
-  where
-    same : (a b : ℕ) → eqb b a ≡ true → a ≡ b
-    same a b e = sym (eqb-true b a e)
-
-    above : (a b : ℕ) → eqb b a ≡ false → ltb a b ≡ false → b < a
-    above a b e h = grind (arith, nat_tests)
-
-    by_order : (t : Bool) → ltb a b ≡ t → (u : Bool) → eqb b a ≡ u → is_eq (nat_cmp a b) ≡ u
-    by_order t h true e = ap is_eq (sym (nat_cmp_is a b Equal (same a b e)))
-    by_order true h false e = ap is_eq (sym (nat_cmp_is a b Less (ltb-true a b h)))
-    by_order false h false e = ap is_eq (sym (nat_cmp_is a b Greater (above a b e h)))
-
 -- what is known of a transaction changes
-pub found-with : (lines : List Line) (m n : BTreeMap Gxid Work) (g : Gxid) (w : Option Work) → Updates gxid_cmp m n g w → found lines n.entries ≡ with_at (found lines m.entries) g.0 (work_in lines w)
-found-with lines m n g w u = fun_ext (λ j. ap (work_in lines) (u.0 (gx j)) ∙ by_test j (eqb j g.0) (is_at-eqb g.0 j))
+pub found-with : (lines : List Line) (es fs : List (Gxid × Work)) (g : Gxid) (w : Option Work) → IsUpdated es fs g w → found lines fs ≡ with_at (found lines es) g.0 (work_in lines w)
+found-with lines es fs g w u = fun_ext (λ j. ap (work_in lines) (u (gx j)) ∙ by_test j (eqb j g.0) (is_at-eqb g.0 j))
   where
-    by_test : (j : ℕ) (b : Bool) → is_at (gxid_cmp g) (gx j) ≡ b → work_in lines (cond (is_at (gxid_cmp g) (gx j)) w (Rattle.std.specs.BTreeMap.get gxid_cmp m (gx j))) ≡ (if b then work_in lines w else found lines m.entries j)
-    by_test j true e = ap (λ b. work_in lines (cond b w (Rattle.std.specs.BTreeMap.get gxid_cmp m (gx j)))) e
-    by_test j false e = ap (λ b. work_in lines (cond b w (Rattle.std.specs.BTreeMap.get gxid_cmp m (gx j)))) e
+    by_test : (j : ℕ) (b : Bool) → is_at (gxid_cmp g) (gx j) ≡ b → work_in lines (cond (is_at (gxid_cmp g) (gx j)) w (lookup (is_at (gxid_cmp (gx j))) es)) ≡ (if b then work_in lines w else found lines es j)
+    by_test j true e = ap (λ b. work_in lines (cond b w (lookup (is_at (gxid_cmp (gx j))) es))) e
+    by_test j false e = ap (λ b. work_in lines (cond b w (lookup (is_at (gxid_cmp (gx j))) es))) e
 
 -- a session changes
 session-set : (sessions : List Session) (k : ℕ) (s : Session) (j : ℕ) (b : Bool) → eqb j k ≡ b → k < length sessions → session_at (slice_set sessions k s) j ≡ (if b then session_of s else session_at sessions j)
@@ -72,12 +63,23 @@ session-set (x ∷ xs) (suc k) s (suc j) b e l = session-set xs k s j b (same j 
 pub session_at-set : (sessions : List Session) (k : ℕ) (s : Session) → k < length sessions → session_at (slice_set sessions k s) ≡ with_at (session_at sessions) k (session_of s)
 session_at-set sessions k s l = fun_ext (λ j. session-set sessions k s j (eqb j k) refl l)
 
--- WHAT IS WRITTEN THROUGH A BORROW
-pub found-at : (lines : List Line) (m : BTreeMap Gxid Work) (g : Gxid) (w : Work) → Some w ≡ get_by (gxid_cmp g) m → found lines m.entries g.0 ≡ work_of lines w
-found-at lines m g w e = ap (work_in lines) (sym e)
+-- what is found is known
+pub found-as : (lines : List Line) (es : List (Gxid × Work)) (g : Gxid) (w : Work) → Some w ≡ lookup (is_at (gxid_cmp g)) es → found lines es g.0 ≡ work_of lines w
+found-as lines es g w e = ap (work_in lines) (sym e)
 
-pub found-through : (lines : List Line) (m n : BTreeMap Gxid Work) (g : Gxid) (old w : Work) → Some old ≡ get_by (gxid_cmp g) m → WritesThrough gxid_cmp (gxid_cmp g) m w n → found lines n.entries ≡ with_at (found lines m.entries) g.0 (work_of lines w)
-found-through lines m n g old w e h = found-with lines m n g (Some w) (h.3 (subst (λ o. IsSome o) e refl))
+pub counted-some : (lines : List Line) (k : Option Command) → AreCounted (option_map (command_of lines) k) → IfSome k (λ k. k.count ≤ 2 ^ 64 * length k.parts)
+counted-some lines None h = tt
+counted-some lines (Some k) h = h
+
+-- WHAT IS WRITTEN WHERE IT STANDS
+module _ (lines : List Line) (es : List (Gxid × Work)) (g : Gxid) (place : ℕ) (e : Gxid × Work) (stands : StandsAt (is_at (gxid_cmp g)) es place) (is : e ≡ get_or es place e) where
+  pub found-at : found lines es g.0 ≡ work_of lines e.1
+  found-at = ap (work_in lines) (found-there (is_at (gxid_cmp g)) es place e stands) ∙ ap (λ (x : Gxid × Work). work_of lines x.1) (sym is)
+
+  pub found-through : (w : Work) → found lines (slice_set es place (e.0, w)) ≡ with_at (found lines es) g.0 (work_of lines w)
+  found-through w =
+      subst (λ (x : Gxid × Work). found lines (slice_set es place (x.0, w)) ≡ with_at (found lines es) g.0 (work_of lines w)) (sym is)
+      (found-with lines es (slice_set es place ((get_or es place e).0, w)) g (Some w) (set-updates es g place e w stands))
 
 -- an answer is noted
 pub done-noted : (lines : List Line) (w : Work) (i : Node) (wrote : Bool) (count : ℕ) (part : Part) → work_of lines (record w { writers = writers_with wrote i w.writers; command = option_map (add_to i count part) w.command }) ≡ done_work (work_of lines w) i wrote count part

@@ -32,6 +32,5 @@ pub mod Unfinished
 pub mod Sent
 pub mod Graphs
 pub mod Quiet
-pub mod Heard
 pub mod Cancelled
 pub mod Stepped

@@ -52,7 +52,7 @@ zero-at zero i = refl
 zero-at (suc n) zero = refl
 zero-at (suc n) (suc i) = zero-at n i
 
-pub new-holds : (k : Coord) (n m j : ℕ) → k.dtx ≡ new_table → k.works.entries ≡ [] → k.sessions.items ≡ replicate n fresh_session → k.locks ≡ no_locks the_coordinator → k.detector ≡ no_rounds j → k.sent.items ≡ replicate m 0 → k.clock ≡ 0 → coord_of k ≡ new_coordinator
+pub new-holds : (k : Coord) (n m j : ℕ) → k.dtx ≡ new_table → k.works.items ≡ [] → k.sessions.items ≡ replicate n fresh_session → k.locks ≡ no_locks the_coordinator → k.detector ≡ no_rounds j → k.sent.items ≡ replicate m 0 → k.clock ≡ 0 → coord_of k ≡ new_coordinator
 new-holds k n m j ed ew es el er em ec =
     ap (λ (d : Table). record (coord_of k) { table = d }) ed
     ∙ ap (λ (xs : List (Gxid × Work)). record (coord_of k) { table = new_table; works = found k.script.value.lines xs }) ew

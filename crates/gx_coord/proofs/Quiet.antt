@@ -1,5 +1,6 @@
 -- What leaves the journal alone: an answer for a command, and what comes by itself.
-use Rattle.std.proofs.Common.{◌≡◌, ◌&&◌, ℕ, List, [], ◌∷◌, Option, Some, None, Result, Ok, Err, Bool, true, false, if◌then◌else◌, append-nil, arith, refl, sym, subst}
+use Rattle.std.proofs.Common.{◌≡◌, ◌&&◌, ◌+◌, ℕ, List, [], ◌∷◌, Option, Some, None, Result, Ok, Err, Bool, true, false, if◌then◌else◌, ap, append-nil, arith, nat_lt, refl, sym, subst}
+use Rattle.std.proofs.lemmas.Bool.Decides.{nat_tests}
 use Rattle.gx_ids.specs.declared.ids.Cid.{Cid}
 use Rattle.gx_ids.specs.declared.ids.Gxid.{Gxid}
 use Rattle.gx_ids.specs.declared.ids.Node.{Node}
@@ -19,6 +20,7 @@ use Rattle.gx_rules.specs.Coordinators.{Command, Coord, CoordTurn, rests, sessio
 use Rattle.gx_rules.specs.Fits.{fits_part}
 use Rattle.gx_rules.specs.Locks.{with_hold}
 use Rattle.gx_rules.specs.Rounds.{victims_at}
+use Rattle.gx_rules.specs.Sending.{clock_after}
 use Rattle.gx_locks.specs.Locks.{is_free, resumed, wait_of}
 use Rattle.gx_meaning.specs.Plan.{plan_of}
 use Rattle.gx_meaning.specs.declared.fault.ArithFault.{ArithFault}
@@ -36,6 +38,7 @@ use Rattle.gx_tree.specs.declared.stmt.Level.TheVariants.{ReadCommitted}
 use Rattle.gx_tree.specs.declared.stmt.Stmt.{Stmt}
 use Rattle.gx_waits.specs.declared.claim.Claim.{Claim}
 use Rattle.gx_coord.specs.Own.{IsOwn}
+use Rattle.gx_coord.specs.Sound.{IsSmall}
 
 abbrev IsQuiet : CoordTurn → Type 0
 IsQuiet turn = turn.item ≡ None
@@ -186,3 +189,29 @@ own-nobody c (event.Resend i (Some g)) own = refl
 own-nobody c (event.Resend i None) own = refl
 own-nobody c (event.Resume g) own = refl
 own-nobody c event.Round own = refl
+
+pub own-took : (script : Script) (c : Coord) (x : NodeEvent) (fails : Bool) (shelf : Shelf) → IsOwn x → fails ≡ false → Took shelf shelf fails (turns.on_event script c x fails).item
+own-took script c x fails shelf own e = subst (λ b. Took shelf shelf b (turns.on_event script c x b).item) (sym e) (subst (λ it. Took shelf shelf false it) (sym (own-quiet script c x false own)) (took-nothing shelf))
+
+pub own-small : (x : NodeEvent) → IsOwn x → IsSmall x
+own-small (event.Deliver from envelope) own = absurd own
+own-small (event.Start s) own = tt
+own-small (event.End s) own = tt
+own-small (event.Resend i g) own = tt
+own-small (event.Resume g) own = tt
+own-small event.Round own = tt
+
+none-below : (n : ℕ) → nat_lt n 0 ≡ false
+none-below n = grind (arith, nat_tests)
+
+later-clock : (n : ℕ) → n + 1 ≡ (if nat_lt n 0 then 0 else n) + 1
+later-clock n = ap (λ b. (if b then 0 else n) + 1) (sym (none-below n))
+
+-- such an event brings no clock
+pub own-clock : (n : ℕ) (x : NodeEvent) → IsOwn x → n + 1 ≡ clock_after n x
+own-clock n (event.Deliver from envelope) own = absurd own
+own-clock n (event.Start s) own = later-clock n
+own-clock n (event.End s) own = later-clock n
+own-clock n (event.Resend i g) own = later-clock n
+own-clock n (event.Resume g) own = later-clock n
+own-clock n event.Round own = later-clock n

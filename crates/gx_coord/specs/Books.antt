@@ -62,7 +62,7 @@ abbrev pub coord_of : Coord → rule.Coord
 coord_of k =
     record {
       table = k.dtx;
-      works = found k.script.value.lines k.works.entries;
+      works = found k.script.value.lines k.works.items;
       sessions = session_at k.sessions.items;
       locks = k.locks;
       rounds = k.detector.begun;

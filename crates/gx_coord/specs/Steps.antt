@@ -16,7 +16,7 @@ use Rattle.gx_coord.specs.Sound.{IsSmall, IsSound}
 -- are found by their places; it counts what it has sent to each node, and its detector awaits the script's segments.
 pub record IsCoord (coord : Coord) (c : rule.Coord) : Type 0 where
   pub table : coord.dtx ≡ c.table
-  pub works : (g : ℕ) → found coord.script.value.lines coord.works.entries g ≡ c.works g
+  pub works : (g : ℕ) → found coord.script.value.lines coord.works.items g ≡ c.works g
   pub count : length coord.sessions.items ≡ length coord.script.value.sessions
   pub sessions : (s : ℕ) (session : _) → slice_get coord.sessions.items s ≡ Some session → session_of session ≡ c.sessions s
   pub clock : coord.clock ≡ c.clock

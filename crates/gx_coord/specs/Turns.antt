@@ -17,7 +17,6 @@ use Rattle.gx_dtx.specs.Nodes.{has}
 use Rattle.gx_dtx.specs.declared.status.Status.{Status}
 use Rattle.gx_dtx.specs.declared.status.Status.TheVariants as status
 use Rattle.gx_msg.specs.declared.message.Message.{Message}
-use Rattle.gx_msg.specs.declared.message.Message.TheVariants as message
 use Rattle.gx_msg.specs.declared.message.Out.{Out}
 use Rattle.gx_store.specs.declared.answer.StmtAnswer.{StmtAnswer}
 use Rattle.gx_store.specs.declared.answer.StmtAnswer.TheVariants as told
@@ -30,8 +29,6 @@ use Rattle.gx_rules.specs.Coordinators as rule
 use Rattle.gx_rules.specs.Fits.{fits_part}
 use Rattle.gx_meaning.specs.Merged.{merged_answer}
 use Rattle.gx_coord.specs.declared.coord.Coord.{Coord}
-use Rattle.gx_coord.specs.declared.messages.News.{News}
-use Rattle.gx_coord.specs.declared.messages.News.TheVariants as news
 use Rattle.gx_coord.specs.Books.{IsFramed, coord_of}
 
 pub record IsTurn (old new : Coord) (before after : List Mark) (turn : rule.CoordTurn) : Type 0 where
@@ -137,12 +134,6 @@ CanEnd c s = RunsIn c (c.sessions s.0).transaction (c.sessions s.0).state.block
 abbrev pub AreCounted : Option rule.Command → Type 0
 AreCounted None = Unit {0}
 AreCounted (Some k) = k.count ≤ 2 ^ 64 * length k.parts
-
--- what a segment tells
-abbrev pub news_in : Message → News
-news_in (message.Answer g r) = news.Answer g r
-news_in (message.Graph round graph) = news.Graph round graph
-news_in _ = news.Other
 
 -- VICTIMS
 abbrev pub is_active : Option Status → Bool

@@ -6,6 +6,7 @@ ghost use Rattle.gx_coord.specs.Books.{IsFramed, command_of, coord_of, session_o
 
 use crate::coord::Coord;
 use crate::work::{Command, Session, Spare, Work};
+use gx_entries::{find, put, take_out};
 use gx_ids::{Gxid, Mem, SessionId};
 use gx_script::SessionState;
 
@@ -14,7 +15,7 @@ pub(crate) fn set_work(coord: &mut Coord, gxid: Gxid, work: Work) -> Mem<()>
     ensures framed { OnOk result (IsFramed coord.old coord.new) }
     ensures coord { OnOk result (coord_of coord.new ≡ with_work (coord_of coord.old) gxid (work_of coord.old.script.value.lines work)) }
 {
-    drop(coord.works.insert(gxid, work)?);
+    put(&mut coord.works, gxid, work)?;
     Ok(())
 }
 
@@ -22,7 +23,7 @@ pub(crate) fn forget_work(coord: &mut Coord, gxid: Gxid)
     ensures framed { IsFramed coord.old coord.new }
     ensures coord { coord_of coord.new ≡ with_work (coord_of coord.old) gxid no_work }
 {
-    match coord.works.remove(&gxid) {
+    match take_out(&mut coord.works, gxid) {
         Some(work) => keep_spare(&mut coord.spare, work),
         None => {}
     }
@@ -41,7 +42,7 @@ fn keep_spare(spare: &mut Spare, work: Work) {
 pub(crate) fn find_command(coord: &Coord, gxid: Gxid) -> Option<&Command>
     ensures { option_map (command_of coord.now.script.value.lines) (option_copied result) ≡ ((coord_of coord.now).works gxid.0).command }
 {
-    match coord.works.get(&gxid) {
+    match find(coord.works.as_slice(), gxid) {
         Some(work) => work.command.as_ref(),
         None => None,
     }

@@ -13,6 +13,7 @@ use crate::replies::refuse;
 use crate::rounds::last_round;
 use crate::sending::number;
 use gx_dtx::Status;
+use gx_entries::find;
 use gx_ids::{Gxid, Mem, Seq};
 use gx_msg::Out;
 use gx_store::{Mark, Refused};
@@ -38,7 +39,7 @@ fn is_live(coord: &Coord, gxid: Gxid) -> bool
 fn is_under_way(coord: &Coord, gxid: Gxid) -> bool
     ensures { result ≡ turns.is_under_way ((coord_of coord.now).works gxid.0) }
 {
-    match coord.works.get(&gxid) {
+    match find(coord.works.as_slice(), gxid) {
         None => false,
         Some(work) => work.command.is_some() || work.waiting.is_some(),
     }

@@ -11,6 +11,7 @@ use crate::answers::{push_answer, told_for};
 use crate::books::{find_session, set_state};
 use crate::coord::Coord;
 use crate::ends::{after_done, commit, owner};
+use gx_entries::{find, place_of};
 use gx_ids::{Gxid, Mem, Seq};
 use gx_msg::Out;
 use gx_script::Script;
@@ -23,7 +24,7 @@ use std::alloc::Global;
 pub(crate) fn level_of(coord: &Coord, gxid: Gxid) -> Level
     ensures { result ≡ ((coord_of coord.now).works gxid.0).level }
 {
-    match coord.works.get(&gxid) {
+    match find(coord.works.as_slice(), gxid) {
         Some(work) => work.level,
         None => Level::ReadCommitted,
     }
@@ -45,7 +46,8 @@ fn end_command(coord: &mut Coord, gxid: Gxid)
     ensures framed { IsFramed coord.old coord.new }
     ensures coord { coord_of coord.new ≡ with_work (coord_of coord.old) gxid (record ((coord_of coord.old).works gxid.0) { command = None }) }
 {
-    if let Some(work) = coord.works.get_mut(&gxid) {
+    if let Some(place) = place_of(coord.works.as_slice(), gxid) {
+        let work = &mut coord.works[place].1;
         work.command = None;
     }
 }

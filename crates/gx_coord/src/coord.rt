@@ -1,4 +1,4 @@
-ghost use Rattle.std.specs.Prelude.{◌≡◌, ◌==◌, ◌<◌, ◌^◌, [], All, length, not, true, false, None, IfOk, OnErr, IsErr};
+ghost use Rattle.std.specs.Prelude.{◌≡◌, ◌==◌, ◌<◌, ◌^◌, [], All, length, not, true, false, None, IfOk, OnOk, OnErr, IsErr};
 ghost use Rattle.gx_locks.specs.Graphs.{graph_at};
 ghost use Rattle.gx_locks.specs.Locks.{least_with, ready_ones};
 ghost use Rattle.gx_outside.specs.Shelves.{IsLater};
@@ -15,7 +15,7 @@ ghost use Rattle.gx_coord.specs.Steps.{HasStepped, IsCoord};
 use crate::making::{new_sessions, nothing_sent};
 use crate::places::places_of;
 use crate::snapshots::snapshot_of;
-use crate::stepping::step_on;
+use crate::stepping::{receive_on, step_on};
 use crate::work::{Session, Spare, Work};
 use crate::{admitted, again, finished, rounds};
 use gx_detect::Detector;
@@ -23,12 +23,12 @@ use gx_dsnap::Snapshot;
 use gx_dtx::Dtx;
 use gx_ids::{Gxid, Mem, Node, OutOfMemory, Seq};
 use gx_locks::LockTable;
+use gx_msg::Message;
 use gx_outside::Journal;
 use gx_script::Script;
 use gx_store::{Mark, NodeEvent};
 use gx_waits::LocalGraph;
 use std::alloc::Global;
-use std::collections::BTreeMap;
 use std::sync::Arc;
 
 /// The coordinator of a script: its transactions, its sessions, its locks, the detector's rounds, and how many messages it has sent to each
@@ -39,7 +39,7 @@ pub struct Coord {
     pub script: Arc<Script, Global>,
     pub places: Vec<Seq<usize>>,
     pub dtx: Dtx,
-    pub works: BTreeMap<Gxid, Work>,
+    pub works: Vec<(Gxid, Work)>,
     pub(crate) spare: Spare,
     pub sessions: Vec<Session>,
     pub locks: LockTable,
@@ -68,7 +68,7 @@ impl Coord {
             script,
             places,
             dtx,
-            works: BTreeMap::new(alloc),
+            works: Vec::new(alloc),
             spare: Spare::new(alloc),
             sessions,
             locks,
@@ -81,14 +81,16 @@ impl Coord {
 
     /// Does one event by the coordinator's rule. What an envelope holds is tested here; what isn't awaited or doesn't fit changes
     /// nothing but the clock. The journal takes the item of a decision before COMMIT PREPARED is sent. What it did is told by its
-    /// marks, the messages that it sends among them; they go into the list that is given, which has nothing in it.
+    /// marks, the messages that it sends among them; they go into the list that is lent, which has nothing in it.
     pub fn step<J: Journal>(
         &mut self,
+        script: &Script,
         event: NodeEvent,
         journal: &mut J,
-        blank: Vec<Mark>,
-    ) -> Mem<Seq<Mark>>
+        marks: &mut Vec<Mark>,
+    ) -> Mem<()>
         ghost c: { RuleCoord }
+        requires same { self.old.script.value ≡ script.now }
         requires is { self.old.spent ≡ false → IsCoord self.old c }
         requires admitted { self.old.spent ≡ false → coord_can self.old.script.value c event ≡ true }
         requires clock { self.old.clock < 2 ^ 62 }
@@ -96,8 +98,8 @@ impl Coord {
         requires numbers { All (λ sent. sent < 2 ^ 62) self.old.sent.items }
         requires drawn { self.old.dtx.next.0 < 2 ^ 62 }
         requires rounds { self.old.detector.begun < 2 ^ 62 }
-        requires blank { blank.items ≡ [] }
-        ensures stepped { IfOk result (HasStepped self.old self.new c event (J.shelf journal.old) (J.shelf journal.new)) }
+        requires blank { marks.old.items ≡ [] }
+        ensures stepped { OnOk result (HasStepped self.old self.new c event (J.shelf journal.old) (J.shelf journal.new) marks.new.items) }
         ensures later { IsLater (J.shelf journal.old) (J.shelf journal.new) }
         ensures spent { OnErr result (self.new.spent ≡ true) }
         ensures again { self.old.spent ≡ true → IsErr result }
@@ -107,10 +109,53 @@ impl Coord {
             drop(event);
             return Err(OutOfMemory);
         }
-        match step_on(self, event, journal, blank) {
-            Ok(marks) => {
+        match step_on(script, self, event, journal, marks) {
+            Ok(()) => {
                 self.spent = false;
-                Ok(marks)
+                Ok(())
+            }
+            Err(_) => {
+                self.spent = true;
+                Err(OutOfMemory)
+            }
+        }
+    }
+
+    /// The same step where a message comes that stands elsewhere, in an envelope of this number and clock.
+    pub fn receive<J: Journal>(
+        &mut self,
+        script: &Script,
+        from: Node,
+        number: u64,
+        clock: u64,
+        message: &Message,
+        journal: &mut J,
+        marks: &mut Vec<Mark>,
+    ) -> Mem<()>
+        ghost c: { RuleCoord }
+        requires same { self.old.script.value ≡ script.now }
+        requires is { self.old.spent ≡ false → IsCoord self.old c }
+        requires admitted { self.old.spent ≡ false → coord_can self.old.script.value c (NodeEvent.Deliver from (record { number = number; clock = clock; message = message.now })) ≡ true }
+        requires clock { self.old.clock < 2 ^ 62 }
+        requires heard { heard_in (NodeEvent.Deliver from (record { number = number; clock = clock; message = message.now })) < 2 ^ 62 }
+        requires numbers { All (λ sent. sent < 2 ^ 62) self.old.sent.items }
+        requires drawn { self.old.dtx.next.0 < 2 ^ 62 }
+        requires rounds { self.old.detector.begun < 2 ^ 62 }
+        requires blank { marks.old.items ≡ [] }
+        ensures stepped { OnOk result (HasStepped self.old self.new c (NodeEvent.Deliver from (record { number = number; clock = clock; message = message.now }))
+            (J.shelf journal.old) (J.shelf journal.new) marks.new.items) }
+        ensures later { IsLater (J.shelf journal.old) (J.shelf journal.new) }
+        ensures spent { OnErr result (self.new.spent ≡ true) }
+        ensures again { self.old.spent ≡ true → IsErr result }
+        ensures untouched { self.old.spent ≡ true → (J.shelf journal.new).items ≡ (J.shelf journal.old).items }
+    {
+        if self.spent {
+            return Err(OutOfMemory);
+        }
+        match receive_on(script, self, from, number, clock, message, journal, marks) {
+            Ok(()) => {
+                self.spent = false;
+                Ok(())
             }
             Err(_) => {
                 self.spent = true;

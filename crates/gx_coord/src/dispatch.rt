@@ -25,11 +25,12 @@ use crate::replies::refuse;
 use crate::snapshots::read_for;
 use crate::work::{Command, Work, taken};
 use gx_dsnap::Snapshot;
+use gx_entries::{find, place_of};
 use gx_eval::EvalFault;
 use gx_ids::{Cid, Gxid, Mem, OutOfMemory, Seq, SessionId, Shared, Table};
 use gx_meaning::{ArithFault, Piece};
 use gx_msg::Out;
-use gx_plan::plan;
+use gx_plan::plan_in;
 use gx_script::Script;
 use gx_store::Mark;
 use gx_tree::{Level, Schema, Stmt};
@@ -42,7 +43,7 @@ fn next_cid(coord: &Coord, gxid: Gxid) -> Cid
     requires { ((coord_of coord.now).works gxid.0).last + 1 < 2 ^ 32 }
     ensures { result ≡ turns.next_cid ((coord_of coord.now).works gxid.0) }
 {
-    match coord.works.get(&gxid) {
+    match find(coord.works.as_slice(), gxid) {
         Some(work) => Cid(work.last + 1),
         None => Cid(1),
     }
@@ -54,7 +55,8 @@ fn set_command(alloc: Global, coord: &mut Coord, gxid: Gxid, command: Command) -
     ensures coord { OnOk result (coord_of coord.new ≡ with_work (coord_of coord.old) gxid
         (record ((coord_of coord.old).works gxid.0) { last = command.cid.0; command = Some (command_of coord.old.script.value.lines command) })) }
 {
-    if let Some(work) = coord.works.get_mut(&gxid) {
+    if let Some(place) = place_of(coord.works.as_slice(), gxid) {
+        let work = &mut coord.works[place].1;
         work.last = command.cid.0;
         work.command = Some(command);
         return Ok(());
@@ -119,7 +121,9 @@ fn send(
     };
     let awaited = nodes(alloc, &mut coord.spare.awaited, pieces.as_slice())?;
     enlist_all(&mut coord.dtx, gxid, awaited.as_slice())?;
-    let orders = orders(alloc, &mut coord.spare.orders, &of, pieces)?;
+    let mut pieces = pieces;
+    let orders = orders(alloc, &mut coord.spare.orders, &of, &mut pieces)?;
+    coord.spare.pieces = pieces;
     let command = Command {
         line: place,
         cid,
@@ -235,11 +239,13 @@ fn schema_of<'a>(script: &'a Script, line: &Stmt) -> &'a Schema
 // The pieces of a command, or its first fault. Rows without numbers have no room.
 fn plan_line(
     alloc: Global,
+    blank: Vec<Piece>,
     script: &Script,
     gxid: Gxid,
     cid: Cid,
     line: &Stmt,
 ) -> Result<Vec<Piece>, EvalFault>
+    requires blank { blank.items ≡ [] }
     requires language { IsScript script.now }
     requires command { IsCommand line.now }
     requires line { IsStmtOf script.now.tables line.now }
@@ -250,7 +256,7 @@ fn plan_line(
         return Err(EvalFault::OutOfMemory);
     }
     let schema = schema_of(script, line);
-    plan(alloc, line, schema, gxid, cid, script.segments)
+    plan_in(alloc, blank, line, schema, gxid, cid, script.segments)
 }
 
 // The statement of the line at a place.
@@ -316,7 +322,8 @@ pub(crate) fn go_locked(
     let script = Arc::try_clone(&coord.script)?;
     let line = line_at(&script, place);
     let cid = next_cid(coord, gxid);
-    let planned = plan_line(alloc, &script, gxid, cid, line);
+    let blank = taken(alloc, &mut coord.spare.pieces);
+    let planned = plan_line(alloc, blank, &script, gxid, cid, line);
     read_and_go(
         alloc, &script, coord, gxid, cid, place, line, planned, marks,
     )
@@ -333,7 +340,8 @@ pub(crate) fn set_waiting(
     ensures coord { OnOk result (coord_of coord.new ≡ with_work (coord_of coord.old) gxid
         (record ((coord_of coord.old).works gxid.0) { waiting = option_map (stmt_at coord.old.script.value.lines) waiting })) }
 {
-    if let Some(work) = coord.works.get_mut(&gxid) {
+    if let Some(place) = place_of(coord.works.as_slice(), gxid) {
+        let work = &mut coord.works[place].1;
         work.waiting = waiting;
         return Ok(());
     }

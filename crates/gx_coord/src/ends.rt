@@ -14,6 +14,7 @@ use crate::books::{find_session, forget_work, set_state};
 use crate::coord::Coord;
 use crate::locking::give_back;
 use gx_dtx::{DtxOut, Outcome};
+use gx_entries::find;
 use gx_ids::{Gxid, Mem, Node, Seq, SessionId};
 use gx_msg::Out;
 use gx_script::{Script, SessionState};
@@ -43,7 +44,7 @@ pub(crate) fn after_refused(state: SessionState) -> SessionState
 pub(crate) fn owner(coord: &Coord, gxid: Gxid) -> SessionId
     ensures { result ≡ ((coord_of coord.now).works gxid.0).session }
 {
-    match coord.works.get(&gxid) {
+    match find(coord.works.as_slice(), gxid) {
         Some(work) => work.session,
         None => SessionId(0),
     }
@@ -206,7 +207,7 @@ fn commit_writers(coord: &mut Coord, gxid: Gxid) -> Mem<DtxOut>
     ensures coord { OnOk result (coord_of coord.new ≡ record (coord_of coord.old) { table = (on_commit coord.old.dtx gxid ((coord_of coord.old).works gxid.0).writers).table }) }
     ensures out { IfOk result (λ out. out ≡ (on_commit coord.old.dtx gxid ((coord_of coord.old).works gxid.0).writers).out) }
 {
-    match coord.works.get(&gxid) {
+    match find(coord.works.as_slice(), gxid) {
         Some(work) => coord
             .dtx
             .commit(&mut coord.spare.outs, gxid, work.writers.as_slice()),

@@ -1,28 +1,25 @@
 // One event, before its messages are numbered.
 ghost use Rattle.std.specs.Prelude.{◌≡◌, ◌≤◌, ◌<◌, ◌∷◌, ◌^◌, [], length, None, true, false, IfOk, OnOk};
 ghost use Rattle.gx_store.specs.Language.{IsScript};
-ghost use Rattle.gx_outside.specs.Shelves.{IsLater};
-ghost use Rattle.gx_node.specs.Orders.{Took};
 ghost use Rattle.gx_rules.specs.AtCoordinator as turns;
 ghost use Rattle.gx_rules.specs.Rounds.{victims_at};
 ghost use Rattle.gx_coord.specs.Books.{coord_of};
 ghost use Rattle.gx_coord.specs.Own.{IsOwn};
 ghost use Rattle.gx_coord.specs.Places.{AreIndexed};
-ghost use Rattle.gx_coord.specs.Sound.{IsSmall, IsSound};
+ghost use Rattle.gx_coord.specs.Sound.{IsSound};
 ghost use Rattle.gx_coord.specs.Turns.{CanEnd, IsTurn};
 
 use crate::again::awaited;
 use crate::books::{find_session, set_state};
 use crate::coord::Coord;
 use crate::lines::roll_back;
-use crate::messages::{plain, take_message};
+use crate::messages::plain;
 use crate::resuming::resume;
 use crate::rounds::{begin_round, collect_again};
 use crate::starting::start;
 use crate::statuses::Turned;
 use gx_ids::{Gxid, Mem, Node, Seq, SessionId};
-use gx_msg::{Envelope, Message, Out};
-use gx_outside::Journal;
+use gx_msg::{Message, Out};
 use gx_script::state::Block;
 use gx_script::{Script, SessionState};
 use gx_store::{Mark, NodeEvent};
@@ -107,7 +104,7 @@ fn take_own(
 }
 
 // The same, and the event is dropped.
-fn take_alone(
+pub(crate) fn take_alone(
     alloc: Global,
     script: &Script,
     coord: &mut Coord,
@@ -133,38 +130,4 @@ fn take_alone(
     let outs = take_own(alloc, script, coord, &event, marks);
     drop(event);
     Ok(plain(alloc, outs?))
-}
-
-// An event by its kind. What comes in an envelope isn't told by its number or its clock.
-pub(crate) fn take_event<J: Journal>(
-    alloc: Global,
-    script: &Script,
-    coord: &mut Coord,
-    event: NodeEvent,
-    journal: &mut J,
-    marks: &mut Vec<Mark>,
-) -> Mem<Turned>
-    requires same { coord.old.script.value ≡ script.now }
-    requires language { IsScript script.now }
-    requires places { AreIndexed script.now.lines (length script.now.sessions) coord.old.places.items }
-    requires sound { IsSound script.now (coord_of coord.old) }
-    requires drawn { coord.old.dtx.next.0 ≤ 2 ^ 62 }
-    requires sessions { length coord.old.sessions.items ≡ length script.now.sessions }
-    requires segments { coord.old.detector.segments ≡ script.now.segments }
-    requires rounds { coord.old.detector.begun < 2 ^ 62 }
-    requires admitted { turns.coord_can script.now (coord_of coord.old) event ≡ true }
-    ensures turn { IfOk result (λ turned. IsTurn coord.old coord.new marks.old.items marks.new.items (turns.on_event script.now (coord_of coord.old) event turned.fails)) }
-    ensures outs { IfOk result (λ turned. turned.outs ≡ (turns.on_event script.now (coord_of coord.old) event turned.fails).outs) }
-    ensures took { IfOk result (λ turned. Took (J.shelf journal.old) (J.shelf journal.new) turned.fails (turns.on_event script.now (coord_of coord.old) event turned.fails).item) }
-    ensures later { IsLater (J.shelf journal.old) (J.shelf journal.new) }
-    ensures victims { IfOk result (λ turned. turned.victims ≡ victims_at (coord_of coord.old) event) }
-    ensures small { IsSmall event }
-{
-    match event {
-        NodeEvent::Deliver { from, envelope } => {
-            let Envelope { message, .. } = envelope;
-            take_message(alloc, script, coord, from, message, journal, marks)
-        }
-        own => take_alone(alloc, script, coord, own, marks),
-    }
 }

@@ -8,14 +8,14 @@ ghost use Rattle.gx_rules.specs.AtCoordinator as turns;
 ghost use Rattle.gx_rules.specs.Rounds as rounds;
 ghost use Rattle.gx_coord.specs.Books.{coord_of};
 ghost use Rattle.gx_coord.specs.Sound.{IsSmallMessage, IsSmallReply, IsSound};
-ghost use Rattle.gx_coord.specs.Turns.{IsBusy, IsReady, IsTurn, asks, is_over, left_in, news_in};
+ghost use Rattle.gx_coord.specs.Turns.{IsBusy, IsReady, IsTurn, asks, is_over, left_in};
 
 use crate::completing::complete;
 use crate::coord::Coord;
 use crate::rechecking::hear;
 use crate::replies::{Done, is_asked, is_done, is_taken, note_done, refuse};
 use crate::statuses::{Turned, take_status};
-use gx_ids::{Cid, Gxid, Mem, Node, Seq, Shared};
+use gx_ids::{Cid, Gxid, Mem, Node, Seq};
 use gx_msg::{Cause, Message, Out, Reply};
 use gx_outside::Journal;
 use gx_script::Script;
@@ -113,7 +113,7 @@ pub(crate) fn plain(alloc: Global, outs: Seq<Out>) -> Turned
     }
 }
 
-// A command is done at a segment, whose answer is dropped.
+// A command is done at a segment, which leaves the journal alone and names nobody.
 fn take_part(
     alloc: Global,
     script: &Script,
@@ -121,21 +121,20 @@ fn take_part(
     gxid: Gxid,
     node: Node,
     done: Done,
-    part: Shared<Part>,
+    part: &Part,
     marks: &mut Vec<Mark>,
 ) -> Mem<Turned>
     requires same { coord.old.script.value ≡ script.now }
     requires sound { IsSound script.now (coord_of coord.old) }
     ensures turn { OnOk result (IsTurn coord.old coord.new marks.old.items marks.new.items
-        (turns.on_done (coord_of coord.old) gxid node done.cid done.wrote done.count part ((coord_of coord.old).works gxid.0).command)) }
-    ensures outs { IfOk result (λ turned. turned.outs ≡ (turns.on_done (coord_of coord.old) gxid node done.cid done.wrote done.count part ((coord_of coord.old).works gxid.0).command).outs) }
+        (turns.on_done (coord_of coord.old) gxid node done.cid done.wrote done.count part.now ((coord_of coord.old).works gxid.0).command)) }
+    ensures outs { IfOk result (λ turned. turned.outs ≡ (turns.on_done (coord_of coord.old) gxid node done.cid done.wrote done.count part.now ((coord_of coord.old).works gxid.0).command).outs) }
     ensures unfailing { IfOk result (λ turned. turned.fails ≡ false) }
     ensures nobody { IfOk result (λ turned. turned.victims ≡ []) }
     ensures small { done.count < 2 ^ 64 }
 {
-    let outs = take_done(alloc, script, coord, gxid, node, done, part.get(), marks);
-    drop(part);
-    Ok(plain(alloc, outs?))
+    let outs = take_done(alloc, script, coord, gxid, node, done, part, marks)?;
+    Ok(plain(alloc, outs))
 }
 
 // An answer is for a command, or for the transaction's status.
@@ -145,19 +144,19 @@ fn take_reply<J: Journal>(
     coord: &mut Coord,
     gxid: Gxid,
     node: Node,
-    reply: Reply,
+    reply: &Reply,
     journal: &mut J,
     marks: &mut Vec<Mark>,
 ) -> Mem<Turned>
     requires same { coord.old.script.value ≡ script.now }
     requires sound { IsSound script.now (coord_of coord.old) }
     requires segment { 0 < node.0 }
-    ensures turn { IfOk result (λ turned. IsTurn coord.old coord.new marks.old.items marks.new.items (turns.on_answer (coord_of coord.old) gxid node turned.fails reply)) }
-    ensures outs { IfOk result (λ turned. turned.outs ≡ (turns.on_answer (coord_of coord.old) gxid node turned.fails reply).outs) }
-    ensures took { IfOk result (λ turned. Took (J.shelf journal.old) (J.shelf journal.new) turned.fails (turns.on_answer (coord_of coord.old) gxid node turned.fails reply).item) }
+    ensures turn { IfOk result (λ turned. IsTurn coord.old coord.new marks.old.items marks.new.items (turns.on_answer (coord_of coord.old) gxid node turned.fails reply.now)) }
+    ensures outs { IfOk result (λ turned. turned.outs ≡ (turns.on_answer (coord_of coord.old) gxid node turned.fails reply.now).outs) }
+    ensures took { IfOk result (λ turned. Took (J.shelf journal.old) (J.shelf journal.new) turned.fails (turns.on_answer (coord_of coord.old) gxid node turned.fails reply.now).item) }
     ensures later { IsLater (J.shelf journal.old) (J.shelf journal.new) }
     ensures nobody { IfOk result (λ turned. turned.victims ≡ []) }
-    ensures small { IsSmallReply reply }
+    ensures small { IsSmallReply reply.now }
 {
     match reply {
         Reply::Done {
@@ -166,37 +165,18 @@ fn take_reply<J: Journal>(
             count,
             part,
         } => {
-            let done = Done { cid, wrote, count };
-            take_part(alloc, script, coord, gxid, node, done, part, marks)
+            let done = Done {
+                cid: *cid,
+                wrote: *wrote,
+                count: *count,
+            };
+            take_part(alloc, script, coord, gxid, node, done, part.get(), marks)
         }
         Reply::Failed { cid, cause } => {
-            let why = *cause.get();
-            drop(cause);
-            let outs = take_failure(alloc, coord, gxid, node, cid, why, marks)?;
+            let outs = take_failure(alloc, coord, gxid, node, *cid, *cause.get(), marks)?;
             Ok(plain(alloc, outs))
         }
         status => take_status(alloc, script, coord, gxid, node, status, journal, marks),
-    }
-}
-
-// What a segment tells.
-#[derive(Drop)]
-pub enum News {
-    Answer(Gxid, Reply),
-    Graph(u64, LocalGraph),
-    Other,
-}
-
-fn news_of(message: Message) -> News
-    ensures { result ≡ news_in message }
-{
-    match message {
-        Message::Answer(gxid, reply) => News::Answer(gxid, reply),
-        Message::Graph(round, graph) => News::Graph(round, graph),
-        other => {
-            drop(other);
-            News::Other
-        }
     }
 }
 
@@ -206,15 +186,15 @@ fn take_graph(
     coord: &mut Coord,
     from: Node,
     round: u64,
-    graph: LocalGraph,
+    graph: &LocalGraph,
     marks: &mut Vec<Mark>,
 ) -> Mem<Turned>
     requires segment { IsSegment coord.old.detector.segments from }
-    ensures turn { OnOk result (IsTurn coord.old coord.new marks.old.items marks.new.items (rounds.on_graph (coord_of coord.old) from round graph)) }
-    ensures outs { IfOk result (λ turned. turned.outs ≡ (rounds.on_graph (coord_of coord.old) from round graph).outs) }
+    ensures turn { OnOk result (IsTurn coord.old coord.new marks.old.items marks.new.items (rounds.on_graph (coord_of coord.old) from round graph.now)) }
+    ensures outs { IfOk result (λ turned. turned.outs ≡ (rounds.on_graph (coord_of coord.old) from round graph.now).outs) }
     ensures unfailing { IfOk result (λ turned. turned.fails ≡ false) }
-    ensures item { OnOk result ((rounds.on_graph (coord_of coord.old) from round graph).item ≡ None) }
-    ensures victims { IfOk result (λ turned. turned.victims ≡ rounds.victims_on_graph (coord_of coord.old) from round graph) }
+    ensures item { OnOk result ((rounds.on_graph (coord_of coord.old) from round graph.now).item ≡ None) }
+    ensures victims { IfOk result (λ turned. turned.victims ≡ rounds.victims_on_graph (coord_of coord.old) from round graph.now) }
 {
     let victims = hear(alloc, coord, from, round, graph, marks)?;
     Ok(Turned {
@@ -224,34 +204,31 @@ fn take_graph(
     })
 }
 
+// A message that comes from a segment is only read.
 pub(crate) fn take_message<J: Journal>(
     alloc: Global,
     script: &Script,
     coord: &mut Coord,
     from: Node,
-    message: Message,
+    message: &Message,
     journal: &mut J,
     marks: &mut Vec<Mark>,
 ) -> Mem<Turned>
     requires same { coord.old.script.value ≡ script.now }
     requires sound { IsSound script.now (coord_of coord.old) }
     requires segment { IsSegment coord.old.detector.segments from }
-    ensures turn { IfOk result (λ turned. IsTurn coord.old coord.new marks.old.items marks.new.items (turns.on_message (coord_of coord.old) from turned.fails message)) }
-    ensures outs { IfOk result (λ turned. turned.outs ≡ (turns.on_message (coord_of coord.old) from turned.fails message).outs) }
-    ensures took { IfOk result (λ turned. Took (J.shelf journal.old) (J.shelf journal.new) turned.fails (turns.on_message (coord_of coord.old) from turned.fails message).item) }
+    ensures turn { IfOk result (λ turned. IsTurn coord.old coord.new marks.old.items marks.new.items (turns.on_message (coord_of coord.old) from turned.fails message.now)) }
+    ensures outs { IfOk result (λ turned. turned.outs ≡ (turns.on_message (coord_of coord.old) from turned.fails message.now).outs) }
+    ensures took { IfOk result (λ turned. Took (J.shelf journal.old) (J.shelf journal.new) turned.fails (turns.on_message (coord_of coord.old) from turned.fails message.now).item) }
     ensures later { IsLater (J.shelf journal.old) (J.shelf journal.new) }
-    ensures victims { IfOk result (λ turned. turned.victims ≡ rounds.victims_on_message (coord_of coord.old) from message) }
-    ensures small { IsSmallMessage message }
+    ensures victims { IfOk result (λ turned. turned.victims ≡ rounds.victims_on_message (coord_of coord.old) from message.now) }
+    ensures small { IsSmallMessage message.now }
 {
-    let news = news_of(message);
-    match news {
-        News::Answer(gxid, reply) => {
-            take_reply(alloc, script, coord, gxid, from, reply, journal, marks)
+    match message {
+        Message::Answer(gxid, reply) => {
+            take_reply(alloc, script, coord, *gxid, from, reply, journal, marks)
         }
-        News::Graph(round, graph) => take_graph(alloc, coord, from, round, graph, marks),
-        News::Other => {
-            drop(news);
-            Ok(plain(alloc, Seq::new(alloc)))
-        }
+        Message::Graph(round, graph) => take_graph(alloc, coord, from, *round, graph, marks),
+        _ => Ok(plain(alloc, Seq::new(alloc))),
     }
 }

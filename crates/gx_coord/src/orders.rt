@@ -42,18 +42,19 @@ fn order(alloc: Global, of: &Ordering, piece: Piece) -> Mem<Out>
     })
 }
 
-// The EXECs of the pieces, in their order. They take the memory of a spare list.
+// The EXECs of the pieces, in their order. They take the memory of a spare list, and the pieces' list is left empty, with its own.
 pub(crate) fn orders(
     alloc: Global,
     spare: &mut Vec<Out>,
     of: &Ordering,
-    pieces: Vec<Piece>,
+    pieces: &mut Vec<Piece>,
 ) -> Mem<Seq<Out>>
-    ensures { IfOk result (λ outs. outs ≡ orders_of of.now.gxid of.now.cid of.now.level of.now.snapshot of.now.horizon pieces.items) }
+    ensures { IfOk result (λ outs. outs ≡ orders_of of.now.gxid of.now.cid of.now.level of.now.snapshot of.now.horizon pieces.old.items) }
 {
     let mut outs = taken(alloc, spare);
     outs.reserve(pieces.len())?;
-    for piece in pieces {
+    pieces.reverse();
+    while let Some(piece) = pieces.pop() {
         outs.push(order(alloc, of, piece)?)?;
     }
     Ok(Seq::from_vec(outs))

@@ -125,18 +125,17 @@ pub(crate) fn hear(
     coord: &mut Coord,
     from: Node,
     round: u64,
-    graph: LocalGraph,
+    graph: &LocalGraph,
     marks: &mut Vec<Mark>,
 ) -> Mem<Seq<Gxid>>
     requires { IsSegment coord.old.detector.segments from }
-    ensures turn { OnOk result (IsTurn coord.old coord.new marks.old.items marks.new.items (rounds.on_graph (coord_of coord.old) from round graph)) }
-    ensures victims { IfOk result (λ victims. victims ≡ rounds.victims_on_graph (coord_of coord.old) from round graph) }
+    ensures turn { OnOk result (IsTurn coord.old coord.new marks.old.items marks.new.items (rounds.on_graph (coord_of coord.old) from round graph.now)) }
+    ensures victims { IfOk result (λ victims. victims ≡ rounds.victims_on_graph (coord_of coord.old) from round graph.now) }
 {
-    if is_report(coord, from, round, &graph) {
-        let all = note_report(coord, round, graph)?;
+    if is_report(coord, from, round, graph) {
+        let all = note_report(coord, round, graph.copy(alloc)?)?;
         recheck_once_all(alloc, coord, all, marks)
     } else {
-        drop(graph);
         Ok(Seq::new(alloc))
     }
 }

@@ -15,6 +15,7 @@ use crate::ends::refuse_line;
 use crate::work::{Command, Work};
 use gx_dtx::DtxOut;
 use gx_dtx::nodes::{has, put_in, take_out};
+use gx_entries::place_of;
 use gx_ids::{Cid, Duplicate, Gxid, Mem, Node, Seq};
 use gx_msg::Out;
 use gx_node::fits_part;
@@ -120,7 +121,8 @@ pub(crate) fn note_done(
     ensures framed { OnOk result (IsFramed coord.old coord.new) }
     ensures coord { OnOk result (coord_of coord.new ≡ with_work (coord_of coord.old) gxid (done_work ((coord_of coord.old).works gxid.0) node done.wrote done.count part.now)) }
 {
-    if let Some(work) = coord.works.get_mut(&gxid) {
+    if let Some(place) = place_of(coord.works.as_slice(), gxid) {
+        let work = &mut coord.works[place].1;
         add_done(alloc, work, node, done, part)?;
     }
     Ok(())

@@ -13,6 +13,7 @@ use crate::dispatch::{go_locked, set_waiting};
 use crate::ends::owner;
 use crate::locking::take_ready;
 use crate::starting::small;
+use gx_entries::find;
 use gx_ids::{Gxid, Mem, Seq};
 use gx_msg::Out;
 use gx_script::Script;
@@ -32,7 +33,7 @@ fn lines_of(coord: &Coord, gxid: Gxid) -> u32
 fn waiting_of(coord: &Coord, gxid: Gxid) -> Option<usize>
     ensures { option_map (stmt_at coord.now.script.value.lines) result ≡ ((coord_of coord.now).works gxid.0).waiting }
 {
-    match coord.works.get(&gxid) {
+    match find(coord.works.as_slice(), gxid) {
         Some(work) => work.waiting,
         None => None,
     }

@@ -1,11 +1,11 @@
 // How messages are numbered.
-ghost use Rattle.std.specs.Prelude.{◌≡◌, ◌+◌, ◌<◌, ◌++◌, ◌^◌, ℕ, All, get_or, length, slice_index, slice_set, OnOk};
+ghost use Rattle.std.specs.Prelude.{◌≡◌, ◌+◌, ◌<◌, ◌++◌, ◌^◌, ℕ, All, get_or, if◌then◌else◌, length, nat_lt, slice_index, slice_set, OnOk};
 ghost use Rattle.gx_store.specs.declared.mark.Mark.TheVariants.{Sent};
-ghost use Rattle.gx_rules.specs.Sending.{clock_after as after_event, counted, counted_all, heard_in, numbered};
+ghost use Rattle.gx_rules.specs.Sending.{counted, counted_all, numbered};
 
 use gx_ids::Mem;
 use gx_msg::Out;
-use gx_store::{Mark, NodeEvent};
+use gx_store::Mark;
 
 // The number of a link's next message.
 fn count(sent: &mut Vec<u64>, node: usize) -> u64
@@ -56,14 +56,11 @@ pub(crate) fn number(sent: &mut Vec<u64>, outs: &mut Vec<Out>, marks: &mut Vec<M
     Ok(())
 }
 
-// The clock after an event.
-pub(crate) fn clock_after(clock: u64, event: &NodeEvent) -> u64
+// The clock after a message of a clock.
+pub(crate) fn clock_after(clock: u64, heard: u64) -> u64
     requires own { clock < 2 ^ 62 }
-    requires heard { heard_in event.now < 2 ^ 62 }
-    ensures { result ≡ after_event clock event.now }
+    requires heard { heard < 2 ^ 62 }
+    ensures { result ≡ (if nat_lt clock heard then heard else clock) + 1 }
 {
-    match event {
-        NodeEvent::Deliver { envelope, .. } => clock.max(envelope.clock) + 1,
-        _ => clock + 1,
-    }
+    clock.max(heard) + 1
 }

@@ -11,6 +11,7 @@ ghost use Rattle.gx_coord.specs.Sound.{IsDrawn};
 use crate::coord::Coord;
 use gx_dsnap::Snapshot;
 use gx_dtx::Dtx;
+use gx_entries::{find, place_of};
 use gx_ids::{Cid, Duplicate, Gxid, Mem};
 use gx_store::Mark;
 use gx_tree::{Level, Stmt};
@@ -41,7 +42,8 @@ fn keep(alloc: Global, coord: &mut Coord, gxid: Gxid, snapshot: &Snapshot) -> Me
     ensures coord { OnOk result (coord_of coord.new ≡ with_work (coord_of coord.old) gxid
         (record ((coord_of coord.old).works gxid.0) { snapshot = kept_at ((coord_of coord.old).works gxid.0).level snapshot.now })) }
 {
-    if let Some(work) = coord.works.get_mut(&gxid) {
+    if let Some(place) = place_of(coord.works.as_slice(), gxid) {
+        let work = &mut coord.works[place].1;
         work.snapshot = kept(alloc, work.level, snapshot)?;
     }
     Ok(())
@@ -75,7 +77,7 @@ fn take_snapshot(
 fn kept_snapshot(alloc: Global, coord: &Coord, gxid: Gxid) -> Mem<Option<Snapshot>>
     ensures { IfOk result (λ snapshot. snapshot ≡ ((coord_of coord.now).works gxid.0).snapshot) }
 {
-    match coord.works.get(&gxid) {
+    match find(coord.works.as_slice(), gxid) {
         Some(work) => work.snapshot.copy(alloc),
         None => Ok(None),
     }

@@ -10,7 +10,7 @@ ghost use Rattle.gx_coord.specs.Turns.{IsFit, IsBusy, IsTurn, answers_line, own_
 use crate::coord::Coord;
 use crate::ends::follow;
 use gx_dtx::Outcome;
-use gx_ids::{Gxid, Mem, Node, Seq};
+use gx_ids::{Duplicate, Gxid, Mem, Node, Seq};
 use gx_msg::{Out, Reply};
 use gx_outside::Journal;
 use gx_script::Script;
@@ -41,20 +41,21 @@ pub(crate) fn take_status<J: Journal>(
     coord: &mut Coord,
     gxid: Gxid,
     node: Node,
-    reply: Reply,
+    reply: &Reply,
     journal: &mut J,
     marks: &mut Vec<Mark>,
 ) -> Mem<Turned>
     requires same { coord.old.script.value ≡ script.now }
     requires segment { 0 < node.0 }
-    requires busy { (fails : Bool) → answers_line (on_reply coord.old.dtx gxid node reply fails).out.outcome ≡ true → IsBusy (coord_of coord.old) gxid.0 }
+    requires busy { (fails : Bool) → answers_line (on_reply coord.old.dtx gxid node reply.now fails).out.outcome ≡ true → IsBusy (coord_of coord.old) gxid.0 }
     requires fits { IsFit ((coord_of coord.old).works gxid.0).command }
-    ensures turn { IfOk result (λ turned. IsTurn coord.old coord.new marks.old.items marks.new.items (turns.on_status (coord_of coord.old) gxid node reply turned.fails)) }
-    ensures outs { IfOk result (λ turned. turned.outs ≡ (turns.on_status (coord_of coord.old) gxid node reply turned.fails).outs) }
-    ensures took { IfOk result (λ turned. Took (J.shelf journal.old) (J.shelf journal.new) turned.fails (turns.on_status (coord_of coord.old) gxid node reply turned.fails).item) }
+    ensures turn { IfOk result (λ turned. IsTurn coord.old coord.new marks.old.items marks.new.items (turns.on_status (coord_of coord.old) gxid node reply.now turned.fails)) }
+    ensures outs { IfOk result (λ turned. turned.outs ≡ (turns.on_status (coord_of coord.old) gxid node reply.now turned.fails).outs) }
+    ensures took { IfOk result (λ turned. Took (J.shelf journal.old) (J.shelf journal.new) turned.fails (turns.on_status (coord_of coord.old) gxid node reply.now turned.fails).item) }
     ensures later { IsLater (J.shelf journal.old) (J.shelf journal.new) }
     ensures nobody { IfOk result (λ turned. turned.victims ≡ []) }
 {
+    let reply = reply.copy(alloc)?;
     let out = coord
         .dtx
         .reply(&mut coord.spare.outs, gxid, node, reply, journal)?;

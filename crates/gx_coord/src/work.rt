@@ -2,6 +2,7 @@ ghost use Rattle.std.specs.Prelude.{◌≡◌, []};
 
 use gx_dsnap::Snapshot;
 use gx_ids::{Cid, Gxid, Node, Seq, SessionId};
+use gx_meaning::Piece;
 use gx_msg::Out;
 use gx_script::SessionState;
 use gx_tree::{Level, Part};
@@ -34,13 +35,14 @@ pub struct Work {
     pub waiting: Option<usize>,
 }
 
-/// Lists of a command that is over and of messages that were sent, whose memory the next ones take.
+/// Lists of a command that is over, of its pieces and of messages that were sent, whose memory the next ones take.
 #[derive(Drop)]
 pub struct Spare {
     pub orders: Vec<Out>,
     pub awaited: Vec<Node>,
     pub parts: Vec<Part>,
     pub outs: Vec<Out>,
+    pub pieces: Vec<Piece>,
 }
 
 impl Spare {
@@ -51,6 +53,7 @@ impl Spare {
             awaited: Vec::new(alloc),
             parts: Vec::new(alloc),
             outs: Vec::new(alloc),
+            pieces: Vec::new(alloc),
         }
     }
 

@@ -16,7 +16,7 @@ ghost use Rattle.gx_drive.specs.Agrees.{IsAgreed, IsDue, moves_of};
 use crate::detecting::{first_graph, next_round};
 use crate::ends::first_end;
 use crate::moves::first_move;
-use gx_agenda::{Asked, Cursors, Queue, Quiet};
+use gx_agenda::{Asked, Cursors, Queue, Quiet, note_step};
 use gx_ids::{Mem, Node};
 use gx_msg::Message;
 use gx_script::Script;
@@ -110,9 +110,13 @@ impl Agenda {
             → IsAgreed script (steps ++ step.now ∷ []) self.new) }
     {
         deliver(&mut self.cursors, step);
-        self.quiet.note(step);
-        self.queue.note(step)?;
-        self.asked.note(step, told)
+        note_step(
+            &mut self.quiet,
+            &mut self.queue,
+            &mut self.asked,
+            step,
+            told,
+        )
     }
 }
 

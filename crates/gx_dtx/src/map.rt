@@ -32,7 +32,7 @@ fn running_below(alloc: Global, txns: &Map, limit: Gxid) -> Mem<Vec<Gxid>>
     ensures whole { IfOk result (λ below. below.items ≡ filter (is_below limit) (map (λ e. e.0) (filter (λ e. is_running e.1.phase) txns.now.entries))) }
     ensures ordered { IsOrdered gxid_cmp txns.now }
 {
-    let mut below = Vec::with_capacity(alloc, txns.len())?;
+    let mut below = Vec::new(alloc);
     for (gxid, txn) in txns {
         if txn.phase.is_running() && *gxid < limit {
             below.push(*gxid)?;

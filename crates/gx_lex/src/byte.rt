@@ -1,6 +1,29 @@
 // Classes of bytes.
-ghost use Rattle.std.specs.Prelude.{◌≡◌};
+ghost use Rattle.std.specs.Prelude.{◌≡◌, Bool, get_or};
 ghost use Rattle.gx_lex.specs.Lexing as of;
+
+// Which bytes stand in words: the letters, the digits and the underscore.
+const WORD_BYTES: [bool; 256] = [
+    false, false, false, false, false, false, false, false, false, false, false, false, false,
+    false, false, false, false, false, false, false, false, false, false, false, false, false,
+    false, false, false, false, false, false, false, false, false, false, false, false, false,
+    false, false, false, false, false, false, false, false, false, true, true, true, true, true,
+    true, true, true, true, true, false, false, false, false, false, false, false, true, true,
+    true, true, true, true, true, true, true, true, true, true, true, true, true, true, true, true,
+    true, true, true, true, true, true, true, true, false, false, false, false, true, false, true,
+    true, true, true, true, true, true, true, true, true, true, true, true, true, true, true, true,
+    true, true, true, true, true, true, true, true, true, false, false, false, false, false, false,
+    false, false, false, false, false, false, false, false, false, false, false, false, false,
+    false, false, false, false, false, false, false, false, false, false, false, false, false,
+    false, false, false, false, false, false, false, false, false, false, false, false, false,
+    false, false, false, false, false, false, false, false, false, false, false, false, false,
+    false, false, false, false, false, false, false, false, false, false, false, false, false,
+    false, false, false, false, false, false, false, false, false, false, false, false, false,
+    false, false, false, false, false, false, false, false, false, false, false, false, false,
+    false, false, false, false, false, false, false, false, false, false, false, false, false,
+    false, false, false, false, false, false, false, false, false, false, false, false, false,
+    false, false, false, false, false, false, false, false, false, false,
+];
 
 pub fn is_blank(byte: u8) -> bool
     ensures { result ≡ of.is_blank byte }
@@ -29,7 +52,14 @@ pub fn is_digit(byte: u8) -> bool
 pub fn is_word_byte(byte: u8) -> bool
     ensures { result ≡ of.is_word_byte byte }
 {
-    is_letter(byte) || is_digit(byte) || byte == 95
+    flag_of(&WORD_BYTES, byte)
+}
+
+// The flag that a table has for a byte.
+fn flag_of(flags: &[bool; 256], byte: u8) -> bool
+    ensures { (other : Bool) → result ≡ get_or flags.now byte other }
+{
+    flags[usize::from(byte)]
 }
 
 /// The letter in small.

@@ -6,6 +6,7 @@ pub mod Found
 pub mod Keys
 pub mod Least
 pub mod Meets
+pub mod Owned
 pub mod Ready
 pub mod Risen
 pub mod Runs

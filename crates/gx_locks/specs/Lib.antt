@@ -8,6 +8,7 @@ pub mod Index
 pub mod Kept
 pub mod Ledger
 pub mod Locks
+pub mod Owners
 pub mod Rack
 pub mod Room
 pub mod Runs

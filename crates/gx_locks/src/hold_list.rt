@@ -1,18 +1,21 @@
 ghost use Rattle.std.specs.Prelude.{◌≡◌, ◌<◌, ◌+◌, ◌≤◌, ◌++◌, ◌∷◌, [], ◌==◌, length, filter, not, IfOk, OnOk, OnErr};
 ghost use Rattle.std.specs.Vec.{vec_capacity};
 ghost use Rattle.gx_locks.specs.Holds.{same_hold};
+ghost use Rattle.gx_locks.specs.HoldLists.{held};
 
 use crate::claims::is_same_hold;
 use crate::hold::Hold;
+use crate::pair::Pair;
 use gx_ids::{Mem, OutOfMemory};
 use std::alloc::Global;
 use std::slice;
 
-/// Holds in the order in which they came. One alone takes no memory.
+/// Holds in the order in which they came. One or two take no memory.
 #[derive(Drop)]
 pub enum HoldList {
     Empty,
     One(Hold),
+    Two(Pair),
     Many(Vec<Hold>),
 }
 
@@ -36,6 +39,18 @@ fn strike_from(holds: &mut Vec<Hold>, hold: &Hold)
     holds.retain(|other| !is_same_hold(hold, other));
 }
 
+// Those of two holds that aren't this one.
+fn others_of_two(hold: &Hold, first: Hold, second: Hold) -> HoldList
+    ensures { held result ≡ filter (λ other. not (same_hold hold.now other)) (first ∷ second ∷ []) }
+{
+    match (is_same_hold(hold, &first), is_same_hold(hold, &second)) {
+        (true, true) => HoldList::Empty,
+        (true, false) => HoldList::One(second),
+        (false, true) => HoldList::One(first),
+        (false, false) => HoldList::Two(Pair::new(first, second)),
+    }
+}
+
 impl HoldList {
     ghost use Rattle.gx_locks.specs.HoldLists.{held, spare};
 
@@ -45,6 +60,7 @@ impl HoldList {
         match self {
             HoldList::Empty => &[],
             HoldList::One(hold) => slice::from_ref(hold),
+            HoldList::Two(pair) => pair.as_slice(),
             HoldList::Many(holds) => holds.as_slice(),
         }
     }
@@ -52,11 +68,7 @@ impl HoldList {
     pub(crate) fn is_empty(&self) -> bool
         ensures { result ≡ (length (held self.now) == 0) }
     {
-        match self {
-            HoldList::Empty => true,
-            HoldList::One(_) => false,
-            HoldList::Many(holds) => holds.is_empty(),
-        }
+        self.as_slice().is_empty()
     }
 
     // Makes room for so many more.
@@ -93,10 +105,20 @@ impl HoldList {
         ensures err { OnErr result (held self.new ≡ held self.old) }
         ensures spare { kept ≤ spare self.new }
     {
-        if let HoldList::Empty = self {
-            *self = HoldList::One(hold);
-            return Ok(());
+        match self {
+            HoldList::Empty => *self = HoldList::One(hold),
+            HoldList::One(first) => *self = HoldList::Two(Pair::new(*first, hold)),
+            _ => self.add_more(alloc, hold, kept)?,
         }
+        Ok(())
+    }
+
+    fn add_more(&mut self, alloc: Global, hold: Hold, kept: usize) -> Mem<()>
+        requires { kept ≤ spare self.old }
+        ensures ok { OnOk result (held self.new ≡ held self.old ++ hold ∷ []) }
+        ensures err { OnErr result (held self.new ≡ held self.old) }
+        ensures spare { kept ≤ spare self.new }
+    {
         let more = kept.checked_add(1).ok_or(OutOfMemory)?;
         self.reserve(alloc, more)?;
         self.fill(hold);
@@ -114,6 +136,10 @@ impl HoldList {
                 if is_same_hold(hold, other) {
                     *self = HoldList::Empty;
                 }
+            }
+            HoldList::Two(pair) => {
+                let (first, second) = pair.parts();
+                *self = others_of_two(hold, first, second);
             }
             HoldList::Many(holds) => strike_from(holds, hold),
         }

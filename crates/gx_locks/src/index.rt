@@ -1,4 +1,4 @@
-ghost use Rattle.std.specs.Prelude.{◌≡◌, ◌≢◌, ◌<◌, ◌+◌, ◌-◌, ◌++◌, ◌∷◌, [], ◌==◌, ◌&&◌, length, true, false, ◌≤◌, filter, not, IfSome, IfNone, OnOk, OnErr, ℕ, slice_index_or, vec_len};
+ghost use Rattle.std.specs.Prelude.{None, is_some, IsSome, ◌≡◌, ◌≢◌, ◌<◌, ◌+◌, ◌-◌, ◌++◌, ◌∷◌, [], ◌==◌, ◌&&◌, length, true, false, ◌≤◌, filter, not, IfSome, IfNone, OnOk, OnErr, ℕ, slice_index_or, vec_len};
 ghost use Rattle.std.specs.Borrow.{sem};
 ghost use Rattle.gx_locks.specs.Holds.{same_hold, is_under};
 ghost use Rattle.gx_locks.specs.HoldLists.{held};
@@ -8,6 +8,7 @@ ghost use Rattle.gx_locks.specs.Room.{bit};
 use crate::hold::Hold;
 use crate::hold_list::HoldList;
 use crate::key::Key;
+use crate::owner::{Owner, free, free_place, place_of};
 use crate::shelf::Shelf;
 use gx_ids::{Gxid, Mem, Table};
 use gx_waits::{Claim, Object};
@@ -15,11 +16,13 @@ use std::alloc::Global;
 use std::collections::HashMap;
 
 /// The holds by object and by transaction, each list in the order in which they came. Those on tables stand by the
-/// table's number: a table has its shelf for good, since the next command on it comes.
+/// table's number: a table has its shelf for good, since the next command on it comes. Those of a transaction and those
+/// on its end stand in one record, and records are few: a session has one transaction at a time.
 #[derive(Drop)]
 pub struct Index {
     alloc: Global,
     tables: Vec<Shelf>,
+    owners: Vec<Owner>,
     others: HashMap<Key, Shelf>,
 }
 
@@ -38,8 +41,11 @@ fn make_shelves(shelves: &mut Vec<Shelf>, count: usize) -> Mem<()>
 impl Index {
     ghost use Rattle.gx_locks.specs.declared.key.Key.{Key};
     ghost use Rattle.gx_locks.specs.declared.key.Key.TheVariants.{On, Of};
-    ghost use Rattle.gx_waits.specs.declared.object.Object.TheVariants.{Relation};
-    ghost use Rattle.gx_locks.specs.Index.{holds_at, places_at, shelf_at};
+    ghost use Rattle.gx_waits.specs.declared.object.Object.TheVariants.{Relation, Transaction};
+    ghost use Rattle.gx_locks.specs.Index.{holds_at, places_at, shelf_at, IsThere};
+    ghost use Rattle.gx_locks.specs.Owners.{end_of, holds_of, owner_in};
+    ghost use Rattle.std.specs.HashMap.{get};
+    ghost use Rattle.gx_locks.specs.contracts.key.KeyPartialEq.TheImpl as block;
     ghost use Rattle.gx_locks.specs.Shelves.{LendsShelf};
 
     pub fn new(alloc: Global) -> Index
@@ -49,6 +55,7 @@ impl Index {
         Index {
             alloc,
             tables: Vec::new(alloc),
+            owners: Vec::new(alloc),
             others: HashMap::new(alloc),
         }
     }
@@ -60,7 +67,31 @@ impl Index {
     {
         match key {
             Key::On(Object::Relation(table)) => self.tables.get(usize::from(table.0)),
-            _ => self.others.get(&key),
+            Key::On(Object::Tuple(_)) => self.others.get(&key),
+            Key::On(Object::Transaction(gxid)) => self.end(gxid),
+            Key::Of(gxid) => self.holds(gxid),
+        }
+    }
+
+    // What a transaction holds.
+    fn holds(&self, gxid: Gxid) -> Option<&Shelf>
+        ensures found { IfSome result (λ shelf. shelf.now ≡ holds_of (owner_in self.now.owners.items gxid)) }
+        ensures missing { IfNone result (owner_in self.now.owners.items gxid ≡ None) }
+    {
+        match place_of(self.owners.as_slice(), gxid) {
+            Some(place) => Some(&self.owners[place].holds),
+            None => None,
+        }
+    }
+
+    // Who holds a transaction's end.
+    fn end(&self, gxid: Gxid) -> Option<&Shelf>
+        ensures found { IfSome result (λ shelf. shelf.now ≡ end_of (owner_in self.now.owners.items gxid)) }
+        ensures missing { IfNone result (owner_in self.now.owners.items gxid ≡ None) }
+    {
+        match place_of(self.owners.as_slice(), gxid) {
+            Some(place) => Some(&self.owners[place].end),
+            None => None,
         }
     }
 
@@ -68,10 +99,41 @@ impl Index {
         ensures* follows { sem 𝓛 (LendsShelf self.entry key result) }
         ensures found { IfSome result (λ shelf. shelf.now ≡ shelf_at self.old key) }
         ensures missing { IfNone result (shelf_at self.old key ≡ no_shelf) }
+        ensures there { IsThere self.old key → IsSome result }
     {
         match key {
             Key::On(Object::Relation(table)) => self.tables.get_mut(usize::from(table.0)),
-            _ => self.others.get_mut(&key),
+            Key::On(Object::Tuple(_)) => self.others.get_mut(&key),
+            Key::On(Object::Transaction(gxid)) => self.end_mut(gxid),
+            Key::Of(gxid) => self.holds_mut(gxid),
+        }
+    }
+
+    fn holds_mut(&mut self, gxid: Gxid) -> Option<&mut Shelf>
+        ensures* follows { sem 𝓛 (LendsShelf self.entry (Of gxid) result) }
+        ensures found { IfSome result (λ shelf. shelf.now ≡ holds_of (owner_in self.old.owners.items gxid)) }
+        ensures missing { IfNone result (owner_in self.old.owners.items gxid ≡ None) }
+    {
+        match place_of(self.owners.as_slice(), gxid) {
+            Some(place) => {
+                let owner = &mut self.owners[place];
+                Some(&mut owner.holds)
+            }
+            None => None,
+        }
+    }
+
+    fn end_mut(&mut self, gxid: Gxid) -> Option<&mut Shelf>
+        ensures* follows { sem 𝓛 (LendsShelf self.entry (On (Transaction gxid)) result) }
+        ensures found { IfSome result (λ shelf. shelf.now ≡ end_of (owner_in self.old.owners.items gxid)) }
+        ensures missing { IfNone result (owner_in self.old.owners.items gxid ≡ None) }
+    {
+        match place_of(self.owners.as_slice(), gxid) {
+            Some(place) => {
+                let owner = &mut self.owners[place];
+                Some(&mut owner.end)
+            }
+            None => None,
         }
     }
 
@@ -102,13 +164,10 @@ impl Index {
         ensures err { OnErr result (places_at self.new key ≡ places_at self.old key) }
     {
         let alloc = self.alloc;
+        self.make(key)?;
         match self.shelf_mut(key) {
             Some(shelf) => shelf.reserve(alloc),
-            None => {
-                let mut shelf = Shelf::new();
-                shelf.reserve(alloc)?;
-                self.put(key, shelf)
-            }
+            None => unreachable!(),
         }
     }
 
@@ -155,40 +214,63 @@ impl Index {
         ensures places_elsewhere { (k : Key) → k ≢ key → places_at self.new k ≡ places_at self.old k }
     {
         let alloc = self.alloc;
+        self.make(key)?;
         match self.shelf_mut(key) {
             Some(shelf) => shelf.add(alloc, hold),
-            None => {
-                let mut shelf = Shelf::new();
-                shelf.add(alloc, hold)?;
-                self.put(key, shelf)
-            }
+            None => unreachable!(),
         }
     }
 
-    // Puts a shelf under a key.
-    fn put(&mut self, key: Key, shelf: Shelf) -> Mem<()>
-        ensures there { OnOk result (shelf_at self.new key ≡ shelf) }
-        ensures elsewhere { (k : Key) → k ≢ key → shelf_at self.new k ≡ shelf_at self.old k }
-        ensures err { OnErr result (shelf_at self.new key ≡ shelf_at self.old key) }
+    // Sees to it that a key has a shelf.
+    fn make(&mut self, key: Key) -> Mem<()>
+        ensures same { (k : Key) → shelf_at self.new k ≡ shelf_at self.old k }
+        ensures there { OnOk result (IsThere self.new key) }
     {
         match key {
-            Key::On(Object::Relation(table)) => self.put_table(table, shelf),
-            _ => {
-                drop(self.others.insert(key, shelf)?);
-                Ok(())
-            }
+            Key::On(Object::Relation(table)) => self.make_table(table),
+            Key::On(Object::Tuple(_)) => self.make_other(key),
+            Key::On(Object::Transaction(gxid)) => self.make_owner(gxid),
+            Key::Of(gxid) => self.make_owner(gxid),
         }
     }
 
-    // Puts a shelf under a table.
-    fn put_table(&mut self, table: Table, shelf: Shelf) -> Mem<()>
-        ensures there { OnOk result (shelf_at self.new (On (Relation table)) ≡ shelf) }
-        ensures elsewhere { (k : Key) → k ≢ On (Relation table) → shelf_at self.new k ≡ shelf_at self.old k }
-        ensures err { OnErr result (shelf_at self.new (On (Relation table)) ≡ shelf_at self.old (On (Relation table))) }
+    fn make_table(&mut self, table: Table) -> Mem<()>
+        ensures same { (k : Key) → shelf_at self.new k ≡ shelf_at self.old k }
+        ensures there { OnOk result (IsThere self.new (On (Relation table))) }
     {
-        let place = usize::from(table.0);
-        make_shelves(&mut self.tables, place + 1)?;
-        self.tables[place] = shelf;
+        make_shelves(&mut self.tables, usize::from(table.0) + 1)
+    }
+
+    fn make_other(&mut self, key: Key) -> Mem<()>
+        ensures same { (k : Key) → shelf_at self.new k ≡ shelf_at self.old k }
+        ensures there { OnOk result (is_some (get block.ghosts.eq self.new.others key) ≡ true) }
+    {
+        if !self.others.contains_key(&key) {
+            drop(self.others.insert(key, Shelf::new())?);
+        }
+        Ok(())
+    }
+
+    fn make_owner(&mut self, gxid: Gxid) -> Mem<()>
+        ensures same { (k : Key) → shelf_at self.new k ≡ shelf_at self.old k }
+        ensures there { OnOk result (is_some (owner_in self.new.owners.items gxid) ≡ true) }
+    {
+        match place_of(self.owners.as_slice(), gxid) {
+            Some(_) => Ok(()),
+            None => self.start_owner(gxid),
+        }
+    }
+
+    // Takes a record for a transaction that has none.
+    fn start_owner(&mut self, gxid: Gxid) -> Mem<()>
+        requires { owner_in self.old.owners.items gxid ≡ None }
+        ensures same { (k : Key) → shelf_at self.new k ≡ shelf_at self.old k }
+        ensures there { OnOk result (is_some (owner_in self.new.owners.items gxid) ≡ true) }
+    {
+        match free_place(self.owners.as_slice()) {
+            Some(place) => self.owners[place] = Owner::new(gxid),
+            None => self.owners.push(Owner::new(gxid))?,
+        }
         Ok(())
     }
 
@@ -212,14 +294,27 @@ impl Index {
         }
     }
 
-    // Drops a shelf that nobody needs, but a table's, to which the next command on it comes.
+    // Drops what nobody needs, but a table's shelf, to which the next command on it comes.
     fn tidy(&mut self, key: Key)
         ensures holds { (k : Key) → holds_at self.new k ≡ holds_at self.old k }
         ensures places { (k : Key) → places_at self.new k ≡ places_at self.old k }
     {
         match key {
             Key::On(Object::Relation(_)) => {}
-            _ => self.drop_idle(key),
+            Key::On(Object::Tuple(_)) => self.drop_idle(key),
+            Key::On(Object::Transaction(gxid)) => self.free_idle(gxid),
+            Key::Of(gxid) => self.free_idle(gxid),
+        }
+    }
+
+    // Frees a transaction's record that nobody needs.
+    fn free_idle(&mut self, gxid: Gxid)
+        ensures { (k : Key) → shelf_at self.new k ≡ shelf_at self.old k }
+    {
+        if let Some(place) = place_of(self.owners.as_slice(), gxid) {
+            if self.owners[place].is_idle() {
+                free(&mut self.owners, gxid);
+            }
         }
     }
 
@@ -248,8 +343,18 @@ impl Index {
         ensures elsewhere { (k : Key) → k ≢ Of gxid → holds_at self.new k ≡ holds_at self.old k }
         ensures places { (k : Key) → k ≢ Of gxid → places_at self.new k ≡ places_at self.old k }
     {
-        match self.others.remove(&Key::Of(gxid)) {
-            Some(shelf) => shelf.into_holds(),
+        let holds = self.take_there(Key::Of(gxid));
+        self.free_idle(gxid);
+        holds
+    }
+
+    fn take_there(&mut self, key: Key) -> HoldList
+        ensures taken { held result ≡ holds_at self.old key }
+        ensures there { shelf_at self.new key ≡ no_shelf }
+        ensures elsewhere { (k : Key) → k ≢ key → shelf_at self.new k ≡ shelf_at self.old k }
+    {
+        match self.shelf_mut(key) {
+            Some(shelf) => shelf.take(),
             None => HoldList::Empty,
         }
     }

@@ -84,7 +84,7 @@ impl Ledger {
             number: self.next,
             claim,
         };
-        let _ = self.slots.push(Slot { hold, stands: true });
+        self.slots.push_reserved(Slot { hold, stands: true });
         self.next += 1;
         self.places -= 1;
         hold

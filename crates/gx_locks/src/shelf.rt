@@ -7,6 +7,7 @@ use crate::hold_list::HoldList;
 use gx_ids::{Mem, OutOfMemory};
 use std::alloc::Global;
 use std::marker::Model;
+use std::mem;
 
 /// The holds under one key, and for how many more there is room.
 #[derive(Drop)]
@@ -104,10 +105,12 @@ impl Shelf {
         self.holds.strike(hold);
     }
 
-    pub fn into_holds(self) -> HoldList
-        ensures { held result ≡ self.holds }
+    /// Takes all holds out, and gives the room for more up.
+    pub fn take(&mut self) -> HoldList
+        ensures taken { held result ≡ self.old.holds }
+        ensures left { self.new ≡ record { holds = []; places = 0 } }
     {
-        let Shelf { holds, places: _ } = self;
-        holds
+        self.places = 0;
+        mem::replace(&mut self.holds, HoldList::Empty)
     }
 }

@@ -100,16 +100,26 @@ impl LockTable {
         let claim = Claim { gxid, object, mode };
         let standing = self.book.standing(&claim);
         if !standing.is_free {
-            let blockers = self.book.blockers(self.alloc, &claim)?;
-            self.waits.reserve(1)?;
-            self.book.expect(&claim)?;
-            put(&mut self.waits, claim);
-            return Ok(LockAnswer::Waits(Seq::from_vec(blockers)));
+            return self.wait(claim);
         }
         if !standing.is_held {
             self.book.add(claim)?;
         }
         Ok(LockAnswer::Granted)
+    }
+
+    // Stands as a wait from now on.
+    fn wait(&mut self, claim: Claim) -> Mem<LockAnswer>
+        requires free { is_free self.old.holds claim ≡ false }
+        requires once { list_any (is_of claim.gxid) self.old.waits ≡ false }
+        ensures ok { IfOk result (λ answer. IsAnswer self.old claim answer self.new) }
+        ensures err { OnErr result (self.new ≡ self.old) }
+    {
+        let blockers = self.book.blockers(self.alloc, &claim)?;
+        self.waits.reserve(1)?;
+        self.book.expect(&claim)?;
+        put(&mut self.waits, claim);
+        Ok(LockAnswer::Waits(Seq::from_vec(blockers)))
     }
 
     /// The least transaction whose wait is ready: no other transaction holds a conflicting mode any more.

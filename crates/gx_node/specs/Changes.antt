@@ -19,7 +19,7 @@ use Rattle.gx_rules.specs.Fits.{is_waiting}
 use Rattle.gx_rules.specs.Locks.{release_marks, released}
 use Rattle.gx_rules.specs.Maps.{with_at}
 use Rattle.gx_rules.specs.Segments.{Local, Phase, Reading, Writing, Prepared, Committed, Forgotten, Aborted, Seg, SegTurn, has_committed, reply}
-use Rattle.gx_node.specs.declared.local.Taken.{Taken}
+use Rattle.gx_node.specs.Outcomes.{Outcome}
 
 -- its record afterwards, the mark, the answer, the item for the journal, and whether it gives its locks back
 pub record Change : Type 0 where
@@ -146,7 +146,7 @@ pub record Makes (s : Seg) (g : Gxid) (turn : SegTurn) (change : Change) : Type 
   pub item : turn.item ≡ change.item
 
 -- this was done
-pub record Does (change : Change) (left : Local) (taken : Taken) : Type 0 where
+pub record Does (change : Change) (left : Local) (taken : Outcome) : Type 0 where
   pub now : left ≡ change.now
   pub mark : taken.mark ≡ change.mark
   pub reply : taken.reply ≡ change.reply

@@ -2,39 +2,42 @@
 ghost use Rattle.std.specs.Prelude.{◌≡◌, false};
 ghost use Rattle.gx_node.specs.Changes.{Does};
 ghost use Rattle.gx_node.specs.Changes as change;
+ghost use Rattle.gx_node.specs.Outcomes.{answer_of};
 ghost use Rattle.gx_node.specs.Phases.{local_of, phase_of};
 ghost use Rattle.gx_rules.specs.Segments.{has_committed};
 
-use crate::committing::{nothing, tell};
-use crate::local::{Local, Phase, Taken};
-use gx_msg::Reply;
+use crate::local::{Local, Phase};
+use crate::taken::{Taken, Told, nothing, tell};
+use gx_ids::{Gxid, Node};
 
 // It ends here: its slice waits no more, and it gives its locks back.
-fn end(local: &mut Local, phase: Phase, reply: Reply) -> Taken
-    ensures does { Does (change.ends_now (local_of local.old) (phase_of phase) reply) (local_of local.new) result }
+fn end(node: Node, gxid: Gxid, local: &mut Local, phase: Phase, told: Told) -> Taken
+    ensures does { Does (change.ends_now (local_of local.old) (phase_of phase) (answer_of told)) (local_of local.new) result }
     ensures took { result.fails ≡ false }
 {
     local.phase = phase;
     local.suspended = None;
     Taken {
-        mark: None,
-        reply: Some(reply),
+        node,
+        gxid,
+        noted: None,
+        told: Some(told),
         fails: false,
         ends: true,
     }
 }
 
 // Whoever has not committed here is aborted, also one that is unknown here.
-pub(crate) fn take_abort(local: &mut Local) -> Taken
+pub(crate) fn take_abort(node: Node, gxid: Gxid, local: &mut Local) -> Taken
     ensures does { Does (change.aborts (local_of local.old) (phase_of local.old.phase)) (local_of local.new) result }
     ensures took { result.fails ≡ false }
 {
     match local.phase {
         Phase::Reading | Phase::Writing | Phase::Prepared => {
-            end(local, Phase::Aborted, Reply::Aborted)
+            end(node, gxid, local, Phase::Aborted, Told::Aborted)
         }
-        Phase::Aborted => tell(Reply::Aborted),
-        _ => nothing(),
+        Phase::Aborted => tell(node, gxid, Told::Aborted),
+        _ => nothing(node, gxid),
     }
 }
 
@@ -48,13 +51,16 @@ fn committed(phase: Phase) -> bool
     }
 }
 
-pub(crate) fn take_forget(local: &mut Local) -> Taken
+pub(crate) fn take_forget(node: Node, gxid: Gxid, local: &mut Local) -> Taken
     ensures does { Does (change.forgets (local_of local.old) (phase_of local.old.phase)) (local_of local.new) result }
     ensures took { result.fails ≡ false }
 {
     match local.phase {
-        Phase::Aborted => nothing(),
-        Phase::Forgotten(_) => tell(Reply::Forgotten),
-        phase => end(local, Phase::Forgotten(committed(phase)), Reply::Forgotten),
+        Phase::Aborted => nothing(node, gxid),
+        Phase::Forgotten(_) => tell(node, gxid, Told::Forgotten),
+        phase => {
+            let phase = Phase::Forgotten(committed(phase));
+            end(node, gxid, local, phase, Told::Forgotten)
+        }
     }
 }

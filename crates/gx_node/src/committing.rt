@@ -4,213 +4,184 @@ ghost use Rattle.gx_outside.specs.Shelves.{HasKept};
 ghost use Rattle.gx_node.specs.Changes.{Does, finishes_now, takes_on, unless_prepared, unless_waiting};
 ghost use Rattle.gx_node.specs.Changes as change;
 ghost use Rattle.gx_node.specs.Orders.{Took};
+ghost use Rattle.gx_node.specs.Outcomes.{answer_of, mark_of};
 ghost use Rattle.gx_node.specs.Phases.{local_of, phase_of, reply_of};
+ghost use Rattle.gx_node.specs.Pledges.{item_of};
 
-use crate::appending::append;
-use crate::local::{Local, Phase, Taken, Vote};
-use gx_ids::{Gxid, Mem, Node, Seq};
-use gx_msg::{JournalItem, Kept, Reply};
+use crate::appending::{Heading, append, append_rows};
+use crate::local::{Local, Phase, Vote};
+use crate::taken::{Noted, Taken, Told, nothing, tell};
+use crate::written::Written;
+use gx_ids::{Gxid, Mem, Node};
+use gx_msg::JournalItem;
 use gx_outside::Journal;
-use gx_store::Mark;
 use std::alloc::Global;
 
 // What was answered to PREPARE or COMMIT, again.
-fn tell_vote(local: &Local) -> Taken
+fn tell_vote(node: Node, gxid: Gxid, local: &Local) -> Taken
     ensures does { Does (change.tells (local_of local.now) (local_of local.now).vote) (local_of local.now) result }
     ensures took { result.fails ≡ false }
 {
-    Taken {
-        mark: None,
-        reply: local.vote.map(|vote| vote.reply()),
-        fails: false,
-        ends: false,
-    }
-}
-
-pub(crate) fn nothing() -> Taken
-    ensures { result ≡ record { mark = None; reply = None; fails = false; ends = false } }
-{
-    Taken {
-        mark: None,
-        reply: None,
-        fails: false,
-        ends: false,
+    match local.vote {
+        Some(vote) => tell(node, gxid, vote.told()),
+        None => nothing(node, gxid),
     }
 }
 
 // The journal has failed before the transaction was promised or committed.
 fn refuse(node: Node, gxid: Gxid, local: &mut Local) -> Taken
     ensures local { local.new ≡ record local.old { vote = Some Vote.Jfault } }
-    ensures taken { result ≡ record { mark = Some (Mark.JournalFailed node gxid); reply = Some Reply.Jfault; fails = true; ends = false } }
+    ensures taken { result ≡ record { mark = Some (mark_of node gxid Noted.JournalFailed); reply = Some (answer_of Told.Jfault); fails = true; ends = false } }
 {
     local.vote = Some(Vote::Jfault);
     Taken {
-        mark: Some(Mark::JournalFailed { node, gxid }),
-        reply: Some(Reply::Jfault),
+        node,
+        gxid,
+        noted: Some(Noted::JournalFailed),
+        told: Some(Told::Jfault),
         fails: true,
         ends: false,
     }
 }
 
 // The journal has taken it.
-fn agree(local: &mut Local, phase: Phase, vote: Vote, mark: Mark) -> Taken
+fn agree(node: Node, gxid: Gxid, local: &mut Local, phase: Phase, vote: Vote, noted: Noted) -> Taken
     ensures local { local.new ≡ record local.old { phase = phase; vote = Some vote } }
-    ensures taken { result ≡ record { mark = Some mark; reply = Some (reply_of vote); fails = false; ends = false } }
+    ensures taken { result ≡ record { mark = Some (mark_of node gxid noted); reply = Some (reply_of vote); fails = false; ends = false } }
 {
     local.phase = phase;
     local.vote = Some(vote);
     Taken {
-        mark: Some(mark),
-        reply: Some(vote.reply()),
+        node,
+        gxid,
+        noted: Some(noted),
+        told: Some(vote.told()),
         fails: false,
         ends: false,
     }
 }
 
 // What a transaction takes on once the journal has its item.
+#[derive(Clone, Copy)]
 struct Pledge {
-    item: JournalItem,
+    heading: Heading,
     phase: Phase,
     vote: Vote,
-    mark: Mark,
+    noted: Noted,
 }
 
-fn promise(node: Node, gxid: Gxid, kept: Seq<Kept>) -> Pledge
-    ensures { result ≡ record { item = JournalItem.Prepare gxid kept; phase = Phase.Prepared; vote = Vote.Prepared; mark = Mark.Prepared node gxid } }
+fn promise() -> Pledge
+    ensures { result ≡ record { heading = Heading.Prepare; phase = Phase.Prepared; vote = Vote.Prepared; noted = Noted.Prepared } }
 {
     Pledge {
-        item: JournalItem::Prepare(gxid, kept),
+        heading: Heading::Prepare,
         phase: Phase::Prepared,
         vote: Vote::Prepared,
-        mark: Mark::Prepared { node, gxid },
+        noted: Noted::Prepared,
     }
 }
 
-fn commitment(node: Node, gxid: Gxid, kept: Seq<Kept>) -> Pledge
-    ensures { result ≡ record { item = JournalItem.Commit gxid kept; phase = Phase.Committed; vote = Vote.Committed; mark = Mark.LocalCommit node gxid } }
+fn commitment() -> Pledge
+    ensures { result ≡ record { heading = Heading.Commit; phase = Phase.Committed; vote = Vote.Committed; noted = Noted.LocalCommit } }
 {
     Pledge {
-        item: JournalItem::Commit(gxid, kept),
+        heading: Heading::Commit,
         phase: Phase::Committed,
         vote: Vote::Committed,
-        mark: Mark::LocalCommit { node, gxid },
+        noted: Noted::LocalCommit,
     }
 }
 
-fn take_on<J: Journal>(
+fn take_on<J: Journal, W: Written>(
     alloc: Global,
     node: Node,
     gxid: Gxid,
     local: &mut Local,
     pledge: Pledge,
+    kept: &W,
     journal: &mut J,
 ) -> Mem<Taken>
-    ensures does { IfOk result (λ taken. Does (takes_on node gxid pledge.item (phase_of pledge.phase) (reply_of pledge.vote) pledge.mark taken.fails
-        (local_of local.old)) (local_of local.new) taken) }
-    ensures took { IfOk result (λ taken. Took (J.shelf journal.old) (J.shelf journal.new) taken.fails (Some pledge.item)) }
+    ensures does { IfOk result (λ taken. Does (takes_on node gxid (item_of pledge.heading gxid (W.rows kept.now)) (phase_of pledge.phase) (reply_of pledge.vote)
+        (mark_of node gxid pledge.noted) taken.fails (local_of local.old)) (local_of local.new) taken) }
+    ensures took { IfOk result (λ taken. Took (J.shelf journal.old) (J.shelf journal.new) taken.fails (Some (item_of pledge.heading gxid (W.rows kept.now)))) }
     ensures err { OnErr result ((local.new ≡ local.old) × HasKept (J.shelf journal.old) (J.shelf journal.new)) }
 {
     let Pledge {
-        item,
+        heading,
         phase,
         vote,
-        mark,
+        noted,
     } = pledge;
-    match append(alloc, item, journal) {
-        Ok(false) => Ok(agree(local, phase, vote, mark)),
-        Ok(true) => {
-            drop(mark);
-            Ok(refuse(node, gxid, local))
-        }
-        Err(fault) => {
-            drop(mark);
-            Err(fault)
-        }
+    if append_rows(alloc, heading, gxid, kept, journal)? {
+        Ok(refuse(node, gxid, local))
+    } else {
+        Ok(agree(node, gxid, local, phase, vote, noted))
     }
 }
 
 // PREPARE is answered once, and then always with what was answered then.
-pub(crate) fn take_prepare<J: Journal>(
+pub(crate) fn take_prepare<J: Journal, W: Written>(
     alloc: Global,
     node: Node,
     gxid: Gxid,
     local: &mut Local,
-    kept: Seq<Kept>,
+    kept: &W,
     journal: &mut J,
 ) -> Mem<Taken>
     ensures does { IfOk result (λ taken. Does (unless_waiting (local_of local.old)
-        (change.prepares node gxid kept taken.fails (local_of local.old) (phase_of local.old.phase))) (local_of local.new) taken) }
+        (change.prepares node gxid (W.rows kept.now) taken.fails (local_of local.old) (phase_of local.old.phase))) (local_of local.new) taken) }
     ensures took { IfOk result (λ taken. Took (J.shelf journal.old) (J.shelf journal.new) taken.fails (unless_waiting (local_of local.old)
-        (change.prepares node gxid kept taken.fails (local_of local.old) (phase_of local.old.phase))).item) }
+        (change.prepares node gxid (W.rows kept.now) taken.fails (local_of local.old) (phase_of local.old.phase))).item) }
     ensures err { OnErr result ((local.new ≡ local.old) × HasKept (J.shelf journal.old) (J.shelf journal.new)) }
 {
     if local.is_waiting() {
-        drop(kept);
-        return Ok(nothing());
+        return Ok(nothing(node, gxid));
     }
     match (local.phase, local.vote) {
         (Phase::Reading, None) | (Phase::Writing, None) => {
-            let pledge = promise(node, gxid, kept);
-            take_on(alloc, node, gxid, local, pledge, journal)
+            take_on(alloc, node, gxid, local, promise(), kept, journal)
         }
-        (Phase::Aborted, _) => {
-            drop(kept);
-            Ok(nothing())
-        }
-        _ => {
-            drop(kept);
-            Ok(tell_vote(local))
-        }
+        (Phase::Aborted, _) => Ok(nothing(node, gxid)),
+        _ => Ok(tell_vote(node, gxid, local)),
     }
 }
 
 // COMMIT is for who was never prepared here.
-fn tell_commit(local: &Local) -> Taken
+fn tell_commit(node: Node, gxid: Gxid, local: &Local) -> Taken
     ensures does { Does (unless_prepared (local_of local.now)) (local_of local.now) result }
     ensures took { result.fails ≡ false }
 {
     if local.vote == Some(Vote::Prepared) {
-        nothing()
+        nothing(node, gxid)
     } else {
-        tell_vote(local)
+        tell_vote(node, gxid, local)
     }
 }
 
-pub(crate) fn take_commit<J: Journal>(
+pub(crate) fn take_commit<J: Journal, W: Written>(
     alloc: Global,
     node: Node,
     gxid: Gxid,
     local: &mut Local,
-    kept: Seq<Kept>,
+    kept: &W,
     journal: &mut J,
 ) -> Mem<Taken>
     ensures does { IfOk result (λ taken. Does (unless_waiting (local_of local.old)
-        (change.commits node gxid kept taken.fails (local_of local.old) (phase_of local.old.phase))) (local_of local.new) taken) }
+        (change.commits node gxid (W.rows kept.now) taken.fails (local_of local.old) (phase_of local.old.phase))) (local_of local.new) taken) }
     ensures took { IfOk result (λ taken. Took (J.shelf journal.old) (J.shelf journal.new) taken.fails (unless_waiting (local_of local.old)
-        (change.commits node gxid kept taken.fails (local_of local.old) (phase_of local.old.phase))).item) }
+        (change.commits node gxid (W.rows kept.now) taken.fails (local_of local.old) (phase_of local.old.phase))).item) }
     ensures err { OnErr result ((local.new ≡ local.old) × HasKept (J.shelf journal.old) (J.shelf journal.new)) }
 {
     if local.is_waiting() {
-        drop(kept);
-        return Ok(nothing());
+        return Ok(nothing(node, gxid));
     }
     match (local.phase, local.vote) {
         (Phase::Reading, None) | (Phase::Writing, None) => {
-            let pledge = commitment(node, gxid, kept);
-            take_on(alloc, node, gxid, local, pledge, journal)
+            take_on(alloc, node, gxid, local, commitment(), kept, journal)
         }
-        (Phase::Reading, Some(_)) | (Phase::Writing, Some(_)) => {
-            drop(kept);
-            Ok(tell_vote(local))
-        }
-        (Phase::Committed, _) | (Phase::Forgotten(_), _) => {
-            drop(kept);
-            Ok(tell_commit(local))
-        }
-        _ => {
-            drop(kept);
-            Ok(nothing())
-        }
+        (Phase::Reading, Some(_)) | (Phase::Writing, Some(_)) => Ok(tell_vote(node, gxid, local)),
+        (Phase::Committed, _) | (Phase::Forgotten(_), _) => Ok(tell_commit(node, gxid, local)),
+        _ => Ok(nothing(node, gxid)),
     }
 }
 
@@ -228,16 +199,20 @@ fn finish<J: Journal>(
 {
     if append(alloc, JournalItem::Finish(gxid), journal)? {
         return Ok(Taken {
-            mark: Some(Mark::JournalFailed { node, gxid }),
-            reply: Some(Reply::Again),
+            node,
+            gxid,
+            noted: Some(Noted::JournalFailed),
+            told: Some(Told::Again),
             fails: true,
             ends: false,
         });
     }
     local.phase = Phase::Committed;
     Ok(Taken {
-        mark: Some(Mark::LocalCommit { node, gxid }),
-        reply: Some(Reply::Committed),
+        node,
+        gxid,
+        noted: Some(Noted::LocalCommit),
+        told: Some(Told::Committed),
         fails: false,
         ends: false,
     })
@@ -257,19 +232,7 @@ pub(crate) fn take_commit_prepared<J: Journal>(
 {
     match local.phase {
         Phase::Prepared => finish(alloc, node, gxid, local, journal),
-        Phase::Committed | Phase::Forgotten(true) => Ok(tell(Reply::Committed)),
-        _ => Ok(nothing()),
-    }
-}
-
-// An answer, and nothing else.
-pub(crate) fn tell(reply: Reply) -> Taken
-    ensures { result ≡ record { mark = None; reply = Some reply; fails = false; ends = false } }
-{
-    Taken {
-        mark: None,
-        reply: Some(reply),
-        fails: false,
-        ends: false,
+        Phase::Committed | Phase::Forgotten(true) => Ok(tell(node, gxid, Told::Committed)),
+        _ => Ok(nothing(node, gxid)),
     }
 }

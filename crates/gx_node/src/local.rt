@@ -1,12 +1,13 @@
 ghost use Rattle.std.specs.Prelude.{◌≡◌};
+ghost use Rattle.gx_node.specs.Outcomes.{answer_of};
 ghost use Rattle.gx_node.specs.Phases.{local_of, reply_of};
 ghost use Rattle.gx_rules.specs.Fits as rule;
 ghost use Rattle.gx_rules.specs.Segments.{new_local};
 
+use crate::taken::Told;
 use gx_dsnap::Snapshot;
 use gx_ids::{Boxed, Cid, Rid, Seq};
 use gx_msg::Reply;
-use gx_store::Mark;
 use gx_tree::{Level, Slice};
 
 /// Where a transaction stands at a segment.
@@ -35,13 +36,13 @@ pub enum Vote {
 
 impl Vote {
     /// The answer.
-    pub fn reply(self) -> Reply
-        ensures { result ≡ reply_of self }
+    pub fn told(self) -> Told
+        ensures { answer_of result ≡ reply_of self }
     {
         match self {
-            Vote::Prepared => Reply::Prepared,
-            Vote::Committed => Reply::Committed,
-            Vote::Jfault => Reply::Jfault,
+            Vote::Prepared => Told::Prepared,
+            Vote::Committed => Told::Committed,
+            Vote::Jfault => Told::Jfault,
         }
     }
 }
@@ -90,14 +91,4 @@ impl Local {
     {
         self.suspended.is_some()
     }
-}
-
-/// What an order came to: its mark, its answer, whether the journal failed to take an item, and whether the transaction gives its
-/// locks back, since it has ended here.
-#[derive(Drop)]
-pub struct Taken {
-    pub mark: Option<Mark>,
-    pub reply: Option<Reply>,
-    pub fails: bool,
-    pub ends: bool,
 }

@@ -13,7 +13,7 @@ ghost use Rattle.gx_waits.specs.Claim.{same_claim};
 ghost use Rattle.gx_node.specs.Locking.{asked_locks, asked_mark, end_marks, granted_locks, granted_marks, resumed_marks, without_end};
 
 use gx_ids::{Gxid, Mem, Node, Table};
-use gx_locks::{Hold, HoldList, LockAnswer, LockTable, is_same_claim};
+use gx_locks::{Hold, HoldList, LockAnswer, LockTable, Pair, is_same_claim};
 use gx_modes::Mode;
 use gx_script::Script;
 use gx_store::Mark;
@@ -35,25 +35,33 @@ fn is_ordered<T: Ord>()
     ensures { IsTotalOrder T.cmp }
 {}
 
-fn sort_holds(mut holds: Vec<Hold>) -> Mem<Vec<Hold>>
-    ensures { IfOk result (λ sorted. claims_of sorted.items ≡ in_order rule.claim_order (claims_of holds.items)) }
+fn sort_list(holds: &mut Vec<Hold>) -> Mem<()>
+    ensures { OnOk result (claims_of holds.new.items ≡ in_order rule.claim_order (claims_of holds.old.items)) }
 {
     is_ordered::<Object>();
     holds.sort_by(|left, right| compare_claims(&left.claim, &right.claim))?;
-    Ok(holds)
+    Ok(())
 }
 
-fn sorted_holds(holds: HoldList) -> Mem<HoldList>
-    ensures { IfOk result (λ sorted. claims_of (held sorted) ≡ in_order rule.claim_order (claims_of (held holds))) }
+fn sort_two(pair: &mut Pair)
+    ensures { claims_of pair.new ≡ in_order rule.claim_order (claims_of pair.old) }
+{
+    let (first, second) = pair.parts();
+    if compare_claims(&first.claim, &second.claim).is_gt() {
+        *pair = Pair::new(second, first);
+    }
+}
+
+fn sort_holds(holds: &mut HoldList) -> Mem<()>
+    ensures { OnOk result (claims_of (held holds.new) ≡ in_order rule.claim_order (claims_of (held holds.old))) }
 {
     match holds {
-        HoldList::Empty => Ok(HoldList::Empty),
-        HoldList::One(hold) => Ok(HoldList::One(hold)),
-        HoldList::Many(holds) => {
-            let sorted = sort_holds(holds)?;
-            Ok(HoldList::Many(sorted))
-        }
+        HoldList::Empty => {}
+        HoldList::One(_) => {}
+        HoldList::Two(pair) => sort_two(pair),
+        HoldList::Many(list) => sort_list(list)?,
     }
+    Ok(())
 }
 
 // GIVEN BACK
@@ -99,12 +107,21 @@ fn push_holds(marks: &mut Vec<Mark>, node: Node, holds: &[Hold]) -> Mem<()>
     Ok(())
 }
 
-fn push_releases(marks: &mut Vec<Mark>, node: Node, waits: &[Claim], holds: &[Hold]) -> Mem<()>
-    ensures { OnOk result (marks.new.items ≡ marks.old.items ++ map (rule.release_mark node) (waits.now ++ claims_of holds.now)) }
+// The marks of a transaction's waits that are dropped.
+fn push_dropped(
+    alloc: Global,
+    marks: &mut Vec<Mark>,
+    node: Node,
+    waits: &[Claim],
+    gxid: Gxid,
+) -> Mem<()>
+    ensures { OnOk result (marks.new.items ≡ marks.old.items ++ map (rule.release_mark node) (filter (is_of gxid) waits.now)) }
 {
-    push_waits(marks, node, waits)?;
-    push_holds(marks, node, holds)?;
-    Ok(())
+    if waits.is_empty() {
+        return Ok(());
+    }
+    let dropped = waits_of(alloc, waits, gxid)?;
+    push_waits(marks, node, dropped.as_slice())
 }
 
 /// Gives back all locks of a transaction at a node and drops its wait, with a mark for each: the wait, then the holds in order.
@@ -118,9 +135,11 @@ pub fn give_back(
     ensures locks { OnOk result (locks.new ≡ rule.released locks.old gxid) }
     ensures marks { OnOk result (marks.new.items ≡ marks.old.items ++ rule.release_marks node locks.old gxid) }
 {
-    let dropped = waits_of(alloc, locks.waits(), gxid)?;
-    let given = sorted_holds(locks.take_all(gxid))?;
-    push_releases(marks, node, dropped.as_slice(), given.as_slice())
+    push_dropped(alloc, marks, node, locks.waits(), gxid)?;
+    let mut given = locks.take_all(gxid);
+    sort_holds(&mut given)?;
+    push_holds(marks, node, given.as_slice())?;
+    Ok(())
 }
 
 /// One lock of a transaction at a node is given back, with its mark.

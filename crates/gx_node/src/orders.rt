@@ -6,34 +6,35 @@ ghost use Rattle.gx_node.specs.Phases.{local_of};
 
 use crate::aborting::{take_abort, take_forget};
 use crate::committing::{take_commit, take_commit_prepared, take_prepare};
-use crate::local::{Local, Taken};
+use crate::local::Local;
+use crate::taken::Taken;
+use crate::written::Written;
 use gx_dtx::order::Order;
-use gx_ids::{Gxid, Mem, Node, Seq};
-use gx_msg::Kept;
+use gx_ids::{Gxid, Mem, Node};
 use gx_outside::Journal;
 use std::alloc::Global;
 
 /// Takes an order of the coordinator for a transaction at this segment, where it has written the `kept` rows. PREPARE and
 /// COMMIT PREPARED and COMMIT append an item to the journal before anything else happens; where it fails to take it, `fails`
 /// is true, and JFAULT or AGAIN is answered.
-pub fn take_order<J: Journal>(
+pub fn take_order<J: Journal, W: Written>(
     alloc: Global,
     node: Node,
     gxid: Gxid,
     order: Order,
     local: &mut Local,
-    kept: Seq<Kept>,
+    kept: &W,
     journal: &mut J,
 ) -> Mem<Taken>
-    ensures does { IfOk result (λ taken. Does (change_of order node gxid kept taken.fails (local_of local.old)) (local_of local.new) taken) }
-    ensures took { IfOk result (λ taken. Took (J.shelf journal.old) (J.shelf journal.new) taken.fails (change_of order node gxid kept taken.fails (local_of local.old)).item) }
+    ensures does { IfOk result (λ taken. Does (change_of order node gxid (W.rows kept.now) taken.fails (local_of local.old)) (local_of local.new) taken) }
+    ensures took { IfOk result (λ taken. Took (J.shelf journal.old) (J.shelf journal.new) taken.fails (change_of order node gxid (W.rows kept.now) taken.fails (local_of local.old)).item) }
     ensures err { OnErr result ((local.new ≡ local.old) × HasKept (J.shelf journal.old) (J.shelf journal.new)) }
 {
     match order {
         Order::Prepare => take_prepare(alloc, node, gxid, local, kept, journal),
         Order::Commit => take_commit(alloc, node, gxid, local, kept, journal),
         Order::CommitPrepared => take_commit_prepared(alloc, node, gxid, local, journal),
-        Order::Abort => Ok(take_abort(local)),
-        Order::Forget => Ok(take_forget(local)),
+        Order::Abort => Ok(take_abort(node, gxid, local)),
+        Order::Forget => Ok(take_forget(node, gxid, local)),
     }
 }

@@ -91,11 +91,17 @@ fn insert_piece(alloc: Global, number: u8, table: Table, rows: Seq<KeyedRow>) ->
 }
 
 // The pieces of an INSERT, from the rows of each segment.
-pub fn insert_pieces(alloc: Global, table: Table, buckets: Vec<Seq<KeyedRow>>) -> Mem<Vec<Piece>>
-    requires { vec_len buckets ≤ 16 }
+pub fn insert_pieces(
+    alloc: Global,
+    blank: Vec<Piece>,
+    table: Table,
+    buckets: Vec<Seq<KeyedRow>>,
+) -> Mem<Vec<Piece>>
+    requires blank { blank.items ≡ [] }
+    requires few { vec_len buckets ≤ 16 }
     ensures { IfOk result (λ pieces. pieces.items ≡ bucket_pieces table 1 buckets.items) }
 {
-    let mut pieces = Vec::new(alloc);
+    let mut pieces = blank;
     let mut number = 0;
     for rows in buckets {
         number += 1;

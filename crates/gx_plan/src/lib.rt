@@ -11,5 +11,5 @@ mod targets;
 mod tuple;
 
 pub use placement::{place, place_value};
-pub use planning::plan;
+pub use planning::{plan, plan_in};
 pub use targets::{target, wanted_key};

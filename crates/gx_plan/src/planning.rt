@@ -1,4 +1,4 @@
-ghost use Rattle.std.specs.Prelude.{◌≡◌, ◌≤◌, IfOk, Ok, Err};
+ghost use Rattle.std.specs.Prelude.{◌≡◌, ◌≤◌, [], IfOk, Ok, Err};
 ghost use Rattle.gx_meaning.specs.declared.fault.ArithFault.{ArithFault};
 ghost use Rattle.gx_eval.specs.Faults.{eval_fault};
 ghost use Rattle.gx_meaning.specs.Plan.{IsCommand, IsSame, plan_of};
@@ -28,17 +28,44 @@ pub fn plan(
     ensures pieces { IfOk result (λ found. plan_of n schema.now.dist gxid cid stmt.now ≡ Ok found.items) }
     ensures fault { (fault : ArithFault) → result ≡ Err (eval_fault fault) → plan_of n schema.now.dist gxid cid stmt.now ≡ Err fault }
 {
+    plan_in(alloc, Vec::new(alloc), stmt, schema, gxid, cid, n)
+}
+
+/// The same, in a list that has nothing in it.
+pub fn plan_in(
+    alloc: Global,
+    blank: Vec<Piece>,
+    stmt: &Stmt,
+    schema: &Schema,
+    gxid: Gxid,
+    cid: Cid,
+    n: u8,
+) -> Result<Vec<Piece>, EvalFault>
+    requires blank { blank.items ≡ [] }
+    requires some { 1 ≤ n }
+    requires few { n ≤ 16 }
+    requires command { IsCommand schema.now.dist stmt.now }
+    ensures pieces { IfOk result (λ found. plan_of n schema.now.dist gxid cid stmt.now ≡ Ok found.items) }
+    ensures fault { (fault : ArithFault) → result ≡ Err (eval_fault fault) → plan_of n schema.now.dist gxid cid stmt.now ≡ Err fault }
+{
     match stmt {
         Stmt::Insert(table, tuples) => {
             let buckets = dealt_rows(alloc, tuples.as_slice(), schema, gxid, cid, n)?;
-            Ok(insert_pieces(alloc, *table, buckets)?)
+            Ok(insert_pieces(alloc, blank, *table, buckets)?)
         }
-        _ => Ok(same_slices(alloc, stmt, schema, n)?),
+        _ => Ok(same_slices(alloc, blank, stmt, schema, n)?),
     }
 }
 
 // The pieces of a command that sends the same slice wherever it goes.
-fn same_slices(alloc: Global, stmt: &Stmt, schema: &Schema, n: u8) -> Mem<Vec<Piece>>
+fn same_slices(
+    alloc: Global,
+    blank: Vec<Piece>,
+    stmt: &Stmt,
+    schema: &Schema,
+    n: u8,
+) -> Mem<Vec<Piece>>
+    requires blank { blank.items ≡ [] }
     requires some { 1 ≤ n }
     requires few { n ≤ 16 }
     requires same { IsSame stmt.now }
@@ -47,18 +74,18 @@ fn same_slices(alloc: Global, stmt: &Stmt, schema: &Schema, n: u8) -> Mem<Vec<Pi
     match stmt {
         Stmt::Select(query) => {
             let slice = Slice::Select(query.copy(alloc)?);
-            send(alloc, schema, query.get().cond.as_ref(), n, slice)
+            send(alloc, blank, schema, query.get().cond.as_ref(), n, slice)
         }
         Stmt::Update(table, assigns, cond) => {
             let assigns = assigns.copy(alloc)?;
             let slice = Slice::Update(*table, assigns, cond.copy(alloc)?);
-            send(alloc, schema, cond.get().as_ref(), n, slice)
+            send(alloc, blank, schema, cond.get().as_ref(), n, slice)
         }
         Stmt::Delete(table, cond) => {
             let slice = Slice::Delete(*table, cond.copy(alloc)?);
-            send(alloc, schema, cond.get().as_ref(), n, slice)
+            send(alloc, blank, schema, cond.get().as_ref(), n, slice)
         }
-        Stmt::Lock(table, mode) => send_to_all(alloc, n, Slice::Lock(*table, *mode)),
+        Stmt::Lock(table, mode) => send_to_all(alloc, blank, n, Slice::Lock(*table, *mode)),
         Stmt::Insert(_, _) | Stmt::Begin(_) | Stmt::Commit | Stmt::Rollback => unreachable!(),
     }
 }

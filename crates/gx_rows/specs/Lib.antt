@@ -4,3 +4,4 @@ pub mod Counts
 pub mod Keys
 pub mod Xids
 pub mod Truncated
+pub mod VersionLists

@@ -4,6 +4,7 @@
 
 pub mod below;
 pub mod entry;
+pub mod list;
 pub mod map;
 mod probe;
 pub mod shows;
@@ -14,6 +15,7 @@ pub mod versions;
 
 pub use below::drop_below;
 pub use entry::XidEntry;
+pub use list::VersionList;
 pub use map::XidMap;
 pub use shows::{shown, visible};
 pub use status::LocalStatus;

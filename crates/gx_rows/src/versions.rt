@@ -8,9 +8,10 @@ ghost use Rattle.gx_ids.specs.declared.rid.Rid.{Rid};
 ghost use Rattle.gx_rows.specs.Rids.{rid_cmp};
 ghost use Rattle.gx_rows.specs.Rows.{versions_of, added, rids_of, newest_of};
 
+use crate::list::VersionList;
 use crate::version::Version;
 use crate::{LocalStatus, XidMap};
-use gx_ids::{Cid, Lxid, Mem, Rid, Seq, Table};
+use gx_ids::{Cid, Lxid, Mem, Rid, Table};
 use gx_tree::Row;
 use std::alloc::Global;
 use std::collections::BTreeMap;
@@ -23,7 +24,7 @@ use std::mem;
 #[derive(Drop)]
 pub struct Versions {
     alloc: Global,
-    lists: BTreeMap<Rid, Seq<Version>>,
+    lists: BTreeMap<Rid, VersionList>,
 }
 
 impl Model for Versions {
@@ -81,19 +82,19 @@ impl Versions {
     }
 
     /// Takes out the versions of a rid, which has none from then on.
-    pub fn take(&mut self, rid: Rid) -> Seq<Version>
+    pub fn take(&mut self, rid: Rid) -> VersionList
         ensures taken { result ≡ versions_of self.old rid }
         ensures left { self.new ≡ set_value (is_at (rid_cmp rid)) self.old [] }
     {
-        let none = Seq::new(self.alloc);
-        replace_list(self.alloc, &mut self.lists, rid, none)
+        let none = VersionList::new();
+        replace_list(&mut self.lists, rid, none)
     }
 
     /// Puts versions in the place of those that a rid has. Of an unknown rid nothing is kept.
-    pub fn put(&mut self, rid: Rid, versions: Seq<Version>)
+    pub fn put(&mut self, rid: Rid, versions: VersionList)
         ensures { self.new ≡ set_value (is_at (rid_cmp rid)) self.old versions }
     {
-        let before = replace_list(self.alloc, &mut self.lists, rid, versions);
+        let before = replace_list(&mut self.lists, rid, versions);
         drop(before);
     }
 
@@ -116,18 +117,9 @@ impl Versions {
     }
 }
 
-// A row's first version, which mostly stays its only one.
-fn first(alloc: Global, version: Version) -> Mem<Seq<Version>>
-    ensures { IfOk result (λ list. list ≡ version ∷ []) }
-{
-    let mut list = Vec::with_capacity(alloc, 1)?;
-    list.push(version)?;
-    Ok(Seq::from_vec(list))
-}
-
 fn push_version(
     alloc: Global,
-    lists: &mut BTreeMap<Rid, Seq<Version>>,
+    lists: &mut BTreeMap<Rid, VersionList>,
     rid: Rid,
     version: Version,
 ) -> Mem<()>
@@ -135,9 +127,9 @@ fn push_version(
     ensures err { OnErr result (IsUnchanged lists.old lists.new) }
 {
     match lists.entry(rid)? {
-        Entry::Occupied(list) => list.into_mut().push(version),
+        Entry::Occupied(list) => list.into_mut().push(alloc, version),
         Entry::Vacant(place) => {
-            place.insert(first(alloc, version)?);
+            place.insert(VersionList::of(version));
             Ok(())
         }
     }
@@ -145,11 +137,10 @@ fn push_version(
 
 // Puts a list in the place of a rid's, if it is known, and hands back that one.
 fn replace_list(
-    alloc: Global,
-    lists: &mut BTreeMap<Rid, Seq<Version>>,
+    lists: &mut BTreeMap<Rid, VersionList>,
     rid: Rid,
-    versions: Seq<Version>,
-) -> Seq<Version>
+    versions: VersionList,
+) -> VersionList
     ensures before { result ≡ versions_of lists.old.entries rid }
     ensures now { lists.new.entries ≡ set_value (is_at (rid_cmp rid)) lists.old.entries versions }
 {
@@ -157,7 +148,7 @@ fn replace_list(
         Some(list) => mem::replace(list, versions),
         None => {
             drop(versions);
-            Seq::new(alloc)
+            VersionList::new()
         }
     }
 }
@@ -169,7 +160,7 @@ fn is_of_table(list: &[Version], table: Table) -> bool
 }
 
 // The keys of the lists with a version in a table; the keys are in order.
-fn table_rids(alloc: Global, lists: &BTreeMap<Rid, Seq<Version>>, table: Table) -> Mem<Vec<Rid>>
+fn table_rids(alloc: Global, lists: &BTreeMap<Rid, VersionList>, table: Table) -> Mem<Vec<Rid>>
     ensures whole { IfOk result (λ rids. rids.items ≡ rids_of lists.now.entries table) }
     ensures ordered { IsOrdered rid_cmp lists.now }
 {

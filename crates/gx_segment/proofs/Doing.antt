@@ -15,7 +15,7 @@ use Rattle.gx_locks.specs.Locks.{Locks}
 use Rattle.gx_node.specs.Changes.{Change, change_of, left_locks, left_marks, marks_in, outs_in, turn_of}
 use Rattle.gx_outside.specs.Shelves.{Shelf}
 use Rattle.gx_node.specs.Orders.{Took}
-use Rattle.gx_node.specs.declared.local.Taken.{Taken}
+use Rattle.gx_node.specs.Outcomes.{Outcome}
 use Rattle.gx_node.proofs.Turns.{turn-makes}
 use Rattle.gx_rules.specs.Segments.{Local, Seg, SegTurn, Suspended, local_of, stays, tells_kept}
 use Rattle.gx_store.specs.declared.mark.Mark.{Mark}
@@ -26,9 +26,8 @@ use Rattle.gx_slices.specs.Agrees.{IsHeld, entry_at, local_in, rows_in}
 use Rattle.gx_slices.specs.Ran.{HasProgressed, replies}
 use Rattle.gx_slices.specs.declared.held.Held.{Held}
 use Rattle.gx_slices.specs.declared.progress.Progress.{Progress}
-use Rattle.gx_segment.specs.Done.{HasDone, answer_of, to_coordinator}
+use Rattle.gx_segment.specs.Done.{Came, HasDone, answer_of, to_coordinator}
 use Rattle.gx_segment.specs.Moves.{HasMoved, order_turn}
-use Rattle.gx_segment.specs.declared.done.Done.{Done}
 use Rattle.gx_segment.proofs.Following.{follows-change_of}
 use Rattle.gx_segment.proofs.Lasting.{lasts-change_of}
 use Rattle.gx_segment.proofs.Moving.{IsHeld-moved}
@@ -60,7 +59,7 @@ module _ (o : Order) (s : Seg) (g : Gxid) (fails : Bool) where
       ∙ ap (λ (ks : List Kept). change_of o s.node g ks fails (local_in (entry_at held g))) (is.kept g alive)
       ∙ ap (λ (l : Local). change_of o s.node g (kept_of s g) fails l) (is.locals g alive)
 
-  HasDone-ordered : (tables : List Schema) (held held' : Held) (horizon : Gxid) (change : Change) (taken : Taken) (done : Done) (node : Node) (locks : Locks) → IsHeld tables held s → node ≡ s.node → horizon ≡ s.horizon → s.horizon.0 ≤ g.0 → HasMoved held held' g change taken → change ≡ made → done ≡ record { marks = marks_in taken.mark ++ left_marks taken.ends node held'.locks g; answer = answer_of g taken.reply; fails = fails } → locks ≡ left_locks taken.ends held'.locks g → HasDone tables (record held' { locks = locks }) horizon done (order_turn o s g fails)
+  HasDone-ordered : (tables : List Schema) (held held' : Held) (horizon : Gxid) (change : Change) (taken : Outcome) (done : Came) (node : Node) (locks : Locks) → IsHeld tables held s → node ≡ s.node → horizon ≡ s.horizon → s.horizon.0 ≤ g.0 → HasMoved held held' g change taken → change ≡ made → done ≡ record { marks = marks_in taken.mark ++ left_marks taken.ends node held'.locks g; answer = answer_of g taken.reply; fails = fails } → locks ≡ left_locks taken.ends held'.locks g → HasDone tables (record held' { locks = locks }) horizon done (order_turn o s g fails)
   HasDone-ordered tables held held' horizon change taken done node locks is n e alive moved same d left =
       let makes = turn-makes o s g fails in
       let m : HasMoved held held' g made taken = subst (λ (c : Change). HasMoved held held' g c taken) same moved in
@@ -70,13 +69,13 @@ module _ (o : Order) (s : Seg) (g : Gxid) (fails : Bool) where
             (left ∙ ap (λ (b : Bool). left_locks b held'.locks g) m.ends);
         horizon = e ∙ sym (ap (λ (x : Seg). x.horizon) makes.others);
         marks =
-            ap (λ (x : Done). x.marks) d
+            ap (λ (x : Came). x.marks) d
             ∙ ap (λ (mark : Option Mark). marks_in mark ++ left_marks taken.ends node held'.locks g) m.mark
             ∙ ap (λ (b : Bool). marks_in made.mark ++ left_marks b node held'.locks g) m.ends
             ∙ ap (λ (i : Node). marks_in made.mark ++ left_marks made.ends i held'.locks g) n
             ∙ ap (λ (x : Locks). marks_in made.mark ++ left_marks made.ends s.node x g) (m.locks ∙ is.locks)
             ∙ sym makes.marks;
-        outs = ap (λ (x : Done). to_coordinator x.answer) d ∙ out-answer_of g taken.reply ∙ ap (outs_in g) m.reply ∙ sym makes.outs;
+        outs = ap (λ (x : Came). to_coordinator x.answer) d ∙ out-answer_of g taken.reply ∙ ap (outs_in g) m.reply ∙ sym makes.outs;
       })
 
   item-ordered : (change : Change) → s.horizon.0 ≤ g.0 → change ≡ made → change.item ≡ (order_turn o s g fails).item
@@ -89,23 +88,23 @@ replies-answer_of g None = refl
 replies-answer_of g (Some r) = refl
 
 -- a slice has gone on behind these marks
-pub HasDone-progressed : (tables : List Schema) (held : Held) (m : Moved) (g : Gxid) (w : Suspended) (row : Option Rid) (progress : Progress) (done : Done) → HasProgressed tables held g progress (goes_on m g w row) → done ≡ record { marks = progress.marks; answer = answer_of g progress.reply; fails = false } → HasDone tables held m.seg.horizon done (goes_on m g w row)
+pub HasDone-progressed : (tables : List Schema) (held : Held) (m : Moved) (g : Gxid) (w : Suspended) (row : Option Rid) (progress : Progress) (done : Came) → HasProgressed tables held g progress (goes_on m g w row) → done ≡ record { marks = progress.marks; answer = answer_of g progress.reply; fails = false } → HasDone tables held m.seg.horizon done (goes_on m g w row)
 HasDone-progressed tables held m g w row progress done is d =
-    subst (λ (x : Done). HasDone tables held m.seg.horizon x (goes_on m g w row)) (sym d) (record {
+    subst (λ (x : Came). HasDone tables held m.seg.horizon x (goes_on m g w row)) (sym d) (record {
       held = is.agrees;
       horizon = sym (ap (λ (x : Fixed). x.horizon) (goes_on-stands m g w row));
       marks = is.marks;
       outs = replies-answer_of g progress.reply ∙ sym is.outs;
     })
 
-pub HasDone-told : (tables : List Schema) (held : Held) (s : Seg) (g : Gxid) (r : Option Reply) (done : Done) → IsHeld tables held s → s.horizon.0 ≤ g.0 → r ≡ (local_in (entry_at held g)).answer → done ≡ record { marks = []; answer = answer_of g r; fails = false } → HasDone tables held s.horizon done (tells_kept s g (local_of s g).answer)
+pub HasDone-told : (tables : List Schema) (held : Held) (s : Seg) (g : Gxid) (r : Option Reply) (done : Came) → IsHeld tables held s → s.horizon.0 ≤ g.0 → r ≡ (local_in (entry_at held g)).answer → done ≡ record { marks = []; answer = answer_of g r; fails = false } → HasDone tables held s.horizon done (tells_kept s g (local_of s g).answer)
 HasDone-told tables held s g r done is alive e d =
     let same : r ≡ (local_of s g).answer = e ∙ ap (λ (l : Local). l.answer) (is.locals g alive) in
-    subst (λ (x : Done). HasDone tables held s.horizon x (tells_kept s g (local_of s g).answer)) (sym d)
+    subst (λ (x : Came). HasDone tables held s.horizon x (tells_kept s g (local_of s g).answer)) (sym d)
     (subst (λ (x : Option Reply). HasDone tables held s.horizon (record { marks = []; answer = answer_of g r; fails = false }) (tells_kept s g x)) same (HasDone-kept tables held s.horizon s g r is refl))
 
 -- AN ORDER IS DONE
-module _ (o : Order) (s : Seg) (g : Gxid) (tables : List Schema) (held held' : Held) (node : Node) (taken : Taken) (done : Done) (is : IsHeld tables held s) (n : node ≡ s.node) (alive : s.horizon.0 ≤ g.0) (d : done ≡ record { marks = marks_in taken.mark ++ left_marks taken.ends node held'.locks g; answer = answer_of g taken.reply; fails = taken.fails }) where
+module _ (o : Order) (s : Seg) (g : Gxid) (tables : List Schema) (held held' : Held) (node : Node) (taken : Outcome) (done : Came) (is : IsHeld tables held s) (n : node ≡ s.node) (alive : s.horizon.0 ≤ g.0) (d : done ≡ record { marks = marks_in taken.mark ++ left_marks taken.ends node held'.locks g; answer = answer_of g taken.reply; fails = taken.fails }) where
   abbrev change : Change
   change = change_of o node g (rows_in (entry_at held g)) taken.fails (local_in (entry_at held g))
 
@@ -114,10 +113,10 @@ module _ (o : Order) (s : Seg) (g : Gxid) (tables : List Schema) (held held' : H
 
   pub HasDone-order : (horizon : Gxid) (locks : Locks) → horizon ≡ s.horizon → HasMoved held held' g change taken → locks ≡ left_locks taken.ends held'.locks g → HasDone tables (record held' { locks = locks }) horizon done (turn done.fails)
   HasDone-order horizon locks e moved left =
-      subst (λ (b : Bool). HasDone tables (record held' { locks = locks }) horizon done (turn b)) (sym (ap (λ (x : Done). x.fails) d))
+      subst (λ (b : Bool). HasDone tables (record held' { locks = locks }) horizon done (turn b)) (sym (ap (λ (x : Came). x.fails) d))
       (HasDone-ordered o s g taken.fails tables held held' horizon change taken done node locks is n e alive moved (made-held o s g taken.fails tables held node is n alive) d left)
 
   pub Took-order : (before after : Shelf) → Took before after taken.fails change.item → Took before after done.fails (turn done.fails).item
   Took-order before after took =
-      subst (λ (b : Bool). Took before after b (turn b).item) (sym (ap (λ (x : Done). x.fails) d))
+      subst (λ (b : Bool). Took before after b (turn b).item) (sym (ap (λ (x : Came). x.fails) d))
       (subst (λ (it : Option JournalItem). Took before after taken.fails it) (item-ordered o s g taken.fails change alive (made-held o s g taken.fails tables held node is n alive)) took)

@@ -14,16 +14,15 @@ use Rattle.gx_rules.specs.Sending.{clock_after, numbered}
 use Rattle.gx_slices.specs.Agrees.{IsHeld}
 use Rattle.gx_slices.specs.declared.held.Held.{Held}
 use Rattle.gx_segment.specs.Before.{Before}
-use Rattle.gx_segment.specs.Done.{HasDone, to_coordinator}
+use Rattle.gx_segment.specs.Done.{Came, HasDone, to_coordinator}
 use Rattle.gx_segment.specs.Steps.{HasGone, HasStepped, IsSegment}
-use Rattle.gx_segment.specs.declared.done.Done.{Done}
 use Rattle.gx_segment.specs.declared.segment.Segment.{Segment}
 use Rattle.gx_segment.specs.Reports.{report_behind}
 use Rattle.gx_segment.specs.declared.collecting.LastReport.{LastReport}
 use Rattle.gx_segment.proofs.Aside.{IsHeld-aside}
 use Rattle.gx_segment.proofs.Keeping.{event-keeps}
 
-module _ (was : Before) (event : NodeEvent) (now : Held) (low : Gxid) (last : LastReport) (sent sent' clock clock' : ℕ) (before after : Shelf) (done : Done) (all : List Mark) where
+module _ (was : Before) (event : NodeEvent) (now : Held) (low : Gxid) (last : LastReport) (sent sent' clock clock' : ℕ) (before after : Shelf) (done : Came) (all : List Mark) where
   abbrev turn : SegTurn
   turn = on_event was.script was.seg event done.fails
 

@@ -34,16 +34,15 @@ use Rattle.gx_slices.proofs.OwnMoves.{AreWriters-held}
 use Rattle.gx_slices.proofs.Owning.{AreOwn-held, is_own-unless}
 use Rattle.gx_slices.proofs.Waiting.{AreWaits-hold}
 use Rattle.gx_slices.proofs.Wakes.{IsHeld-suspended, suspended-woken}
-use Rattle.gx_segment.specs.Done.{HasDone, IsQuiet}
+use Rattle.gx_segment.specs.Done.{Came, HasDone, IsQuiet}
 use Rattle.gx_segment.specs.Waking.{awakened}
-use Rattle.gx_segment.specs.declared.done.Done.{Done}
 
 -- a turn is another one
-pub HasDone-same : (tables : List Schema) (held : Held) (horizon : Gxid) (done : Done) (turn turn' : SegTurn) → turn ≡ turn' → HasDone tables held horizon done turn → HasDone tables held horizon done turn'
+pub HasDone-same : (tables : List Schema) (held : Held) (horizon : Gxid) (done : Came) (turn turn' : SegTurn) → turn ≡ turn' → HasDone tables held horizon done turn → HasDone tables held horizon done turn'
 HasDone-same tables held horizon done turn turn' e is = subst (HasDone tables held horizon done) e is
 
-pub IsQuiet-same : (done : Done) (turn turn' : SegTurn) → turn ≡ turn' → IsQuiet done turn → IsQuiet done turn'
-IsQuiet-same done turn turn' e is = subst (IsQuiet done) e is
+pub IsQuiet-same : (failed : Bool) (turn turn' : SegTurn) → turn ≡ turn' → IsQuiet failed turn → IsQuiet failed turn'
+IsQuiet-same failed turn turn' e is = subst (IsQuiet failed) e is
 
 module _ (tables : List Schema) (held : Held) (s : Seg) (g : Gxid) (c : Cid) (snapshot : Option Snapshot) (slice : Slice) (wanted : Claim) (is : IsHeld tables held s) (may : MayRun tables s g c snapshot slice) (own : wanted.gxid ≡ g) where
   -- it asks once
@@ -103,7 +102,7 @@ module _ (tables : List Schema) (held : Held) (s : Seg) (wanted : Claim) (is : I
         (sym (ap (λ (l : Locks). is_free l.holds wanted) (sym is.locks) ∙ sym free ∙ yes_it_is))
 
 -- IT WAITS
-module _ (tables : List Schema) (held new : Held) (s : Seg) (g : Gxid) (w : code.Suspended) (wanted : Claim) (granted : Bool) (now : Locks) (node : Node) (marks : List Mark) (done : Done) (is : IsHeld tables held s) (may : MayRun tables s g w.cid w.snapshot w.slice) (fresh : IsFresh w) (own : wanted.gxid ≡ g) (no_it_isnt : granted ≡ false) (asked : now ≡ asked_locks held.locks wanted granted) (free : granted ≡ is_free held.locks.holds wanted) (n : node ≡ s.node) (told : marks ≡ [] ++ asked_mark node wanted granted ∷ []) (did : HasSuspended (record held { locks = now }) new g w) (d : done ≡ record { marks = marks; answer = None; fails = false }) where
+module _ (tables : List Schema) (held new : Held) (s : Seg) (g : Gxid) (w : code.Suspended) (wanted : Claim) (granted : Bool) (now : Locks) (node : Node) (marks : List Mark) (done : Came) (is : IsHeld tables held s) (may : MayRun tables s g w.cid w.snapshot w.slice) (fresh : IsFresh w) (own : wanted.gxid ≡ g) (no_it_isnt : granted ≡ false) (asked : now ≡ asked_locks held.locks wanted granted) (free : granted ≡ is_free held.locks.holds wanted) (n : node ≡ s.node) (told : marks ≡ [] ++ asked_mark node wanted granted ∷ []) (did : HasSuspended (record held { locks = now }) new g w) (d : done ≡ record { marks = marks; answer = None; fails = false }) where
   turn-waits : suspends s g w.cid w.level w.snapshot w.slice wanted ≡ requests s g w.cid w.level w.snapshot w.slice wanted
   turn-waits =
       ap (λ (b : Bool). if b then runs_locked s g w.cid w.level w.snapshot w.slice wanted else suspends s g w.cid w.level w.snapshot w.slice wanted)
@@ -120,7 +119,7 @@ module _ (tables : List Schema) (held new : Held) (s : Seg) (g : Gxid) (w : code
 
   pub HasDone-waits : HasDone tables new s.horizon done (requests s g w.cid w.level w.snapshot w.slice wanted)
   HasDone-waits =
-      HasDone-same tables new s.horizon done _ _ turn-waits (subst (λ (x : Done). HasDone tables new s.horizon x (suspends s g w.cid w.level w.snapshot w.slice wanted)) (sym d) (record {
+      HasDone-same tables new s.horizon done _ _ turn-waits (subst (λ (x : Came). HasDone tables new s.horizon x (suspends s g w.cid w.level w.snapshot w.slice wanted)) (sym d) (record {
         held = held-waits;
         horizon = refl;
         marks = told ∙ ap (λ (b : Bool). asked_mark node wanted b ∷ []) no_it_isnt ∙ ap (λ (i : Node). asked_mark i wanted false ∷ []) n;

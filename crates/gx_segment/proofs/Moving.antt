@@ -15,7 +15,7 @@ use Rattle.gx_waits.specs.declared.claim.Claim.{Claim}
 use Rattle.gx_locks.specs.Claims.{is_of}
 use Rattle.gx_locks.specs.Locks.{Locks, wait_of}
 use Rattle.gx_node.specs.Changes.{Change, Makes, left_locks}
-use Rattle.gx_node.specs.declared.local.Taken.{Taken}
+use Rattle.gx_node.specs.Outcomes.{Outcome}
 use Rattle.gx_rules.specs.Fits.{holds_locks, is_waiting}
 use Rattle.gx_rules.specs.Segments as rule
 use Rattle.gx_rules.specs.Segments.{Local, Phase, Reading, Writing, Prepared, Committed, Forgotten, Aborted, Seg, SegTurn, Suspended, Version, has_committed, has_ended}
@@ -102,7 +102,7 @@ own-without g (claim ∷ holds) = by_test (is_of g claim) refl (own-without g ho
     by_test false e more =
         ap (λ (b : Bool). b || list_any (same_claim (own_lock g)) (filter (λ claim. not (is_of g claim)) holds)) (another g.0 claim.gxid.0 _ e) ∙ more
 
-module _ (tables : List Schema) (held held' : Held) (s : Seg) (g : Gxid) (change : Change) (taken : Taken) (turn : SegTurn) (was : IsHeld tables held s) (alive : s.horizon.0 ≤ g.0) (moved : HasMoved held held' g change taken) (makes : Makes s g turn change) where
+module _ (tables : List Schema) (held held' : Held) (s : Seg) (g : Gxid) (change : Change) (taken : Outcome) (turn : SegTurn) (was : IsHeld tables held s) (alive : s.horizon.0 ≤ g.0) (moved : HasMoved held held' g change taken) (makes : Makes s g turn change) where
   abbrev now : Seg
   now = turn.seg
 

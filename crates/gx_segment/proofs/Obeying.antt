@@ -14,7 +14,7 @@ use Rattle.gx_msg.specs.declared.item.Kept.{Kept}
 use Rattle.gx_node.specs.Changes.{Change, Does, change_of}
 use Rattle.gx_node.specs.Phases.{local_of, phase_of}
 use Rattle.gx_node.specs.declared.local.Phase.{Phase}
-use Rattle.gx_node.specs.declared.local.Taken.{Taken}
+use Rattle.gx_node.specs.Outcomes.{Outcome}
 use Rattle.gx_rules.specs.Segments as rule
 use Rattle.gx_rules.specs.Segments.{has_ended}
 use Rattle.gx_slices.specs.Agrees.{local_in, rows_in}
@@ -32,7 +32,7 @@ module _ (m o : BTreeMap Gxid Entry) (g : Gxid) (e : Entry) (now : Updates gxid_
   rows-stay kept h true is = subst (λ (x : Gxid). rows_in (get gxid_cmp o x) ≡ rows_in (get gxid_cmp m x)) (same_gxid g h is) (ap rows_in now.1 ∙ kept)
   rows-stay kept h false is = ap rows_in (elsewhere h (apart g h is))
 
-module _ (node : Node) (g : Gxid) (order : Order) (taken : Taken) where
+module _ (node : Node) (g : Gxid) (order : Order) (taken : Outcome) where
   abbrev made : List Kept → rule.Local → Change
   made rows l = change_of order node g rows taken.fails l
 
@@ -55,13 +55,13 @@ module _ (node : Node) (g : Gxid) (order : Order) (taken : Taken) where
       }
 
 -- the same of what was taken at the entry that stands there
-pub HasTaken-there : {E : Type 0} (node : Node) (g : Gxid) (order : Order) (m o : BTreeMap Gxid Entry) (e e' : Entry) (phase : Phase) (r : Result Taken E) → Updates gxid_cmp m o g (Some e') → Some e ≡ get gxid_cmp m g → e'.kept ≡ e.kept → OnOk r (phase ≡ e'.local.phase)
+pub HasTaken-there : {E : Type 0} (node : Node) (g : Gxid) (order : Order) (m o : BTreeMap Gxid Entry) (e e' : Entry) (phase : Phase) (r : Result Outcome E) → Updates gxid_cmp m o g (Some e') → Some e ≡ get gxid_cmp m g → e'.kept ≡ e.kept → OnOk r (phase ≡ e'.local.phase)
     → IfOk r (λ t. Does (change_of order node g e.kept t.fails (local_of e.local)) (local_of e'.local) t) → IfOk r (λ t. HasTaken m o g (change_of order node g (rows_in (get gxid_cmp m g)) t.fails (local_in (get gxid_cmp m g))) t (phase_of phase))
 HasTaken-there node g order m o e e' phase (Ok t) now was kept is does =
     subst (λ (p : Phase). HasTaken m o g (made_in node g order t (get gxid_cmp m g)) t (phase_of p)) (sym is) (HasTaken-made node g order t m o e e' now (ap local_in was) (ap rows_in was) kept does)
 HasTaken-there node g order m o e e' phase (Err x) now was kept is does = tt
 
-pub HasMoved-taken : (old : Held) (o : BTreeMap Gxid Entry) (store : Store) (holders : BTreeSet Gxid) (g : Gxid) (change : Change) (taken : Taken) (phase : rule.Phase) (status : LocalStatus) → HasTaken old.entries o g change taken phase
+pub HasMoved-taken : (old : Held) (o : BTreeMap Gxid Entry) (store : Store) (holders : BTreeSet Gxid) (g : Gxid) (change : Change) (taken : Outcome) (phase : rule.Phase) (status : LocalStatus) → HasTaken old.entries o g change taken phase
     → status ≡ status_in phase → status_of store g ≡ option_map (λ _. status) (status_of old.store g) → ((h : Gxid) → h.0 ≢ g.0 → status_of store h ≡ status_of old.store h) → ((t : Table) (r : Rid) → writes_of store t r ≡ map (with_status g status) (writes_of old.store t r)) → store.horizon ≡ old.store.horizon
     → ((h : Gxid) → contains gxid_cmp holders h ≡ (if has_ended phase && eqb h.0 g.0 then false else contains gxid_cmp old.holders h))
     → HasMoved old (record { store = store; entries = o; holders = holders; locks = old.locks }) g change taken

@@ -9,7 +9,7 @@ use Rattle.gx_dsnap.specs.Gxids.{gxid_cmp}
 use Rattle.gx_dtx.specs.declared.order.Order.{Order}
 use Rattle.gx_slices.specs.Store.{status_of, with_status, writes_of}
 use Rattle.gx_node.specs.Changes.{Change, turn_of}
-use Rattle.gx_node.specs.declared.local.Taken.{Taken}
+use Rattle.gx_node.specs.Outcomes.{Outcome}
 use Rattle.gx_rules.specs.AtSegment.{unless_below}
 use Rattle.gx_rules.specs.Segments.{Phase, Reading, Writing, Prepared, Committed, Forgotten, Aborted, Seg, SegTurn, has_ended, local_of}
 use Rattle.gx_slices.specs.Agrees.{entry_at, local_in, rows_in}
@@ -33,7 +33,7 @@ status_in (Forgotten false) = status.Aborted
 status_in Aborted = status.Aborted
 
 -- the transaction's entry is that of the change, which leaves it in this phase, and no other has changed
-pub record HasTaken (old new : BTreeMap Gxid Entry) (g : Gxid) (change : Change) (taken : Taken) (phase : Phase) : Type 0 where
+pub record HasTaken (old new : BTreeMap Gxid Entry) (g : Gxid) (change : Change) (taken : Outcome) (phase : Phase) : Type 0 where
   pub local : local_in (get gxid_cmp new g) ≡ change.now
   pub others : (h : Gxid) → h.0 ≢ g.0 → get gxid_cmp new h ≡ get gxid_cmp old h
   pub rows : (h : Gxid) → rows_in (get gxid_cmp new h) ≡ rows_in (get gxid_cmp old h)
@@ -43,7 +43,7 @@ pub record HasTaken (old new : BTreeMap Gxid Entry) (g : Gxid) (change : Change)
   pub ends : taken.ends ≡ change.ends
 
 -- the transaction's record is that of the change, and nothing else has changed
-pub record HasMoved (old new : Held) (g : Gxid) (change : Change) (taken : Taken) : Type 0 where
+pub record HasMoved (old new : Held) (g : Gxid) (change : Change) (taken : Outcome) : Type 0 where
   pub horizon : new.store.horizon ≡ old.store.horizon
   pub writes : (t : Table) (r : Rid) → writes_of new.store t r ≡ map (with_status g (status_in change.now.phase)) (writes_of old.store t r)
   pub locks : new.locks ≡ old.locks

@@ -13,7 +13,7 @@ use Rattle.gx_store.specs.declared.node.NodeEvent.TheVariants.{Deliver}
 use Rattle.gx_rules.specs.AtSegment.{on_collect}
 use Rattle.gx_rules.specs.Segments.{Seg}
 use Rattle.gx_segment.specs.declared.collecting.LastReport.{LastReport}
-use Rattle.gx_segment.specs.declared.done.Done.{Done}
+use Rattle.gx_segment.specs.Done.{Came}
 
 -- WHAT IS KEPT
 abbrev pub report_in : Seg → LastReport
@@ -29,14 +29,14 @@ report_behind s (Deliver from envelope) = report_after s envelope.message
 report_behind s _ = report_in s
 
 -- WHAT IS TOLD
-abbrev pub told_now : Node → ℕ → LocalGraph → Done
+abbrev pub told_now : Node → ℕ → LocalGraph → Came
 told_now node round graph = record { marks = Report node round graph ∷ []; answer = Some (Graph round graph); fails = false }
 
-abbrev pub told_again : ℕ → Option LocalGraph → Done
+abbrev pub told_again : ℕ → Option LocalGraph → Came
 told_again round graph = record { marks = []; answer = option_map (Graph round) graph; fails = false }
 
 -- a round that asks a segment with these locks
-abbrev pub told : Node → Locks → LastReport → ℕ → Done
+abbrev pub told : Node → Locks → LastReport → ℕ → Came
 told node locks report round =
     if nat_lt report.round round
     then told_now node round (graph_at locks)

@@ -2,9 +2,12 @@
 use Rattle.std.specs.Prelude.{◌≡◌, ◌≤◌, ℕ, Bool, List, false}
 use Rattle.gx_ids.specs.declared.ids.Cid.{Cid}
 use Rattle.gx_ids.specs.declared.ids.Gxid.{Gxid}
+use Rattle.gx_ids.specs.declared.ids.Node.{Node}
 use Rattle.gx_outside.specs.Shelves.{Shelf}
 use Rattle.gx_node.specs.Orders.{Took}
+use Rattle.gx_msg.specs.declared.message.Message.{Message}
 use Rattle.gx_store.specs.declared.node.NodeEvent.{NodeEvent}
+use Rattle.gx_store.specs.declared.node.NodeEvent.TheVariants.{Deliver}
 use Rattle.gx_store.specs.declared.mark.Mark.{Mark}
 use Rattle.gx_rules.specs.AtSegment.{seg_rule}
 use Rattle.gx_rules.specs.Segments.{Seg}
@@ -30,6 +33,10 @@ nobody = record { 0 = 0 }
 
 abbrev pub no_command : Cid
 no_command = record { 0 = 0 }
+
+-- a message comes, with its number and its sender's clock
+abbrev pub delivered : Node → ℕ → ℕ → Message → NodeEvent
+delivered from number clock message = Deliver from (record { number = number; clock = clock; message = message })
 
 -- The step is the rule's, for an append that fails or not: the data with the clock, the marks, which tell the message, and what
 -- the journal took. The horizon doesn't fall.

@@ -4,11 +4,11 @@ ghost use Rattle.gx_locks.specs.Graphs.{graph_at};
 ghost use Rattle.gx_rules.specs.AtSegment.{on_collect};
 ghost use Rattle.gx_slices.specs.Agrees.{IsHeld};
 ghost use Rattle.gx_segment.specs.Before.{Before};
-ghost use Rattle.gx_segment.specs.Done.{HasDone, IsQuiet};
+ghost use Rattle.gx_segment.specs.Done.{HasDone, IsQuiet, came};
 ghost use Rattle.gx_segment.specs.Reports.{kept, report_in, told, told_again, told_now};
 
 use crate::done::{Done, nothing};
-use gx_ids::{Duplicate, Mem, Node, Seq};
+use gx_ids::{Duplicate, Mem, Node};
 use gx_locks::LockTable;
 use gx_msg::Message;
 use gx_slices::Held;
@@ -42,18 +42,18 @@ pub(crate) fn collect(
     held: &Held,
     report: &mut LastReport,
     round: u64,
-    blank: Vec<Mark>,
+    marks: &mut Vec<Mark>,
 ) -> Mem<Done>
     ghost was: { Before }
     requires node { node ≡ was.seg.node }
     requires held { IsHeld was.script.tables held.now was.seg }
     requires report { report.old ≡ report_in was.seg }
-    requires blank { blank.items ≡ [] }
-    ensures done { IfOk result (λ done. HasDone was.script.tables held.now was.seg.horizon done (on_collect was.seg round)) }
-    ensures quiet { IfOk result (λ done. IsQuiet done (on_collect was.seg round)) }
+    requires blank { marks.old.items ≡ [] }
+    ensures done { IfOk result (λ done. HasDone was.script.tables held.now was.seg.horizon (came marks.new.items done) (on_collect was.seg round)) }
+    ensures quiet { IfOk result (λ done. IsQuiet done.fails (on_collect was.seg round)) }
     ensures report { OnOk result (report.new ≡ report_in (on_collect was.seg round).seg) }
 {
-    let done = tell(alloc, node, &held.locks, report, round, blank)?;
+    let done = tell(alloc, node, &held.locks, report, round, marks)?;
     Ok(done)
 }
 
@@ -64,18 +64,18 @@ fn tell(
     locks: &LockTable,
     report: &mut LastReport,
     round: u64,
-    blank: Vec<Mark>,
+    marks: &mut Vec<Mark>,
 ) -> Mem<Done>
-    requires blank { blank.items ≡ [] }
-    ensures done { IfOk result (λ done. done ≡ told node locks.now report.old round) }
+    requires blank { marks.old.items ≡ [] }
+    ensures done { IfOk result (λ done. came marks.new.items done ≡ told node locks.now report.old round) }
     ensures report { OnOk result (report.new ≡ kept locks.now report.old round) }
 {
     if report.round < round {
-        tell_now(alloc, node, locks, report, round, blank)
+        tell_now(alloc, node, locks, report, round, marks)
     } else if report.round == round {
-        tell_again(alloc, round, &report.graph, blank)
+        tell_again(alloc, round, &report.graph)
     } else {
-        Ok(nothing(blank))
+        Ok(nothing())
     }
 }
 
@@ -86,14 +86,14 @@ fn tell_now(
     locks: &LockTable,
     report: &mut LastReport,
     round: u64,
-    blank: Vec<Mark>,
+    marks: &mut Vec<Mark>,
 ) -> Mem<Done>
-    requires blank { blank.items ≡ [] }
-    ensures done { IfOk result (λ done. done ≡ told_now node round (graph_at locks.now)) }
+    requires blank { marks.old.items ≡ [] }
+    ensures done { IfOk result (λ done. came marks.new.items done ≡ told_now node round (graph_at locks.now)) }
     ensures report { OnOk result (report.new ≡ record { round = round; graph = Some (graph_at locks.now) }) }
 {
     let graph = locks.graph()?;
-    let done = with_graph(alloc, node, round, &graph, blank)?;
+    let done = with_graph(alloc, node, round, &graph, marks)?;
     report.round = round;
     report.graph = Some(graph);
     Ok(done)
@@ -105,33 +105,29 @@ fn with_graph(
     node: Node,
     round: u64,
     graph: &LocalGraph,
-    blank: Vec<Mark>,
+    marks: &mut Vec<Mark>,
 ) -> Mem<Done>
-    requires { blank.items ≡ [] }
-    ensures { IfOk result (λ done. done ≡ told_now node round graph.now) }
+    requires { marks.old.items ≡ [] }
+    ensures { IfOk result (λ done. came marks.new.items done ≡ told_now node round graph.now) }
 {
     let marked = graph.copy(alloc)?;
     let sent = graph.copy(alloc)?;
-    let mut marks = blank;
     marks.push(Mark::Report {
         node,
         round,
         graph: marked,
     })?;
     Ok(Done {
-        marks: Seq::from_vec(marks),
         answer: Some(Message::Graph(round, sent)),
         fails: false,
     })
 }
 
-fn tell_again(alloc: Global, round: u64, graph: &Option<LocalGraph>, blank: Vec<Mark>) -> Mem<Done>
-    requires { blank.items ≡ [] }
-    ensures { IfOk result (λ done. done ≡ told_again round graph.now) }
+fn tell_again(alloc: Global, round: u64, graph: &Option<LocalGraph>) -> Mem<Done>
+    ensures { IfOk result (λ done. came [] done ≡ told_again round graph.now) }
 {
     let graph = graph.copy(alloc)?;
     Ok(Done {
-        marks: Seq::from_vec(blank),
         answer: graph.map(|graph| Message::Graph(round, graph)),
         fails: false,
     })

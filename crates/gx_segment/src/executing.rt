@@ -10,7 +10,7 @@ ghost use Rattle.gx_rules.specs.Running.{suspended_slice};
 ghost use Rattle.gx_rules.specs.Segments.{local_of, tells_kept};
 ghost use Rattle.gx_slices.specs.Agrees.{IsHeld};
 ghost use Rattle.gx_segment.specs.Before.{Before};
-ghost use Rattle.gx_segment.specs.Done.{HasDone, IsQuiet};
+ghost use Rattle.gx_segment.specs.Done.{HasDone, IsQuiet, came};
 ghost use Rattle.gx_segment.specs.Ways.{MayStart, exec_turn, starts};
 
 use crate::commands::{Way, find_way};
@@ -37,7 +37,7 @@ pub(crate) fn exec<G: Gate>(
     command: Suspended,
     low: Gxid,
     gate: &G,
-    blank: Vec<Mark>,
+    marks: &mut Vec<Mark>,
 ) -> Mem<Done>
     ghost was: { Before }
     requires script { script.now ≡ was.script }
@@ -45,36 +45,35 @@ pub(crate) fn exec<G: Gate>(
     requires horizon { horizon.old ≡ was.seg.horizon }
     requires fresh { suspended_of command ≡ suspended_slice command.cid command.level command.snapshot command.slice }
     requires node { node ≡ was.seg.node }
-    requires blank { blank.items ≡ [] }
-    ensures done { IfOk result (λ done. HasDone was.script.tables held.new horizon.new done (exec_turn was.script was.seg gxid command low)) }
-    ensures quiet { IfOk result (λ done. IsQuiet done (exec_turn was.script was.seg gxid command low)) }
+    requires blank { marks.old.items ≡ [] }
+    ensures done { IfOk result (λ done. HasDone was.script.tables held.new horizon.new (came marks.new.items done) (exec_turn was.script was.seg gxid command low)) }
+    ensures quiet { IfOk result (λ done. IsQuiet done.fails (exec_turn was.script was.seg gxid command low)) }
 {
     match find_way(script, held, *horizon, gxid, &command, low) {
         Way::Runs => run(
-            alloc, node, script, held, horizon, gxid, command, low, gate, blank,
+            alloc, node, script, held, horizon, gxid, command, low, gate, marks,
         ),
         Way::Repeats => {
             drop(command);
-            repeat(alloc, held, gxid, blank)
+            repeat(alloc, held, gxid)
         }
         Way::Nothing => {
             drop(command);
-            Ok(nothing(blank))
+            Ok(nothing())
         }
     }
 }
 
 // What was kept is answered again.
-fn repeat(alloc: Global, held: &Held, gxid: Gxid, blank: Vec<Mark>) -> Mem<Done>
+fn repeat(alloc: Global, held: &Held, gxid: Gxid) -> Mem<Done>
     ghost was: { Before }
     requires held { IsHeld was.script.tables held.now was.seg }
     requires alive { was.seg.horizon.0 ≤ gxid.0 }
-    requires blank { blank.items ≡ [] }
-    ensures done { IfOk result (λ done. HasDone was.script.tables held.now was.seg.horizon done (tells_kept was.seg gxid (local_of was.seg gxid).answer)) }
-    ensures quiet { IfOk result (λ done. IsQuiet done (tells_kept was.seg gxid (local_of was.seg gxid).answer)) }
+    ensures done { IfOk result (λ done. HasDone was.script.tables held.now was.seg.horizon (came [] done) (tells_kept was.seg gxid (local_of was.seg gxid).answer)) }
+    ensures quiet { IfOk result (λ done. IsQuiet done.fails (tells_kept was.seg gxid (local_of was.seg gxid).answer)) }
 {
     let kept = kept_answer(alloc, &held.entries, gxid)?;
-    Ok(tell(gxid, kept, blank))
+    Ok(tell(gxid, kept))
 }
 
 // Raises the horizon, and starts the slice.
@@ -88,7 +87,7 @@ fn run<G: Gate>(
     command: Suspended,
     low: Gxid,
     gate: &G,
-    blank: Vec<Mark>,
+    marks: &mut Vec<Mark>,
 ) -> Mem<Done>
     ghost was: { Before }
     requires script { script.now ≡ was.script }
@@ -97,12 +96,12 @@ fn run<G: Gate>(
     requires may { MayStart was.script.tables (raised was.seg low) gxid command }
     requires fresh { suspended_of command ≡ suspended_slice command.cid command.level command.snapshot command.slice }
     requires node { node ≡ was.seg.node }
-    requires blank { blank.items ≡ [] }
-    ensures done { IfOk result (λ done. HasDone was.script.tables held.new horizon.new done (starts was.script (raised was.seg low) gxid command)) }
-    ensures quiet { IfOk result (λ done. IsQuiet done (starts was.script (raised was.seg low) gxid command)) }
+    requires blank { marks.old.items ≡ [] }
+    ensures done { IfOk result (λ done. HasDone was.script.tables held.new horizon.new (came marks.new.items done) (starts was.script (raised was.seg low) gxid command)) }
+    ensures quiet { IfOk result (λ done. IsQuiet done.fails (starts was.script (raised was.seg low) gxid command)) }
 {
     raise(held, horizon, low);
-    let done = start(alloc, node, script, held, gxid, command, gate, blank)?;
+    let done = start(alloc, node, script, held, gxid, command, gate, marks)?;
     Ok(done)
 }
 

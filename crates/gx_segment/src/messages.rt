@@ -6,7 +6,7 @@ ghost use Rattle.gx_rules.specs.AtSegment.{on_event, on_message};
 ghost use Rattle.gx_rules.specs.Machine.{seg_can};
 ghost use Rattle.gx_slices.specs.Agrees.{IsHeld};
 ghost use Rattle.gx_segment.specs.Before.{Before};
-ghost use Rattle.gx_segment.specs.Done.{HasDone};
+ghost use Rattle.gx_segment.specs.Done.{HasDone, came};
 ghost use Rattle.gx_segment.specs.Reports.{report_after, report_behind, report_in};
 
 use crate::collecting::{LastReport, collect};
@@ -37,7 +37,7 @@ pub(crate) fn take_event<J: Journal, G: Gate>(
     event: NodeEvent,
     journal: &mut J,
     gate: &G,
-    blank: Vec<Mark>,
+    marks: &mut Vec<Mark>,
 ) -> Mem<Done>
     ghost was: { Before }
     requires node { node ≡ was.seg.node }
@@ -46,29 +46,31 @@ pub(crate) fn take_event<J: Journal, G: Gate>(
     requires horizon { horizon.old ≡ was.seg.horizon }
     requires report { report.old ≡ report_in was.seg }
     requires admitted { seg_can was.script was.seg event ≡ true }
-    requires blank { blank.items ≡ [] }
-    ensures done { IfOk result (λ done. HasDone was.script.tables held.new horizon.new done (on_event was.script was.seg event done.fails)) }
+    requires blank { marks.old.items ≡ [] }
+    ensures done { IfOk result (λ done. HasDone was.script.tables held.new horizon.new (came marks.new.items done) (on_event was.script was.seg event done.fails)) }
     ensures report { OnOk result (report.new ≡ report_behind was.seg event) }
     ensures took { IfOk result (λ done. Took (J.shelf journal.old) (J.shelf journal.new) done.fails (on_event was.script was.seg event done.fails).item) }
     ensures later { IsLater (J.shelf journal.old) (J.shelf journal.new) }
 {
     match event {
         NodeEvent::Deliver { from: _, envelope } => {
-            take_message(
+            let done = take_message(
                 alloc,
                 node,
                 script,
                 held,
                 horizon,
                 report,
-                envelope.message,
+                &envelope.message,
                 journal,
                 gate,
-                blank,
-            )
+                marks,
+            );
+            drop(envelope);
+            done
         }
-        NodeEvent::Resume(gxid) => resume(alloc, node, script, held, gxid, gate, blank),
-        _ => Ok(nothing(blank)),
+        NodeEvent::Resume(gxid) => resume(alloc, node, script, held, gxid, gate, marks),
+        _ => Ok(nothing()),
     }
 }
 
@@ -77,10 +79,10 @@ fn just_come(
     alloc: Global,
     cid: Cid,
     level: Level,
-    snapshot: Shared<Option<Snapshot>>,
-    slice: Shared<Slice>,
+    snapshot: &Shared<Option<Snapshot>>,
+    slice: &Shared<Slice>,
 ) -> Mem<Suspended>
-    ensures { IfOk result (λ command. command ≡ record { cid = cid; level = level; snapshot = snapshot; slice = slice; count = 0; row = None; rows = [] }) }
+    ensures { IfOk result (λ command. command ≡ record { cid = cid; level = level; snapshot = snapshot.now; slice = slice.now; count = 0; row = None; rows = [] }) }
 {
     let snapshot = snapshot.get().copy(alloc)?;
     let slice = slice.get().copy(alloc)?;
@@ -95,17 +97,18 @@ fn just_come(
     })
 }
 
-fn take_message<J: Journal, G: Gate>(
+// Takes a message, of which it copies what it keeps.
+pub(crate) fn take_message<J: Journal, G: Gate>(
     alloc: Global,
     node: Node,
     script: &Script,
     held: &mut Held,
     horizon: &mut Gxid,
     report: &mut LastReport,
-    message: Message,
+    message: &Message,
     journal: &mut J,
     gate: &G,
-    blank: Vec<Mark>,
+    marks: &mut Vec<Mark>,
 ) -> Mem<Done>
     ghost was: { Before }
     requires node { node ≡ was.seg.node }
@@ -113,10 +116,10 @@ fn take_message<J: Journal, G: Gate>(
     requires held { IsHeld was.script.tables held.old was.seg }
     requires horizon { horizon.old ≡ was.seg.horizon }
     requires report { report.old ≡ report_in was.seg }
-    requires blank { blank.items ≡ [] }
-    ensures done { IfOk result (λ done. HasDone was.script.tables held.new horizon.new done (on_message was.script was.seg done.fails message)) }
-    ensures report { OnOk result (report.new ≡ report_after was.seg message) }
-    ensures took { IfOk result (λ done. Took (J.shelf journal.old) (J.shelf journal.new) done.fails (on_message was.script was.seg done.fails message).item) }
+    requires blank { marks.old.items ≡ [] }
+    ensures done { IfOk result (λ done. HasDone was.script.tables held.new horizon.new (came marks.new.items done) (on_message was.script was.seg done.fails message.now)) }
+    ensures report { OnOk result (report.new ≡ report_after was.seg message.now) }
+    ensures took { IfOk result (λ done. Took (J.shelf journal.old) (J.shelf journal.new) done.fails (on_message was.script was.seg done.fails message.now).item) }
     ensures later { IsLater (J.shelf journal.old) (J.shelf journal.new) }
 {
     match message {
@@ -128,9 +131,9 @@ fn take_message<J: Journal, G: Gate>(
             horizon: low,
             slice,
         } => {
-            let command = just_come(alloc, cid, level, snapshot, slice)?;
+            let command = just_come(alloc, *cid, *level, snapshot, slice)?;
             exec(
-                alloc, node, script, held, horizon, gxid, command, low, gate, blank,
+                alloc, node, script, held, horizon, *gxid, command, *low, gate, marks,
             )
         }
         Message::Prepare(gxid) => {
@@ -139,10 +142,10 @@ fn take_message<J: Journal, G: Gate>(
                 node,
                 held,
                 *horizon,
-                gxid,
+                *gxid,
                 Order::Prepare,
                 journal,
-                blank,
+                marks,
             )
         }
         Message::Commit(gxid) => take(
@@ -150,10 +153,10 @@ fn take_message<J: Journal, G: Gate>(
             node,
             held,
             *horizon,
-            gxid,
+            *gxid,
             Order::Commit,
             journal,
-            blank,
+            marks,
         ),
         Message::CommitPrepared(gxid) => {
             take(
@@ -161,10 +164,10 @@ fn take_message<J: Journal, G: Gate>(
                 node,
                 held,
                 *horizon,
-                gxid,
+                *gxid,
                 Order::CommitPrepared,
                 journal,
-                blank,
+                marks,
             )
         }
         Message::Abort(gxid) => take(
@@ -172,29 +175,22 @@ fn take_message<J: Journal, G: Gate>(
             node,
             held,
             *horizon,
-            gxid,
+            *gxid,
             Order::Abort,
             journal,
-            blank,
+            marks,
         ),
         Message::Forget(gxid) => take(
             alloc,
             node,
             held,
             *horizon,
-            gxid,
+            *gxid,
             Order::Forget,
             journal,
-            blank,
+            marks,
         ),
-        Message::Collect(round) => collect(alloc, node, held, report, round, blank),
-        Message::Answer(_, reply) => {
-            drop(reply);
-            Ok(nothing(blank))
-        }
-        Message::Graph(_, graph) => {
-            drop(graph);
-            Ok(nothing(blank))
-        }
+        Message::Collect(round) => collect(alloc, node, held, report, *round, marks),
+        Message::Answer(_, _) | Message::Graph(_, _) => Ok(nothing()),
     }
 }

@@ -9,22 +9,20 @@ ghost use Rattle.gx_node.specs.Changes.{Does, change_of, left_locks, left_marks,
 ghost use Rattle.gx_node.specs.Orders.{Took};
 ghost use Rattle.gx_node.specs.Phases.{local_of, phase_of};
 ghost use Rattle.gx_rules.specs.Segments.{has_ended};
-ghost use Rattle.gx_rules.specs.Segments as rule;
 ghost use Rattle.gx_slices.specs.Agrees.{IsHeld, entry_at, local_in, rows_in};
 ghost use Rattle.gx_segment.specs.Before.{Before};
-ghost use Rattle.gx_segment.specs.Done.{HasDone, answer_of};
+ghost use Rattle.gx_segment.specs.Done.{HasDone, answer_of, came};
 ghost use Rattle.gx_segment.specs.Moves.{HasMoved, HasTaken, order_turn, status_in};
 
 use crate::done::{Done, answer, nothing};
 use crate::entries::{Entries, new_entry, put_in};
 use gx_dtx::order::Order;
-use gx_ids::{Gxid, Mem, Node, Seq};
+use gx_ids::{Gxid, Mem, Node};
 use gx_locks::LockTable;
-use gx_msg::Kept;
 use gx_node::{Phase, Taken, give_back, take_order};
 use gx_outside::Journal;
 use gx_rows::LocalStatus;
-use gx_slices::{Entry, Held, KeptRows};
+use gx_slices::{Entry, Held};
 use gx_store::Mark;
 use std::alloc::Global;
 use std::collections::BTreeSet;
@@ -38,22 +36,22 @@ pub(crate) fn take<J: Journal>(
     gxid: Gxid,
     order: Order,
     journal: &mut J,
-    blank: Vec<Mark>,
+    marks: &mut Vec<Mark>,
 ) -> Mem<Done>
     ghost was: { Before }
     requires node { node ≡ was.seg.node }
     requires held { IsHeld was.script.tables held.old was.seg }
     requires horizon { horizon ≡ was.seg.horizon }
-    requires blank { blank.items ≡ [] }
-    ensures done { IfOk result (λ done. HasDone was.script.tables held.new horizon done (order_turn order was.seg gxid done.fails)) }
+    requires blank { marks.old.items ≡ [] }
+    ensures done { IfOk result (λ done. HasDone was.script.tables held.new horizon (came marks.new.items done) (order_turn order was.seg gxid done.fails)) }
     ensures took { IfOk result (λ done. Took (J.shelf journal.old) (J.shelf journal.new) done.fails (order_turn order was.seg gxid done.fails).item) }
     ensures later { IsLater (J.shelf journal.old) (J.shelf journal.new) }
 {
     if gxid < horizon {
-        return Ok(nothing(blank));
+        return Ok(nothing());
     }
     let taken = obey(alloc, node, held, gxid, order, journal)?;
-    let done = done_of(alloc, node, &mut held.locks, gxid, taken, blank)?;
+    let done = done_of(alloc, node, &mut held.locks, gxid, taken, marks)?;
     Ok(done)
 }
 
@@ -64,48 +62,19 @@ fn done_of(
     locks: &mut LockTable,
     gxid: Gxid,
     taken: Taken,
-    blank: Vec<Mark>,
+    marks: &mut Vec<Mark>,
 ) -> Mem<Done>
-    requires blank { blank.items ≡ [] }
-    ensures done { IfOk result (λ done. done ≡ record { marks = marks_in taken.mark ++ left_marks taken.ends node locks.old gxid; answer = answer_of gxid taken.reply; fails = taken.fails }) }
+    requires blank { marks.old.items ≡ [] }
+    ensures done { IfOk result (λ done. came marks.new.items done
+        ≡ record { marks = marks_in taken.mark ++ left_marks taken.ends node locks.old gxid; answer = answer_of gxid taken.reply; fails = taken.fails }) }
     ensures locks { OnOk result (locks.new ≡ left_locks taken.ends locks.old gxid) }
 {
-    let Taken {
-        mark,
-        reply,
-        fails,
-        ends,
-    } = taken;
-    match marks_of(alloc, node, locks, gxid, mark, ends, blank) {
-        Ok(marks) => Ok(Done {
-            marks: Seq::from_vec(marks),
-            answer: answer(gxid, reply),
-            fails,
-        }),
-        Err(fault) => {
-            drop(reply);
-            Err(fault)
-        }
-    }
-}
-
-// The order's mark, and those of the locks that are given back.
-fn marks_of(
-    alloc: Global,
-    node: Node,
-    locks: &mut LockTable,
-    gxid: Gxid,
-    mark: Option<Mark>,
-    ends: bool,
-    blank: Vec<Mark>,
-) -> Mem<Vec<Mark>>
-    requires blank { blank.items ≡ [] }
-    ensures marks { IfOk result (λ marks. marks.items ≡ marks_in mark ++ left_marks ends node locks.old gxid) }
-    ensures locks { OnOk result (locks.new ≡ left_locks ends locks.old gxid) }
-{
-    let mut marks = listed(mark, blank)?;
-    leave_locks(alloc, node, locks, gxid, ends, &mut marks)?;
-    Ok(marks)
+    note_first(taken.mark(), marks)?;
+    leave_locks(alloc, node, locks, gxid, taken.ends(), marks)?;
+    Ok(Done {
+        answer: answer(gxid, taken.reply()),
+        fails: taken.fails(),
+    })
 }
 
 fn leave_locks(
@@ -125,15 +94,14 @@ fn leave_locks(
     Ok(())
 }
 
-fn listed(mark: Option<Mark>, blank: Vec<Mark>) -> Mem<Vec<Mark>>
-    requires { blank.items ≡ [] }
-    ensures { IfOk result (λ marks. marks.items ≡ marks_in mark) }
+fn note_first(mark: Option<Mark>, marks: &mut Vec<Mark>) -> Mem<()>
+    requires { marks.old.items ≡ [] }
+    ensures { OnOk result (marks.new.items ≡ marks_in mark) }
 {
-    let mut marks = blank;
     if let Some(mark) = mark {
         marks.push(mark)?;
     }
-    Ok(marks)
+    Ok(())
 }
 
 // Takes the order, and notes what it made of the transaction.
@@ -207,13 +175,10 @@ fn take_new<J: Journal>(
 {
     let mut entry = new_entry(alloc);
     match take_at(alloc, node, gxid, order, &mut entry, phase, journal) {
-        Ok(taken) => match put_in(entries, gxid, entry) {
-            Ok(()) => Ok(taken),
-            Err(fault) => {
-                drop(taken);
-                Err(fault)
-            }
-        },
+        Ok(taken) => {
+            put_in(entries, gxid, entry)?;
+            Ok(taken)
+        }
         Err(fault) => {
             drop(entry);
             Err(fault)
@@ -236,20 +201,10 @@ fn take_at<J: Journal>(
     ensures took { IfOk result (λ taken. Took (J.shelf journal.old) (J.shelf journal.new) taken.fails (change_of order node gxid entry.old.kept taken.fails (local_of entry.old.local)).item) }
     ensures later { IsLater (J.shelf journal.old) (J.shelf journal.new) }
 {
-    let kept = kept_for(alloc, order, &entry.kept)?;
-    let taken = take_order(alloc, node, gxid, order, &mut entry.local, kept, journal);
+    let local = &mut entry.local;
+    let taken = take_order(alloc, node, gxid, order, local, &entry.kept, journal);
     *phase = entry.local.phase;
     taken
-}
-
-// The rows that the order's item has.
-fn kept_for(alloc: Global, order: Order, rows: &KeptRows) -> Mem<Seq<Kept>>
-    ensures { IfOk result (λ kept. (node : Node) (g : Gxid) (fails : Bool) (l : rule.Local) → change_of order node g kept fails l ≡ change_of order node g rows.now fails l) }
-{
-    match order {
-        Order::Prepare | Order::Commit => rows.list(),
-        Order::CommitPrepared | Order::Abort | Order::Forget => Ok(Seq::new(alloc)),
-    }
 }
 
 // What the store says of a transaction in a phase.

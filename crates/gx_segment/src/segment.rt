@@ -1,16 +1,17 @@
-ghost use Rattle.std.specs.Prelude.{◌≡◌, ◌<◌, ◌^◌, [], true, false, None, IfOk, OnErr, IsErr};
+ghost use Rattle.std.specs.Prelude.{◌≡◌, ◌<◌, ◌^◌, [], true, false, None, IfOk, OnOk, OnErr, IsErr};
 ghost use Rattle.gx_outside.specs.Shelves.{IsLater};
 ghost use Rattle.gx_rules.specs.Machine.{seg_can};
 ghost use Rattle.gx_rules.specs.Segments.{Seg, new_segment};
 ghost use Rattle.gx_rules.specs.Sending.{heard_in};
 ghost use Rattle.gx_rules.specs.Shown.{shown};
-ghost use Rattle.gx_segment.specs.Steps.{HasStepped, IsSegment, nobody, no_command};
+ghost use Rattle.gx_segment.specs.Steps.{HasStepped, IsSegment, delivered, nobody, no_command};
 
 use crate::collecting::LastReport;
-use crate::stepping::step_on;
+use crate::stepping::{receive_on, step_on};
 use gx_dsnap::Snapshot;
-use gx_ids::{Cid, Gxid, Mem, Node, OutOfMemory, Seq, Table};
+use gx_ids::{Cid, Gxid, Mem, Node, OutOfMemory, Table};
 use gx_locks::LockTable;
+use gx_msg::Message;
 use gx_outside::{Gate, Journal};
 use gx_script::Script;
 use gx_slices::{Held, LocalStore};
@@ -65,22 +66,22 @@ impl Segment {
     /// Does one event that the rule admits, by the segment's rule: a delivery, or that a slice goes on whose wait is ready. What the
     /// envelope holds is tested here; what doesn't fit changes nothing but the clock. The journal takes the items of PREPARE, COMMIT and COMMIT PREPARED before they are answered.
     /// Each slice enters the gate first, at this node. What it did is told by its marks, the answer that it sends among them, in the list
-    /// that is given for them.
+    /// that is lent for them.
     pub fn step<J: Journal, G: Gate>(
         &mut self,
         event: NodeEvent,
         journal: &mut J,
         gate: &G,
-        blank: Vec<Mark>,
-    ) -> Mem<Seq<Mark>>
+        marks: &mut Vec<Mark>,
+    ) -> Mem<()>
         ghost s: { Seg }
         requires is { self.old.spent ≡ false → IsSegment self.old s }
         requires admitted { seg_can self.old.script.value s event ≡ true }
         requires clock { self.old.clock < 2 ^ 62 }
         requires heard { heard_in event < 2 ^ 62 }
         requires numbers { self.old.sent < 2 ^ 62 }
-        requires blank { blank.items ≡ [] }
-        ensures stepped { IfOk result (HasStepped self.old self.new s event (J.shelf journal.old) (J.shelf journal.new)) }
+        requires blank { marks.old.items ≡ [] }
+        ensures stepped { OnOk result (HasStepped self.old self.new s event (J.shelf journal.old) (J.shelf journal.new) marks.new.items) }
         ensures later { IsLater (J.shelf journal.old) (J.shelf journal.new) }
         ensures spent { OnErr result (self.new.spent ≡ true) }
         ensures again { self.old.spent ≡ true → IsErr result }
@@ -88,11 +89,10 @@ impl Segment {
     {
         if self.spent {
             drop(event);
-            drop(blank);
             return Err(OutOfMemory);
         }
         self.spent = true;
-        let marks = step_on(
+        step_on(
             self.alloc,
             self.node,
             &self.script,
@@ -104,10 +104,59 @@ impl Segment {
             event,
             journal,
             gate,
-            blank,
+            marks,
         )?;
         self.spent = false;
-        Ok(marks)
+        Ok(())
+    }
+
+    /// The same of the delivery of a message that is lent, with its number and its sender's clock.
+    pub fn receive<J: Journal, G: Gate>(
+        &mut self,
+        from: Node,
+        number: u64,
+        clock: u64,
+        message: &Message,
+        journal: &mut J,
+        gate: &G,
+        marks: &mut Vec<Mark>,
+    ) -> Mem<()>
+        ghost s: { Seg }
+        requires is { self.old.spent ≡ false → IsSegment self.old s }
+        requires admitted { seg_can self.old.script.value s (delivered from number clock message.now) ≡ true }
+        requires clock { self.old.clock < 2 ^ 62 }
+        requires heard { clock < 2 ^ 62 }
+        requires numbers { self.old.sent < 2 ^ 62 }
+        requires blank { marks.old.items ≡ [] }
+        ensures stepped { OnOk result (HasStepped self.old self.new s (delivered from number clock message.now) (J.shelf journal.old) (J.shelf journal.new) marks.new.items) }
+        ensures later { IsLater (J.shelf journal.old) (J.shelf journal.new) }
+        ensures spent { OnErr result (self.new.spent ≡ true) }
+        ensures again { self.old.spent ≡ true → IsErr result }
+        ensures untouched { self.old.spent ≡ true → (J.shelf journal.new).items ≡ (J.shelf journal.old).items }
+    {
+        if self.spent {
+            return Err(OutOfMemory);
+        }
+        self.spent = true;
+        receive_on(
+            self.alloc,
+            self.node,
+            &self.script,
+            &mut self.held,
+            &mut self.horizon,
+            &mut self.report,
+            &mut self.sent,
+            &mut self.clock,
+            from,
+            number,
+            clock,
+            message,
+            journal,
+            gate,
+            marks,
+        )?;
+        self.spent = false;
+        Ok(())
     }
 
     /// The rows of a table that a reader without a transaction is shown, by their identities.

@@ -12,12 +12,11 @@ ghost use Rattle.gx_slices.specs.Agrees.{IsHeld};
 ghost use Rattle.gx_slices.specs.Owning.{is_on_transaction};
 ghost use Rattle.gx_slices.specs.Ran.{MayGoOn, MayRun};
 ghost use Rattle.gx_segment.specs.Before.{Before};
-ghost use Rattle.gx_segment.specs.Done.{HasDone, IsQuiet, answer_of};
+ghost use Rattle.gx_segment.specs.Done.{HasDone, IsQuiet, came, answer_of};
 ghost use Rattle.gx_segment.specs.Ways.{starts};
 
-use crate::done::{Done, answer};
-use gx_ids::{Gxid, Mem, Node, Seq};
-use gx_locks::LockTable;
+use crate::done::{Done, nothing, tell};
+use gx_ids::{Gxid, Mem, Node};
 use gx_modes::Mode;
 use gx_node::{Suspended, ask_for, changing_mode, claim_on, take_granted};
 use gx_outside::{Gate, pass};
@@ -27,6 +26,7 @@ use gx_store::Mark;
 use gx_tree::Slice;
 use gx_waits::Claim;
 use std::alloc::Global;
+use std::mem;
 
 // The lock that a slice takes on its table.
 fn lock_of(script: &Script, gxid: Gxid, slice: &Slice) -> Claim
@@ -52,7 +52,7 @@ pub(crate) fn start<G: Gate>(
     gxid: Gxid,
     command: Suspended,
     gate: &G,
-    blank: Vec<Mark>,
+    marks: &mut Vec<Mark>,
 ) -> Mem<Done>
     ghost was: { Before }
     requires script { script.now ≡ was.script }
@@ -60,13 +60,13 @@ pub(crate) fn start<G: Gate>(
     requires may { MayRun was.script.tables was.seg gxid command.cid command.snapshot command.slice }
     requires fresh { suspended_of command ≡ suspended_slice command.cid command.level command.snapshot command.slice }
     requires node { node ≡ was.seg.node }
-    requires blank { blank.items ≡ [] }
-    ensures done { IfOk result (λ done. HasDone was.script.tables held.new was.seg.horizon done (starts was.script was.seg gxid command)) }
-    ensures quiet { IfOk result (λ done. IsQuiet done (starts was.script was.seg gxid command)) }
+    requires blank { marks.old.items ≡ [] }
+    ensures done { IfOk result (λ done. HasDone was.script.tables held.new was.seg.horizon (came marks.new.items done) (starts was.script was.seg gxid command)) }
+    ensures quiet { IfOk result (λ done. IsQuiet done.fails (starts was.script was.seg gxid command)) }
 {
     let wanted = lock_of(script, gxid, &command.slice);
     request(
-        alloc, node, script, held, gxid, command, wanted, gate, blank,
+        alloc, node, script, held, gxid, command, wanted, gate, marks,
     )
 }
 
@@ -80,7 +80,7 @@ fn request<G: Gate>(
     command: Suspended,
     wanted: Claim,
     gate: &G,
-    blank: Vec<Mark>,
+    marks: &mut Vec<Mark>,
 ) -> Mem<Done>
     ghost was: { Before }
     requires script { script.now ≡ was.script }
@@ -90,54 +90,25 @@ fn request<G: Gate>(
     requires own { wanted.gxid ≡ gxid }
     requires on_table { is_on_transaction wanted.object ≡ false }
     requires node { node ≡ was.seg.node }
-    requires blank { blank.items ≡ [] }
-    ensures done { IfOk result (λ done. HasDone was.script.tables held.new was.seg.horizon done (requests was.seg gxid command.cid command.level command.snapshot command.slice wanted)) }
-    ensures quiet { IfOk result (λ done. IsQuiet done (requests was.seg gxid command.cid command.level command.snapshot command.slice wanted)) }
+    requires blank { marks.old.items ≡ [] }
+    ensures done { IfOk result (λ done. HasDone was.script.tables held.new was.seg.horizon (came marks.new.items done)
+        (requests was.seg gxid command.cid command.level command.snapshot command.slice wanted)) }
+    ensures quiet { IfOk result (λ done. IsQuiet done.fails (requests was.seg gxid command.cid command.level command.snapshot command.slice wanted)) }
 {
-    match ask(node, &mut held.locks, wanted, blank) {
-        Ok(asked) => {
-            if asked.granted {
-                let done = proceed(alloc, node, script, held, gxid, command, gate, asked.marks)?;
+    match ask_for(node, &mut held.locks, wanted, marks) {
+        Ok(granted) => {
+            if granted {
+                let done = proceed(alloc, node, script, held, gxid, command, gate, marks)?;
                 Ok(done)
             } else {
                 suspend(alloc, held, gxid, command)?;
-                Ok(waits(asked.marks))
+                Ok(nothing())
             }
         }
         Err(fault) => {
             drop(command);
             Err(fault)
         }
-    }
-}
-
-// What asking for a lock came to.
-#[derive(Drop)]
-struct Asked {
-    granted: bool,
-    marks: Vec<Mark>,
-}
-
-// Asks for a lock, with its mark.
-fn ask(node: Node, locks: &mut LockTable, wanted: Claim, blank: Vec<Mark>) -> Mem<Asked>
-    requires waits { list_any (is_of wanted.gxid) locks.old.waits ≡ false }
-    requires blank { blank.items ≡ [] }
-    ensures granted { IfOk result (λ asked. asked.granted ≡ is_free locks.old.holds wanted) }
-    ensures locks { IfOk result (λ asked. locks.new ≡ asked_locks locks.old wanted asked.granted) }
-    ensures marks { IfOk result (λ asked. asked.marks.items ≡ asked_mark node wanted asked.granted ∷ []) }
-{
-    let mut marks = blank;
-    let granted = ask_for(node, locks, wanted, &mut marks)?;
-    Ok(Asked { granted, marks })
-}
-
-fn waits(marks: Vec<Mark>) -> Done
-    ensures { result ≡ record { marks = marks.items; answer = None; fails = false } }
-{
-    Done {
-        marks: Seq::from_vec(marks),
-        answer: None,
-        fails: false,
     }
 }
 
@@ -150,31 +121,31 @@ fn proceed<G: Gate>(
     gxid: Gxid,
     command: Suspended,
     gate: &G,
-    marks: Vec<Mark>,
+    marks: &mut Vec<Mark>,
 ) -> Mem<Done>
     ghost was: { Before }
     requires script { script.now ≡ was.script }
     requires held { IsHeld was.script.tables held.old was.seg }
     requires may { MayGoOn was.script.tables was.seg gxid (suspended_of command) }
     requires node { node ≡ was.seg.node }
-    ensures done { IfOk result (λ done. HasDone was.script.tables held.new was.seg.horizon done
-        (goes_on (record { seg = was.seg; marks = marks.items }) gxid (suspended_of command) command.row)) }
-    ensures quiet { IfOk result (λ done. IsQuiet done (goes_on (record { seg = was.seg; marks = marks.items }) gxid (suspended_of command) command.row)) }
+    ensures done { IfOk result (λ done. HasDone was.script.tables held.new was.seg.horizon (came marks.new.items done)
+        (goes_on (record { seg = was.seg; marks = marks.old.items }) gxid (suspended_of command) command.row)) }
+    ensures quiet { IfOk result (λ done. IsQuiet done.fails (goes_on (record { seg = was.seg; marks = marks.old.items }) gxid (suspended_of command) command.row)) }
 {
     let passed = pass(gate, node);
     let tables = script.tables.as_slice();
-    let progress = go_on(alloc, tables, passed, held, gxid, command, marks)?;
-    Ok(done_of(gxid, progress))
+    let given = mem::replace(marks, Vec::new(alloc));
+    let progress = go_on(alloc, tables, passed, held, gxid, command, given)?;
+    Ok(done_of(gxid, progress, marks))
 }
 
-fn done_of(gxid: Gxid, progress: Progress) -> Done
-    ensures { result ≡ record { marks = progress.marks; answer = answer_of gxid progress.reply; fails = false } }
+// The marks stand in the list, and the answer is told.
+fn done_of(gxid: Gxid, progress: Progress, marks: &mut Vec<Mark>) -> Done
+    ensures { came marks.new.items result ≡ record { marks = progress.marks; answer = answer_of gxid progress.reply; fails = false } }
 {
-    Done {
-        marks: progress.marks,
-        answer: answer(gxid, progress.reply),
-        fails: false,
-    }
+    let Progress { marks: made, reply } = progress;
+    drop(mem::replace(marks, made.into_vec()));
+    tell(gxid, reply)
 }
 
 // A slice that gets what it has waited for goes on.
@@ -185,21 +156,22 @@ pub(crate) fn resume<G: Gate>(
     held: &mut Held,
     gxid: Gxid,
     gate: &G,
-    blank: Vec<Mark>,
+    marks: &mut Vec<Mark>,
 ) -> Mem<Done>
     ghost was: { Before }
     requires script { script.now ≡ was.script }
     requires held { IsHeld was.script.tables held.old was.seg }
     requires ready { is_ready was.seg.locks.holds (wait_of was.seg.locks gxid) ≡ true }
     requires node { node ≡ was.seg.node }
-    requires blank { blank.items ≡ [] }
-    ensures done { IfOk result (λ done. HasDone was.script.tables held.new was.seg.horizon done (resumes was.seg gxid (wait_of was.seg.locks gxid) (local_of was.seg gxid).suspended)) }
-    ensures quiet { IfOk result (λ done. IsQuiet done (resumes was.seg gxid (wait_of was.seg.locks gxid) (local_of was.seg gxid).suspended)) }
+    requires blank { marks.old.items ≡ [] }
+    ensures done { IfOk result (λ done. HasDone was.script.tables held.new was.seg.horizon (came marks.new.items done)
+        (resumes was.seg gxid (wait_of was.seg.locks gxid) (local_of was.seg gxid).suspended)) }
+    ensures quiet { IfOk result (λ done. IsQuiet done.fails (resumes was.seg gxid (wait_of was.seg.locks gxid) (local_of was.seg gxid).suspended)) }
 {
     let waiting = wake(alloc, held, gxid)?;
     match waiting {
-        Some(command) => match grant(node, &mut held.locks, gxid, blank) {
-            Ok(marks) => {
+        Some(command) => match take_granted(node, &mut held.locks, gxid, marks) {
+            Ok(()) => {
                 let done = proceed(alloc, node, script, held, gxid, command, gate, marks)?;
                 Ok(done)
             }
@@ -210,16 +182,4 @@ pub(crate) fn resume<G: Gate>(
         },
         None => unreachable!(),
     }
-}
-
-// What a transaction waits for is granted, with its marks.
-fn grant(node: Node, locks: &mut LockTable, gxid: Gxid, blank: Vec<Mark>) -> Mem<Vec<Mark>>
-    requires ready { is_ready locks.old.holds (wait_of locks.old gxid) ≡ true }
-    requires blank { blank.items ≡ [] }
-    ensures locks { OnOk result (locks.new ≡ granted_locks locks.old gxid (wait_of locks.old gxid)) }
-    ensures marks { IfOk result (λ marks. marks.items ≡ granted_marks node (wait_of locks.old gxid)) }
-{
-    let mut marks = blank;
-    take_granted(node, locks, gxid, &mut marks)?;
-    Ok(marks)
 }

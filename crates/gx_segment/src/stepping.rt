@@ -1,17 +1,18 @@
 // One step on a segment's parts.
-ghost use Rattle.std.specs.Prelude.{◌≡◌, ◌<◌, ◌+◌, ◌^◌, [], true, nat_lt, if◌then◌else◌, IfOk};
+ghost use Rattle.std.specs.Prelude.{◌≡◌, ◌<◌, ◌+◌, ◌^◌, [], true, nat_lt, if◌then◌else◌, OnOk};
 ghost use Rattle.gx_outside.specs.Shelves.{IsLater};
 ghost use Rattle.gx_rules.specs.Machine.{seg_can};
 ghost use Rattle.gx_rules.specs.Sending.{heard_in};
 ghost use Rattle.gx_slices.specs.Agrees.{IsHeld};
 ghost use Rattle.gx_segment.specs.Before.{Before};
 ghost use Rattle.gx_segment.specs.Reports.{report_in};
-ghost use Rattle.gx_segment.specs.Steps.{HasGone};
+ghost use Rattle.gx_segment.specs.Steps.{HasGone, delivered};
 
 use crate::collecting::LastReport;
-use crate::messages::take_event;
+use crate::messages::{take_event, take_message};
 use crate::sending::send;
-use gx_ids::{Gxid, Mem, Node, Seq};
+use gx_ids::{Gxid, Mem, Node};
+use gx_msg::Message;
 use gx_outside::{Gate, Journal};
 use gx_script::Script;
 use gx_slices::Held;
@@ -31,8 +32,8 @@ pub(crate) fn step_on<J: Journal, G: Gate>(
     event: NodeEvent,
     journal: &mut J,
     gate: &G,
-    blank: Vec<Mark>,
-) -> Mem<Seq<Mark>>
+    marks: &mut Vec<Mark>,
+) -> Mem<()>
     ghost was: { Before }
     requires node { node ≡ was.seg.node }
     requires script { script.now ≡ was.script }
@@ -45,16 +46,57 @@ pub(crate) fn step_on<J: Journal, G: Gate>(
     requires numbers { sent.old < 2 ^ 62 }
     requires early { clock.old < 2 ^ 62 }
     requires heard { heard_in event < 2 ^ 62 }
-    requires blank { blank.items ≡ [] }
-    ensures gone { IfOk result (HasGone was event held.new horizon.new report.new sent.new clock.new (J.shelf journal.old) (J.shelf journal.new)) }
+    requires blank { marks.old.items ≡ [] }
+    ensures gone { OnOk result (HasGone was event held.new horizon.new report.new sent.new clock.new (J.shelf journal.old) (J.shelf journal.new) marks.new.items) }
     ensures later { IsLater (J.shelf journal.old) (J.shelf journal.new) }
 {
     *clock = clock_behind(*clock, heard(&event));
     let done = take_event(
-        alloc, node, script, held, horizon, report, event, journal, gate, blank,
+        alloc, node, script, held, horizon, report, event, journal, gate, marks,
     )?;
-    let marks = send(done, sent)?;
-    Ok(marks)
+    send(done, sent, marks)?;
+    Ok(())
+}
+
+// The same of a message that is lent, with its number and its sender's clock.
+pub(crate) fn receive_on<J: Journal, G: Gate>(
+    alloc: Global,
+    node: Node,
+    script: &Script,
+    held: &mut Held,
+    horizon: &mut Gxid,
+    report: &mut LastReport,
+    sent: &mut u64,
+    clock: &mut u64,
+    from: Node,
+    number: u64,
+    heard: u64,
+    message: &Message,
+    journal: &mut J,
+    gate: &G,
+    marks: &mut Vec<Mark>,
+) -> Mem<()>
+    ghost was: { Before }
+    requires node { node ≡ was.seg.node }
+    requires script { script.now ≡ was.script }
+    requires held { IsHeld was.script.tables held.old was.seg }
+    requires horizon { horizon.old ≡ was.seg.horizon }
+    requires report { report.old ≡ report_in was.seg }
+    requires sent { sent.old ≡ was.seg.sent }
+    requires clock { clock.old ≡ was.seg.clock }
+    requires numbers { sent.old < 2 ^ 62 }
+    requires early { clock.old < 2 ^ 62 }
+    requires heard { heard < 2 ^ 62 }
+    requires blank { marks.old.items ≡ [] }
+    ensures gone { OnOk result (HasGone was (delivered from number heard message.now) held.new horizon.new report.new sent.new clock.new (J.shelf journal.old) (J.shelf journal.new) marks.new.items) }
+    ensures later { IsLater (J.shelf journal.old) (J.shelf journal.new) }
+{
+    *clock = clock_behind(*clock, heard);
+    let done = take_message(
+        alloc, node, script, held, horizon, report, message, journal, gate, marks,
+    )?;
+    send(done, sent, marks)?;
+    Ok(())
 }
 
 // The clock that an event brings.

@@ -1,9 +1,14 @@
-ghost use Rattle.std.specs.Prelude.{◌≡◌, ◌∷◌, [], IfOk, OnOk};
+ghost use Rattle.std.specs.Prelude.{◌≡◌, ◌++◌, ◌∷◌, [], length, IfOk, OnOk};
+ghost use Rattle.std.specs.List.{flat_map};
+ghost use Rattle.gx_ids.specs.Rid.{text_of};
+ghost use Rattle.gx_msg.specs.ItemBytes.{line_of_kept};
 ghost use Rattle.gx_slices.specs.Kept.{kept_in, kept_rows, listed};
 ghost use Rattle.gx_store.specs.Journals.{kept_with};
 
-use gx_ids::{Duplicate, Mem, Rid, Seq, Table};
-use gx_msg::Kept;
+use gx_ids::{Mem, Rid, Table};
+use gx_msg::push_image;
+use gx_node::Written;
+use gx_text::{push_byte, push_count};
 use gx_tree::Row;
 use std::alloc::Global;
 use std::collections::BTreeMap;
@@ -60,12 +65,17 @@ impl KeptRows {
     {
         put_row(self.alloc, &mut self.rows, rid, Last { table, image })
     }
+}
 
-    /// The rows, by their identities.
-    pub fn list(&self) -> Mem<Seq<Kept>>
-        ensures { IfOk result (λ kept. kept ≡ self.now) }
-    {
-        list_rows(self.alloc, &self.rows)
+impl Written for KeptRows {
+    ghost rows = { λ kept. kept };
+
+    fn count(&self) -> usize {
+        count_rows(&self.rows)
+    }
+
+    fn push_lines(&self, text: &mut Vec<u8>) -> Mem<()> {
+        push_all(text, &self.rows)
     }
 }
 
@@ -116,38 +126,53 @@ fn insert_row(rows: &mut BTreeMap<Rid, Last>, rid: Rid, last: Last) -> Mem<()>
     Ok(())
 }
 
-fn list_rows(alloc: Global, rows: &Rows) -> Mem<Seq<Kept>>
-    ensures { IfOk result (λ kept. kept ≡ kept_rows rows.now) }
+fn count_rows(rows: &Rows) -> usize
+    ensures { result ≡ length (kept_rows rows.now) }
 {
     match rows {
-        Rows::Empty => Ok(Seq::new(alloc)),
-        Rows::One(rid, last) => list_one(alloc, *rid, last),
-        Rows::Many(rows) => list_many(alloc, rows),
+        Rows::Empty => 0,
+        Rows::One(_, _) => 1,
+        Rows::Many(rows) => rows.len(),
     }
 }
 
-fn list_one(alloc: Global, rid: Rid, last: &Last) -> Mem<Seq<Kept>>
-    ensures { IfOk result (λ kept. kept ≡ kept_in (rid, last.now) ∷ []) }
+fn push_all(text: &mut Vec<u8>, rows: &Rows) -> Mem<()>
+    ensures { OnOk result (text.new.items ≡ text.old.items ++ flat_map line_of_kept (kept_rows rows.now)) }
 {
-    let mut kept = Vec::with_capacity(alloc, 1)?;
-    kept.push(Kept {
-        rid,
-        table: last.table,
-        image: last.image.copy(alloc)?,
-    })?;
-    Ok(Seq::from_vec(kept))
+    match rows {
+        Rows::Empty => Ok(()),
+        Rows::One(rid, last) => push_line(text, *rid, last),
+        Rows::Many(rows) => push_many(text, rows),
+    }
 }
 
-fn list_many(alloc: Global, rows: &BTreeMap<Rid, Last>) -> Mem<Seq<Kept>>
-    ensures { IfOk result (λ kept. kept ≡ listed rows.now.entries) }
+fn push_many(text: &mut Vec<u8>, rows: &BTreeMap<Rid, Last>) -> Mem<()>
+    ensures { OnOk result (text.new.items ≡ text.old.items ++ flat_map line_of_kept (listed rows.now.entries)) }
 {
-    let mut kept = Vec::with_capacity(alloc, rows.len())?;
     for (rid, last) in rows {
-        kept.push(Kept {
-            rid: *rid,
-            table: last.table,
-            image: last.image.copy(alloc)?,
-        })?;
+        push_line(text, *rid, last)?;
     }
-    Ok(Seq::from_vec(kept))
+    Ok(())
+}
+
+// A row's line.
+fn push_line(text: &mut Vec<u8>, rid: Rid, last: &Last) -> Mem<()>
+    ensures { OnOk result (text.new.items ≡ text.old.items ++ line_of_kept (kept_in (rid, last.now))) }
+{
+    push_rid(text, rid)?;
+    push_byte(text, b' ')?;
+    push_count(text, u128::from(last.table.0))?;
+    push_byte(text, b' ')?;
+    push_image(text, &last.image)?;
+    push_byte(text, b'\n')
+}
+
+fn push_rid(text: &mut Vec<u8>, rid: Rid) -> Mem<()>
+    ensures { OnOk result (text.new.items ≡ text.old.items ++ text_of rid) }
+{
+    push_count(text, u128::from(rid.gxid.0))?;
+    push_byte(text, b'.')?;
+    push_count(text, u128::from(rid.cid.0))?;
+    push_byte(text, b'.')?;
+    push_count(text, u128::from(rid.ordinal))
 }

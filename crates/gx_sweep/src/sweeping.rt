@@ -10,8 +10,8 @@ ghost use Rattle.gx_rows.specs.Rows.{is_unaborted, newest_of, versions_of};
 ghost use Rattle.gx_rows.specs.Xids.{status_of};
 ghost use Rattle.gx_sweep.specs.Swept.{has_aborted, is_past, is_settled, swept};
 
-use gx_ids::{Gxid, Rid, Seq};
-use gx_rows::{LocalStatus, Version, Versions, XidMap};
+use gx_ids::{Gxid, Rid};
+use gx_rows::{LocalStatus, Version, VersionList, Versions, XidMap};
 
 /// Drops the dead versions of a row: those of transactions that have aborted here, and those that a later version of the row has
 /// overtaken which is committed here by a transaction below the horizon, or by one whose gxid isn't known any more. The row's newest version
@@ -23,23 +23,23 @@ pub fn sweep(rows: &mut Versions, rid: Rid, map: &XidMap, horizon: Gxid)
     ensures shown { (snap : Snapshot) (own : Option Lxid) (cid : Cid) → horizon.0 ≤ snap.xmin.0 → ForSome own (λ l. is_unaborted (status_of map.now l) ≡ true)
         → shown_of (versions_of rows.new rid) map.now snap own cid ≡ shown_of (versions_of rows.old rid) map.now snap own cid }
 {
-    let mut versions = rows.take(rid).into_vec();
+    let mut versions = rows.take(rid);
     drop_dead(&mut versions, map, horizon);
-    rows.put(rid, Seq::from_vec(versions));
+    rows.put(rid, versions);
 }
 
 // From the newest on, until one is settled, who hasn't aborted stays.
-fn drop_dead(versions: &mut Vec<Version>, map: &XidMap, horizon: Gxid)
-    ensures { versions.new.items ≡ swept map.now horizon versions.old.items }
+fn drop_dead(versions: &mut VersionList, map: &XidMap, horizon: Gxid)
+    ensures { versions.new ≡ swept map.now horizon versions.old }
 {
     let mut place = versions.len();
     let mut overtaken = false;
     while place > 0 {
         place -= 1;
-        if overtaken || has_aborted(map, &versions[place]) {
+        if overtaken || has_aborted(map, &versions.as_slice()[place]) {
             drop(versions.remove(place));
         } else {
-            overtaken = is_settled(map, horizon, &versions[place]);
+            overtaken = is_settled(map, horizon, &versions.as_slice()[place]);
         }
     }
 }

@@ -1,5 +1,6 @@
 pub mod Alike
 pub mod Answers
+pub mod Coming
 pub mod Doing
 pub mod Events
 pub mod EachNode

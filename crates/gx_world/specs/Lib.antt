@@ -5,3 +5,4 @@ pub mod Turns
 pub mod Tables
 pub mod Links
 pub mod Waiting
+pub mod Coming

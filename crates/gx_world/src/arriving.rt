@@ -1,12 +1,11 @@
 // What an event is at its node.
-ghost use Rattle.std.specs.Prelude.{◌≡◌, IfOk};
-ghost use Rattle.gx_rules.specs.Machine as machine;
-ghost use Rattle.gx_rules.specs.Machine.{at_node, delivered, found, node_of};
-ghost use Rattle.gx_world.specs.Networks.{Stands};
+ghost use Rattle.std.specs.Prelude.{◌≡◌, true, List, Some};
+ghost use Rattle.gx_rules.specs.Machine.{node_of};
+ghost use Rattle.gx_store.specs.declared.run.Step.{Step};
+ghost use Rattle.gx_world.specs.Coming.{coming, is_own};
+ghost use Rattle.gx_world.specs.declared.letters.Letters.{Letters};
 
-use crate::network::Network;
-use gx_ids::{Mem, Node};
-use gx_msg::Envelope;
+use gx_ids::Node;
 use gx_store::{Event, NodeEvent};
 
 // The node of an event.
@@ -24,43 +23,17 @@ pub(crate) fn event_node(event: Event) -> Node
     }
 }
 
-// What happens at that node; nothing where a message was never sent.
-pub(crate) fn event_there(network: &Network, event: Event) -> Mem<Option<NodeEvent>>
-    ghost w: { machine.World }
-    requires stands { Stands network.now.script.value w network.now }
-    ensures { IfOk result (λ there. there ≡ at_node w event) }
+// What a node does by itself.
+pub(crate) fn own_event(event: Event) -> NodeEvent
+    requires { is_own event ≡ true }
+    ensures { (steps : List Step) (letters : Letters) → coming steps letters event ≡ Some result }
 {
     match event {
-        Event::Receive { from, to, number } => {
-            let envelope = arrived(network, from, to, number)?;
-            Ok(delivery(from, envelope))
-        }
-        Event::Resume { node: _, gxid } => Ok(Some(NodeEvent::Resume(gxid))),
-        Event::Start(session) => Ok(Some(NodeEvent::Start(session))),
-        Event::End(session) => Ok(Some(NodeEvent::End(session))),
-        Event::Resend { segment, gxid } => Ok(Some(NodeEvent::Resend(segment, gxid))),
-        Event::Round => Ok(Some(NodeEvent::Round)),
-    }
-}
-
-// The message of a number on a link.
-fn arrived(network: &Network, from: Node, to: Node, number: u64) -> Mem<Option<Envelope>>
-    ghost w: { machine.World }
-    requires stands { Stands network.now.script.value w network.now }
-    ensures { IfOk result (λ envelope. envelope ≡ found from to number w.sent) }
-{
-    let steps = &network.run.steps;
-    let envelope = network
-        .letters
-        .letter(network.alloc, steps, from, to, number)?;
-    Ok(envelope)
-}
-
-fn delivery(from: Node, envelope: Option<Envelope>) -> Option<NodeEvent>
-    ensures { result ≡ delivered from envelope }
-{
-    match envelope {
-        Some(envelope) => Some(NodeEvent::Deliver { from, envelope }),
-        None => None,
+        Event::Receive { .. } => unreachable!(),
+        Event::Resume { node: _, gxid } => NodeEvent::Resume(gxid),
+        Event::Start(session) => NodeEvent::Start(session),
+        Event::End(session) => NodeEvent::End(session),
+        Event::Resend { segment, gxid } => NodeEvent::Resend(segment, gxid),
+        Event::Round => NodeEvent::Round,
     }
 }

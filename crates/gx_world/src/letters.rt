@@ -3,8 +3,9 @@ ghost use Rattle.gx_ids.specs.declared.ids.Node.{Node};
 ghost use Rattle.gx_store.specs.Journals.{is_same_node};
 ghost use Rattle.gx_world.specs.Links.{IsAddressed, IsLong, letter_at, link_in, nth_link, nth_place, places_from, sent_in_step, stands_at};
 
-use gx_ids::{Duplicate, Mem, Node, Seq};
-use gx_msg::{Envelope, Message};
+use crate::letter::Letter;
+use gx_ids::{Mem, Node, Seq};
+use gx_msg::Message;
 use gx_store::{Mark, StepView, Steps};
 use std::alloc::Global;
 
@@ -49,20 +50,19 @@ impl Letters {
         Ok(())
     }
 
-    /// The message of a number on a link, from 1, out of the run in which it was sent; none where there is no such message.
-    pub fn letter(
+    /// The message of a number on a link, from 1, lent out of the run in which it was sent; none where there is no such message.
+    pub fn letter<'a>(
         &self,
-        alloc: Global,
-        steps: &Steps,
+        steps: &'a Steps,
         from: Node,
         to: Node,
         number: u64,
-    ) -> Mem<Option<Envelope>>
-        ensures { IfOk result (λ letter. letter ≡ letter_at steps.now (link_in self.now from to) number) }
+    ) -> Option<Letter<'a>>
+        ensures { result ≡ letter_at steps.now (link_in self.now from to) number }
     {
         match place_in(self.link(from, to), number) {
-            Some(place) => envelope_at(alloc, steps, place, number),
-            None => Ok(None),
+            Some(place) => letter_in(steps, place, number),
+            None => None,
         }
     }
 
@@ -161,12 +161,12 @@ fn place_in(places: &[Place], number: u64) -> Option<Place>
 }
 
 // The message that stands at a place.
-fn envelope_at(alloc: Global, steps: &Steps, place: Place, number: u64) -> Mem<Option<Envelope>>
-    ensures { IfOk result (λ letter. letter ≡ stands_at steps.now number (Some place)) }
+fn letter_in(steps: &Steps, place: Place, number: u64) -> Option<Letter<'_>>
+    ensures { result ≡ stands_at steps.now number (Some place) }
 {
     match steps.get(place.step) {
-        Some(step) => envelope_of(alloc, &step, place.mark, number),
-        None => Ok(None),
+        Some(step) => letter_of(&step, place.mark, number),
+        None => None,
     }
 }
 
@@ -186,13 +186,8 @@ fn message_at(steps: &Steps, place: Place) -> Option<&Message>
     }
 }
 
-fn envelope_of(
-    alloc: Global,
-    step: &StepView<'_>,
-    mark: usize,
-    number: u64,
-) -> Mem<Option<Envelope>>
-    ensures { IfOk result (λ letter. letter ≡ sent_in_step number mark (Some step.now)) }
+fn letter_of<'a>(step: &StepView<'a>, mark: usize, number: u64) -> Option<Letter<'a>>
+    ensures { result ≡ sent_in_step number mark (Some step.now) }
 {
     match step.marks().get(mark) {
         Some(
@@ -201,11 +196,11 @@ fn envelope_of(
                 number: _,
                 message,
             },
-        ) => Ok(Some(Envelope {
+        ) => Some(Letter {
             number,
             clock: step.stamp().clock,
-            message: message.copy(alloc)?,
-        })),
-        _ => Ok(None),
+            message,
+        }),
+        _ => None,
     }
 }

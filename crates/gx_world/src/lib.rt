@@ -4,6 +4,7 @@
 mod admitting;
 mod arriving;
 mod graphs;
+pub mod letter;
 pub mod letters;
 mod looking;
 mod making;
@@ -14,6 +15,7 @@ mod turning;
 mod waiting;
 pub mod world;
 
+pub use letter::Letter;
 pub use letters::{Letters, Place};
 pub use network::Nodes;
 pub use world::World;

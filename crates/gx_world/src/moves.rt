@@ -1,19 +1,19 @@
 // A network goes on by one event.
 ghost use Rattle.std.specs.Prelude.{◌≡◌, ◌≤◌, ◌<◌, ◌^◌, length, map, true, false, Some, OnOk, OnErr};
 ghost use Rattle.gx_law_runs.specs.Replays.{is_admitted};
-ghost use Rattle.gx_rules.specs.Machine as machine;
-ghost use Rattle.gx_rules.specs.Machine.{can_here};
+ghost use Rattle.gx_rules.specs.Machine.{at_node, can_here};
 ghost use Rattle.gx_rules.specs.Sending.{heard_in};
+ghost use Rattle.gx_world.specs.Coming.{Moment};
 ghost use Rattle.gx_world.specs.Turns.{IsNext};
 ghost use Rattle.gx_world.specs.Networks.{HasDone, HasMoved, HasRoom, IsNetwork, Stands};
 ghost use Rattle.gx_world.specs.Worlds.{AreLater};
 
-use crate::arriving::{event_node, event_there};
+use crate::arriving::event_node;
 use crate::network::Network;
 use crate::turning::{coord_turn, seg_turn};
 use gx_ids::{Mem, Node};
 use gx_outside::{Gate, Journal};
-use gx_store::{Event, NodeEvent};
+use gx_store::Event;
 
 // Does an event that may happen.
 pub(crate) fn do_event<J: Journal, G: Gate>(
@@ -32,10 +32,7 @@ pub(crate) fn do_event<J: Journal, G: Gate>(
     ensures script { network.new.script ≡ network.old.script }
     ensures err { OnErr result (network.new.run ≡ network.old.run) }
 {
-    match event_there(network, event)? {
-        Some(there) => turn(network, event, event_node(event), there, journals, gate),
-        None => unreachable!(),
-    }
+    turn(network, event, event_node(event), journals, gate)
 }
 
 // A node does an event that is admitted there.
@@ -43,34 +40,27 @@ fn turn<J: Journal, G: Gate>(
     network: &mut Network,
     event: Event,
     at: Node,
-    there: NodeEvent,
     journals: &mut [J],
     gate: &G,
 ) -> Mem<()>
-    ghost w: { machine.World }
-    requires stands { Stands network.old.script.value w network.old }
+    ghost moment: { Moment }
+    requires stands { Stands network.old.script.value moment.w network.old }
+    requires there { at_node moment.w event ≡ Some moment.here }
     requires few { at.0 ≤ network.old.script.value.segments }
-    requires admitted { can_here network.old.script.value w at (Some there) ≡ true }
-    requires next { IsNext network.old.script.value w event at there }
-    requires heard { heard_in there < 2 ^ 62 }
+    requires admitted { can_here network.old.script.value moment.w at (Some moment.here) ≡ true }
+    requires next { IsNext network.old.script.value moment.w event at moment.here }
+    requires heard { heard_in moment.here < 2 ^ 62 }
     requires journals { length journals.old ≡ 17 }
     requires room { HasRoom network.old }
-    ensures moved { OnOk result (HasMoved network.old.script.value w event at there network.new
+    ensures moved { OnOk result (HasMoved network.old.script.value moment.w event at moment.here network.new
         (map J.shelf journals.old) (map J.shelf journals.new)) }
     ensures later { AreLater (map J.shelf journals.old) (map J.shelf journals.new) }
     ensures script { network.new.script ≡ network.old.script }
     ensures err { OnErr result (network.new.run ≡ network.old.run) }
 {
     if at.0 == 0 {
-        coord_turn(network, event, there, &mut journals[0])
+        coord_turn(network, event, &mut journals[0])
     } else {
-        seg_turn(
-            network,
-            event,
-            at,
-            there,
-            &mut journals[usize::from(at.0)],
-            gate,
-        )
+        seg_turn(network, event, at, &mut journals[usize::from(at.0)], gate)
     }
 }

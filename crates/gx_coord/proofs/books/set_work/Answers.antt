@@ -6,4 +6,4 @@ use Rattle.gx_coord.proofs.books.set_work.Goals as goal
 pub returns-clause-coord : goal.returns-clause-coord
 returns-clause-coord c =
     let old = c.args.coord.now in
-    ap (λ f. record (coord_of old) { works = f }) (found-with old.script.value.lines old.works c.insert.new.self c.args.gxid (Some c.args.work) c.in_ok-insert.ensures.updates)
+    ap (λ f. record (coord_of old) { works = f }) (found-with old.script.value.lines old.works.items c.put.new.entries.items c.args.gxid (Some c.args.work) c.in_ok-put.ensures)

@@ -1,11 +1,12 @@
-use Rattle.std.proofs.Common.{◌≡◌, ◌∙◌, IfOk, OnOk, ap, subst, sym}
+use Rattle.std.proofs.Common.{◌≡◌, ◌∙◌, IfOk, ap, refl, subst, sym}
 use Rattle.gx_rules.specs.Coordinators.{CoordTurn}
 use Rattle.gx_script.specs.declared.Script.{Script}
 use Rattle.gx_coord.specs.Books.{coord_of, stmt_at}
 use Rattle.gx_coord.specs.Faults.{HasConstants}
-use Rattle.gx_coord.specs.Turns.{IsTurn}
+use Rattle.gx_coord.specs.declared.coord.Coord.{Coord}
 use Rattle.gx_coord.proofs.Faulting.{has-constants, stmt-of}
 use Rattle.gx_coord.proofs.Going.{locked-is}
+use Rattle.gx_coord.proofs.Turned.{on_turn-from}
 use Rattle.gx_coord.proofs.dispatch.go_locked.Goals as goal
 
 pub read_and_go-requires-clause-constants : goal.read_and_go-requires-clause-constants
@@ -18,7 +19,9 @@ pub returns-clause-turn : goal.returns-clause-turn
 returns-clause-turn c =
     let old = c.args.coord.now in
     let line = c.line_at-line.ensures ∙ ap (λ (s : Script). stmt_at s.lines c.args.place) (c.deref.ensures ∙ c.in_ok-script.ensures) in
-    subst (λ (t : CoordTurn). OnOk c.read_and_go.result (IsTurn old c.read_and_go.new.coord c.args.marks.now.items c.read_and_go.new.marks.items t))
+    let mid : Coord = record old { spare = record old.spare { pieces = c.taken-blank.new.spare } } in
+    on_turn-from c.read_and_go.result old mid c.read_and_go.new.coord c.args.marks.now.items c.read_and_go.new.marks.items _ _
+    (record { script = refl; places = refl; sent = refl; clock = refl; segments = refl; count = refl })
     (locked-is old.script.value c.deref-3.result.now (coord_of old) c.args.gxid c.next_cid-cid.result c.line_at-line.result.now (stmt_at old.script.value.lines c.args.place) (c.deref-3.ensures ∙ c.in_ok-script.ensures) c.next_cid-cid.ensures line)
     c.read_and_go.ensures.turn
 

@@ -7,12 +7,12 @@ use Rattle.gx_coord.specs.Faults.{is_short}
 use Rattle.gx_coord.proofs.Faulting.{dist-at, planned-command}
 use Rattle.gx_coord.proofs.dispatch.plan_line.Goals as goal
 
-pub plan-requires-clause-command : goal.plan-requires-clause-command
-plan-requires-clause-command c =
+pub plan_in-requires-clause-command : goal.plan_in-requires-clause-command
+plan_in-requires-clause-command c =
     let short : is_short c.args.line.now ≡ true = grind (arith, common_steps) in
     planned-command c.args.script.now c.args.line.now c.schema_of-schema.result.now c.requires.language c.requires.command c.requires.line short c.schema_of-schema.ensures
 
 pub returns-clause-pieces : goal.returns-clause-pieces
 returns-clause-pieces c =
     let script = c.args.script.now in
-    subst (λ (d : Dist). IfOk c.plan.result (λ found. plan_of script.segments d c.args.gxid c.args.cid c.args.line.now ≡ Ok found.items)) (sym (dist-at script.tables (table_of c.args.line.now) c.schema_of-schema.result.now c.schema_of-schema.ensures)) c.plan.ensures.pieces
+    subst (λ (d : Dist). IfOk c.plan_in.result (λ found. plan_of script.segments d c.args.gxid c.args.cid c.args.line.now ≡ Ok found.items)) (sym (dist-at script.tables (table_of c.args.line.now) c.schema_of-schema.result.now c.schema_of-schema.ensures)) c.plan_in.ensures.pieces

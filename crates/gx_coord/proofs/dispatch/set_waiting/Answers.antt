@@ -1,4 +1,7 @@
-use Rattle.std.proofs.Common.{◌∙◌, ap, sym}
+use Rattle.std.proofs.Common.{◌∙◌, ap, sym, subst}
+use Rattle.std.specs.BTreeMap.{is_at}
+use Rattle.gx_dsnap.specs.Gxids.{gxid_cmp}
+use Rattle.gx_entries.specs.Standing.{StandsAt}
 use Rattle.std.specs.Prelude.{option_map}
 use Rattle.gx_rules.specs.Coordinators.{Work}
 use Rattle.gx_rules.specs.Maps.{with_at}
@@ -10,8 +13,11 @@ pub returns-in-Some-clause-coord : goal.returns-in-Some-clause-coord
 returns-in-Some-clause-coord c =
     let old = c.args.coord.now in
     let lines = old.script.value.lines in
-    let work = c.in-Some.work.now in
+    let es = old.works.items in
+    let e = c.index_mut.result.now in
+    let work = e.1 in
+    let stands = subst (λ xs. StandsAt (is_at (gxid_cmp c.args.gxid)) xs c.in-Some.place) c.as_slice.ensures.value c.in-Some.ensures.there in
     let now = record work { waiting = c.args.waiting } in
     ap (λ f. record (coord_of old) { works = f })
-    (found-through lines old.works (c.get_mut.follows.lender now) c.args.gxid work now c.in-Some.ensures.value (c.get_mut.follows.holds now)
-    ∙ ap (λ (v : Work). with_at (found lines old.works.entries) c.args.gxid.0 (record v { waiting = option_map (stmt_at lines) c.args.waiting })) (sym (found-at lines old.works c.args.gxid work c.in-Some.ensures.value)))
+    (found-through lines es c.args.gxid c.in-Some.place e stands c.index_mut.ensures.value now
+    ∙ ap (λ (v : Work). with_at (found lines es) c.args.gxid.0 (record v { waiting = option_map (stmt_at lines) c.args.waiting })) (sym (found-at lines es c.args.gxid c.in-Some.place e stands c.index_mut.ensures.value)))

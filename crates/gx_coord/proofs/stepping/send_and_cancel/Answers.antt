@@ -1,4 +1,4 @@
-use Rattle.std.proofs.Common.{◌≤◌, ◌<◌, ◌+◌, ◌∙◌, All, List, ap, length, subst, sym}
+use Rattle.std.proofs.Common.{◌≤◌, ◌<◌, ◌+◌, ◌∙◌, All, List, ap, length, refl, subst, sym}
 use Rattle.gx_msg.specs.declared.message.Out.{Out}
 use Rattle.gx_script.specs.declared.Script.{Script}
 use Rattle.gx_coord.proofs.Cancelled.{stayed-trans}
@@ -22,5 +22,5 @@ returns-clause-stayed c = stayed-trans _ _ _ c.in_ok-send.ensures.stayed c.in_ok
 
 pub returns-clause-turn : goal.returns-clause-turn
 returns-clause-turn c =
-    finish-is c.args.coord.now c.send.new.coord c.cancel_all.new.coord c.args.clock _ _ _ _ _ _ _ _ c.into_vec.ensures c.as_slice.ensures c.from_vec.ensures
+    finish-is c.args.coord.now c.send.new.coord c.cancel_all.new.coord c.args.clock _ _ _ _ _ _ _ _ c.into_vec.ensures c.as_slice.ensures refl
     c.in_ok-send.ensures.coord c.in_ok-send.ensures.marks c.in_ok-cancel_all.ensures.turns

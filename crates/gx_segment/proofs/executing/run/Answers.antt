@@ -5,7 +5,7 @@ use Rattle.gx_slices.specs.Ran.{MayRun}
 use Rattle.gx_slices.specs.Store.{greater}
 use Rattle.gx_rules.specs.AtSegment.{raised}
 use Rattle.gx_rules.specs.Segments.{Seg}
-use Rattle.gx_segment.specs.Done.{HasDone, IsQuiet}
+use Rattle.gx_segment.specs.Done.{HasDone, IsQuiet, came}
 use Rattle.gx_segment.specs.Ways.{starts}
 use Rattle.gx_segment.proofs.Raised.{IsHeld-raised, seg-raised}
 use Rattle.gx_segment.proofs.executing.run.Goals as goal
@@ -34,10 +34,10 @@ returns-clause-done g c =
     let command = c.args.command in
     let same = seg-raised g.was.seg c.args.low c.args.held.now.store c.raise.new.held.store c.requires.1.1.0.horizon c.raise.ensures.store in
     subst
-    (λ (h : Gxid). HasDone g.was.script.tables c.start.new.held h c.in_ok-done.done (starts g.was.script (raised g.was.seg c.args.low) c.args.gxid command))
+    (λ (h : Gxid). HasDone g.was.script.tables c.start.new.held h (came c.start.new.marks.items c.in_ok-done.done) (starts g.was.script (raised g.was.seg c.args.low) c.args.gxid command))
     (sym (c.raise.ensures.horizon ∙ ap (λ (h : Gxid). greater h c.args.low) c.requires.1.1.1.0))
     (subst
-    (λ (x : Seg). HasDone g.was.script.tables c.start.new.held x.horizon c.in_ok-done.done (starts g.was.script x c.args.gxid command))
+    (λ (x : Seg). HasDone g.was.script.tables c.start.new.held x.horizon (came c.start.new.marks.items c.in_ok-done.done) (starts g.was.script x c.args.gxid command))
     (sym same)
     c.in_ok-done.ensures.done)
 
@@ -45,4 +45,4 @@ pub returns-clause-quiet : goal.returns-clause-quiet
 returns-clause-quiet g c =
     let command = c.args.command in
     let same = seg-raised g.was.seg c.args.low c.args.held.now.store c.raise.new.held.store c.requires.1.1.0.horizon c.raise.ensures.store in
-    subst (λ (x : Seg). IsQuiet c.in_ok-done.done (starts g.was.script x c.args.gxid command)) (sym same) c.in_ok-done.ensures.quiet
+    subst (λ (x : Seg). IsQuiet c.in_ok-done.done.fails (starts g.was.script x c.args.gxid command)) (sym same) c.in_ok-done.ensures.quiet

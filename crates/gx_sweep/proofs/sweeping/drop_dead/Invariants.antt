@@ -5,9 +5,9 @@ use Rattle.gx_sweep.proofs.sweeping.drop_dead.Given as goal
 
 abbrev pub invariant-loop-place : goal.invariant-loop-place
 invariant-loop-place l =
-    (l.place ≤ length l.initial.versions.items)
-    × (l.versions.items ≡ take l.place l.initial.versions.items ++ swept l.fn.map l.fn.horizon (drop l.place l.initial.versions.items))
-    × (l.overtaken ≡ list_any (is_settled l.fn.map l.fn.horizon) (drop l.place l.initial.versions.items))
+    (l.place ≤ length l.initial.versions)
+    × (l.versions ≡ take l.place l.initial.versions ++ swept l.fn.map l.fn.horizon (drop l.place l.initial.versions))
+    × (l.overtaken ≡ list_any (is_settled l.fn.map l.fn.horizon) (drop l.place l.initial.versions))
 
 abbrev pub decreases-loop-place : goal.decreases-loop-place
 decreases-loop-place l = l.place

@@ -10,14 +10,14 @@ use Rattle.gx_sweep.proofs.sweeping.sweep.Goals as goal
 
 now_swept : (c : goal.After-put) → versions_of c.put.new.self c.args.rid ≡ swept c.args.map.now c.args.horizon (versions_of c.args.rows.now c.args.rid)
 now_swept c =
-    versions-swept c.args.rows.now c.take.new.self c.put.new.self c.args.rid c.from_vec.result c.take.ensures.left c.put.ensures c.args.map.now c.args.horizon
-    (c.from_vec.ensures ∙ c.drop_dead.ensures ∙ ap (swept c.args.map.now c.args.horizon) (c.into_vec-versions.ensures ∙ c.take.ensures.taken))
+    versions-swept c.args.rows.now c.take-versions.new.self c.put.new.self c.args.rid c.drop_dead.new.versions c.take-versions.ensures.left c.put.ensures c.args.map.now c.args.horizon
+    (c.drop_dead.ensures ∙ ap (swept c.args.map.now c.args.horizon) c.take-versions.ensures.taken)
 
 pub returns-clause-swept : goal.returns-clause-swept
 returns-clause-swept c = now_swept c
 
 pub returns-clause-others : goal.returns-clause-others
-returns-clause-others c = versions-left c.args.rows.now c.take.new.self c.put.new.self c.args.rid c.from_vec.result c.take.ensures.left c.put.ensures
+returns-clause-others c = versions-left c.args.rows.now c.take-versions.new.self c.put.new.self c.args.rid c.drop_dead.new.versions c.take-versions.ensures.left c.put.ensures
 
 pub returns-clause-newest : goal.returns-clause-newest
 returns-clause-newest c =

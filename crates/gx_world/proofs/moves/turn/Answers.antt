@@ -11,8 +11,14 @@ coord_turn-requires g c κs within = (
   (
     c.requires.1.1.0,
     (
-      subst (λ n. can_here c.args.network.now.script.value g.w n (Some c.args.there) ≡ true) (at-zero c.args.at c.if-at-eq0.true) c.requires.1.1.1.1.0,
-      (subst (λ n. IsNext c.args.network.now.script.value g.w c.args.event n c.args.there) (at-zero c.args.at c.if-at-eq0.true) c.requires.1.1.1.1.1.0, (c.requires.1.1.1.1.1.1.0, c.requires.1.1.1.1.1.1.1.1)),
+      c.requires.1.1.1.0,
+      (
+        subst (λ n. can_here c.args.network.now.script.value g.moment.w n (Some g.moment.here) ≡ true) (at-zero c.args.at c.if-at-eq0.true) c.requires.1.1.1.1.1.0,
+        (
+          subst (λ n. IsNext c.args.network.now.script.value g.moment.w c.args.event n g.moment.here) (at-zero c.args.at c.if-at-eq0.true) c.requires.1.1.1.1.1.1.0,
+          (c.requires.1.1.1.1.1.1.1.0, c.requires.1.1.1.1.1.1.1.1.1),
+        ),
+      ),
     ),
   ),
 )
@@ -20,18 +26,18 @@ coord_turn-requires g c κs within = (
 pub returns-then-at-eq0-clause-moved : goal.returns-then-at-eq0-clause-moved
 returns-then-at-eq0-clause-moved g c =
     on_ok c.coord_turn.result _ _ c.coord_turn.ensures.turned
-    (λ t. moved-first g.J.Journal.shelf c.args.journals.now _ g.w _ c.args.at _ c.coord_turn.new.network c.index-journals-0.result c.coord_turn.new.journal c.if-at-eq0.true (omega (arith, c.requires.1.1.1.1.1.1.1.0)) t)
+    (λ t. moved-first g.J.Journal.shelf c.args.journals.now _ g.moment.w _ c.args.at _ c.coord_turn.new.network c.index-journals-0.result c.coord_turn.new.journal c.if-at-eq0.true (omega (arith, c.requires.1.1.1.1.1.1.1.1.0)) t)
 
 pub returns-else-at-eq0-clause-moved : goal.returns-else-at-eq0-clause-moved
 returns-else-at-eq0-clause-moved g c =
     on_ok c.seg_turn.result _ _ c.seg_turn.ensures.turned
-    (λ t. moved-at g.J.Journal.shelf c.args.journals.now _ g.w _ c.args.at _ c.seg_turn.new.network c.index-journals-from.result c.seg_turn.new.journal c.from.result (omega (arith, c.from.ensures)) (omega (arith, c.from.ensures, c.requires.1.1.1.1.1.1.1.0, c.requires.1.1.1.0, c.requires.1.1.0.language.few_segments)) t)
+    (λ t. moved-at g.J.Journal.shelf c.args.journals.now _ g.moment.w _ c.args.at _ c.seg_turn.new.network c.index-journals-from.result c.seg_turn.new.journal c.from.result (omega (arith, c.from.ensures)) (omega (arith, c.from.ensures, c.requires.1.1.1.1.1.1.1.1.0, c.requires.1.1.1.1.0, c.requires.1.1.0.language.few_segments)) t)
 
 pub returns-then-at-eq0-clause-later : goal.returns-then-at-eq0-clause-later
 returns-then-at-eq0-clause-later g c =
-    later-at g.J.Journal.shelf c.args.journals.now c.index-journals-0.result c.coord_turn.new.journal 0 (omega (arith, c.requires.1.1.1.1.1.1.1.0)) c.coord_turn.ensures.later
+    later-at g.J.Journal.shelf c.args.journals.now c.index-journals-0.result c.coord_turn.new.journal 0 (omega (arith, c.requires.1.1.1.1.1.1.1.1.0)) c.coord_turn.ensures.later
 
 pub returns-else-at-eq0-clause-later : goal.returns-else-at-eq0-clause-later
 returns-else-at-eq0-clause-later g c =
     later-at g.J.Journal.shelf c.args.journals.now c.index-journals-from.result c.seg_turn.new.journal c.from.result
-    (omega (arith, c.from.ensures, c.requires.1.1.1.1.1.1.1.0, c.requires.1.1.1.0, c.requires.1.1.0.language.few_segments)) c.seg_turn.ensures.later
+    (omega (arith, c.from.ensures, c.requires.1.1.1.1.1.1.1.1.0, c.requires.1.1.1.1.0, c.requires.1.1.0.language.few_segments)) c.seg_turn.ensures.later

@@ -1,4 +1,4 @@
 use Rattle.gx_world.proofs.turning.coord_step.Given as goal
 
-abbrev pub ghost-step : goal.ghost-step
-ghost-step g a = g.c
+abbrev pub ghost-coord_event : goal.ghost-coord_event
+ghost-coord_event g a = g.at

@@ -9,7 +9,7 @@ use Rattle.gx_world.proofs.turning.coord_turn.Goals as goal
 
 pub push_step-requires : goal.push_step-requires
 push_step-requires g c =
-    (c.requires.1.0.long, coord-addressed _ _ _ c.args.network.now c.requires.1.0 _ _ _ _ _ c.coord_step.new.coord _ c.step_of-step.ensures c.requires.1.1.1.0 c.in_ok-marks.ensures.stepped)
+    (c.requires.1.0.long, coord-addressed _ _ _ c.args.network.now c.requires.1.0 _ _ _ _ _ c.coord_step.new.coord _ c.step_of-step.ensures c.requires.1.1.1.1.0 c.in_ok-marks.ensures.stepped)
 
 pub returns-clause-turned : goal.returns-clause-turned
 returns-clause-turned g c =
@@ -18,7 +18,7 @@ returns-clause-turned g c =
     let step : Step = c.step_of-step.result in
     on_ok c.push_step.result _ _ (both_ok c.push_step.result _ _ c.push_step.ensures.run (both_ok c.push_step.result _ _ c.push_step.ensures.long c.push_step.ensures.links))
     (λ e.
-    coord-turned _ _ old new c.requires.1.0 _ _ _ _ _ c.coord_step.new.coord _ c.step_of-step.ensures c.requires.1.1.1.0 c.in_ok-marks.ensures.stepped
+    coord-turned _ _ old new c.requires.1.0 _ _ _ _ _ c.coord_step.new.coord _ c.step_of-step.ensures c.requires.1.1.1.1.0 c.in_ok-marks.ensures.stepped
     (record {
       run = e.0 ∙ ap (λ (steps : List Step). steps ++ step ∷ []) c.coord_step.ensures.steps;
       long = e.1.0;

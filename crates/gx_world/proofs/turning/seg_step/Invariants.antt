@@ -1,4 +1,4 @@
 use Rattle.gx_world.proofs.turning.seg_step.Given as goal
 
-abbrev pub ghost-step : goal.ghost-step
-ghost-step g a = g.s
+abbrev pub ghost-seg_event : goal.ghost-seg_event
+ghost-seg_event g a = g.moment

@@ -5,6 +5,7 @@ use Rattle.gx_store.specs.declared.run.Step.{Step}
 use Rattle.gx_world.specs.Links.{link_in, places_from}
 use Rattle.gx_world.specs.declared.network.Network.{Network}
 use Rattle.gx_world.proofs.Answers.{both_ok, on_ok}
+use Rattle.gx_world.proofs.Coming.{comes}
 use Rattle.gx_world.proofs.Segs.{seg-addressed, seg-inside, seg-is, seg-may, seg-turned, seg-usable}
 use Rattle.gx_world.proofs.turning.seg_turn.Goals as goal
 
@@ -14,16 +15,22 @@ seg_step-requires g c κs within = (
   (
     within.1,
     (
-      c.requires.1.1.1.0,
+      c.requires.1.1.1.1.0,
       (
-        seg-inside _ _ c.args.network.now c.requires.1.1.0 c.args.at c.requires.1.1.1.0 c.requires.1.1.1.1.0,
+        seg-inside _ _ c.args.network.now c.requires.1.1.0 c.args.at c.requires.1.1.1.1.0 c.requires.1.1.1.1.1.0,
         (
-          seg-usable _ _ c.args.network.now c.requires.1.1.0 c.args.at c.requires.1.1.1.0,
+          seg-usable _ _ c.args.network.now c.requires.1.1.0 c.args.at c.requires.1.1.1.1.0,
           (
-            seg-is _ _ c.args.network.now c.requires.1.1.0 c.args.at c.requires.1.1.1.0,
+            seg-is _ _ c.args.network.now c.requires.1.1.0 c.args.at c.requires.1.1.1.1.0,
             (
-              c.requires.1.1.1.1.1.1.1.1.segments,
-              (seg-may _ _ c.args.network.now c.requires.1.1.0 c.args.at c.requires.1.1.1.0 c.args.there c.requires.1.1.1.1.1.0, c.requires.1.1.1.1.1.1.1.0),
+              c.requires.1.1.1.1.1.1.1.1.1.segments,
+              (
+                comes _ _ c.args.network.now c.requires.1.1.0 _ _ c.requires.1.1.1.0,
+                (
+                  seg-may _ _ c.args.network.now c.requires.1.1.0 c.args.at c.requires.1.1.1.1.0 g.moment.here c.requires.1.1.1.1.1.1.0,
+                  c.requires.1.1.1.1.1.1.1.1.0,
+                ),
+              ),
             ),
           ),
         ),
@@ -34,7 +41,7 @@ seg_step-requires g c κs within = (
 
 pub push_step-requires : goal.push_step-requires
 push_step-requires g c =
-    (c.requires.1.1.0.long, seg-addressed _ _ c.args.network.now c.requires.1.1.0 _ c.requires.1.1.1.0 _ _ _ _ _ _ c.requires.1.1.1.1.1.1.0 c.in_ok-step.ensures.stepped)
+    (c.requires.1.1.0.long, seg-addressed _ _ c.args.network.now c.requires.1.1.0 _ c.requires.1.1.1.1.0 _ _ _ _ _ _ c.requires.1.1.1.1.1.1.1.0 c.in_ok-step.ensures.stepped)
 
 pub returns-clause-turned : goal.returns-clause-turned
 returns-clause-turned g c =
@@ -44,7 +51,7 @@ returns-clause-turned g c =
     let others = c.push_step.ensures.others in
     on_ok c.push_step.result _ _ (both_ok c.push_step.result _ _ c.push_step.ensures.run (both_ok c.push_step.result _ _ c.push_step.ensures.long c.push_step.ensures.links))
     (λ e.
-    seg-turned _ _ old c.requires.1.1.0 _ c.requires.1.1.1.0 _ _ _ _ _ _ c.requires.1.1.1.1.1.1.0 c.in_ok-step.ensures.stepped new
+    seg-turned _ _ old c.requires.1.1.0 _ c.requires.1.1.1.1.0 _ _ _ _ _ _ c.requires.1.1.1.1.1.1.1.0 c.in_ok-step.ensures.stepped new
     (record {
       run = e.0 ∙ ap (λ (steps : List Step). steps ++ step ∷ []) c.seg_step.ensures.steps;
       long = e.1.0;

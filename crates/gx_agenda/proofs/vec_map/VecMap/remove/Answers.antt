@@ -4,7 +4,7 @@ use Rattle.gx_agenda.proofs.Rising.{at-remove, rising-remove, unchanged}
 use Rattle.gx_agenda.proofs.vec_map.VecMap.remove.Goals as goal
 
 pub invariant_of-self : goal.invariant_of-self
-invariant_of-self g c = subst (IsRising g.K.Ord.cmp) (sym c.remove.ensures.items) (rising-remove g.met.K.Ord.total c.args.key _ _ c.self.invariant)
+invariant_of-self g c = subst (IsRising g.K.Ord.cmp) (sym c.remove.ensures.items) (rising-remove g.met.K.Ord.total _ _ c.self.invariant)
 
 pub returns-in-Ok : goal.returns-in-Ok
 returns-in-Ok g c =

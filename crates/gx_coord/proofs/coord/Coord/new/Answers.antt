@@ -16,7 +16,7 @@ returns-clause-new c =
     let lines = c.as_slice.ensures ∙ ap (λ (s : Script). s.lines) c.deref.ensures in
     let count = c.len.ensures ∙ ap (λ (s : Script). length s.sessions) c.deref-2.ensures in
     is-coord k new_coordinator
-    (new-holds k c.len-2.result (c.deref-4.result.now.segments + 1) c.deref-5.result.now.segments c.in_ok-dtx.ensures c.new-4.ensures.empty c.in_ok-sessions.ensures c.in_ok-locks.ensures c.in_ok-detector.ensures c.in_ok-sent.ensures refl)
+    (new-holds k c.len-2.result (c.deref-4.result.now.segments + 1) c.deref-5.result.now.segments c.in_ok-dtx.ensures c.new-4.ensures.items c.in_ok-sessions.ensures c.in_ok-locks.ensures c.in_ok-detector.ensures c.in_ok-sent.ensures refl)
     (ap length c.in_ok-sessions.ensures ∙ length-replicate c.len-2.result fresh_session ∙ c.len-2.ensures ∙ ap (λ (s : Script). length s.sessions) c.deref-3.ensures)
     c.requires
     (subst (λ n. AreIndexed script.lines n c.in_ok-places.places.items) count (subst (λ (ls : List Line). AreIndexed ls c.len.result c.in_ok-places.places.items) lines c.in_ok-places.ensures))

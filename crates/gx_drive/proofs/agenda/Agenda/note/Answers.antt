@@ -1,12 +1,12 @@
-use Rattle.gx_drive.proofs.Answers.{on_ok}
+use Rattle.gx_agenda.proofs.Oks.{on_ok-three}
 use Rattle.gx_drive.proofs.agenda.Agenda.note.Goals as goal
 
 pub returns : goal.returns
 returns c =
-    on_ok c.note-3.result _ _ c.note-3.ensures
-    (λ asked script steps agreed due counted told. record {
+    on_ok-three c.note_step.result _ _ _ _ c.note_step.ensures.quiet c.note_step.ensures.queue c.note_step.ensures.asked
+    (λ quiet queue asked script steps agreed due counted told. record {
       cursors = c.deliver.ensures script steps agreed.cursors due;
-      queue = c.in_ok-note.ensures script steps agreed.queue counted;
+      queue = queue script steps agreed.queue counted;
       asked = asked steps agreed.asked told;
-      quiet = c.note.ensures script steps agreed.quiet;
+      quiet = quiet script steps agreed.quiet;
     })

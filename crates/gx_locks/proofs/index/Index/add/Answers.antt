@@ -2,22 +2,22 @@ use Rattle.std.proofs.Common.{◌∙◌, ◌++◌, ◌∷◌, [], ap}
 use Rattle.gx_locks.proofs.Written.{err_then, ok_then, some_then}
 use Rattle.gx_locks.proofs.index.Index.add.Goals as goal
 
-pub returns-in-Some-clause-there : goal.returns-in-Some-clause-there
-returns-in-Some-clause-there c =
-    ok_then c.add.result (λ added. ap (λ rack. rack.holds) (some_then c.shelf_mut.result c.in-Some.shelf c.in-Some.is (c.shelf_mut.follows.holds c.add.new.self)).there ∙ added ∙ ap (λ rack. rack.holds ++ c.args.hold ∷ []) c.in-Some.ensures.found) c.add.ensures.ok
+pub returns-clause-there : goal.returns-clause-there
+returns-clause-there c =
+    ok_then c.add.result (λ added. ap (λ rack. rack.holds) (some_then c.shelf_mut.result c.in-Some.shelf c.in-Some.is (c.shelf_mut.follows.holds c.add.new.self)).there ∙ added ∙ ap (λ rack. rack.holds ++ c.args.hold ∷ []) (c.in-Some.ensures.found ∙ c.in_ok-make.ensures.same c.args.key)) c.add.ensures.ok
 
-pub returns-in-Some-clause-err : goal.returns-in-Some-clause-err
-returns-in-Some-clause-err c =
-    err_then c.add.result (λ same. ap (λ rack. rack.holds) (some_then c.shelf_mut.result c.in-Some.shelf c.in-Some.is (c.shelf_mut.follows.holds c.add.new.self)).there ∙ same ∙ ap (λ rack. rack.holds) c.in-Some.ensures.found) c.add.ensures.err
+pub returns-clause-err : goal.returns-clause-err
+returns-clause-err c =
+    err_then c.add.result (λ same. ap (λ rack. rack.holds) (some_then c.shelf_mut.result c.in-Some.shelf c.in-Some.is (c.shelf_mut.follows.holds c.add.new.self)).there ∙ same ∙ ap (λ rack. rack.holds) (c.in-Some.ensures.found ∙ c.in_ok-make.ensures.same c.args.key)) c.add.ensures.err
 
-pub returns-in-Some-clause-places_there : goal.returns-in-Some-clause-places_there
-returns-in-Some-clause-places_there c =
-    ap (λ rack. rack.places) (some_then c.shelf_mut.result c.in-Some.shelf c.in-Some.is (c.shelf_mut.follows.holds c.add.new.self)).there ∙ c.add.ensures.places ∙ ap (λ rack. rack.places) c.in-Some.ensures.found
+pub returns-clause-places_there : goal.returns-clause-places_there
+returns-clause-places_there c =
+    ap (λ rack. rack.places) (some_then c.shelf_mut.result c.in-Some.shelf c.in-Some.is (c.shelf_mut.follows.holds c.add.new.self)).there ∙ c.add.ensures.places ∙ ap (λ rack. rack.places) (c.in-Some.ensures.found ∙ c.in_ok-make.ensures.same c.args.key)
 
-pub returns-in-Some-clause-elsewhere : goal.returns-in-Some-clause-elsewhere
-returns-in-Some-clause-elsewhere c = λ k other.
-    ap (λ rack. rack.holds) ((some_then c.shelf_mut.result c.in-Some.shelf c.in-Some.is (c.shelf_mut.follows.holds c.add.new.self)).elsewhere k other)
+pub returns-clause-elsewhere : goal.returns-clause-elsewhere
+returns-clause-elsewhere c = λ k other.
+    ap (λ rack. rack.holds) ((some_then c.shelf_mut.result c.in-Some.shelf c.in-Some.is (c.shelf_mut.follows.holds c.add.new.self)).elsewhere k other ∙ c.in_ok-make.ensures.same k)
 
-pub returns-in-Some-clause-places_elsewhere : goal.returns-in-Some-clause-places_elsewhere
-returns-in-Some-clause-places_elsewhere c = λ k other.
-    ap (λ rack. rack.places) ((some_then c.shelf_mut.result c.in-Some.shelf c.in-Some.is (c.shelf_mut.follows.holds c.add.new.self)).elsewhere k other)
+pub returns-clause-places_elsewhere : goal.returns-clause-places_elsewhere
+returns-clause-places_elsewhere c = λ k other.
+    ap (λ rack. rack.places) ((some_then c.shelf_mut.result c.in-Some.shelf c.in-Some.is (c.shelf_mut.follows.holds c.add.new.self)).elsewhere k other ∙ c.in_ok-make.ensures.same k)

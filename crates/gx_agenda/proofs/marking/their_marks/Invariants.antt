@@ -1,0 +1,20 @@
+use Rattle.std.proofs.Common.{◌≡◌, ◌+◌, ℕ, List, take}
+use Rattle.gx_ids.specs.declared.ids.Node.{Node}
+use Rattle.gx_ids.specs.declared.ids.SessionId.{SessionId}
+use Rattle.gx_script.specs.declared.Line.{Line}
+use Rattle.gx_store.specs.Marks.{answer_count}
+use Rattle.gx_store.specs.Waits.{waits_from}
+use Rattle.gx_waits.specs.declared.claim.Claim.{Claim}
+use Rattle.gx_agenda.specs.Awaited.{AreWaits, IsIndexed, awaited_at}
+use Rattle.gx_agenda.specs.declared.request.Request.{Request}
+use Rattle.gx_agenda.specs.Moves.{AreFew}
+use Rattle.gx_agenda.specs.Queued.{AreQueuedBy}
+use Rattle.gx_agenda.proofs.marking.their_marks.Given as goal
+
+abbrev pub invariant-loop-mark : goal.invariant-loop-mark
+invariant-loop-mark l =
+    ((lines : List Line) (started answered : SessionId → ℕ) → AreQueuedBy lines started answered l.initial.queue → AreFew started → AreFew (λ s. answered s + answer_count s l.marks)
+    → AreQueuedBy lines started (λ s. answered s + answer_count s (take l.mark-index l.marks)) l.queue)
+    × ((r : Request) → awaited_at l.asked r ≡ awaited_at l.initial.asked r)
+    × ((standing : Node → List Claim) → AreWaits standing l.initial.asked → AreWaits (λ node. waits_from node (standing node) (take l.mark-index l.marks)) l.asked)
+    × (IsIndexed l.initial.asked → IsIndexed l.asked)

@@ -1,0 +1,3 @@
+pub mod Gxids
+pub mod Stood
+pub mod Updated

@@ -1,0 +1,6 @@
+use Rattle.std.proofs.Common.{◌∙◌, ap}
+use Rattle.gx_locks.specs.declared.key.Key.TheVariants.{Of}
+use Rattle.gx_locks.proofs.index.Index.take_of.Goals as goal
+
+pub returns-clause-there : goal.returns-clause-there
+returns-clause-there c = ap (λ rack. rack.holds) (c.free_idle.ensures (Of c.args.gxid) ∙ c.take_there-holds.ensures.there)
