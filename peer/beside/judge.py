@@ -1,0 +1,75 @@
+"""One script beside a server: its run, what differs, and why."""
+
+from dataclasses import dataclass, field, replace
+from pathlib import Path
+
+from beside.compare import Difference, Expected, differences, expected
+from beside.drive import ServerRun, Settings
+from beside.oracle import Verdicts, ask_gx
+from beside.script import Script, left_out, read_script, words_beside
+from beside.stage import Server, Stage
+from beside.variants import variants
+
+BEGIN_IN_BLOCK = "begin"
+
+
+@dataclass
+class Judgement:
+    """What came of a script: left out for a reason, or the differences, of which those without a reason are unexplained.
+
+    `victims` and `agreed_victims` count the sessions that gx's detector cancels and those of them that the server cancels too.
+    """
+
+    name: str
+    left_out: str | None = None
+    lines: int = 0
+    differences: list[Difference] = field(default_factory=list)
+    notes: list[str] = field(default_factory=list)
+    victims: int = 0
+    agreed_victims: int = 0
+
+    @property
+    def status(self) -> int:
+        """0 where all agrees, 1 where only known differences are left, 2 where one is unexplained."""
+        if any(difference.reason is None for difference in self.differences):
+            return 2
+        return 1 if self.differences else 0
+
+
+def judge_file(path: Path, program: str, server: Server, settings: Settings) -> Judgement:
+    """Runs the script of a file on both sides."""
+    return judge_text(str(path), path.read_bytes().decode(errors="surrogateescape"), words_beside(path), program, server, settings)
+
+
+def judge_text(name: str, text: str, words: list[str], program: str, server: Server, settings: Settings) -> Judgement:
+    """Runs a script on both sides: on gx first, which refuses what is no script."""
+    verdicts = ask_gx(program, text)
+    script = read_script(text)
+    reason = left_out(script, words)
+    if reason is not None:
+        return Judgement(name, left_out=reason)
+    with Stage(server, script, settings) as stage:
+        run = stage.run(verdicts.rounds)
+    return judge(name, script, verdicts, run, program)
+
+
+def judge(name: str, script: Script, verdicts: Verdicts, run: ServerRun, program: str) -> Judgement:
+    """Compares both sides, and looks for the reason of what differs."""
+    found = differences(script, expected(program, script, verdicts), run)
+    open_ones = [difference for difference in found if difference.reason is None]
+    explained = explain(script, run, program) if open_ones else ()
+    judgement = Judgement(name, lines=len(script.lines))
+    if explained:
+        reason = " and ".join(explained)
+        found = [difference if difference.reason else difference.known(reason) for difference in found]
+    judgement.differences = found
+    return judgement
+
+
+def explain(script: Script, run: ServerRun, program: str) -> tuple[str, ...]:
+    """The changes of the script under which gx gives all that the server gave; none where no such change is known."""
+    for variant in variants(script, run):
+        wanted = variant.expected(program)
+        if wanted is not None and all(difference.reason for difference in differences(script, wanted, run)):
+            return variant.reasons
+    return ()
