@@ -1,9 +1,9 @@
 """One script beside a server: its run, what differs, and why."""
 
-from dataclasses import dataclass, field, replace
+from dataclasses import dataclass, field
 from pathlib import Path
 
-from beside.compare import Difference, Expected, differences, expected
+from beside.compare import Difference, differences, expected
 from beside.drive import ServerRun, Settings
 from beside.oracle import Verdicts, ask_gx
 from beside.script import Script, left_out, read_script, words_beside
@@ -56,20 +56,15 @@ def judge_text(name: str, text: str, words: list[str], program: str, server: Ser
 def judge(name: str, script: Script, verdicts: Verdicts, run: ServerRun, program: str) -> Judgement:
     """Compares both sides, and looks for the reason of what differs."""
     found = differences(script, expected(program, script, verdicts), run)
-    open_ones = [difference for difference in found if difference.reason is None]
-    explained = explain(script, run, program) if open_ones else ()
-    judgement = Judgement(name, lines=len(script.lines))
-    if explained:
-        reason = " and ".join(explained)
+    if any(difference.reason is None for difference in found):
+        reason = reason_of(script, verdicts, run, program)
         found = [difference if difference.reason else difference.known(reason) for difference in found]
-    judgement.differences = found
-    return judgement
+    return Judgement(name, lines=len(script.lines), differences=found)
 
 
-def explain(script: Script, run: ServerRun, program: str) -> tuple[str, ...]:
-    """The changes of the script under which gx gives all that the server gave; none where no such change is known."""
-    for variant in variants(script, run):
-        wanted = variant.expected(program)
-        if wanted is not None and all(difference.reason for difference in differences(script, wanted, run)):
-            return variant.reasons
-    return ()
+def reason_of(script: Script, verdicts: Verdicts, run: ServerRun, program: str) -> str | None:
+    """The classes of the changes under which gx gives all that the server gave; None where no such changes are known."""
+    for variant in variants(script, run, verdicts.answers):
+        if variant.explains(script, run, program):
+            return " and ".join(variant.reasons)
+    return None

@@ -40,8 +40,8 @@ def find_gx(named: str | None) -> str:
     return program
 
 
-def ask_gx(program: str, text: str) -> Verdicts:
-    """What gx gives for the text of a script, in its fixed order; of one that is never finished, what comes before its sessions are stuck."""
+def said_by(program: str, text: str) -> str:
+    """What gx prints with --trace for the text of a script, in its fixed order."""
     run = subprocess.run([program, "--trace"], input=text.encode(errors="surrogateescape"), capture_output=True, check=False)
     said = run.stdout.decode()
     last = (said.strip().splitlines() or ["nothing"])[-1]
@@ -49,12 +49,22 @@ def ask_gx(program: str, text: str) -> Verdicts:
         raise Refused(last)
     if run.returncode not in (ENDED, STUCK):
         raise NoOracle(f"{program} ended with status {run.returncode}: {last}")
-    return read_verdicts(said)
+    return said
+
+
+def ask_gx(program: str, text: str) -> Verdicts:
+    """What gx gives for the text of a script; of one that is never finished, what comes before its sessions are stuck."""
+    return read_verdicts(said_by(program, text))
 
 
 def ask_about(program: str, script: Script) -> Verdicts:
     """What gx gives for a script."""
     return ask_gx(program, script.text)
+
+
+def ask_trace(program: str, script: Script) -> str:
+    """The trace of gx's run of a script."""
+    return f"\n{said_by(program, script.text)}".partition("\nrun ")[2]
 
 
 def read_verdicts(said: str) -> Verdicts:

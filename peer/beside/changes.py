@@ -1,0 +1,133 @@
+"""Changes of a script that say in what a server's run differs from the one that gx makes of it."""
+
+from collections.abc import Callable, Collection
+from dataclasses import replace
+
+from beside.answers import DIVISION, FAULTS
+from beside.drive import Passage, ServerRun
+from beside.evaluation import as_evaluated, condition_of, faulting_query, may_fault, planned_fault
+from beside.script import Column, Line, Script, Table
+from beside.tokens import tokens_of
+
+MOST_TABLES = MOST_SESSIONS = 64
+ASIDE = Table("peer_aside", (Column("a", "bigint"),), "a")
+
+
+def keep(script: Script) -> Script:
+    """No change."""
+    return script
+
+
+def on_one_node(script: Script) -> Script:
+    """All rows at one segment, as on a server that has no segments."""
+    return replace(script, segments=1)
+
+
+def has_room_aside(script: Script) -> bool:
+    """Whether a table and a session more are within gx's limits."""
+    return len(script.tables) < MOST_TABLES and len(script.sessions) < MOST_SESSIONS
+
+
+def with_table_aside(script: Script) -> Script:
+    """The script with one table more, which no line of its own names."""
+    return script if ASIDE in script.tables else replace(script, tables=(*script.tables, ASIDE))
+
+
+def with_faults(script: Script, faults: dict[str, str]) -> Script:
+    """For each line of these names a query that faults in this class, so that its transaction aborts there."""
+    if not faults or not has_room_aside(script):
+        return script
+    query = {fault: faulting_query(fault, ASIDE.name) for fault in FAULTS}
+    lines = [
+        replace(line, statement=query[faults[line.name]]) if line.place and line.name in faults else line
+        for line in script.lines
+    ]
+    row = Line(ASIDE.name, 1, 0, tuple(tokens_of(f"INSERT INTO {ASIDE.name} VALUES (0)")), "")
+    return replace(with_table_aside(script), lines=tuple(lines) if row in lines else (row, *lines))
+
+
+def with_refusals(script: Script, names: Collection[str]) -> Script:
+    """Lines that are refused, for whatever reason, where they stand."""
+    return with_faults(script, dict.fromkeys(names, DIVISION))
+
+
+def as_postgres_evaluates(script: Script) -> Script:
+    """Statements as PostgreSQL evaluates them; where a constant faults, a query that does so stands for the statement."""
+    faults = {line.name: fault for line in script.lines if line.place and (fault := planned_fault(line, script))}
+    evaluated = replace(script, lines=tuple(as_evaluated(line, script) for line in script.lines))
+    return with_faults(evaluated, faults)
+
+
+def is_stopped_early(line: Line) -> bool:
+    """Whether a query ends with its last row within its limit, so that a server may not come to a row that faults."""
+    is_plain = all(line.place_of(word) is None for word in ("group", "order", "count", "sum", "min", "max"))
+    return line.kind == "select" and line.place_of("limit") is not None and is_plain and may_fault(condition_of(line))
+
+
+def without_rows(script: Script, names: Collection[str]) -> Script:
+    """The queries of these names without their rows, so that they don't fault."""
+    lines = [
+        replace(line, statement=tuple(tokens_of(f"SELECT * FROM {line.table} LIMIT 0"))) if line.name in names else line
+        for line in script.lines
+    ]
+    return replace(script, lines=tuple(lines))
+
+
+def released_from_tables(passage: Passage) -> int:
+    """The moment from which a line waited for its table no more."""
+    return passage.waited_for_table[-1] + 1 if passage.waited_for_table else passage.started
+
+
+def released(passage: Passage) -> int:
+    """The moment from which a line waited no more."""
+    return passage.waited[-1] + 1 if passage.waited else passage.started
+
+
+def in_order_of(script: Script, run: ServerRun, moment_of: Callable[[Passage], int], refused: Collection[str]) -> Script:
+    """The lines in the order in which the server came to them, behind what they waited for.
+
+    Who was cancelled stays where it began to wait, unless it is one of those that are `refused` where they stand.
+    """
+    cancelled = {(choice.moment, victim) for choice in run.choices for victim in choice.victims}
+
+    def place(line: Line) -> tuple[int, int, int]:
+        if line.session == ASIDE.name:
+            return 0, 0, 0
+        passage = run.passages[line.name]
+        if not line.place:
+            return passage.started, 0, 0
+        is_refused = line.name in refused
+        moment = released(passage) if is_refused else moment_of(passage)
+        if moment == passage.started or ((moment, line.session) in cancelled and not is_refused):
+            return passage.started, 0, 1
+        return moment, 1, passage.place
+
+    return replace(script, lines=tuple(sorted(script.lines, key=place)))
+
+
+def with_early_snapshots(script: Script, run: ServerRun) -> Script:
+    """Where a repeatable-read block's first command waited for its table, a query of another table before it takes the snapshot."""
+    query = tuple(tokens_of(f"SELECT COUNT(*) FROM {ASIDE.name}"))
+    lines: list[Line] = []
+    for line in script.lines:
+        if line.place and run.passages[line.name].waited_for_table and takes_blocks_snapshot(line, script):
+            lines.append(replace(line, place=0, statement=query))
+        lines.append(line)
+    if len(lines) == len(script.lines) or not has_room_aside(script):
+        return script
+    return replace(with_table_aside(script), lines=tuple(lines))
+
+
+def takes_blocks_snapshot(line: Line, script: Script) -> bool:
+    """Whether a line is the first of a repeatable-read block that takes a snapshot."""
+    if not line.takes_snapshot:
+        return False
+    level = None
+    for earlier in (earlier for earlier in script.lines if earlier.session == line.session and earlier.number < line.number):
+        if earlier.kind == "begin":
+            level = level or ("repeatable" if earlier.is_repeatable_read else "committed")
+        elif earlier.kind in ("commit", "rollback"):
+            level = None
+        elif earlier.takes_snapshot and level == "repeatable":
+            level = "taken"
+    return level == "repeatable"

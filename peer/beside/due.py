@@ -1,0 +1,83 @@
+"""Whether refusals that a server gave earlier than gx, or to another, were due where it gave them."""
+
+import re
+from collections.abc import Collection
+from dataclasses import replace
+
+from beside.answers import SERIALIZATION, VICTIM
+from beside.changes import ASIDE, in_order_of, released
+from beside.drive import Passage, ServerRun
+from beside.oracle import BEGIN, NoOracle, Refused, ask_about, ask_trace
+from beside.script import Line, Script
+from beside.tokens import tokens_of
+from beside.waits import Wait, is_in_cycle
+
+ROLLBACK = tuple(tokens_of("ROLLBACK"))
+EDGE = re.compile(r"(\d+)>(\d+)")
+
+
+def are_due(changed: Script, refused: Collection[str], run: ServerRun, program: str) -> bool:
+    """Whether each line that a changed script has refused where it stands is one that gx refuses there, or would have to."""
+    return all(is_due(changed, run.passages[name], refused, run, program) for name in refused)
+
+
+def is_due(changed: Script, passage: Passage, refused: Collection[str], run: ServerRun, program: str) -> bool:
+    """Whether a refusal was due: of a row that has changed since the snapshot, whoever else is rolled back; or by a deadlock."""
+    assert passage.answer is not None
+    try:
+        if passage.answer.refusal == SERIALIZATION:
+            return is_overtaken(changed, passage, run, program)
+        return passage.answer.refusal == VICTIM and is_deadlocked(changed, passage, refused, run, program)
+    except (Refused, NoOracle):
+        return False
+
+
+def is_overtaken(changed: Script, passage: Passage, run: ServerRun, program: str) -> bool:
+    """Whether gx refuses the line for a row that has changed, once all others are rolled back."""
+    at = next(i for i, line in enumerate(changed.lines) if line.place and line.name == passage.line.name)
+    others = [session for session in changed.sessions if session not in (passage.line.session, ASIDE.name)]
+    rolled = [Line(session, 0, 0, ROLLBACK, "") for session in others]
+    asked = numbered(replace(changed, lines=(*changed.lines[:at], *rolled, passage.line)))
+    return ask_about(program, asked).answers[asked.lines[-1].name].refusal == SERIALIZATION
+
+
+def numbered(script: Script) -> Script:
+    """The script with its lines numbered as they stand."""
+    counts: dict[str, int] = {}
+    lines = []
+    for line in script.lines:
+        counts[line.session] = counts.get(line.session, 0) + 1
+        lines.append(replace(line, number=counts[line.session]))
+    return replace(script, lines=tuple(lines))
+
+
+def is_deadlocked(changed: Script, passage: Passage, refused: Collection[str], run: ServerRun, program: str) -> bool:
+    """Whether a deadlock through the line stands in gx, once all that was started before its refusal has been."""
+    moment = released(passage)
+    started = in_order_of(changed, run, lambda other: other.started, ())
+    lines = [
+        as_it_stood(line, refused, run, moment)
+        for line in started.lines
+        if line.session == ASIDE.name or run.passages[line.name].started <= moment
+    ]
+    trace = ask_trace(program, numbered(replace(changed, lines=tuple(lines))))
+    return any(is_in_cycle(passage.line.session, waits) for waits in waits_of_rounds(trace))
+
+
+def as_it_stood(line: Line, refused: Collection[str], run: ServerRun, moment: int) -> Line:
+    """A line as it stood before a moment: as it is written, where it was refused only then."""
+    if line.place and line.name in refused and released(run.passages[line.name]) >= moment:
+        return run.passages[line.name].line
+    return line
+
+
+def waits_of_rounds(trace: str) -> list[dict[str, Wait]]:
+    """Who waits for whom, in each round of a trace."""
+    session = dict(BEGIN.findall(trace))
+    rounds: dict[str, dict[str, Wait]] = {}
+    for number, edges in re.findall(r"^  report \d+ (\d+):(.*)$", trace, re.MULTILINE):
+        waits = rounds.setdefault(number, {})
+        for waiter, holder in EDGE.findall(edges):
+            before = waits.get(session[waiter], Wait(False, frozenset()))
+            waits[session[waiter]] = Wait(False, before.blockers | {session[holder]})
+    return list(rounds.values())
