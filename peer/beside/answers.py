@@ -19,16 +19,12 @@ FAULTS = frozenset((OVERFLOW, DIVISION))
 
 @dataclass(frozen=True)
 class Answer:
-    """What was done and of how many rows, with the rows of a query; or, of a refusal, its class.
-
-    `is_servers_choice` says of a deadlock's victim that the server chose it.
-    """
+    """What was done and of how many rows, with the rows of a query; or, of a refusal, its class."""
 
     done: str = ""
     count: int | None = None
     rows: tuple[Row, ...] = ()
     refusal: str | None = None
-    is_servers_choice: bool = False
 
     @property
     def is_fault(self) -> bool:

@@ -10,10 +10,9 @@ import psycopg2.extensions
 
 from beside.answers import DIVISION, FAILED_BLOCK, NOT_IN_BLOCK, OVERFLOW, SERIALIZATION, VICTIM, Answer, Cell, Row
 
-DEADLOCK_DETECTED = "40P01"
 REFUSALS_OF_SERVER = {
     "40001": SERIALIZATION,
-    DEADLOCK_DETECTED: VICTIM,
+    "40P01": VICTIM,
     "57014": VICTIM,
     "22003": OVERFLOW,
     "22012": DIVISION,
@@ -92,8 +91,7 @@ class Connection:
             self._cursor = None
             if self._raw.closed or error.pgcode is None:
                 raise ServerGone(f"{self.label}: {first_line(error)}") from error
-            refusal = REFUSALS_OF_SERVER.get(error.pgcode, f"{error.pgcode} {first_line(error)}")
-            return Answer(refusal=refusal, is_servers_choice=error.pgcode == DEADLOCK_DETECTED)
+            return Answer(refusal=REFUSALS_OF_SERVER.get(error.pgcode, f"{error.pgcode} {first_line(error)}"))
 
     def ask(self, sql: str, seconds: float) -> Answer:
         """Sends a statement and waits for its answer."""

@@ -3,12 +3,13 @@
 from dataclasses import dataclass, field
 from pathlib import Path
 
+from beside.answers import VICTIM
 from beside.compare import Difference, differences, expected
 from beside.drive import ServerRun, Settings
 from beside.oracle import Verdicts, ask_gx
 from beside.script import Script, left_out, read_script, words_beside
 from beside.stage import Server, Stage
-from beside.variants import variants
+from beside.variants import refused_with, variants
 
 BEGIN_IN_BLOCK = "begin"
 
@@ -17,16 +18,15 @@ BEGIN_IN_BLOCK = "begin"
 class Judgement:
     """What came of a script: left out for a reason, or the differences, of which those without a reason are unexplained.
 
-    `victims` and `agreed_victims` count the sessions that gx's detector cancels and those of them that the server cancels too.
+    `victims` and `same_victims` count the lines in which gx's detector cancels a session, and those of them that the server refuses too.
     """
 
     name: str
     left_out: str | None = None
     lines: int = 0
     differences: list[Difference] = field(default_factory=list)
-    notes: list[str] = field(default_factory=list)
     victims: int = 0
-    agreed_victims: int = 0
+    same_victims: int = 0
 
     @property
     def status(self) -> int:
@@ -59,7 +59,20 @@ def judge(name: str, script: Script, verdicts: Verdicts, run: ServerRun, program
     if any(difference.reason is None for difference in found):
         reason = reason_of(script, verdicts, run, program)
         found = [difference if difference.reason else difference.known(reason) for difference in found]
-    return Judgement(name, lines=len(script.lines), differences=found)
+    ours = {line for line, answer in verdicts.answers.items() if answer.refusal == VICTIM}
+    return Judgement(
+        name,
+        lines=len(script.lines),
+        differences=found + plain_begins(run),
+        victims=len(ours),
+        same_victims=len(ours & refused_with(VICTIM, run)),
+    )
+
+
+def plain_begins(run: ServerRun) -> list[Difference]:
+    """The BEGINs in blocks that the server was sent without their level."""
+    lines = [passage.line for passage in run.passages.values() if passage.is_plain]
+    return [Difference(line.place, line.name, line.written, ("BEGIN",), ("BEGIN without its level",), BEGIN_IN_BLOCK) for line in lines]
 
 
 def reason_of(script: Script, verdicts: Verdicts, run: ServerRun, program: str) -> str | None:

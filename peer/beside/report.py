@@ -47,6 +47,8 @@ def counts_of(judgements: list[Judgement]) -> dict[str, object]:
         "unexplained": sum(judgement.status == 2 for judgement in run),
         "left out": dict(sorted(Counter(judgement.left_out for judgement in judgements if judgement.left_out).items())),
         "lines": sum(judgement.lines for judgement in run),
+        "victims": sum(judgement.victims for judgement in run),
+        "same victims": sum(judgement.same_victims for judgement in run),
     }
 
 
@@ -55,13 +57,26 @@ def listed(counts: dict[str, int]) -> str:
     return f" ({', '.join(f'{name} {count}' for name, count in counts.items())})" if counts else ""
 
 
+def sentences(judgements: list[Judgement]) -> str:
+    """What the classes that came up mean."""
+    found = {difference.reason or "" for judgement in judgements for difference in judgement.differences}
+    return "\n".join(f"{name}: {said}" for name, said in CLASSES.items() if any(name in reason.split(" and ") for reason in found))
+
+
 def totals(judgements: list[Judgement]) -> str:
-    """The last line of a run."""
+    """The last lines of a run."""
+    told_classes = sentences(judgements)
+    return told_classes + "\n" * bool(told_classes) + last_line(judgements)
+
+
+def last_line(judgements: list[Judgement]) -> str:
+    """How many scripts agree, differ and were left out."""
     counts = counts_of(judgements)
     left = counts["left out"]
+    victims = f", {counts['victims']} victims, {counts['same victims']} of them the server's too" if counts["victims"] else ""
     return (
         f"{counts['agree']} agree, {counts['known']} differ as known{listed(counts['reasons'])},"
-        f" {counts['unexplained']} unexplained, {sum(left.values())} left out{listed(left)}; {counts['lines']} lines"
+        f" {counts['unexplained']} unexplained, {sum(left.values())} left out{listed(left)}; {counts['lines']} lines{victims}"
     )
 
 

@@ -90,5 +90,8 @@ def main(words: list[str]) -> int:
     except KeyboardInterrupt:
         print("peer/run: interrupted", file=sys.stderr)
         return 130
-    print(as_json(judgements) if options.json else totals(judgements))
+    if options.json:
+        print(as_json(judgements))
+    elif judgements:
+        print(totals(judgements))
     return status
