@@ -1,7 +1,7 @@
 """Changes of a script that say in what a server's run differs from the one that gx makes of it."""
 
 from collections.abc import Callable, Collection
-from dataclasses import replace
+from dataclasses import dataclass, replace
 
 from beside.answers import DIVISION, FAULTS
 from beside.drive import Passage, ServerRun
@@ -11,6 +11,8 @@ from beside.tokens import tokens_of
 
 MOST_TABLES = MOST_SESSIONS = 64
 ASIDE = Table("peer_aside", (Column("a", "bigint"),), "a")
+ROLLBACK = tuple(tokens_of("ROLLBACK"))
+NO_NUMBER = 0
 
 
 def keep(script: Script) -> Script:
@@ -73,6 +75,19 @@ def without_rows(script: Script, names: Collection[str]) -> Script:
     return replace(script, lines=tuple(lines))
 
 
+@dataclass(frozen=True)
+class Order:
+    """An order of lines: the moment at which each stands, and whether queries stand before what else comes to the same moment."""
+
+    moment_of: Callable[[Passage], int]
+    are_queries_first: bool = False
+
+
+def started(passage: Passage) -> int:
+    """The moment at which a line was started."""
+    return passage.started
+
+
 def released_from_tables(passage: Passage) -> int:
     """The moment from which a line waited for its table no more."""
     return passage.waited_for_table[-1] + 1 if passage.waited_for_table else passage.started
@@ -83,8 +98,27 @@ def released(passage: Passage) -> int:
     return passage.waited[-1] + 1 if passage.waited else passage.started
 
 
-def in_order_of(script: Script, run: ServerRun, moment_of: Callable[[Passage], int], refused: Collection[str]) -> Script:
-    """The lines in the order in which the server came to them, behind what they waited for.
+def behind_overtakers(run: ServerRun) -> Callable[[Passage], int]:
+    """For each line that waited, the last moment at which one was started that waited too and was answered before it."""
+
+    def moment_of(passage: Passage) -> int:
+        overtakers = (
+            other.started
+            for other in run.passages.values()
+            if other.waited and other.place < passage.place and passage.started < other.started < released(passage)
+        )
+        return max(overtakers, default=passage.started) if passage.waited else passage.started
+
+    return moment_of
+
+
+def in_order_of(script: Script, run: ServerRun, order: Order, refused: Collection[str]) -> Script:
+    """The lines as `placed` orders them."""
+    return replace(script, lines=tuple(line for _, line in placed(script, run, order, refused)))
+
+
+def placed(script: Script, run: ServerRun, order: Order, refused: Collection[str]) -> list[tuple[int, Line]]:
+    """The lines in the order in which the server came to them, each with its moment; where sessions were ended, a ROLLBACK.
 
     Who was cancelled stays where it began to wait, unless it is one of those that are `refused` where they stand.
     """
@@ -97,20 +131,28 @@ def in_order_of(script: Script, run: ServerRun, moment_of: Callable[[Passage], i
         if not line.place:
             return passage.started, 0, 0
         is_refused = line.name in refused
-        moment = released(passage) if is_refused else moment_of(passage)
+        moment = released(passage) if is_refused else order.moment_of(passage)
         if moment == passage.started or ((moment, line.session) in cancelled and not is_refused):
             return passage.started, 0, 1
-        return moment, 1, passage.place
+        return moment, 1 if order.are_queries_first and line.kind == "select" else 2, passage.place
 
-    return replace(script, lines=tuple(sorted(script.lines, key=place)))
+    ends = [((moment, 0, 1), Line(session, NO_NUMBER, 0, ROLLBACK, "")) for moment, session in run.ends]
+    ordered = ends + [(place(line), line) for line in script.lines if line.number != NO_NUMBER]
+    ordered.sort(key=lambda found: found[0])
+    return [(moment, line) for (moment, _, _), line in ordered]
 
 
-def with_early_snapshots(script: Script, run: ServerRun) -> Script:
-    """Where a repeatable-read block's first command waited for its table, a query of another table before it takes the snapshot."""
+def waited_for_tables(run: ServerRun) -> frozenset[str]:
+    """The lines that waited on the server for their tables."""
+    return frozenset(name for name, passage in run.passages.items() if passage.waited_for_table)
+
+
+def with_early_snapshots(script: Script, names: Collection[str]) -> Script:
+    """Before those of these lines that take a repeatable-read block's snapshot, a query of a table aside, which takes it."""
     query = tuple(tokens_of(f"SELECT COUNT(*) FROM {ASIDE.name}"))
     lines: list[Line] = []
     for line in script.lines:
-        if line.place and run.passages[line.name].waited_for_table and takes_blocks_snapshot(line, script):
+        if line.place and line.name in names and takes_blocks_snapshot(line, script):
             lines.append(replace(line, place=0, statement=query))
         lines.append(line)
     if len(lines) == len(script.lines) or not has_room_aside(script):

@@ -11,6 +11,8 @@ CLASSES = {
     " other are refused at once, whoever is the younger.",
     "refusal": "At repeatable read the server refuses a row whose next version is committed at once; gx looks at the newest version,"
     " and waits first where its writer hasn't ended.",
+    "cycle": "The server's sessions wait in a cycle where those of gx don't, since it comes to rows in an order of its own; the peer"
+    " cancelled one of them.",
     "queue": "A request for a table's lock stands in line behind others that wait, and the line moves from its front;"
     " gx grants whatever meets no hold, the oldest transaction's first.",
     "order": "Of several that one end lets go on, it is open which comes to a row first.",

@@ -25,14 +25,15 @@ class Settings:
 class Passage:
     """How a line went: the moments at which it was started and was seen to wait, for a table or at all, and its answer.
 
-    Moments are the actions of the driver, from 1. `place` is the line's among all answers, and `is_plain` says that a BEGIN in a
-    block was sent without its level.
+    Moments are the actions of the driver, from 1. `place` is the line's among all answers. `is_plain` says that a BEGIN in a block
+    was sent without its level, `is_cancelled` that the peer cancelled the line.
     """
 
     line: Line
     started: int
     age: int
     is_plain: bool = False
+    is_cancelled: bool = False
     waited_for_table: list[int] = field(default_factory=list)
     waited: list[int] = field(default_factory=list)
     answer: Answer | None = None
@@ -50,11 +51,15 @@ class Choice:
 
 @dataclass
 class ServerRun:
-    """What a server made of a script: each line's passage by name, the final tables, and who was cancelled."""
+    """What a server made of a script: each line's passage by name, the final tables, and who was cancelled.
+
+    `ends` are the moments at which sessions without lines were rolled back.
+    """
 
     passages: dict[str, Passage] = field(default_factory=dict)
     tables: dict[str, list[Row]] = field(default_factory=dict)
     choices: list[Choice] = field(default_factory=list)
+    ends: list[tuple[int, str]] = field(default_factory=list)
 
 
 class Seat:
@@ -133,9 +138,10 @@ class Driver:
         if lines:
             self._start(min(lines, key=lambda line: self._places[line.name]))
             return True
-        ending = [seat for seat in self._seats.values() if seat.is_idle and seat.in_block]
+        ending = [session for session, seat in self._seats.items() if seat.is_idle and seat.in_block]
         if ending:
-            self._send(ending[0], ["ROLLBACK"])
+            self._run.ends.append((self._moment, ending[0]))
+            self._send(self._seats[ending[0]], ["ROLLBACK"])
             return True
         if self._busy():
             self._round()
@@ -230,6 +236,8 @@ class Driver:
         """Cancels what these sessions wait in, and waits for their answers."""
         self._run.choices.append(Choice(self._moment, victims, is_by_gx))
         for session in victims:
+            if passage := self._seats[session].passage:
+                passage.is_cancelled = True
             self._seats[session].connection.cancel()
         self._watch.stirred()
         deadline = time.monotonic() + self._settings.seconds

@@ -5,20 +5,13 @@ from collections.abc import Collection
 from dataclasses import replace
 
 from beside.answers import SERIALIZATION, VICTIM
-from beside.changes import ASIDE, in_order_of, released
+from beside.changes import ASIDE, ROLLBACK, Order, placed, released, started
 from beside.drive import Passage, ServerRun
 from beside.oracle import BEGIN, NoOracle, Refused, ask_about, ask_trace
 from beside.script import Line, Script
-from beside.tokens import tokens_of
 from beside.waits import Wait, is_in_cycle
 
-ROLLBACK = tuple(tokens_of("ROLLBACK"))
 EDGE = re.compile(r"(\d+)>(\d+)")
-
-
-def are_due(changed: Script, refused: Collection[str], run: ServerRun, program: str) -> bool:
-    """Whether each line that a changed script has refused where it stands is one that gx refuses there, or would have to."""
-    return all(is_due(changed, run.passages[name], refused, run, program) for name in refused)
 
 
 def is_due(changed: Script, passage: Passage, refused: Collection[str], run: ServerRun, program: str) -> bool:
@@ -52,16 +45,26 @@ def numbered(script: Script) -> Script:
 
 
 def is_deadlocked(changed: Script, passage: Passage, refused: Collection[str], run: ServerRun, program: str) -> bool:
-    """Whether a deadlock through the line stands in gx, once all that was started before its refusal has been."""
+    """Whether a deadlock through the line stands in gx, once all that was started before its refusal has been.
+
+    That is looked at twice: with the lines in the order in which they were started, and with those that waited where their waits
+    ended, and the line itself last.
+    """
     moment = released(passage)
-    started = in_order_of(changed, run, lambda other: other.started, ())
-    lines = [
-        as_it_stood(line, refused, run, moment)
-        for line in started.lines
-        if line.session == ASIDE.name or run.passages[line.name].started <= moment
-    ]
-    trace = ask_trace(program, numbered(replace(changed, lines=tuple(lines))))
-    return any(is_in_cycle(passage.line.session, waits) for waits in waits_of_rounds(trace))
+
+    def ended(other: Passage) -> int:
+        return min(released(other), moment + (other is passage))
+
+    for moment_of in (started, ended):
+        lines = [
+            as_it_stood(line, refused, run, moment)
+            for at, line in placed(changed, run, Order(moment_of), ())
+            if at <= moment or (line.place and line.name == passage.line.name)
+        ]
+        trace = ask_trace(program, numbered(replace(changed, lines=tuple(lines))))
+        if any(is_in_cycle(passage.line.session, waits) for waits in waits_of_rounds(trace)):
+            return True
+    return False
 
 
 def as_it_stood(line: Line, refused: Collection[str], run: ServerRun, moment: int) -> Line:

@@ -4,43 +4,48 @@ A difference that such changes make go is explained by gx itself: the server's a
 run that is proved to be a legal history, only not of the run that gx makes of the script as it stands.
 """
 
-from collections.abc import Callable, Iterator
+from collections.abc import Iterator
 from dataclasses import dataclass, replace
 from itertools import product
 
 from beside.answers import SERIALIZATION, VICTIM, Answer
 from beside.changes import (
+    Order,
     as_postgres_evaluates,
+    behind_overtakers,
     in_order_of,
     is_stopped_early,
     keep,
     on_one_node,
     released,
     released_from_tables,
+    waited_for_tables,
     with_early_snapshots,
     with_refusals,
     without_rows,
 )
 from beside.compare import LIMIT, Expected, differences, expected
-from beside.drive import Passage, ServerRun
-from beside.due import are_due
+from beside.drive import ServerRun
+from beside.due import is_due
 from beside.oracle import NoOracle, Refused, ask_about
 from beside.script import Script
 
-ONE_NODE, SNAPSHOT, EVALUATION, CHOICE, REFUSAL, QUEUE, ORDER = "one-node", "snapshot", "evaluation", "victim", "refusal", "queue", "order"
-Moment = Callable[[Passage], int]
+ONE_NODE, SNAPSHOT, EVALUATION, QUEUE, ORDER = "one-node", "snapshot", "evaluation", "queue", "order"
+REFUSAL, CHOICE, CYCLE = "refusal", "victim", "cycle"
 
 
 @dataclass(frozen=True)
 class Variant:
     """A changed script and the classes that its changes stand for.
 
-    The lines `aside` aren't compared: they are `refused` where they stand, or have no rows.
+    The lines `aside` aren't compared: they are `refused` where they stand, or have no rows. Of the refused ones those of `owed`
+    have to be due.
     """
 
     script: Script
     reasons: tuple[str, ...]
     refused: frozenset[str]
+    owed: frozenset[str]
     aside: frozenset[str]
 
     def explains(self, script: Script, run: ServerRun, program: str) -> bool:
@@ -58,7 +63,7 @@ class Variant:
         open_ones = [difference for difference in differences(script, wanted, run) if difference.reason is None]
         if any(difference.name not in self.aside for difference in open_ones):
             return False
-        return are_due(self.script, self.refused, run, program)
+        return all(is_due(self.script, run.passages[name], self.refused, run, program) for name in self.owed)
 
 
 def renumbered(script: Script) -> tuple[Script, dict[str, str]]:
@@ -76,30 +81,43 @@ def renumbered(script: Script) -> tuple[Script, dict[str, str]]:
 
 def variants(script: Script, run: ServerRun, ours: dict[str, Answer]) -> Iterator[Variant]:
     """The changed scripts that may explain a run: those with fewer changes first."""
-    victims = refused_with(VICTIM, run)
-    overtaken = refused_with(SERIALIZATION, run)
-    orders: list[tuple[str, Moment | None]] = [("", None), (QUEUE, released_from_tables), (ORDER, released)]
+    nobody: frozenset[str] = frozenset()
+    orders = [
+        ("", None),
+        (QUEUE, Order(released_from_tables)),
+        (QUEUE, Order(released_from_tables, are_queries_first=True)),
+        (ORDER, Order(behind_overtakers(run))),
+        (ORDER, Order(released)),
+        (ORDER, Order(released, are_queries_first=True)),
+    ]
     chosen = product(
         orders,
-        [("", frozenset()), (REFUSAL, overtaken)],
-        [("", frozenset()), (CHOICE, victims)],
-        [("", keep), (EVALUATION, as_postgres_evaluates)],
-        [("", keep), (SNAPSHOT, lambda changed: with_early_snapshots(changed, run))],
+        [("", nobody), (REFUSAL, refused_with(SERIALIZATION, run))],
+        [("", nobody), (CHOICE, refused_with(VICTIM, run)), (CYCLE, refused_with(VICTIM, run))],
+        ["", EVALUATION],
+        [("", nobody), (SNAPSHOT, waited_for_tables(run))],
         [("", keep), (ONE_NODE, on_one_node)],
     )
-    seen = {script}
-    for changes in sorted(chosen, key=lambda changes: sum(1 for name, _ in changes if name)):
-        (_, moment), (_, some), (_, others), (evaluation, evaluated), (_, snapshot), (_, placed) = changes
-        refused = some | others
-        stopped = stopped_early(script, run, ours) if evaluation else frozenset()
-        changed = evaluated(without_rows(placed(snapshot(script)), stopped))
-        changed = with_refusals(changed, refused)
-        if moment is not None:
-            changed = in_order_of(changed, run, moment, refused)
-        if changed not in seen:
-            seen.add(changed)
-            reasons = tuple(name for name, _ in changes if name) + (LIMIT,) * bool(stopped)
-            yield Variant(changed, reasons, refused, refused | stopped)
+    cancelled = {name for name, passage in run.passages.items() if passage.is_cancelled}
+    seen = {(script, nobody)}
+    for (queue, order), (refusal, overtaken), (choice, victims), evaluation, (snapshot, late), (node, placed) in sorted(chosen, key=changes_in):
+        refused = overtaken | victims
+        owed = refused - cancelled if choice == CYCLE else refused
+        stopped = stopped_early(script, run, ours) if evaluation else nobody
+        changed = without_rows(placed(with_early_snapshots(script, late | overtaken)), stopped)
+        changed = with_refusals(as_postgres_evaluates(changed) if evaluation else changed, refused)
+        if order is not None:
+            changed = in_order_of(changed, run, order, refused)
+        if (changed, owed) not in seen:
+            seen.add((changed, owed))
+            reasons = [reason for reason in (queue, refusal, choice, evaluation, snapshot, node) if reason] + [LIMIT] * bool(stopped)
+            yield Variant(changed, tuple(reasons), refused, owed, refused | stopped)
+
+
+def changes_in(chosen: tuple[object, ...]) -> int:
+    """How many changes were chosen; a cycle that gx has no part in counts for more than all others."""
+    names = [change if isinstance(change, str) else change[0] for change in chosen]  # type: ignore[index]
+    return sum(1 for name in names if name) + 10 * (CYCLE in names)
 
 
 def refused_with(refusal: str, run: ServerRun) -> frozenset[str]:
