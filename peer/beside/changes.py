@@ -15,11 +15,6 @@ ROLLBACK = tuple(tokens_of("ROLLBACK"))
 NO_NUMBER = 0
 
 
-def keep(script: Script) -> Script:
-    """No change."""
-    return script
-
-
 def on_one_node(script: Script) -> Script:
     """All rows at one segment, as on a server that has no segments."""
     return replace(script, segments=1)

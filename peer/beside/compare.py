@@ -5,8 +5,8 @@ from dataclasses import dataclass, replace
 
 from beside.answers import Answer, Row, row_text
 from beside.drive import ServerRun
-from beside.opened import OPEN, OTHER, SAME, Opened, opened_rows, opened_script, same_rows
-from beside.oracle import Verdicts, ask_about
+from beside.opened import OPEN, OTHER, SAME, Opened, cut_answer, opened_rows, opened_script, same_rows
+from beside.oracle import ask_about
 from beside.script import Line, Script
 
 LIMIT = "limit"
@@ -37,16 +37,17 @@ class Expected:
     opened: dict[str, Opened]
 
 
-def expected(program: str, script: Script, verdicts: Verdicts) -> Expected:
-    """What gx gives for a script, of which it was asked already."""
+def expected(program: str, script: Script) -> Expected:
+    """What gx gives for a script: it is asked once, with the queries opened, and what it says of these is cut at their limits."""
     wide = opened_script(script)
-    found: dict[str, Opened] = {}
-    if wide is not None:
-        answers = ask_about(program, wide).answers
-        for before, line in zip(script.lines, wide.lines):
-            if before is not line and not answers[line.name].refusal:
-                found[line.name] = opened_rows(before, answers[line.name])
-    return Expected(verdicts.answers, verdicts.tables, found)
+    verdicts = ask_about(program, wide)
+    opened = {
+        before.name: opened_rows(before, verdicts.answers[line.name])
+        for before, line in zip(script.lines, wide.lines)
+        if before is not line and line.name in verdicts.answers and not verdicts.answers[line.name].refusal
+    }
+    cut = {line.name: cut_answer(line, opened[line.name]) for line in script.lines if line.name in opened}
+    return Expected(verdicts.answers | cut, verdicts.tables, opened)
 
 
 def compare_answers(ours: Answer, theirs: Answer, opened: Opened | None) -> str:

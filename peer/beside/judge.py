@@ -1,6 +1,6 @@
 """One script beside a server: its run, what differs, and why."""
 
-from dataclasses import dataclass, field
+from dataclasses import dataclass, field, replace
 from pathlib import Path
 
 from beside.answers import VICTIM
@@ -54,8 +54,8 @@ def judge_text(name: str, text: str, words: list[str], program: str, server: Ser
 
 
 def judge(name: str, script: Script, verdicts: Verdicts, run: ServerRun, program: str) -> Judgement:
-    """Compares both sides, and looks for the reason of what differs."""
-    found = differences(script, expected(program, script, verdicts), run)
+    """Compares both sides, and looks for the reason of what differs; the answers of gx are those to the script as it stands."""
+    found = differences(script, replace(expected(program, script), answers=verdicts.answers), run)
     if any(difference.reason is None for difference in found):
         reason = reason_of(script, verdicts, run, program)
         found = [difference if difference.reason else difference.known(reason) for difference in found]

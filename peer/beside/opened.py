@@ -48,10 +48,8 @@ def joined(names: list[Token]) -> list[Token]:
     return [token for name in names for token in (COMMA, name)][1:]
 
 
-def opened_script(script: Script) -> Script | None:
-    """The script with its queries opened, or None where none has an order or a limit."""
-    if not any(is_to_open(line) for line in script.lines):
-        return None
+def opened_script(script: Script) -> Script:
+    """The script with its queries opened."""
     return replace(script, lines=tuple(opened_line(line, script) for line in script.lines))
 
 
@@ -64,6 +62,14 @@ def opened_rows(line: Line, answer: Answer) -> Opened:
 
     runs = (tuple(row[: len(row) - keys] for row in run) for _, run in groupby(answer.rows, key_of))
     return Opened(tuple(runs))
+
+
+def cut_answer(line: Line, opened: Opened) -> Answer:
+    """The answer of gx to the query itself."""
+    limit = line.place_of("limit")
+    rows = tuple(row for run in opened.ties for row in run)
+    rows = rows if limit is None else rows[: int(line.statement[limit + 1].text)]
+    return Answer(done="SELECT", count=len(rows), rows=rows)
 
 
 def same_rows(ours: tuple[Row, ...], theirs: tuple[Row, ...], opened: Opened | None) -> str:

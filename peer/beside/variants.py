@@ -15,7 +15,6 @@ from beside.changes import (
     behind_overtakers,
     in_order_of,
     is_stopped_early,
-    keep,
     on_one_node,
     released,
     released_from_tables,
@@ -27,7 +26,7 @@ from beside.changes import (
 from beside.compare import LIMIT, Expected, differences, expected
 from beside.drive import ServerRun
 from beside.due import is_due
-from beside.oracle import NoOracle, Refused, ask_about
+from beside.oracle import NoOracle, Refused
 from beside.script import Script
 
 ONE_NODE, SNAPSHOT, EVALUATION, QUEUE, ORDER = "one-node", "snapshot", "evaluation", "queue", "order"
@@ -52,7 +51,7 @@ class Variant:
         """Whether gx gives for it all that the server gave for the script, and would refuse there what the server refused."""
         numbered, names = renumbered(self.script)
         try:
-            found = expected(program, numbered, ask_about(program, numbered))
+            found = expected(program, numbered)
         except (Refused, NoOracle):
             return False
         answers = {names[name]: answer for name, answer in found.answers.items() if name in names}
@@ -79,10 +78,32 @@ def renumbered(script: Script) -> tuple[Script, dict[str, str]]:
     return replace(script, lines=tuple(lines)), names
 
 
-def variants(script: Script, run: ServerRun, ours: dict[str, Answer]) -> Iterator[Variant]:
-    """The changed scripts that may explain a run: those with fewer changes first."""
-    nobody: frozenset[str] = frozenset()
-    orders = [
+@dataclass(frozen=True)
+class Changes:
+    """Which changes are made, each by the name of its class; an empty name says that it isn't."""
+
+    queue: tuple[str, Order | None]
+    refusal: str
+    choice: str
+    evaluation: str
+    snapshot: str
+    node: str
+
+    @property
+    def reasons(self) -> tuple[str, ...]:
+        """The classes."""
+        names = (self.queue[0], self.refusal, self.choice, self.evaluation, self.snapshot, self.node)
+        return tuple(name for name in names if name)
+
+    @property
+    def weight(self) -> int:
+        """How many there are, where a cycle in which gx has no part counts for three."""
+        return len(self.reasons) + 2 * (self.choice == CYCLE)
+
+
+def all_changes(run: ServerRun) -> list[Changes]:
+    """All of them together, those with fewer changes first."""
+    queues: list[tuple[str, Order | None]] = [
         ("", None),
         (QUEUE, Order(released_from_tables)),
         (QUEUE, Order(released_from_tables, are_queries_first=True)),
@@ -90,34 +111,43 @@ def variants(script: Script, run: ServerRun, ours: dict[str, Answer]) -> Iterato
         (ORDER, Order(released)),
         (ORDER, Order(released, are_queries_first=True)),
     ]
-    chosen = product(
-        orders,
-        [("", nobody), (REFUSAL, refused_with(SERIALIZATION, run))],
-        [("", nobody), (CHOICE, refused_with(VICTIM, run)), (CYCLE, refused_with(VICTIM, run))],
-        ["", EVALUATION],
-        [("", nobody), (SNAPSHOT, waited_for_tables(run))],
-        [("", keep), (ONE_NODE, on_one_node)],
-    )
-    cancelled = {name for name, passage in run.passages.items() if passage.is_cancelled}
-    seen = {(script, nobody)}
-    for (queue, order), (refusal, overtaken), (choice, victims), evaluation, (snapshot, late), (node, placed) in sorted(chosen, key=changes_in):
-        refused = overtaken | victims
-        owed = refused - cancelled if choice == CYCLE else refused
-        stopped = stopped_early(script, run, ours) if evaluation else nobody
-        changed = without_rows(placed(with_early_snapshots(script, late | overtaken)), stopped)
-        changed = with_refusals(as_postgres_evaluates(changed) if evaluation else changed, refused)
-        if order is not None:
-            changed = in_order_of(changed, run, order, refused)
-        if (changed, owed) not in seen:
-            seen.add((changed, owed))
-            reasons = [reason for reason in (queue, refusal, choice, evaluation, snapshot, node) if reason] + [LIMIT] * bool(stopped)
-            yield Variant(changed, tuple(reasons), refused, owed, refused | stopped)
+    chosen = product(queues, ("", REFUSAL), ("", CHOICE, CYCLE), ("", EVALUATION), ("", SNAPSHOT), ("", ONE_NODE))
+    return sorted((Changes(*changes) for changes in chosen), key=lambda changes: changes.weight)
 
 
-def changes_in(chosen: tuple[object, ...]) -> int:
-    """How many changes were chosen; a cycle that gx has no part in counts for more than all others."""
-    names = [change if isinstance(change, str) else change[0] for change in chosen]  # type: ignore[index]
-    return sum(1 for name in names if name) + 10 * (CYCLE in names)
+def variants(script: Script, run: ServerRun, ours: dict[str, Answer]) -> Iterator[Variant]:
+    """The changed scripts that may explain a run, each once."""
+    seen: set[tuple[Script, frozenset[str]]] = set()
+    for changes in all_changes(run):
+        variant = changed_by(changes, script, run, ours)
+        if (variant.script, variant.owed) not in seen and variant.script != script:
+            seen.add((variant.script, variant.owed))
+            yield variant
+
+
+def changed_by(changes: Changes, script: Script, run: ServerRun, ours: dict[str, Answer]) -> Variant:
+    """The script with these changes."""
+    nobody: frozenset[str] = frozenset()
+    overtaken = refused_with(SERIALIZATION, run) if changes.refusal else nobody
+    victims = refused_with(VICTIM, run) if changes.choice else nobody
+    late = waited_for_tables(run) if changes.snapshot else nobody
+    stopped = stopped_early(script, run, ours) if changes.evaluation else nobody
+    changed = without_rows(with_early_snapshots(script, late | overtaken), stopped)
+    if changes.node:
+        changed = on_one_node(changed)
+    if changes.evaluation:
+        changed = as_postgres_evaluates(changed)
+    refused = overtaken | victims
+    changed = with_refusals(changed, refused)
+    if changes.queue[1] is not None:
+        changed = in_order_of(changed, run, changes.queue[1], refused)
+    owed = refused - cancelled(run) if changes.choice == CYCLE else refused
+    return Variant(changed, changes.reasons + (LIMIT,) * bool(stopped), refused, owed, refused | stopped)
+
+
+def cancelled(run: ServerRun) -> frozenset[str]:
+    """The lines that the peer cancelled."""
+    return frozenset(name for name, passage in run.passages.items() if passage.is_cancelled)
 
 
 def refused_with(refusal: str, run: ServerRun) -> frozenset[str]:

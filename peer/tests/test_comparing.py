@@ -5,7 +5,7 @@ import unittest
 from beside.answers import DIVISION, OVERFLOW, Answer, row_of, row_text
 from beside.constants import constant_fault
 from beside.evaluation import as_evaluated
-from beside.opened import OPEN, OTHER, SAME, Opened, opened_script, same_rows
+from beside.opened import OPEN, OTHER, SAME, Opened, cut_answer, opened_rows, opened_script, same_rows
 from beside.oracle import read_verdicts
 from beside.script import read_script
 from beside.shrink import shrunk
@@ -37,9 +37,14 @@ class Rows(unittest.TestCase):
     def test_queries_are_opened_by_their_keys(self) -> None:
         heads = "segments 1\ntable t (a bigint, b bigint) distributed by (a)\n"
         script = read_script(heads + "s: SELECT * FROM t ORDER BY b DESC, a LIMIT 2\ns: SELECT a FROM t\n")
-        wide = opened_script(script)
-        assert wide is not None
-        self.assertEqual([line.text for line in wide.lines], ["select a , b , b , a from t order by b desc , a", "select a from t"])
+        self.assertEqual([line.text for line in opened_script(script).lines], ["select a , b , b , a from t order by b desc , a", "select a from t"])
+
+    def test_an_opened_answer_is_cut_at_its_limit(self) -> None:
+        heads = "segments 1\ntable t (a bigint, b bigint) distributed by (a)\n"
+        line = read_script(heads + "s: SELECT a FROM t ORDER BY b LIMIT 2\n").lines[0]
+        opened = opened_rows(line, Answer(done="SELECT", count=3, rows=((1, 7), (2, 7), (3, 8))))
+        self.assertEqual(opened.ties, ((A, B), (C,)))
+        self.assertEqual(cut_answer(line, opened), Answer(done="SELECT", count=2, rows=(A, B)))
 
     def test_a_row_is_read_as_it_is_written(self) -> None:
         row = (None, -3, "it's | one")
