@@ -15,6 +15,19 @@ ROLLBACK = tuple(tokens_of("ROLLBACK"))
 NO_NUMBER = 0
 
 
+def renumbered(script: Script) -> tuple[Script, dict[str, str]]:
+    """The script with its lines numbered as they stand, and the name that each of the file's own lines had before."""
+    counts: dict[str, int] = {}
+    lines, names = [], {}
+    for line in script.lines:
+        counts[line.session] = counts.get(line.session, 0) + 1
+        fresh = replace(line, number=counts[line.session])
+        lines.append(fresh)
+        if line.place:
+            names[fresh.name] = line.name
+    return replace(script, lines=tuple(lines)), names
+
+
 def on_one_node(script: Script) -> Script:
     """All rows at one segment, as on a server that has no segments."""
     return replace(script, segments=1)

@@ -20,7 +20,7 @@ class ConstantFault(Exception):
 
 
 def constant_fault(expression: list[Token]) -> str | None:
-    """The class of the first fault among an expression's constant parts; what an AND or OR of constants decides is passed over."""
+    """The class of the first fault among an expression's constants, but for those that an AND or OR of constants leaves out."""
     try:
         Folder(expression).disjunction(True)
     except ConstantFault as fault:

@@ -43,7 +43,9 @@ class Drawer:
         """A line of a session, of which it is noted how long its block is."""
         if blocks[session] == 0 and self._draw.random() < 0.6:
             blocks[session] = 1
-            return "BEGIN" + self._draw.choice(("", " ISOLATION LEVEL READ COMMITTED", *(2 * (" ISOLATION LEVEL REPEATABLE READ",))))
+            repeatable = " ISOLATION LEVEL REPEATABLE READ"
+            levels = ("", " ISOLATION LEVEL READ COMMITTED", repeatable, repeatable)
+            return "BEGIN" + self._draw.choice(levels)
         if blocks[session] > 0 and self._draw.random() < 0.1 * blocks[session]:
             blocks[session] = 0
             return self._draw.choice(("COMMIT", "COMMIT", "COMMIT", "ROLLBACK"))
@@ -54,7 +56,9 @@ class Drawer:
     def _number(self) -> str:
         """A literal, a small one most times."""
         draw = self._draw
-        return draw.choice(("9223372036854775807", "-9223372036854775808", "(7 - 3)")) if draw.random() < 0.03 else str(draw.randrange(-1, 6))
+        if draw.random() < 0.03:
+            return draw.choice(("9223372036854775807", "-9223372036854775808", "(7 - 3)"))
+        return str(draw.randrange(-1, 6))
 
     def _insert(self, table: str, most: int = 2) -> str:
         """An INSERT of up to `most` rows."""

@@ -14,7 +14,11 @@ LOOK_SECONDS = 0.002
 
 @dataclass
 class Settings:
-    """How lines are driven: seconds that one may take without waiting, who cancels in a deadlock, whether tables are locked first."""
+    """How lines are driven.
+
+    The seconds that one may take without waiting, who cancels in a deadlock ('gx' or 'server'), and whether a table is locked
+    before the snapshot of a repeatable-read block.
+    """
 
     seconds: float = 30.0
     deadlocks: str = "gx"
@@ -25,8 +29,8 @@ class Settings:
 class Passage:
     """How a line went: the moments at which it was started and was seen to wait, for a table or at all, and its answer.
 
-    Moments are the actions of the driver, from 1. `place` is the line's among all answers. `is_plain` says that a BEGIN in a block
-    was sent without its level, `is_cancelled` that the peer cancelled the line.
+    Moments are the actions of the driver, from 1. `place` is the line's among all answers. `is_plain` says that a BEGIN in a
+    block was sent without its level, `is_cancelled` that the peer cancelled the line.
     """
 
     line: Line

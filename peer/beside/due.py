@@ -5,7 +5,7 @@ from collections.abc import Collection
 from dataclasses import replace
 
 from beside.answers import SERIALIZATION, VICTIM
-from beside.changes import ASIDE, ROLLBACK, Order, placed, released, started
+from beside.changes import ASIDE, ROLLBACK, Order, placed, released, renumbered, started
 from beside.drive import Passage, ServerRun
 from beside.oracle import BEGIN, NoOracle, Refused, ask_about, ask_trace
 from beside.script import Line, Script
@@ -30,18 +30,8 @@ def is_overtaken(changed: Script, passage: Passage, run: ServerRun, program: str
     at = next(i for i, line in enumerate(changed.lines) if line.place and line.name == passage.line.name)
     others = [session for session in changed.sessions if session not in (passage.line.session, ASIDE.name)]
     rolled = [Line(session, 0, 0, ROLLBACK, "") for session in others]
-    asked = numbered(replace(changed, lines=(*changed.lines[:at], *rolled, passage.line)))
+    asked, _ = renumbered(replace(changed, lines=(*changed.lines[:at], *rolled, passage.line)))
     return ask_about(program, asked).answers[asked.lines[-1].name].refusal == SERIALIZATION
-
-
-def numbered(script: Script) -> Script:
-    """The script with its lines numbered as they stand."""
-    counts: dict[str, int] = {}
-    lines = []
-    for line in script.lines:
-        counts[line.session] = counts.get(line.session, 0) + 1
-        lines.append(replace(line, number=counts[line.session]))
-    return replace(script, lines=tuple(lines))
 
 
 def is_deadlocked(changed: Script, passage: Passage, refused: Collection[str], run: ServerRun, program: str) -> bool:
@@ -61,7 +51,8 @@ def is_deadlocked(changed: Script, passage: Passage, refused: Collection[str], r
             for at, line in placed(changed, run, Order(moment_of), ())
             if at <= moment or (line.place and line.name == passage.line.name)
         ]
-        trace = ask_trace(program, numbered(replace(changed, lines=tuple(lines))))
+        asked, _ = renumbered(replace(changed, lines=tuple(lines)))
+        trace = ask_trace(program, asked)
         if any(is_in_cycle(passage.line.session, waits) for waits in waits_of_rounds(trace)):
             return True
     return False

@@ -18,7 +18,8 @@ BEGIN_IN_BLOCK = "begin"
 class Judgement:
     """What came of a script: left out for a reason, or the differences, of which those without a reason are unexplained.
 
-    `victims` and `same_victims` count the lines in which gx's detector cancels a session, and those of them that the server refuses too.
+    `victims` and `same_victims` count the lines in which gx's detector cancels a session, and those of them that the server
+    refuses too.
     """
 
     name: str
@@ -38,7 +39,8 @@ class Judgement:
 
 def judge_file(path: Path, program: str, server: Server, settings: Settings) -> Judgement:
     """Runs the script of a file on both sides."""
-    return judge_text(str(path), path.read_bytes().decode(errors="surrogateescape"), words_beside(path), program, server, settings)
+    text = path.read_bytes().decode(errors="surrogateescape")
+    return judge_text(str(path), text, words_beside(path), program, server, settings)
 
 
 def judge_text(name: str, text: str, words: list[str], program: str, server: Server, settings: Settings) -> Judgement:
@@ -72,7 +74,8 @@ def judge(name: str, script: Script, verdicts: Verdicts, run: ServerRun, program
 def plain_begins(run: ServerRun) -> list[Difference]:
     """The BEGINs in blocks that the server was sent without their level."""
     lines = [passage.line for passage in run.passages.values() if passage.is_plain]
-    return [Difference(line.place, line.name, line.written, ("BEGIN",), ("BEGIN without its level",), BEGIN_IN_BLOCK) for line in lines]
+    sent = ("BEGIN without its level",)
+    return [Difference(line.place, line.name, line.written, ("BEGIN",), sent, BEGIN_IN_BLOCK) for line in lines]
 
 
 def reason_of(script: Script, verdicts: Verdicts, run: ServerRun, program: str) -> str | None:

@@ -1,4 +1,4 @@
-"""Queries without their limit and with what orders their rows, so that gx tells which rows a server may give, and in which order."""
+"""Queries without their limit and with what orders their rows: so gx tells which rows a server may give, and in which order."""
 
 from collections import Counter
 from dataclasses import dataclass, replace

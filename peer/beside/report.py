@@ -39,7 +39,7 @@ def counts_of(judgements: list[Judgement]) -> dict[str, object]:
     """How many scripts agree, differ and were left out, and for which reasons."""
     run = [judgement for judgement in judgements if not judgement.left_out]
     known = [judgement for judgement in run if judgement.status == 1]
-    reasons = Counter(reason for judgement in known for reason in sorted({difference.reason for difference in judgement.differences}))
+    reasons = Counter(reason for judgement in known for reason in {difference.reason for difference in judgement.differences})
     return {
         "agree": sum(judgement.status == 0 for judgement in run),
         "known": len(known),
@@ -60,7 +60,8 @@ def listed(counts: dict[str, int]) -> str:
 def sentences(judgements: list[Judgement]) -> str:
     """What the classes that came up mean."""
     found = {difference.reason or "" for judgement in judgements for difference in judgement.differences}
-    return "\n".join(f"{name}: {said}" for name, said in CLASSES.items() if any(name in reason.split(" and ") for reason in found))
+    names = {name for reason in found for name in reason.split(" and ")}
+    return "\n".join(f"{name}: {said}" for name, said in CLASSES.items() if name in names)
 
 
 def totals(judgements: list[Judgement]) -> str:

@@ -18,11 +18,15 @@ NO_RUN = 3
 
 def add_server_options(parser: argparse.ArgumentParser) -> None:
     """The options that peer/run and peer/watch share."""
+    waits = "who tells who waits: the server's pg_blocking_pids, or half a second without an answer"
+    first = "take a table's lock before a repeatable-read block's snapshot"
+    limit = "how long a line may take that doesn't wait (%(default)g)"
+    program = "the program gx: else that of GX_PROGRAM, or crates/gx/out/gx"
     parser.add_argument("--dsn", default=default_dsn(), help="the server, as libpq names it (here: %(default)r)")
-    parser.add_argument("--waits", choices=("blockers", "timeout"), default="blockers", help="who tells who waits: the server's pg_blocking_pids, or half a second without an answer")
-    parser.add_argument("--lock-first", action="store_true", help="take a table's lock before a repeatable-read block's snapshot")
-    parser.add_argument("--limit", type=float, default=30.0, metavar="SECONDS", help="how long a line may take that doesn't wait (%(default)g)")
-    parser.add_argument("--gx", metavar="PATH", help="the program gx: else that of GX_PROGRAM, or crates/gx/out/gx")
+    parser.add_argument("--waits", choices=("blockers", "timeout"), default="blockers", help=waits)
+    parser.add_argument("--lock-first", action="store_true", help=first)
+    parser.add_argument("--limit", type=float, default=30.0, metavar="SECONDS", help=limit)
+    parser.add_argument("--gx", metavar="PATH", help=program)
 
 
 def default_dsn() -> str:
@@ -72,9 +76,11 @@ def judge_all(options: argparse.Namespace) -> tuple[list[Judgement], int]:
 
 def main(words: list[str]) -> int:
     """Runs the command; its status is 0 where all agree, 1 with known differences alone, 2 with others, 3 without a run."""
-    parser = argparse.ArgumentParser(prog="peer/run", description="Runs scripts of gx on a live server, and says where its answers differ from those of gx.")
+    what = "Runs scripts of gx on a live server, and says where its answers differ from those of gx."
+    deadlocks = "who cancels in a deadlock: the peer, whom gx names, or the server by itself"
+    parser = argparse.ArgumentParser(prog="peer/run", description=what)
     add_server_options(parser)
-    parser.add_argument("--deadlocks", choices=("gx", "server"), default="gx", help="who cancels in a deadlock: the peer, whom gx names, or the server by itself")
+    parser.add_argument("--deadlocks", choices=("gx", "server"), default="gx", help=deadlocks)
     parser.add_argument("--json", action="store_true", help="print one JSON value in place of text")
     parser.add_argument("script", nargs="+", metavar="SCRIPT")
     try:

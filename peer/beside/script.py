@@ -58,11 +58,6 @@ class Line:
         return self.kind in ("select", "insert", "update", "delete")
 
     @property
-    def changes_rows(self) -> bool:
-        """Whether it goes through rows that stand and changes them."""
-        return self.kind in ("update", "delete")
-
-    @property
     def is_repeatable_read(self) -> bool:
         """Of a BEGIN: whether its block is at repeatable read."""
         return self.kind == "begin" and any(token.is_word("repeatable") for token in self.statement)

@@ -20,7 +20,7 @@ CLEANING_SECONDS = 5.0
 
 @dataclass
 class Server:
-    """How the server is reached and asked: its DSN, 'blockers' or 'timeout', and the while after which a line counts as waiting."""
+    """How the server is reached, and who tells of waits: 'blockers', or 'timeout' after this while."""
 
     dsn: str
     waits: str = "blockers"

@@ -5,7 +5,7 @@ run that is proved to be a legal history, only not of the run that gx makes of t
 """
 
 from collections.abc import Iterator
-from dataclasses import dataclass, replace
+from dataclasses import dataclass
 from itertools import product
 
 from beside.answers import SERIALIZATION, VICTIM, Answer
@@ -18,6 +18,7 @@ from beside.changes import (
     on_one_node,
     released,
     released_from_tables,
+    renumbered,
     waited_for_tables,
     with_early_snapshots,
     with_refusals,
@@ -27,7 +28,7 @@ from beside.compare import LIMIT, Expected, differences, expected
 from beside.drive import ServerRun
 from beside.due import is_due
 from beside.oracle import NoOracle, Refused
-from beside.script import Script
+from beside.script import Line, Script
 
 ONE_NODE, SNAPSHOT, EVALUATION, QUEUE, ORDER = "one-node", "snapshot", "evaluation", "queue", "order"
 REFUSAL, CHOICE, CYCLE = "refusal", "victim", "cycle"
@@ -63,19 +64,6 @@ class Variant:
         if any(difference.name not in self.aside for difference in open_ones):
             return False
         return all(is_due(self.script, run.passages[name], self.refused, run, program) for name in self.owed)
-
-
-def renumbered(script: Script) -> tuple[Script, dict[str, str]]:
-    """The script with its lines numbered as they stand, and the name that each of the file's own lines had before."""
-    counts: dict[str, int] = {}
-    lines, names = [], {}
-    for line in script.lines:
-        counts[line.session] = counts.get(line.session, 0) + 1
-        fresh = replace(line, number=counts[line.session])
-        lines.append(fresh)
-        if line.place:
-            names[fresh.name] = line.name
-    return replace(script, lines=tuple(lines)), names
 
 
 @dataclass(frozen=True)
@@ -160,5 +148,11 @@ def stopped_early(script: Script, run: ServerRun, ours: dict[str, Answer]) -> fr
     return frozenset(
         line.name
         for line in script.lines
-        if is_stopped_early(line) and ours[line.name].is_fault and (answer := run.passages[line.name].answer) and not answer.refusal
+        if is_stopped_early(line) and ours[line.name].is_fault and is_answered(run, line)
     )
+
+
+def is_answered(run: ServerRun, line: Line) -> bool:
+    """Whether the server didn't refuse a line."""
+    answer = run.passages[line.name].answer
+    return answer is not None and not answer.refusal

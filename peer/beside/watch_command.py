@@ -69,9 +69,14 @@ def watch(options: argparse.Namespace) -> int:
 
 def main(words: list[str]) -> int:
     """Runs the command; its status is that of peer/run over the scripts that were drawn."""
-    parser = argparse.ArgumentParser(prog="peer/watch", description="Draws scripts, runs them on gx and on a live server until their answers differ without a known reason, and then leaves out lines as long as they differ.")
+    what = (
+        "Draws scripts and runs them on gx and on a live server, until their answers differ without a known reason;"
+        " and then leaves out lines as long as they differ."
+    )
+    first = "the first script's number (%(default)s); the next ones follow"
+    parser = argparse.ArgumentParser(prog="peer/watch", description=what)
     add_server_options(parser)
-    parser.add_argument("--seed", type=int, default=1, metavar="N", help="the first script's number (%(default)s); the next ones follow")
+    parser.add_argument("--seed", type=int, default=1, metavar="N", help=first)
     parser.add_argument("--count", type=int, metavar="N", help="how many scripts are drawn; else it goes on")
     parser.add_argument("--seconds", type=float, metavar="S", help="no script is drawn after this time")
     parser.add_argument("--out", metavar="FILE", help="where the lines that differ are written too")
