@@ -53,7 +53,7 @@ def watch(options: argparse.Namespace) -> int:
         if deadline is not None and time.monotonic() > deadline:
             break
         text = drawn(seed)
-        judgement = watcher.judged(f"seed {seed}", text)
+        judgement = watcher.judged(f"number {seed}", text)
         judgements.append(judgement)
         if judgement.status == 2:
             smallest = watcher.smallest(text)
