@@ -13,6 +13,7 @@ MOST_TABLES = MOST_SESSIONS = 64
 ASIDE = Table("peer_aside", (Column("a", "bigint"),), "a")
 ROLLBACK = tuple(tokens_of("ROLLBACK"))
 NO_NUMBER = 0
+FIRST = (0, 0)
 
 
 def renumbered(script: Script) -> tuple[Script, dict[str, str]]:
@@ -85,10 +86,19 @@ def without_rows(script: Script, names: Collection[str]) -> Script:
 
 @dataclass(frozen=True)
 class Order:
-    """An order of lines: the moment at which each stands, and whether queries stand before what else comes to the same moment."""
+    """An order of lines: the moment at which each stands, and how those stand that come to the same one.
+
+    Those go as they were 'answered', in the 'opposite' order, or with the 'queries' first: which came first is seen of none.
+    """
 
     moment_of: Callable[[Passage], int]
-    are_queries_first: bool = False
+    ties: str = "answered"
+
+    def rank(self, passage: Passage) -> tuple[int, int]:
+        """What sorts the lines that come to one moment."""
+        if self.ties == "opposite":
+            return 1, -passage.place
+        return 0 if self.ties == "queries" and passage.line.kind == "select" else 1, passage.place
 
 
 def started(passage: Passage) -> int:
@@ -132,19 +142,19 @@ def placed(script: Script, run: ServerRun, order: Order, refused: Collection[str
     """
     cancelled = {(choice.moment, victim) for choice in run.choices for victim in choice.victims}
 
-    def place(line: Line) -> tuple[int, int, int]:
+    def place(line: Line) -> tuple[int, int, tuple[int, int]]:
         if line.session == ASIDE.name:
-            return 0, 0, 0
+            return 0, 0, FIRST
         passage = run.passages[line.name]
         if not line.place:
-            return passage.started, 0, 0
+            return passage.started, 0, FIRST
         is_refused = line.name in refused
         moment = released(passage) if is_refused else order.moment_of(passage)
         if moment == passage.started or ((moment, line.session) in cancelled and not is_refused):
-            return passage.started, 0, 1
-        return moment, 1 if order.are_queries_first and line.kind == "select" else 2, passage.place
+            return passage.started, 1, FIRST
+        return moment, 2, order.rank(passage)
 
-    ends = [((moment, 0, 1), Line(session, NO_NUMBER, 0, ROLLBACK, "")) for moment, session in run.ends]
+    ends = [((moment, 1, FIRST), Line(session, NO_NUMBER, 0, ROLLBACK, "")) for moment, session in run.ends]
     ordered = ends + [(place(line), line) for line in script.lines if line.number != NO_NUMBER]
     ordered.sort(key=lambda found: found[0])
     return [(moment, line) for (moment, _, _), line in ordered]

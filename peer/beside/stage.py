@@ -122,10 +122,16 @@ class Stage:
                 connection.close()
 
     def _drop(self) -> None:
-        """Drops the schema, over a new connection where the first one has something unanswered or is closed."""
+        """Drops the schema, over a new connection where the first one has something unanswered or is gone."""
         if self._keeper is None:
             return
-        if self._keeper.is_busy or self._keeper.fileno() < 0:
-            self._keeper.close()
-            self._keeper = self._connected("keeper")
-        self._keeper.must(f"DROP SCHEMA IF EXISTS {self._schema} CASCADE", CLEANING_SECONDS)
+        drop = f"DROP SCHEMA IF EXISTS {self._schema} CASCADE"
+        try:
+            if not self._keeper.is_busy:
+                self._keeper.must(drop, CLEANING_SECONDS)
+                return
+        except ServerGone:
+            pass
+        self._keeper.close()
+        self._keeper = self._connected("keeper")
+        self._keeper.must(drop, CLEANING_SECONDS)

@@ -93,11 +93,9 @@ def all_changes(run: ServerRun) -> list[Changes]:
     """All of them together, those with fewer changes first."""
     queues: list[tuple[str, Order | None]] = [
         ("", None),
-        (QUEUE, Order(released_from_tables)),
-        (QUEUE, Order(released_from_tables, are_queries_first=True)),
+        *((QUEUE, Order(released_from_tables, ties)) for ties in ("answered", "opposite", "queries")),
         (ORDER, Order(behind_overtakers(run))),
-        (ORDER, Order(released)),
-        (ORDER, Order(released, are_queries_first=True)),
+        *((ORDER, Order(released, ties)) for ties in ("answered", "opposite", "queries")),
     ]
     chosen = product(queues, ("", REFUSAL), ("", CHOICE, CYCLE), ("", EVALUATION), ("", SNAPSHOT), ("", ONE_NODE))
     return sorted((Changes(*changes) for changes in chosen), key=lambda changes: changes.weight)
