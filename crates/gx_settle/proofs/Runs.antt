@@ -1,16 +1,16 @@
 -- Running a command more.
 use Rattle.std.proofs.Common.{◌≡◌, ℕ, ◌<◌, ◌≤◌, ◌^◌, List, [], ◌∷◌, ◌++◌, Bool, true, false, refl, sym, ap, ◌∙◌, subst, arith, append_assoc, append-nil}
 use Rattle.std.specs.Prelude.{Option, None, Result, Ok, Err, IfErr, OnErr}
-use Rattle.gx_settle.specs.declared.decision.Decision.{Decision}
-use Rattle.gx_settle.specs.declared.decide_fault.DecideFault.{DecideFault}
-use Rattle.gx_settle.specs.declared.decide_fault.DecideFault.TheVariants.{Disk, Full, NotLog, OutOfMemory}
-use Rattle.gx_settle.specs.declared.decider.Decider.{Decider}
-use Rattle.gx_settle.specs.Calls.{AreMade, AreMadePartly, opening}
-use Rattle.gx_settle.specs.Disk.{DiskState}
-use Rattle.gx_settle.specs.History.{DoesBreak, DoesSettle, Event, Happens, Led, OpenBroken, Opened, SettleBroken, Settled, Stopped}
-use Rattle.gx_settle.specs.Kept.{IsOpenRefused, IsSettleRefused, Knows, slots_by, used_by, verdict_by}
-use Rattle.gx_settle.specs.Log.{IsEnd, pairs_before, slots_of, verdict_in}
-use Rattle.gx_settle.proofs.Verdicts.{durable, equal}
+use Rattle.gx_decide.specs.declared.decision.Decision.{Decision}
+use Rattle.gx_decide.specs.declared.decide_fault.DecideFault.{DecideFault}
+use Rattle.gx_decide.specs.declared.decide_fault.DecideFault.TheVariants.{Disk, Full, NotLog, OutOfMemory}
+use Rattle.gx_decide.specs.declared.decider.Decider.{Decider}
+use Rattle.gx_decide.specs.Calls.{AreMade, AreMadePartly, opening}
+use Rattle.gx_decide.specs.Disk.{DiskState}
+use Rattle.gx_decide.specs.History.{DoesBreak, DoesSettle, Event, Happens, Led, OpenBroken, Opened, SettleBroken, Settled, Stopped}
+use Rattle.gx_decide.specs.Kept.{IsOpenRefused, IsSettleRefused, Knows, slots_by, used_by, verdict_by}
+use Rattle.gx_decide.specs.Log.{IsEnd, pairs_before, slots_of, verdict_in}
+use Rattle.gx_decide.proofs.Verdicts.{durable, equal}
 use Rattle.gx_ids.specs.declared.ids.Gxid.{Gxid}
 use Rattle.gx_settle.specs.declared.command.Command.{Command}
 use Rattle.gx_settle.specs.declared.command.Command.TheVariants.{Settle, Reopen}

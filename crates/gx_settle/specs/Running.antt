@@ -2,14 +2,14 @@
 use Rattle.std.specs.Prelude.{◌≡◌, ⊤, ℕ, Bool, true, false, List, [], ◌∷◌, ◌++◌, None, codes}
 use Rattle.std.specs.Fmt.{decimal}
 use Rattle.gx_outside.specs.Causes.{Rose}
-use Rattle.gx_settle.specs.declared.decision.Decision.{Decision}
-use Rattle.gx_settle.specs.declared.decision.Decision.TheVariants.{Commit, Abort}
-use Rattle.gx_settle.specs.declared.decide_fault.DecideFault.{DecideFault}
-use Rattle.gx_settle.specs.declared.decide_fault.DecideFault.TheVariants.{Disk, Full, NotLog, OutOfMemory}
-use Rattle.gx_settle.specs.Disk.{DiskState, Synced}
-use Rattle.gx_settle.specs.History.{AreAnswersEqual, Event, Happens, IsDurable, Led, OpenBroken, Opened, SettleBroken, Settled, Stopped}
-use Rattle.gx_settle.specs.Kept.{IsStrange}
-use Rattle.gx_settle.specs.Log.{IsEnd, IsFirstBad, pairs_before, slots_of, verdict_in}
+use Rattle.gx_decide.specs.declared.decision.Decision.{Decision}
+use Rattle.gx_decide.specs.declared.decision.Decision.TheVariants.{Commit, Abort}
+use Rattle.gx_decide.specs.declared.decide_fault.DecideFault.{DecideFault}
+use Rattle.gx_decide.specs.declared.decide_fault.DecideFault.TheVariants.{Disk, Full, NotLog, OutOfMemory}
+use Rattle.gx_decide.specs.Disk.{DiskState, Synced}
+use Rattle.gx_decide.specs.History.{AreAnswersEqual, Event, Happens, IsDurable, Led, OpenBroken, Opened, SettleBroken, Settled, Stopped}
+use Rattle.gx_decide.specs.Kept.{IsStrange}
+use Rattle.gx_decide.specs.Log.{IsEnd, IsFirstBad, pairs_before, slots_of, verdict_in}
 use Rattle.gx_settle.specs.declared.command.Command.{Command}
 use Rattle.gx_settle.specs.declared.command.Command.TheVariants.{Settle, Reopen}
 

@@ -5,10 +5,9 @@ ghost use Rattle.gx_settle.specs.Commands.{IsDrawn};
 ghost use Rattle.gx_settle.specs.Top.{IsAttempt, IsRan, IsRefusedFor, IsStoppedText, work};
 
 use crate::command::Command;
-use crate::decide_fault::DecideFault;
-use crate::disk::Disk;
 use crate::reading::{ReadRefusal, read_commands};
 use crate::running::run_commands;
+use gx_decide::{DecideFault, Disk};
 use gx_ids::Mem;
 use gx_outside::{ReadFault, Source, read_up_to};
 use gx_text::{push_bytes, push_count};

@@ -1,17 +1,13 @@
 // Running the commands.
 ghost use Rattle.std.specs.Prelude.{◌≡◌, ◌++◌, ◌<◌, ◌≤◌, [], List, All, IfOk, IfErr, OnOk};
 ghost use Rattle.std.specs.Fmt.{decimal};
-ghost use Rattle.gx_settle.specs.History.{Event};
-ghost use Rattle.gx_settle.specs.Kept.{Knows};
+ghost use Rattle.gx_decide.specs.History.{Event};
+ghost use Rattle.gx_decide.specs.Kept.{Knows};
 ghost use Rattle.gx_settle.specs.Commands.{IsDrawn};
 ghost use Rattle.gx_settle.specs.Running.{IsCut, IsRun, IsStep, IsStepCut, answer_text, text_of};
 
 use crate::command::Command;
-use crate::decide_fault::DecideFault;
-use crate::decider::Decider;
-use crate::decision::Decision;
-use crate::disk::Disk;
-use crate::open::open_log;
+use gx_decide::{DecideFault, Decider, Decision, Disk, open_log};
 use gx_ids::{Gxid, Mem};
 use gx_text::{push_bytes, push_count};
 use std::alloc::Global;

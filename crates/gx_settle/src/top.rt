@@ -1,10 +1,10 @@
 // The top call.
 ghost use Rattle.std.specs.Prelude.{◌≡◌};
-ghost use Rattle.gx_settle.specs.Kept.{IsStrange};
+ghost use Rattle.gx_decide.specs.Kept.{IsStrange};
 ghost use Rattle.gx_settle.specs.Top.{IsCutShort, IsDiskFault, IsDone, IsDue, IsFullLog, IsLeft, IsNotLog, IsReadFault, IsRefused, IsStatus, IsTold, IsToldOf, IsTooLarge, IsWritten, work};
 
 use crate::attempt::{Attempt, make_attempt};
-use crate::disk::Disk;
+use gx_decide::Disk;
 use gx_outside::{Failed, Sink, Source, write_whole};
 use std::alloc::Global;
 

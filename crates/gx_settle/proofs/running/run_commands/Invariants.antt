@@ -1,5 +1,5 @@
 use Rattle.std.proofs.Common.{◌≤◌, drop}
-use Rattle.gx_settle.specs.Kept.{Knows}
+use Rattle.gx_decide.specs.Kept.{Knows}
 use Rattle.gx_settle.proofs.Runs.{IsUnderWay}
 use Rattle.gx_settle.proofs.running.run_commands.Given as goal
 
