@@ -10,7 +10,7 @@ use Rattle.std.proofs.lemmas.Bool.Decides.{nat_tests}
 use Rattle.gx_decide.specs.declared.decision.Decision.{Decision}
 use Rattle.gx_decide.specs.Disk.{DiskState}
 use Rattle.gx_decide.specs.Log.{IsEnd, Pair, byte_of, decision_of, gate_at, gxid_at, pair_at, pairs_before, slots_of, verdict_at, verdict_in}
-use Rattle.gx_decide.specs.Calls.{AreMade, settling}
+use Rattle.gx_decide.specs.Calls.{AreMade, AreMadePartly, settling}
 use Rattle.gx_decide.specs.History.{DoesBreak, DoesSettle, Event, GoesOn, Led, SettleBroken, Settled}
 use Rattle.gx_decide.specs.Kept.{Kept, Knows, verdict_by}
 use Rattle.gx_decide.proofs.Images.{pairs_before-same}
@@ -34,6 +34,19 @@ module _ (decider : Kept) (old new : DiskState) (gxid : ℕ) (wish : Decision) (
   broken-goes-on does =
       goes-on (SettleBroken gxid wish) events old new true false led
       (refl, refl, drawn, fits, decider.used, end_there, subst (λ (v : Option Decision). DoesBreak decider.used gxid wish v old new) (know.verdicts gxid) does)
+
+-- a transaction without a verdict: its pair was written in the slot at the end, or the writing of it failed
+module _ (decider : Kept) (old new : DiskState) (gxid : ℕ) (wish : Decision) (know : Knows decider old) (none : verdict_by decider gxid ≡ None) (room : decider.used < decider.slots) (slot : ℕ) (last : slot ≡ decider.used) where
+  inside : decider.used < slots_of old.size
+  inside = omega (arith, room, know.slots)
+
+  pub settles-new : AreMade (settling slot gxid wish) old new → DoesSettle decider.used gxid wish wish (verdict_by decider gxid) old new
+  settles-new made = subst (λ (v : Option Decision). DoesSettle decider.used gxid wish wish v old new) (sym none)
+      (refl, inside, subst (λ (n : ℕ). AreMade (settling n gxid wish) old new) last made)
+
+  pub breaks-new : AreMadePartly (settling slot gxid wish) old new → DoesBreak decider.used gxid wish (verdict_by decider gxid) old new
+  breaks-new made = subst (λ (v : Option Decision). DoesBreak decider.used gxid wish v old new) (sym none)
+      (inr (inside, subst (λ (n : ℕ). AreMadePartly (settling n gxid wish) old new) last made))
 
 -- what the writes of a pair leave
 record Wrote (slot number : ℕ) (wish : Decision) (old new : DiskState) : Type 0 where

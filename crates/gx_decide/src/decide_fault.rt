@@ -4,7 +4,7 @@ use gx_outside::Failed;
 use std::alloc::{AllocError, AllocFailed};
 
 /// Why an open or a settle was refused. The disk is then opened again.
-#[derive(Clone, Copy)]
+#[derive(Clone, Copy, Debug, PartialEq, Eq)]
 pub enum DecideFault {
     /// A call on the disk failed.
     Disk,

@@ -44,6 +44,20 @@ impl Decider {
         }
     }
 
+    /// How many slots the log has.
+    pub fn slots(&self) -> u32
+        ensures { result ≡ self.now.slots }
+    {
+        self.slots
+    }
+
+    /// How many of them have a pair.
+    pub fn used(&self) -> u32
+        ensures { result ≡ self.now.used }
+    {
+        self.used
+    }
+
     /// The verdict that is kept for a transaction.
     pub fn kept(&self, gxid: Gxid) -> Option<Decision>
         ensures { result ≡ verdict_by self.now gxid.0 }
@@ -73,6 +87,7 @@ impl Decider {
         ensures full { verdict_by self gxid.0 ≡ None → self.used ≡ self.slots → result ≡ Err (DecideFault.Full (self.slots)) }
         ensures refused { IfErr result (IsSettleRefused self gxid.0 (D.state disk.old) (D.state disk.new) (D.fault_count disk.old) (D.fault_count disk.new)) }
         ensures later { D.fault_count disk.old ≤ D.fault_count disk.new }
+        ensures size { (D.state disk.new).size ≡ (D.state disk.old).size }
         // bytes behind the last slot are neither read nor written
         ensures reach { ReachesTo (16 * slots_of (D.state disk.old).size) (D.reach disk.old) (D.reach disk.new) }
         // after every list of opens, settles and stops, with this call too: the disk is their log, and answers are equal
@@ -83,10 +98,10 @@ impl Decider {
         if let Some(kept) = self.kept(gxid) {
             return Ok((self, kept));
         }
-        if self.used == self.slots {
-            return Err(DecideFault::Full(self.slots));
+        let slot = self.used();
+        if slot == self.slots() {
+            return Err(DecideFault::Full(slot));
         }
-        let slot = self.used;
         let decider = self.with(number, wish)?;
         write_pair(disk, slot, number, wish)?;
         Ok((decider, wish))

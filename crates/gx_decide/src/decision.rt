@@ -1,5 +1,5 @@
 /// What becomes of a transaction.
-#[derive(Clone, Copy)]
+#[derive(Clone, Copy, Debug, PartialEq, Eq)]
 pub enum Decision {
     Commit,
     Abort,

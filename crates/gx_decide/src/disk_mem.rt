@@ -1,4 +1,4 @@
-ghost use Rattle.std.specs.Prelude.{◌≡◌, ℕ, ◌+◌, ◌*◌, ◌≤◌, ◌<◌, ◌↔◌, max, true, false, length, get_or, replicate, IfOk, OnOk, OnErr, IsErr};
+ghost use Rattle.std.specs.Prelude.{◌≡◌, ℕ, ◌+◌, ◌*◌, ◌≤◌, ◌<◌, ◌↔◌, max, true, false, length, get_or, replicate, IfOk, OnOk, OnErr, IsErr, IsTrue};
 ghost use Rattle.gx_outside.specs.Memory.{IsFailingNext, IsCounted};
 ghost use Rattle.gx_decide.specs.Disk.{DiskState, IsCaused, IsRead, IsOutside, ReachesTo, StopLeaves, Written, Touched, Synced, Stayed};
 ghost use Rattle.gx_decide.specs.Memory.{IsMarked, state_of};
@@ -73,22 +73,36 @@ impl DiskMem {
         }
     }
 
-    // Counts a call that asks for bytes before `end`, and its fault where it is one that fails.
-    fn count(&mut self, end: u64) -> Result<(), Failed>
+    // Counts a call, and its fault where it is one that fails.
+    fn count(&mut self) -> Result<(), Failed>
         ensures fails { IsErr result ↔ IsFailingNext self.old.calls self.old.fail }
         ensures counted { IsCounted self.old.calls self.new.calls self.old.faults self.new.faults result }
         ensures cause { IsCaused self.old.faults self.new.faults result }
-        ensures reach { self.new.reach ≡ max self.old.reach end }
         ensures same { (self.new.bytes ≡ self.old.bytes) × (self.new.pending ≡ self.old.pending) × (self.new.fail ≡ self.old.fail) }
+        ensures reach { self.new.reach ≡ self.old.reach }
     {
-        self.reach = self.reach.max(end);
-        let is_failing = self.calls < u64::MAX && self.fail.contains(&(self.calls + 1));
+        let is_failing = is_failing_next(self.calls, self.fail.as_slice());
         self.calls = self.calls.saturating_add(1);
         if is_failing {
             self.faults = self.faults.saturating_add(1);
             return Err(Failed);
         }
         Ok(())
+    }
+
+    // Counts a call that asks for so many bytes from a place on.
+    fn ask(&mut self, at: u64, many: usize) -> Result<(), Failed>
+        requires { at + many ≤ length self.old.bytes }
+        ensures fails { IsErr result ↔ IsFailingNext self.old.calls self.old.fail }
+        ensures counted { IsCounted self.old.calls self.new.calls self.old.faults self.new.faults result }
+        ensures cause { IsCaused self.old.faults self.new.faults result }
+        ensures same { (self.new.bytes ≡ self.old.bytes) × (self.new.pending ≡ self.old.pending) × (self.new.fail ≡ self.old.fail) }
+        ensures reach { self.new.reach ≡ max self.old.reach (at + many) }
+    {
+        // the disk's length bounds the end
+        let _len = self.bytes.len();
+        self.reach = self.reach.max(at + many as u64);
+        self.count()
     }
 }
 
@@ -114,7 +128,7 @@ impl Disk for DiskMem {
         ensures counted { IsCounted self.old.calls self.new.calls self.old.faults self.new.faults result }
         ensures same { self.new.fail ≡ self.old.fail }
     {
-        self.count(at + buf.len() as u64)?;
+        self.ask(at, buf.len())?;
         let at = at as usize;
         buf.copy_from_slice(&self.bytes[at..at + buf.len()]);
         Ok(())
@@ -132,7 +146,7 @@ impl Disk for DiskMem {
         ensures counted { IsCounted self.old.calls self.new.calls self.old.faults self.new.faults result }
         ensures same { self.new.fail ≡ self.old.fail }
     {
-        let counted = self.count(at + bytes.len() as u64);
+        let counted = self.ask(at, bytes.len());
         mark(&mut self.pending, at as usize, bytes.len());
         counted?;
         put(&mut self.bytes, at as usize, bytes);
@@ -149,7 +163,7 @@ impl Disk for DiskMem {
         ensures counted { IsCounted self.old.calls self.new.calls self.old.faults self.new.faults result }
         ensures same { (self.new.bytes ≡ self.old.bytes) × (self.new.fail ≡ self.old.fail) }
     {
-        self.count(0)?;
+        self.count()?;
         self.pending.fill(false);
         Ok(())
     }
@@ -157,6 +171,13 @@ impl Disk for DiskMem {
     fn faults(&self) -> u64 {
         self.faults
     }
+}
+
+// Whether a call after `calls` others fails.
+fn is_failing_next(calls: u64, fail: &[u64]) -> bool
+    ensures { IsTrue result ↔ IsFailingNext calls fail.now }
+{
+    calls < u64::MAX && fail.contains(&(calls + 1))
 }
 
 // Marks a range as pending.

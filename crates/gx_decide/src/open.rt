@@ -41,6 +41,7 @@ pub fn open_log<D: Disk>(alloc: Global, disk: &mut D) -> Result<Decider, DecideF
         × AreMadePartly (opening (slots_of (D.state disk.old).size) (D.state disk.old).seen end) (D.state disk.old) (D.state disk.new)) }
     ensures refused { IfErr result (IsOpenRefused (D.state disk.old) (D.state disk.new) (D.fault_count disk.old) (D.fault_count disk.new)) }
     ensures later { D.fault_count disk.old ≤ D.fault_count disk.new }
+    ensures size { (D.state disk.new).size ≡ (D.state disk.old).size }
     // bytes behind the last slot are neither read nor written
     ensures reach { ReachesTo (16 * slots_of (D.state disk.old).size) (D.reach disk.old) (D.reach disk.new) }
     // after every list of opens, settles and stops, with this call too: the disk is their log

@@ -20,6 +20,7 @@ pub(crate) fn write_pair<D: Disk>(
     requires { 16 * slot + 16 ≤ (D.state disk.old).size }
     ensures ok { OnOk result (AreMade (settling slot gxid decision) (D.state disk.old) (D.state disk.new)) }
     ensures err { OnErr result (AreMadePartly (settling slot gxid decision) (D.state disk.old) (D.state disk.new)) }
+    ensures size { (D.state disk.new).size ≡ (D.state disk.old).size }
     ensures reach { ReachesTo (16 * slot + 16) (D.reach disk.old) (D.reach disk.new) }
     ensures cause { IsCaused (D.fault_count disk.old) (D.fault_count disk.new) result }
 {
@@ -34,6 +35,7 @@ pub(crate) fn shut_gate<D: Disk>(disk: &mut D, slot: u32, gate: u8) -> Result<()
     requires { gate ≢ 0 → 16 * slot + 16 ≤ (D.state disk.old).size }
     ensures ok { OnOk result (AreMade (if gate == 0 then [] else shutting slot) (D.state disk.old) (D.state disk.new)) }
     ensures err { OnErr result (AreMadePartly (if gate == 0 then [] else shutting slot) (D.state disk.old) (D.state disk.new)) }
+    ensures size { (D.state disk.new).size ≡ (D.state disk.old).size }
     ensures reach { gate ≢ 0 → ReachesTo (16 * slot + 16) (D.reach disk.old) (D.reach disk.new) }
     ensures unmoved { gate ≡ 0 → D.reach disk.new ≡ D.reach disk.old }
     ensures cause { IsCaused (D.fault_count disk.old) (D.fault_count disk.new) result }

@@ -5,6 +5,8 @@ mod attempt;
 mod command;
 mod reading;
 mod running;
+#[cfg(test)]
+mod tests;
 mod top;
 
 use gx_decide::DiskMem;

@@ -1,8 +1,8 @@
-use Rattle.std.proofs.Common.{rules, ◌≡◌, ℕ, List, [], Bool, false, cond, eqb, ◌<◌, ◌≢◌, refl, ◌∙◌, subst, arith}
+use Rattle.std.proofs.Common.{rules, ◌≡◌, ℕ, List, [], Bool, false, cond, eqb, ◌<◌, ◌≢◌, refl, sym, ◌∙◌, subst, arith}
 use Rattle.std.proofs.lemmas.Result.{err_from_is_err_and}
 use Rattle.gx_decide.specs.History.{Event, GoesOn, Led, OpenBroken}
-use Rattle.gx_decide.specs.Kept.{Kept}
-use Rattle.gx_decide.specs.Calls.{AreMade, AreMadePartly, shutting}
+use Rattle.gx_decide.specs.Kept.{Kept, Knows}
+use Rattle.gx_decide.specs.Calls.{AreMade, AreMadePartly, opening, shutting}
 use Rattle.gx_decide.specs.Deciding.{IsBehindRefused}
 use Rattle.gx_decide.specs.Disk.{DiskState}
 use Rattle.gx_decide.specs.Log.{gate_at, slots_of}
@@ -78,7 +78,8 @@ returns-clause-known g c =
     let made = subst (λ (d : DiskState). AreMade calls d (g.D.Disk.state c.shut_gate.new.disk)) same c.in_ok-shut_gate.ensures.ok in
     let behind = subst (λ (d : DiskState). (slot : ℕ) → end < slot → slot < c.min-slots.result → gate_at d.seen slot ≢ 1) c.read_front.ensures.state c.in_ok-check_behind.ensures.none in
     let decider : Kept = record { slots = c.min-slots.result; used = end; verdicts = c.in_ok-front.front.verdicts.entries } in
-    knows-open _ _ c.in_ok-sync.ensures.ok _ slots end _ c.in_ok-front.ensures.front decider _ refl refl behind c.in_ok-front.ensures.verdicts made
+    subst (λ (k : Kept). Knows k (g.D.Disk.state c.shut_gate.new.disk)) (sym c.new.ensures)
+    (knows-open _ _ c.in_ok-sync.ensures.ok _ slots end _ c.in_ok-front.ensures.front decider _ refl refl behind c.in_ok-front.ensures.verdicts made)
 
 pub returns-clause-made : goal.returns-clause-made
 returns-clause-made g c =
@@ -86,7 +87,9 @@ returns-clause-made g c =
     let same = c.check_behind.ensures.state ∙ c.read_front.ensures.state in
     let calls = cond (eqb c.in_ok-front.front.gate 0) [] (shutting c.in_ok-front.front.end) in
     let made = subst (λ (d : DiskState). AreMade calls d (g.D.Disk.state c.shut_gate.new.disk)) same c.in_ok-shut_gate.ensures.ok in
-    made-open _ _ c.in_ok-sync.ensures.ok _ slots _ _ c.in_ok-front.ensures.front _ made
+    let old = g.D.Disk.state c.args.disk.now in
+    subst (λ (k : Kept). AreMade (opening (slots_of old.size) old.seen k.used) old (g.D.Disk.state c.shut_gate.new.disk)) (sym c.new.ensures)
+    (made-open _ _ c.in_ok-sync.ensures.ok _ slots _ _ c.in_ok-front.ensures.front _ made)
 
 pub returns-clause-durable : goal.returns-clause-durable
 returns-clause-durable g c =
