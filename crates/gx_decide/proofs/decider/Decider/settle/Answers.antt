@@ -10,8 +10,8 @@ returns-in-Some-clause-durable g c =
     let does : DoesSettle c.args.self.used c.args.gxid.0 c.args.wish c.in-Some.kept (verdict_by c.args.self c.args.gxid.0) (g.D.Disk.state c.args.disk.now) (g.D.Disk.state c.args.disk.now) = search rules in
     λ events led. settled-goes-on c.args.self _ _ c.args.gxid.0 c.args.wish c.requires.known c.requires.drawn (search rules) events led c.in-Some.kept does
 
-pub returns-then-self-clause-durable_err : goal.returns-then-self-clause-durable_err
-returns-then-self-clause-durable_err g c =
+pub returns-then-slot-slots-clause-durable_err : goal.returns-then-slot-slots-clause-durable_err
+returns-then-slot-slots-clause-durable_err g c =
     let does : DoesBreak c.args.self.used c.args.gxid.0 c.args.wish (verdict_by c.args.self c.args.gxid.0) (g.D.Disk.state c.args.disk.now) (g.D.Disk.state c.args.disk.now) = search rules in
     λ events led. broken-goes-on c.args.self _ _ c.args.gxid.0 c.args.wish c.requires.known c.requires.drawn (search rules) events led does
 
