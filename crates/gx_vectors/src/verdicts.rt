@@ -1,5 +1,7 @@
 // The log of verdicts: settles of a coordinator that opens it again, a log without a free slot, and what is kept behind a stop at each
 // call on the disk.
+ghost use Rattle.std.specs.Prelude.{◌<◌};
+
 use gx_decide::{DecideFault, Decider, Decision, DiskMem, open_log};
 use gx_ids::Gxid;
 use std::alloc::Global;
