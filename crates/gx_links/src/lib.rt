@@ -4,6 +4,7 @@
 
 pub mod ends;
 pub mod line;
+pub mod look;
 mod probe;
 pub mod receiver;
 pub mod record;
@@ -11,6 +12,7 @@ pub mod roles;
 pub mod sender;
 
 pub use ends::{close, link};
+pub use look::EmptyLook;
 pub use receiver::LinkIn;
 pub use record::LinkRecord;
 pub use sender::LinkOut;

@@ -1,7 +1,7 @@
-ghost use Rattle.std.specs.Prelude.{◌≡◌, ◌++◌, ◌∷◌, [], IfNone, IfSome};
+ghost use Rattle.std.specs.Prelude.{◌≡◌, ◌++◌, ◌∷◌, [], IfErr, IfOk, length};
 
 use crate::line::{Line, Pass};
-use crate::roles::Receives;
+use crate::look::{EmptyLook, take_first};
 use gx_msg::Envelope;
 use std::alloc::Global;
 use std::marker::Model;
@@ -35,16 +35,20 @@ impl Model for LinkIn {
 }
 
 impl LinkIn {
-    /// Receives the next envelope: the first of those sent that wasn't received. None only where the link was empty at a
-    /// moment of the call.
-    pub fn receive<R: Wait>(&mut self, rt: &R) -> Option<Envelope>
+    /// Receives the next envelope: the first of those sent that wasn't received. Where the link was empty at a moment of this call, it
+    /// answers the look at that moment, which nothing else makes.
+    pub fn receive<R: Wait>(&mut self, rt: &R) -> Result<Envelope, EmptyLook>
         ensures link { self.new.link ≡ self.old.link }
-        ensures some { IfSome result (λ m. self.new.received ≡ self.old.received ++ m ∷ []) }
-        ensures none { IfNone result (self.new.received ≡ self.old.received) }
+        ensures next { IfOk result (λ m. self.new.received ≡ self.old.received ++ m ∷ []) }
+        ensures empty { IfErr result (λ look. (look ≡ length self.old.received) × (self.new.received ≡ self.old.received)) }
     {
         let LinkIn { line, pass, count } = self;
-        let envelope = line.queue.pop_as::<Receives, R>(rt, pass)?;
-        *count += 1;
-        Some(envelope)
+        match take_first(rt, &line.queue, pass, *count) {
+            Ok(envelope) => {
+                *count += 1;
+                Ok(envelope)
+            }
+            Err(look) => Err(look),
+        }
     }
 }

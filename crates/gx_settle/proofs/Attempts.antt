@@ -1,9 +1,9 @@
 -- What the work comes to, by what running comes to.
 use Rattle.std.proofs.Common.{inl, inr, ℕ, List, ◌∷◌, false}
 use Rattle.std.specs.Prelude.{Option}
-use Rattle.gx_settle.specs.declared.decide_fault.DecideFault.{DecideFault}
-use Rattle.gx_settle.specs.declared.decide_fault.DecideFault.TheVariants as fault
-use Rattle.gx_settle.specs.Disk.{DiskState}
+use Rattle.gx_decide.specs.declared.decide_fault.DecideFault.{DecideFault}
+use Rattle.gx_decide.specs.declared.decide_fault.DecideFault.TheVariants as fault
+use Rattle.gx_decide.specs.Disk.{DiskState}
 use Rattle.gx_settle.specs.declared.attempt.Attempt.{Attempt}
 use Rattle.gx_settle.specs.declared.attempt.Attempt.TheVariants as attempt
 use Rattle.gx_settle.specs.declared.command.Command.{Command}

@@ -1,16 +1,7 @@
 mod Attempts
 mod Behind
 mod Cut
-mod Fronts
-mod Images
 mod Lines
-mod Made
 mod Numbers
-mod Opening
-mod Pairs
 mod Reports
 mod Runs
-mod Settling
-mod Slots
-mod Steps
-mod Verdicts

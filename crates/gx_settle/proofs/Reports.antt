@@ -1,7 +1,7 @@
 -- What each status tells, from what the work before the writing came to and what was told of it.
 use Rattle.std.proofs.Common.{◌≡◌, ◌⊎◌, inl, inr, ℕ, nat_eq, List, Bool, true, false, arith, refl, sym, ◌∙◌, subst}
 use Rattle.std.specs.Prelude.{Option}
-use Rattle.gx_settle.specs.Kept.{IsStrange}
+use Rattle.gx_decide.specs.Kept.{IsStrange}
 use Rattle.gx_settle.specs.declared.attempt.Attempt.{Attempt}
 use Rattle.gx_settle.specs.declared.attempt.Attempt.TheVariants.{Done, DiskFailed, Full, NotLog, Refused, ReadFault, TooLarge, OutOfMemory}
 use Rattle.gx_settle.specs.Top.{IsAttempt, IsCutShort, IsDiskFaultOf, IsDoneOf, IsDue, IsFullLogOf, IsLeft, IsNotLogOf, IsReadFaultOf, IsRefusedOf, IsStatus, IsTold, IsToldOf, IsTooLargeOf, IsWritten, Work, status_in, text_in}

@@ -1,16 +1,15 @@
 -- Running a command more.
-use Rattle.std.proofs.Common.{◌≡◌, ℕ, ◌<◌, ◌≤◌, ◌^◌, List, [], ◌∷◌, ◌++◌, Bool, true, false, refl, sym, ap, ◌∙◌, subst, arith, append_assoc, append-nil}
+use Rattle.std.proofs.Common.{◌≡◌, ℕ, ◌*◌, ◌<◌, ◌≤◌, ◌^◌, List, [], ◌∷◌, ◌++◌, Bool, true, false, refl, sym, ap, ◌∙◌, subst, arith, append_assoc, append-nil}
 use Rattle.std.specs.Prelude.{Option, None, Result, Ok, Err, IfErr, OnErr}
-use Rattle.gx_settle.specs.declared.decision.Decision.{Decision}
-use Rattle.gx_settle.specs.declared.decide_fault.DecideFault.{DecideFault}
-use Rattle.gx_settle.specs.declared.decide_fault.DecideFault.TheVariants.{Disk, Full, NotLog, OutOfMemory}
-use Rattle.gx_settle.specs.declared.decider.Decider.{Decider}
-use Rattle.gx_settle.specs.Calls.{AreMade, AreMadePartly, opening}
-use Rattle.gx_settle.specs.Disk.{DiskState}
-use Rattle.gx_settle.specs.History.{DoesBreak, DoesSettle, Event, Happens, Led, OpenBroken, Opened, SettleBroken, Settled, Stopped}
-use Rattle.gx_settle.specs.Kept.{IsOpenRefused, IsSettleRefused, Knows, slots_by, used_by, verdict_by}
-use Rattle.gx_settle.specs.Log.{IsEnd, pairs_before, slots_of, verdict_in}
-use Rattle.gx_settle.proofs.Verdicts.{durable, equal}
+use Rattle.gx_decide.specs.declared.decision.Decision.{Decision}
+use Rattle.gx_decide.specs.declared.decide_fault.DecideFault.{DecideFault}
+use Rattle.gx_decide.specs.declared.decide_fault.DecideFault.TheVariants.{Disk, Full, NotLog, OutOfMemory}
+use Rattle.gx_decide.specs.Calls.{AreMade, AreMadePartly, opening}
+use Rattle.gx_decide.specs.Disk.{DiskState, ReachesTo}
+use Rattle.gx_decide.specs.History.{DoesBreak, DoesSettle, Event, Happens, Led, OpenBroken, Opened, SettleBroken, Settled, Stopped}
+use Rattle.gx_decide.specs.Kept.{IsOpenRefused, IsSettleRefused, Kept, Knows, verdict_by}
+use Rattle.gx_decide.specs.Log.{IsEnd, pairs_before, slots_of, verdict_in}
+use Rattle.gx_decide.proofs.Verdicts.{durable, equal}
 use Rattle.gx_ids.specs.declared.ids.Gxid.{Gxid}
 use Rattle.gx_settle.specs.declared.command.Command.{Command}
 use Rattle.gx_settle.specs.declared.command.Command.TheVariants.{Settle, Reopen}
@@ -24,6 +23,12 @@ lasts-went : (events earlier : List Event) (old new : DiskState) (was now : Bool
 lasts-went events earlier old new was now led went =
     let more = led-went events earlier old new was now led went in
     record { led = more; durable = durable (events ++ earlier) new now more; equal = equal (events ++ earlier) new now more }
+
+-- a call on a disk of the same size asks for no byte behind the last slot either
+pub reaches-next : (size mid before between now : ℕ) → mid ≡ size → ReachesTo (16 * slots_of size) before between → ReachesTo (16 * slots_of mid) between now → ReachesTo (16 * slots_of size) before now
+reaches-next size mid before between now same first then_ =
+    let equal : slots_of mid ≡ slots_of size = ap slots_of same in
+    omega (arith, equal, first, then_)
 
 -- commands in front of the rest were answered
 pub record IsUnderWay (commands rest : List Command) (old new : DiskState) (text : List ℕ) : Type 0 where
@@ -175,7 +180,7 @@ module _ (old new : DiskState) (before now : ℕ) (end : ℕ) (is : IsEnd (slots
   reopen-cut (NotLog bad) text shown same r = reopen-failed (NotLog bad) text shown same r
   reopen-cut OutOfMemory text shown same r = record { event = OpenBroken; now = false; asked = refl; happens = broken true }
 
-pub reopen-cut-all : (command : Command) → command ≡ Reopen → (old new : DiskState) (before now : ℕ) (text shown : List ℕ) → shown ≡ text → (result : Result Decider DecideFault)
+pub reopen-cut-all : (command : Command) → command ≡ Reopen → (old new : DiskState) (before now : ℕ) (text shown : List ℕ) → shown ≡ text → (result : Result Kept DecideFault)
     → OnErr result ((end : ℕ) × IsEnd (slots_of old.size) old.seen end × AreMadePartly (opening (slots_of old.size) old.seen end) old new)
     → IfErr result (IsOpenRefused old new before now) → IfErr result (λ fault. IsStepCut fault command old new before now text shown)
 reopen-cut-all command is old new before now text shown same (Ok decider) broken refused = tt
@@ -191,33 +196,33 @@ reopened old new end text shown same is made = record {
   told = same ∙ sym (append-nil text);
 }
 
-module _ (decider : Decider) (old new : DiskState) (gxid : Gxid) (wish : Decision) (know : Knows decider old) (drawn : 0 < gxid.0) (fits : gxid.0 < 2 ^ 64) where
-  end_there : IsEnd (slots_of old.size) old.seen (used_by decider)
-  end_there = subst (λ (n : ℕ). IsEnd n old.seen (used_by decider)) know.slots know.end
+module _ (decider : Kept) (old new : DiskState) (gxid : Gxid) (wish : Decision) (know : Knows decider old) (drawn : 0 < gxid.0) (fits : gxid.0 < 2 ^ 64) where
+  end_there : IsEnd (slots_of old.size) old.seen decider.used
+  end_there = subst (λ (n : ℕ). IsEnd n old.seen decider.used) know.slots know.end
 
-  settles : (answer : Decision) → DoesSettle (used_by decider) gxid.0 wish answer (verdict_by decider gxid.0) old new → Happens (Settled gxid.0 wish answer) old true new true
-  settles answer does = (refl, refl, drawn, fits, used_by decider, end_there, subst (λ (v : Option Decision). DoesSettle (used_by decider) gxid.0 wish answer v old new) (know.verdicts gxid.0) does)
+  settles : (answer : Decision) → DoesSettle decider.used gxid.0 wish answer (verdict_by decider gxid.0) old new → Happens (Settled gxid.0 wish answer) old true new true
+  settles answer does = (refl, refl, drawn, fits, decider.used, end_there, subst (λ (v : Option Decision). DoesSettle decider.used gxid.0 wish answer v old new) (know.verdicts gxid.0) does)
 
-  breaks : DoesBreak (used_by decider) gxid.0 wish (verdict_by decider gxid.0) old new → Happens (SettleBroken gxid.0 wish) old true new false
-  breaks does = (refl, refl, drawn, fits, used_by decider, end_there, subst (λ (v : Option Decision). DoesBreak (used_by decider) gxid.0 wish v old new) (know.verdicts gxid.0) does)
+  breaks : DoesBreak decider.used gxid.0 wish (verdict_by decider gxid.0) old new → Happens (SettleBroken gxid.0 wish) old true new false
+  breaks does = (refl, refl, drawn, fits, decider.used, end_there, subst (λ (v : Option Decision). DoesBreak decider.used gxid.0 wish v old new) (know.verdicts gxid.0) does)
 
-  pub settled : (answer : Decision) (text shown : List ℕ) → DoesSettle (used_by decider) gxid.0 wish answer (verdict_by decider gxid.0) old new → shown ≡ text ++ told (Settled gxid.0 wish answer) → IsStep (Settle gxid wish) old new text shown
+  pub settled : (answer : Decision) (text shown : List ℕ) → DoesSettle decider.used gxid.0 wish answer (verdict_by decider gxid.0) old new → shown ≡ text ++ told (Settled gxid.0 wish answer) → IsStep (Settle gxid wish) old new text shown
   settled answer text shown does tells = record { event = Settled gxid.0 wish answer; asked = refl; answered = tt; happens = settles answer does; told = tells }
 
-  pub settled-lost : (answer : Decision) → DoesSettle (used_by decider) gxid.0 wish answer (verdict_by decider gxid.0) old new → IsLost (Settle gxid wish) old new
+  pub settled-lost : (answer : Decision) → DoesSettle decider.used gxid.0 wish answer (verdict_by decider gxid.0) old new → IsLost (Settle gxid wish) old new
   settled-lost answer does = record { event = Settled gxid.0 wish answer; now = true; asked = refl; happens = settles answer does }
 
-  module _ (before now : ℕ) (text shown : List ℕ) (same : shown ≡ text) (does : DoesBreak (used_by decider) gxid.0 wish (verdict_by decider gxid.0) old new) where
+  module _ (before now : ℕ) (text shown : List ℕ) (same : shown ≡ text) (does : DoesBreak decider.used gxid.0 wish (verdict_by decider gxid.0) old new) where
     settle-cause : (fault : DecideFault) → IsSettleRefused decider gxid.0 old new before now fault → IsCause fault old old new (SettleBroken gxid.0 wish) before now
     settle-cause Disk rose = rose
     settle-cause (Full most) full =
-        let slots : slots_by decider ≡ most = sym full.0.most in
+        let slots : decider.slots ≡ most = sym full.0.most in
         record {
           gxid = gxid.0;
           wish = wish;
           is = refl;
           slots = sym know.slots ∙ slots;
-          end = subst (λ (n : ℕ). IsEnd n old.seen n) slots (subst (λ (n : ℕ). IsEnd (slots_by decider) old.seen n) full.0.used know.end);
+          end = subst (λ (n : ℕ). IsEnd n old.seen n) slots (subst (λ (n : ℕ). IsEnd decider.slots old.seen n) full.0.used know.end);
           none = subst (λ (n : ℕ). verdict_in (pairs_before old.seen n) gxid.0 ≡ None) (full.0.used ∙ slots) (sym (know.verdicts gxid.0) ∙ full.0.none);
           same = full.1;
         }

@@ -1,8 +1,8 @@
 -- What the bytes of an input ask for.
 use Rattle.std.specs.Prelude.{◌≡◌, ⊤, ℕ, ◌+◌, ◌-◌, ◌*◌, ◌<◌, ◌==◌, nat_le, nat_lt, nat_eq, ◌&&◌, not, Bool, if◌then◌else◌, List, [], ◌∷◌, ◌++◌, map, length, take, drop, Option, Some, None, codes}
 use Rattle.std.specs.Cmp.Lexicographic.{pointwise}
-use Rattle.gx_settle.specs.declared.decision.Decision.{Decision}
-use Rattle.gx_settle.specs.declared.decision.Decision.TheVariants.{Commit, Abort}
+use Rattle.gx_decide.specs.declared.decision.Decision.{Decision}
+use Rattle.gx_decide.specs.declared.decision.Decision.TheVariants.{Commit, Abort}
 use Rattle.gx_settle.specs.declared.command.Command.{Command}
 use Rattle.gx_settle.specs.declared.command.Command.TheVariants.{Settle, Reopen}
 

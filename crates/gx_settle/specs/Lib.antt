@@ -1,11 +1,4 @@
-pub mod Calls
 pub mod Commands
-pub mod Deciding
-pub mod Disk
-pub mod History
-pub mod Kept
-pub mod Log
-pub mod Memory
 pub mod Reading
 pub mod Running
 pub mod Top

@@ -1,15 +1,14 @@
 -- What becomes of commands, and what is told of it. The newest event comes first.
-use Rattle.std.specs.Prelude.{◌≡◌, ⊤, ℕ, Bool, true, false, List, [], ◌∷◌, ◌++◌, None, codes}
+use Rattle.std.specs.Prelude.{◌≡◌, ◌<◌, ⊤, ℕ, Bool, true, false, List, [], ◌∷◌, ◌++◌, None, codes}
 use Rattle.std.specs.Fmt.{decimal}
-use Rattle.gx_outside.specs.Causes.{Rose}
-use Rattle.gx_settle.specs.declared.decision.Decision.{Decision}
-use Rattle.gx_settle.specs.declared.decision.Decision.TheVariants.{Commit, Abort}
-use Rattle.gx_settle.specs.declared.decide_fault.DecideFault.{DecideFault}
-use Rattle.gx_settle.specs.declared.decide_fault.DecideFault.TheVariants.{Disk, Full, NotLog, OutOfMemory}
-use Rattle.gx_settle.specs.Disk.{DiskState, Synced}
-use Rattle.gx_settle.specs.History.{AreAnswersEqual, Event, Happens, IsDurable, Led, OpenBroken, Opened, SettleBroken, Settled, Stopped}
-use Rattle.gx_settle.specs.Kept.{IsStrange}
-use Rattle.gx_settle.specs.Log.{IsEnd, IsFirstBad, pairs_before, slots_of, verdict_in}
+use Rattle.gx_decide.specs.declared.decision.Decision.{Decision}
+use Rattle.gx_decide.specs.declared.decision.Decision.TheVariants.{Commit, Abort}
+use Rattle.gx_decide.specs.declared.decide_fault.DecideFault.{DecideFault}
+use Rattle.gx_decide.specs.declared.decide_fault.DecideFault.TheVariants.{Disk, Full, NotLog, OutOfMemory}
+use Rattle.gx_decide.specs.Disk.{DiskState, Synced}
+use Rattle.gx_decide.specs.History.{AreAnswersEqual, Event, Happens, IsDurable, Led, OpenBroken, Opened, SettleBroken, Settled, Stopped}
+use Rattle.gx_decide.specs.Kept.{IsStrange}
+use Rattle.gx_decide.specs.Log.{IsEnd, IsFirstBad, pairs_before, slots_of, verdict_in}
 use Rattle.gx_settle.specs.declared.command.Command.{Command}
 use Rattle.gx_settle.specs.declared.command.Command.TheVariants.{Settle, Reopen}
 
@@ -83,7 +82,7 @@ pub record IsNoLog (old mid new : DiskState) (event : Event) (bad : ℕ) : Type 
 
 -- why a call failed
 abbrev pub IsCause : DecideFault → DiskState → DiskState → DiskState → Event → ℕ → ℕ → Type 0
-IsCause Disk old mid new event before now = Rose before now
+IsCause Disk old mid new event before now = before < now
 IsCause (Full most) old mid new event before now = IsFull mid new event most
 IsCause (NotLog bad) old mid new event before now = IsNoLog old mid new event bad
 IsCause OutOfMemory old mid new event before now = ⊤

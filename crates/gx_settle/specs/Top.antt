@@ -4,10 +4,10 @@ use Rattle.std.specs.declared.option.Option.{Option}
 use Rattle.std.specs.Fmt.{decimal}
 use Rattle.std.specs.Io.KnownBytes.{Consumes, Appends, IsAtEnd}
 use Rattle.gx_outside.specs.Causes.{Rose, WritesPrefix}
-use Rattle.gx_settle.specs.declared.decide_fault.DecideFault.{DecideFault}
-use Rattle.gx_settle.specs.declared.decide_fault.DecideFault.TheVariants as fault
-use Rattle.gx_settle.specs.Disk.{DiskState}
-use Rattle.gx_settle.specs.History.{Event}
+use Rattle.gx_decide.specs.declared.decide_fault.DecideFault.{DecideFault}
+use Rattle.gx_decide.specs.declared.decide_fault.DecideFault.TheVariants as fault
+use Rattle.gx_decide.specs.Disk.{DiskState}
+use Rattle.gx_decide.specs.History.{Event}
 use Rattle.gx_settle.specs.declared.attempt.Attempt.{Attempt}
 use Rattle.gx_settle.specs.declared.attempt.Attempt.TheVariants.{Done, DiskFailed, Full, NotLog, Refused, ReadFault, TooLarge, OutOfMemory}
 use Rattle.gx_settle.specs.declared.command.Command.{Command}

@@ -1,14 +1,15 @@
 // The work before the writing: reading, running and the text.
-ghost use Rattle.std.specs.Prelude.{◌≡◌, ◌++◌, IfOk, All, codes};
+ghost use Rattle.std.specs.Prelude.{◌≡◌, ◌*◌, ◌++◌, IfOk, All, codes};
 ghost use Rattle.std.specs.Fmt.{decimal};
+ghost use Rattle.gx_decide.specs.Disk.{ReachesTo};
+ghost use Rattle.gx_decide.specs.Log.{slots_of};
 ghost use Rattle.gx_settle.specs.Commands.{IsDrawn};
 ghost use Rattle.gx_settle.specs.Top.{IsAttempt, IsRan, IsRefusedFor, IsStoppedText, work};
 
 use crate::command::Command;
-use crate::decide_fault::DecideFault;
-use crate::disk::Disk;
 use crate::reading::{ReadRefusal, read_commands};
 use crate::running::run_commands;
+use gx_decide::{DecideFault, Disk};
 use gx_ids::Mem;
 use gx_outside::{ReadFault, Source, read_up_to};
 use gx_text::{push_bytes, push_count};
@@ -33,8 +34,9 @@ pub enum Attempt {
 
 /// Reads and runs, and writes nothing but to the disk.
 pub fn make_attempt<S: Source, D: Disk>(alloc: Global, source: &mut S, disk: &mut D) -> Attempt
-    ensures { IsAttempt (work (S.left source.old) (S.left source.new) (S.fault_count source.old) (S.fault_count source.new)
+    ensures came { IsAttempt (work (S.left source.old) (S.left source.new) (S.fault_count source.old) (S.fault_count source.new)
         (D.state disk.old) (D.state disk.new) (D.fault_count disk.old) (D.fault_count disk.new)) result }
+    ensures reach { ReachesTo (16 * slots_of (D.state disk.old).size) (D.reach disk.old) (D.reach disk.new) }
 {
     let bytes = match read_up_to(alloc, source, LIMIT + 1) {
         Ok(bytes) => bytes,
@@ -55,7 +57,8 @@ pub fn make_attempt<S: Source, D: Disk>(alloc: Global, source: &mut S, disk: &mu
 // Runs commands, and tells what became of them.
 fn ran<D: Disk>(alloc: Global, disk: &mut D, commands: &[Command]) -> Attempt
     requires drawn { All IsDrawn commands.now }
-    ensures { IsRan commands.now (D.state disk.old) (D.state disk.new) (D.fault_count disk.old) (D.fault_count disk.new) result }
+    ensures came { IsRan commands.now (D.state disk.old) (D.state disk.new) (D.fault_count disk.old) (D.fault_count disk.new) result }
+    ensures reach { ReachesTo (16 * slots_of (D.state disk.old).size) (D.reach disk.old) (D.reach disk.new) }
 {
     let mut text = Vec::new(alloc);
     match run_commands(alloc, disk, commands, &mut text) {

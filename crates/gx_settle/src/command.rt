@@ -2,7 +2,7 @@
 ghost use Rattle.std.specs.Prelude.{◌≡◌, Some, IfSome};
 ghost use Rattle.gx_settle.specs.Commands as of;
 
-use crate::decision::Decision;
+use gx_decide::Decision;
 use gx_ids::Gxid;
 
 /// What a line asks for. To ask for a transaction's verdict is to settle it with the wish to abort.

@@ -3,20 +3,13 @@
 
 mod attempt;
 mod command;
-mod decide_fault;
-mod decider;
-mod decision;
-mod disk;
-mod disk_mem;
-mod law;
-mod open;
 mod reading;
 mod running;
-mod slot;
+#[cfg(test)]
+mod tests;
 mod top;
-mod writing;
 
-use disk_mem::DiskMem;
+use gx_decide::DiskMem;
 use gx_outside::{StdinSource, StdoutSink};
 use std::io;
 use std::process::ExitCode;

@@ -1,17 +1,15 @@
 // Running the commands.
-ghost use Rattle.std.specs.Prelude.{◌≡◌, ◌++◌, ◌<◌, ◌≤◌, [], List, All, IfOk, IfErr, OnOk};
+ghost use Rattle.std.specs.Prelude.{◌≡◌, ◌*◌, ◌++◌, ◌<◌, ◌≤◌, [], List, All, IfOk, IfErr, OnOk};
 ghost use Rattle.std.specs.Fmt.{decimal};
-ghost use Rattle.gx_settle.specs.History.{Event};
-ghost use Rattle.gx_settle.specs.Kept.{Knows};
+ghost use Rattle.gx_decide.specs.History.{Event};
+ghost use Rattle.gx_decide.specs.Kept.{Knows};
+ghost use Rattle.gx_decide.specs.Disk.{ReachesTo};
+ghost use Rattle.gx_decide.specs.Log.{slots_of};
 ghost use Rattle.gx_settle.specs.Commands.{IsDrawn};
 ghost use Rattle.gx_settle.specs.Running.{IsCut, IsRun, IsStep, IsStepCut, answer_text, text_of};
 
 use crate::command::Command;
-use crate::decide_fault::DecideFault;
-use crate::decider::Decider;
-use crate::decision::Decision;
-use crate::disk::Disk;
-use crate::open::open_log;
+use gx_decide::{DecideFault, Decider, Decision, Disk, open_log};
 use gx_ids::{Gxid, Mem};
 use gx_text::{push_bytes, push_count};
 use std::alloc::Global;
@@ -27,6 +25,7 @@ pub fn run_commands<D: Disk>(
     requires empty { text.old.items ≡ [] }
     ensures ok { OnOk result ((events : List Event) × IsRun commands.now (D.state disk.old) (D.state disk.new) events × (text.new.items ≡ text_of events)) }
     ensures cut { IfErr result (λ fault. IsCut fault commands.now (D.state disk.old) (D.state disk.new) (D.fault_count disk.old) (D.fault_count disk.new) text.new.items) }
+    ensures reach { ReachesTo (16 * slots_of (D.state disk.old).size) (D.reach disk.old) (D.reach disk.new) }
 {
     let mut decider = open_log(alloc, disk)?;
     for command in commands {
@@ -49,6 +48,8 @@ fn run_command<D: Disk>(
     ensures step { OnOk result (IsStep command (D.state disk.old) (D.state disk.new) text.old.items text.new.items) }
     ensures cut { IfErr result (λ fault. IsStepCut fault command (D.state disk.old) (D.state disk.new) (D.fault_count disk.old) (D.fault_count disk.new) text.old.items text.new.items) }
     ensures later { D.fault_count disk.old ≤ D.fault_count disk.new }
+    ensures size { (D.state disk.new).size ≡ (D.state disk.old).size }
+    ensures reach { ReachesTo (16 * slots_of (D.state disk.old).size) (D.reach disk.old) (D.reach disk.new) }
 {
     match command {
         Command::Reopen => open_log(alloc, disk),

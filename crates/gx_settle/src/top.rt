@@ -1,10 +1,12 @@
 // The top call.
-ghost use Rattle.std.specs.Prelude.{◌≡◌};
-ghost use Rattle.gx_settle.specs.Kept.{IsStrange};
+ghost use Rattle.std.specs.Prelude.{◌≡◌, ◌*◌};
+ghost use Rattle.gx_decide.specs.Disk.{ReachesTo};
+ghost use Rattle.gx_decide.specs.Kept.{IsStrange};
+ghost use Rattle.gx_decide.specs.Log.{slots_of};
 ghost use Rattle.gx_settle.specs.Top.{IsCutShort, IsDiskFault, IsDone, IsDue, IsFullLog, IsLeft, IsNotLog, IsReadFault, IsRefused, IsStatus, IsTold, IsToldOf, IsTooLarge, IsWritten, work};
 
 use crate::attempt::{Attempt, make_attempt};
-use crate::disk::Disk;
+use gx_decide::Disk;
 use gx_outside::{Failed, Sink, Source, write_whole};
 use std::alloc::Global;
 
@@ -44,6 +46,9 @@ pub fn run_settle<S: Source, K: Sink, D: Disk>(
     disk: &mut D,
 ) -> u8
     ensures known { IsStatus result }
+
+    // Bytes behind the disk's last slot are neither read nor written.
+    ensures reach { ReachesTo (16 * slots_of (D.state disk.old).size) (D.reach disk.old) (D.reach disk.new) }
 
     // The source was read to its end, each of its lines was answered by the verdict that the disk's log keeps from then on, and the answers were
     // written. Whatever opens, settles and stops came before, the answered pairs stand in every later image, and all answers for one transaction are equal.

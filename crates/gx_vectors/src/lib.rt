@@ -4,3 +4,7 @@
 
 #[cfg(test)]
 mod items;
+#[cfg(test)]
+mod journals;
+#[cfg(test)]
+mod verdicts;

@@ -1,7 +1,7 @@
-use Rattle.std.proofs.Common.{rules, ◌<◌, ◌≤◌, ◌+◌, length, drop, arith}
+use Rattle.std.proofs.Common.{rules, ◌<◌, ◌≤◌, ◌+◌, length, drop, arith, ◌∙◌}
 use Rattle.std.proofs.lemmas.List.{drop_all, drop_more}
 use Rattle.std.proofs.lemmas.Result.{err_from_is_err_and}
-use Rattle.gx_settle.proofs.Runs.{cut, first-cut, opened, run, stepped}
+use Rattle.gx_settle.proofs.Runs.{cut, first-cut, opened, reaches-next, run, stepped}
 use Rattle.gx_settle.proofs.running.run_commands.Goals as goal
 
 pub returns-in_err-decider-clause-cut : goal.returns-in_err-decider-clause-cut
@@ -16,6 +16,8 @@ loop-command-init g c = record {
   known = c.in_ok-decider.ensures.known;
   way = opened c.args.commands.now _ _ c.args.text.now.items _ c.requires.empty c.in_ok-decider.ensures.end c.in_ok-decider.ensures.made;
   later = c.open_log.ensures.later;
+  size = c.open_log.ensures.size;
+  reach = c.open_log.ensures.reach;
 }
 
 pub returns-in_err-decider-2-clause-cut : goal.returns-in_err-decider-2-clause-cut
@@ -26,6 +28,9 @@ returns-in_err-decider-2-clause-cut g c =
     rw (p.1, p.2) (cut c.args.commands.now (drop (i + 1) c.args.commands.now) (g.D.Disk.state c.args.disk.now) (g.D.Disk.state c.loop-command.disk) c.loop-command.text.items _ _ (drop_more c.args.commands.now i _ inside) c.loop-command.invariant.way
     (g.D.Disk.state c.run_command.new.disk) c.run_command.new.text.items (g.D.Disk.fault_count c.args.disk.now) (g.D.Disk.fault_count c.loop-command.disk) (g.D.Disk.fault_count c.run_command.new.disk) c.loop-command.invariant.later c.in_err-decider-2.field-0.0 c.in_err-decider-2.ensures.cut)
 
+pub returns-in_err-decider-2-clause-reach : goal.returns-in_err-decider-2-clause-reach
+returns-in_err-decider-2-clause-reach g c = reaches-next _ _ _ _ _ c.loop-command.invariant.size c.loop-command.invariant.reach c.run_command.ensures.reach
+
 pub loop-command-preserved : goal.loop-command-preserved
 loop-command-preserved g c =
     let i = c.loop-command.command-index in
@@ -35,6 +40,8 @@ loop-command-preserved g c =
       way = stepped c.args.commands.now (drop (i + 1) c.args.commands.now) (g.D.Disk.state c.args.disk.now) (g.D.Disk.state c.loop-command.disk) c.loop-command.text.items _ _ (drop_more c.args.commands.now i _ inside) c.loop-command.invariant.way
           (g.D.Disk.state c.run_command.new.disk) c.run_command.new.text.items c.in_ok-decider-2.ensures.step;
       later = omega (arith, c.loop-command.invariant.later, c.run_command.ensures.later);
+      size = c.run_command.ensures.size ∙ c.loop-command.invariant.size;
+      reach = reaches-next _ _ _ _ _ c.loop-command.invariant.size c.loop-command.invariant.reach c.run_command.ensures.reach;
     }
 
 pub returns-clause-ok : goal.returns-clause-ok

@@ -1,8 +1,0 @@
-use Rattle.gx_settle.proofs.Verdicts.{durable, equal}
-use Rattle.gx_settle.proofs.law.verdict_log.Goals as goal
-
-pub returns-clause-durable : goal.returns-clause-durable
-returns-clause-durable c = durable
-
-pub returns-clause-equal : goal.returns-clause-equal
-returns-clause-equal c = equal

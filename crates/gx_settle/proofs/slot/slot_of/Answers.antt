@@ -1,6 +1,0 @@
-use Rattle.std.proofs.Common.{rules}
-use Rattle.gx_settle.proofs.Slots.{six_zeros}
-use Rattle.gx_settle.proofs.slot.slot_of.Goals as goal
-
-pub returns : goal.returns
-returns c = record { gxid = c.from_le_bytes.ensures; verdict = search rules; gate = search rules; blank = six_zeros _ _ _ _ _ _ _ c.eq.ensures }
