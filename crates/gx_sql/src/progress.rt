@@ -54,7 +54,7 @@ fn find_named<'a>(tables: &'a IndexMap<Vec<u8>, Schema>, name: &[u8]) -> Option<
 }
 
 /// The table that the statement names, with its place.
-fn find_table<'a>(
+pub fn find_table<'a>(
     tables: &'a IndexMap<Vec<u8>, Schema>,
     stmt: &StmtSyn,
 ) -> Option<(Table, &'a Schema)>
