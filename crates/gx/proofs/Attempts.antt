@@ -1,5 +1,5 @@
 -- What the work came to, once bytes were there.
-use Rattle.std.proofs.Common.{◌≤◌, inl, inr, ℕ, List, Option, Ok, Err, length, refl}
+use Rattle.std.proofs.Common.{◌≡◌, ◌≤◌, inl, inr, ℕ, List, Option, Ok, Err, length, refl}
 use Rattle.std.specs.declared.alloc.Global.{Global}
 use Rattle.std.specs.declared.string.String.{String}
 use Rattle.gx_words.specs.declared.options.Options.{Options}
@@ -9,7 +9,8 @@ use Rattle.gx_sql.specs.Script.{Reads}
 use Rattle.gx_sql.specs.declared.refusal.Refusal.{Refusal}
 use Rattle.gx_store.specs.declared.attempt.Attempt.{Attempt}
 use Rattle.gx_store.specs.declared.attempt.Attempt.TheVariants.{Done, Stopped, Stuck, Usage, Refused, ReadFault, TooLarge, OutOfMemory}
-use Rattle.gx.specs.Top.{AreAsked, AreGiven, HasScript, IsAttempt, IsOfBytes, IsRan, IsRefusedFor, IsScriptWith, limit}
+use Rattle.gx_words.specs.Asked.{AreAsked, AreGiven, limit}
+use Rattle.gx.specs.Top.{HasScript, IsAttempt, IsOfBytes, IsRan, IsRefusedFor, IsScriptWith}
 use Rattle.gx.proofs.Refusals.{read_as}
 
 -- BYTES
@@ -37,7 +38,7 @@ module _ (bytes : List ℕ) (options : Options) where
 
 -- WORDS
 module _ (words : List (String Global)) (left after : Option (List ℕ)) (before now : ℕ) (options : Options) (asked : AreAsked words options) (bytes : List ℕ)
-    (given : AreGiven options.work left after bytes) (few : length bytes ≤ limit) where
+    (given : AreGiven options.work left after bytes) (few : length bytes ≤ limit) (calm : now ≡ before) where
   with_script : (Is : Script → Options → Type 0) → IsScriptWith bytes (λ (script : Script). Is script options) → HasScript words left after Is
   with_script Is (script, read, is) = record { options = options; asked = asked; script = script; read = record { bytes = bytes; given = given; few = few; is = read }; is = is }
 
@@ -45,8 +46,8 @@ module _ (words : List (String Global)) (left after : Option (List ℕ)) (before
   attempt (Done run text) is = with_script _ is
   attempt (Stopped run text) is = with_script _ is
   attempt (Stuck run text) is = with_script _ is
-  attempt (OutOfMemory run) (inl none) = inl none
-  attempt (OutOfMemory run) (inr is) = inr (with_script _ is)
+  attempt (OutOfMemory run) (inl none) = (inl none, calm)
+  attempt (OutOfMemory run) (inr is) = (inr (with_script _ is), calm)
   attempt (Refused text) (refusal, read, told) = record { options = options; asked = asked; refusal = refusal; read = record { bytes = bytes; given = given; few = few; is = read }; empty = refl; told = told }
   attempt Usage is = absurd is
   attempt ReadFault is = absurd is

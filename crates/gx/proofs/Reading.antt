@@ -3,7 +3,8 @@ use Rattle.std.proofs.Common.{ℕ, List, Option, Ok}
 use Rattle.gx_script.specs.declared.Script.{Script}
 use Rattle.gx_law_scripts.proofs.Kept.{script-is}
 use Rattle.gx_law_scripts.proofs.Whole.{inserts_whole, tuples_few}
-use Rattle.gx.specs.Top.{IsRead, KeepsLanguage, limit}
+use Rattle.gx_words.specs.Asked.{limit}
+use Rattle.gx.specs.Top.{IsRead, KeepsLanguage}
 
 pub keeps_language : (left after : Option (List ℕ)) (work : Option ℕ) (script : Script) → IsRead work left after (Ok script) → KeepsLanguage script
 keeps_language left after work script read = record {

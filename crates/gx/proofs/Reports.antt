@@ -4,7 +4,7 @@ use Rattle.std.specs.declared.alloc.Global.{Global}
 use Rattle.std.specs.declared.string.String.{String}
 use Rattle.gx_store.specs.declared.run.Run.{Run}
 use Rattle.gx_outside.specs.Shelves.{Shelf}
-use Rattle.gx_drive.specs.Ordered.{AreFailuresFew, AreHeld}
+use Rattle.gx_drive.specs.Ordered.{AreFailuresFew, AreHeld, AreHeldSoFar}
 use Rattle.gx_store.specs.declared.attempt.Attempt.{Attempt}
 use Rattle.gx_store.specs.declared.attempt.Attempt.TheVariants.{Done, Stopped, Stuck, Usage, Refused, ReadFault, TooLarge, OutOfMemory}
 use Rattle.gx_store.specs.declared.told.Report.{Report}
@@ -74,6 +74,9 @@ module _ (written shown : Option (List ℕ)) (faults more : ℕ) (report : Repor
   pub held : (before after : List Shelf) (a : Attempt) → IsToldOf a written shown faults more report → AreKept (run_in a).steps (is_over a) before after → (report.status ≡ 6 → ⊥) → AreHeld report.run.steps after
   held before after a is kept other = subst (λ (r : Run). AreHeld r.steps after) (sym (run a is)) (kept.held (over a is other))
 
+  pub so_far : (before after : List Shelf) (a : Attempt) → IsToldOf a written shown faults more report → AreKept (run_in a).steps (is_over a) before after → AreHeldSoFar report.run.steps after
+  so_far before after a is kept = subst (λ (r : Run). AreHeldSoFar r.steps after) (sym (run a is)) kept.so_far
+
   pub failures : (before after : List Shelf) (a : Attempt) → IsToldOf a written shown faults more report → AreKept (run_in a).steps (is_over a) before after → AreFailuresFew report.run.steps before after
   failures before after a is kept = subst (λ (r : Run). AreFailuresFew r.steps before after) (sym (run a is)) kept.failures
 
@@ -110,8 +113,18 @@ module _ (words : List (String Global)) (left after : Option (List ℕ)) (before
   at-any TooLarge is over = inr (due TooLarge is over)
   at-any (OutOfMemory run) is over = absurd (cc)
 
+  calm : (a : Attempt) → IsAttempt words left after before now a → is_over a ≡ false → now ≡ before
+  calm (OutOfMemory run) of out = of.1
+  calm (Done run text) of out = absurd (cc)
+  calm (Stopped run text) of out = absurd (cc)
+  calm (Stuck run text) of out = absurd (cc)
+  calm Usage of out = absurd (cc)
+  calm (Refused text) of out = absurd (cc)
+  calm ReadFault of out = absurd (cc)
+  calm TooLarge of out = absurd (cc)
+
   part : (a : Attempt) → IsAttempt words left after before now a → is_over a ≡ false → IsPartRun words left after (run_in a)
-  part (OutOfMemory run) of out = of
+  part (OutOfMemory run) of out = of.0
   part (Done run text) of out = absurd (cc)
   part (Stopped run text) of out = absurd (cc)
   part (Stuck run text) of out = absurd (cc)
@@ -158,4 +171,13 @@ module _ (words : List (String Global)) (left after : Option (List ℕ)) (before
       | inr cut ↦ absurd (omega (arith, cut.0, here))
     ]
     | inr out ↦ (out.3, subst (λ (r : Run). IsPartRun words left after r) (sym out.2) (part a of out.0))
+  ]
+
+  pub unfailed : (a : Attempt) → IsAttempt words left after before now a → IsToldOf a written shown faults more report → report.status ≡ 6 → now ≡ before
+  unfailed a of is here = elim (told written shown faults more report a is) [
+    | inl end ↦ elim end.1.ended [
+      | inl whole ↦ absurd ((ended written shown faults more report a end.0).1 (sym whole.0 ∙ here))
+      | inr cut ↦ absurd (omega (arith, cut.0, here))
+    ]
+    | inr out ↦ calm a of out.0
   ]

@@ -1,7 +1,8 @@
 -- A run that is reached and driven is one of the script.
-use Rattle.std.proofs.Common.{◌≡◌, ◌<◌, ℕ, List, [], ◌∷◌, Option, Bool, true, false, refl, subst, sym, length}
+use Rattle.std.proofs.Common.{◌≡◌, ◌<◌, ◌≤◌, ℕ, List, [], ◌∷◌, false, subst, sym, length}
 use Rattle.std.proofs.lemmas.List.Elements.{All-from_recursion, recursion_from_All}
 use Rattle.std.specs.List.{AllByRecursion}
+use Rattle.gx_words.specs.declared.options.Options.{Options}
 use Rattle.gx_script.specs.declared.Script.{Script}
 use Rattle.gx_script.specs.declared.Line.{Line}
 use Rattle.gx_store.specs.Language.{IsLine, IsScript}
@@ -10,6 +11,7 @@ use Rattle.gx_store.specs.declared.run.Run.{Run}
 use Rattle.gx_store.specs.declared.run.Step.{Step}
 use Rattle.gx_store.specs.Ordered.{AreOrdered}
 use Rattle.gx_store.specs.Protocol.{DoStepsFollow}
+use Rattle.gx_store.specs.Skipped.{DoSkippedStand}
 use Rattle.gx_store.specs.Runs.{IsLegalHistory}
 use Rattle.gx_rules.specs.System.{IsSystemRun}
 use Rattle.gx_law_order.proofs.Follows.{world_follows}
@@ -24,6 +26,7 @@ use Rattle.gx_law_locks.specs.Blocked.{DoStayBlocked}
 use Rattle.gx_law_locks.proofs.Lawful.{run-stays-blocked}
 use Rattle.gx_law_writes.specs.Legal.{AreLocksLegal}
 use Rattle.gx_law_writes.proofs.LegalLocks.{locks-legal}
+use Rattle.gx_law_writes.proofs.Skipped.{world-skipped}
 use Rattle.gx_law_locks.proofs.Whole.{world-rounds}
 use Rattle.gx_law_locks.specs.Legal.{AreRoundsLegal}
 use Rattle.gx_law_locks.proofs.EachVictim.{world-cancels, world-legal}
@@ -31,20 +34,14 @@ use Rattle.gx_law_answers.proofs.Snaps.{snapshots-one}
 use Rattle.gx_law_answers.proofs.Whole.{filled, keyed}
 use Rattle.gx_law_runs.specs.Reached.{IsReached}
 use Rattle.gx_law_runs.proofs.Reaching.{by-events}
-use Rattle.gx_store.specs.Schedule.{enabled, is_any_unfinished}
-use Rattle.gx_ids.specs.declared.ids.SessionId.{SessionId}
-use Rattle.gx_rules.specs.AtCoordinator.{is_unfinished_there}
-use Rattle.gx_law_runs.specs.Replays.{coordinator_after}
-use Rattle.gx_law_runs.proofs.Going.{stuck-without-detector}
-use Rattle.gx_drive.proofs.Unfinished.{unfinished-none}
-use Rattle.gx_lemmas.proofs.Tests.{true-false}
+use Rattle.gx_store.specs.Schedule.{is_any_unfinished}
 use Rattle.gx_law_runs.specs.Endings.{IsFinished}
 use Rattle.gx_law_runs.proofs.Finishing.{whole}
 use Rattle.gx_world.specs.Worlds.{WorldState}
 use Rattle.gx.specs.Top.{AreDriven, IsRunOf}
 
-pub run-of : (script : Script) (seed : Option ℕ) (run : Run) → IsScript script → AreInsertsWhole script.tables script.lines → IsReached script run.steps → AreDriven seed script run.steps → IsRunOf script seed run
-run-of script seed run language inserts is driven =
+pub run-of : (script : Script) (options : Options) (run : Run) → IsScript script → AreInsertsWhole script.tables script.lines → IsReached script run.steps → AreDriven options.seed script run.steps → length run.steps ≤ options.turns → IsRunOf script options run
+run-of script options run language inserts is driven within =
     record {
       legal = by-events script run.steps is (λ ss. IsLegalHistory script (record { steps = ss }))
           (legal script language.some_segments language.numbers (keyed script inserts) (snapshots-one script language.some_segments) (filled script inserts) (world-cancels script language.some_segments (world-rounds script language.some_segments)));
@@ -52,16 +49,19 @@ run-of script seed run language inserts is driven =
       system = by-events script run.steps is (λ ss. IsSystemRun script (record { steps = ss })) (world_follows script language.some_segments);
       protocol = by-events script run.steps is (DoStepsFollow script []) (world-follows script language.some_segments);
       tells = by-events script run.steps is (DoStepsTell []) (λ es. (world-holds script language.some_segments es).tells);
+      skipped = by-events script run.steps is (DoSkippedStand []) (world-skipped script language.some_segments language.numbers);
       locks = by-events script run.steps is (AreLocksLegal script) (locks-legal script language.some_segments language.numbers);
       blocked = by-events script run.steps is (λ ss. DoStayBlocked (marks_in ss)) (run-stays-blocked script language.some_segments);
       rounds = by-events script run.steps is (AreRoundsLegal script) (world-legal script language.some_segments (world-rounds script language.some_segments));
       driven = driven;
+      within = within;
     }
 
 -- so is the run of a world that has the script
-pub run-in : (script : Script) (seed : Option ℕ) (world : WorldState) (run : Run) → world.script ≡ script → run ≡ world.run → IsScript script → AreInsertsWhole script.tables script.lines → IsReached world.script world.run.steps → AreDriven seed script world.run.steps → IsRunOf script seed run
-run-in script seed world run of is language inserts reached driven =
-    run-of script seed run language inserts (subst (λ (r : Run). IsReached script r.steps) (sym is) (subst (λ (s : Script). IsReached s world.run.steps) of reached)) (subst (λ (r : Run). AreDriven seed script r.steps) (sym is) driven)
+pub run-in : (script : Script) (options : Options) (world : WorldState) (run : Run) → world.script ≡ script → run ≡ world.run → IsScript script → AreInsertsWhole script.tables script.lines → IsReached world.script world.run.steps → AreDriven options.seed script world.run.steps → length world.run.steps ≤ options.turns → IsRunOf script options run
+run-in script options world run of is language inserts reached driven within =
+    run-of script options run language inserts (subst (λ (r : Run). IsReached script r.steps) (sym is) (subst (λ (s : Script). IsReached s world.run.steps) of reached)) (subst (λ (r : Run). AreDriven options.seed script r.steps) (sym is) driven)
+    (subst (λ (r : Run). length r.steps ≤ options.turns) (sym is) within)
 
 sessions-there : (tables : List Schema) (n : ℕ) (ls : List Line) → AllByRecursion (IsLine tables n) ls → AllByRecursion (λ line. line.session.0 < n) ls
 sessions-there tables n [] all = tt
@@ -74,17 +74,3 @@ finished script steps language is over =
     (whole script language.some_segments language.numbers
     (All-from_recursion (λ line. line.session.0 < length script.sessions) script.lines
     (sessions-there script.tables (length script.sessions) script.lines (recursion_from_All (IsLine script.tables (length script.sessions)) script.lines language.lines)))) over
-
--- with a detector a run that is reached goes on until no session is unfinished
-pub no-detector : (script : Script) (steps : List Step) → IsScript script → AreInsertsWhole script.tables script.lines → IsReached script steps → is_any_unfinished script steps ≡ true → enabled script steps ≡ [] → script.detector ≡ false
-no-detector script steps language inserts is unfinished nothing = by_test script.detector refl
-  where
-    over : script.detector ≡ true → (session : SessionId) → session.0 < length script.sessions → (b : Bool) → is_unfinished_there script (coordinator_after script steps) session ≡ b → b ≡ false
-    over on session inside false e = refl
-    over on session inside true e = absurd (true-false script.detector on (stuck-without-detector script steps session language.some_segments inserts is inside e nothing))
-
-    by_test : (b : Bool) → script.detector ≡ b → b ≡ false
-    by_test false e = refl
-    by_test true e =
-        absurd (true-false (is_any_unfinished script steps) unfinished
-        (unfinished-none script language steps is (λ session inside. over e session inside (is_unfinished_there script (coordinator_after script steps) session) refl)))

@@ -1,16 +1,15 @@
 -- What the top call answers, and when.
-use Rattle.std.specs.Prelude.{◌≡◌, ℕ, ◌<◌, ◌≤◌, Bool, true, false, List, [], length, ◌++◌, if◌then◌else◌, map, string_bytes, None, Some, Result, Ok, Err, ◌⊎◌, codes}
+use Rattle.std.specs.Prelude.{◌≡◌, ℕ, ◌≤◌, Bool, true, false, List, [], length, ◌++◌, if◌then◌else◌, None, Some, Result, Ok, Err, ◌⊎◌, codes}
 use Rattle.std.specs.declared.option.Option.{Option}
 use Rattle.std.specs.declared.string.String.{String}
 use Rattle.std.specs.declared.alloc.Global.{Global}
 use Rattle.std.specs.declared.vec.Vec.{Vec}
-use Rattle.std.specs.Io.KnownBytes.{Consumes, Appends, IsAtEnd}
+use Rattle.std.specs.Io.KnownBytes.{Appends}
 use Rattle.gx_outside.specs.Causes.{Rose, WritesPrefix}
 use Rattle.gx_outside.specs.Shelves.{Shelf}
 use Rattle.gx_tree.specs.declared.row.KeyedRow.{KeyedRow}
 use Rattle.gx_waits.specs.declared.graph.LocalGraph.{LocalGraph}
-use Rattle.gx_words.specs.Words.{IsCommand}
-use Rattle.gx_words.specs.Work.{work_text}
+use Rattle.gx_words.specs.Asked.{AreAsked, AreGiven, AreUnknown, IsForSource, IsTooMuch, limit}
 use Rattle.gx_words.specs.declared.options.Options.{Options}
 use Rattle.gx_report.specs.TraceText.{trace_of}
 use Rattle.gx_script.specs.declared.Script.{Script}
@@ -23,6 +22,7 @@ use Rattle.gx_store.specs.Ordered.{AreOrdered}
 use Rattle.gx_store.specs.Points.{marks_of}
 use Rattle.gx_store.specs.Protocol.{DoStepsFollow}
 use Rattle.gx_store.specs.Runs.{IsLegalHistory}
+use Rattle.gx_store.specs.Skipped.{DoSkippedStand}
 use Rattle.gx_store.specs.View.{AreFinalFrom}
 use Rattle.gx_store.specs.Whole.{AreInsertsWhole}
 use Rattle.gx_rules.specs.System.{IsSystemRun}
@@ -33,7 +33,7 @@ use Rattle.gx_law_locks.specs.Legal.{AreRoundsLegal}
 use Rattle.gx_law_scripts.specs.Tuples.{HaveTuplesTo}
 use Rattle.gx_law_order.specs.Told.{DoStepsTell}
 use Rattle.gx_drive.specs.Ends.{IsEnd}
-use Rattle.gx_drive.specs.Ordered.{AreFailuresFew, AreFirst, AreHeld}
+use Rattle.gx_drive.specs.Ordered.{AreFailuresFew, AreFirst, AreHeld, AreHeldSoFar}
 use Rattle.gx_drive.specs.Seeded.{AreDrawn}
 use Rattle.gx_drive.specs.declared.end.End.TheVariants as end
 use Rattle.gx_store.specs.Told.{no_run, usage}
@@ -43,44 +43,6 @@ use Rattle.gx_report.specs.Stops.{stuck_lines, turns_spent}
 use Rattle.gx_report.specs.Summary.{summary_of}
 use Rattle.gx_report.specs.Text.{answers_text, text_of}
 use Rattle.gx.specs.Refused.{refusal_text}
-use Rattle.gx.specs.declared.bytes.NoBytes.{NoBytes}
-use Rattle.gx.specs.declared.bytes.NoBytes.TheVariants as unread
-
--- the most bytes of a script
-abbrev pub limit : ℕ
-limit = 16777216
-
--- the words ask for this
-abbrev pub AreAsked : List (String Global) → Options → Type 0
-AreAsked words options = IsCommand (map string_bytes words) options
-
--- the words are not in the language of the command line
-abbrev pub AreUnknown : List (String Global) → Type 0
-AreUnknown words = (options : Options) → AreAsked words options → ⊥
-
--- the words ask for a script that is read, and for no generated work
-pub record IsForSource (words : List (String Global)) : Type 0 where
-  pub options : Options
-  pub asked : AreAsked words options
-  pub plain : options.work ≡ None
-
--- the bytes of the script: those of the source, which was read to its end; or those that are generated from a number, and nothing was read
-abbrev pub AreGiven : Option ℕ → Option (List ℕ) → Option (List ℕ) → List ℕ → Type 0
-AreGiven None left after bytes = Consumes left after bytes × IsAtEnd after
-AreGiven (Some number) left after bytes = (bytes ≡ work_text number) × (after ≡ left)
-
--- more bytes came than a script may have
-pub record IsTooMuch (left after : Option (List ℕ)) : Type 0 where
-  pub bytes : List ℕ
-  pub taken : Consumes left after bytes
-  pub more : limit < length bytes
-
--- the bytes of a script are there; or they were to be read, and the source failed or had too many
-abbrev pub HasBytes : Option ℕ → Option (List ℕ) → Option (List ℕ) → ℕ → ℕ → Result (Vec ℕ Global) NoBytes → Type 0
-HasBytes work left after before now (Ok bytes) = AreGiven work left after bytes.items × (length bytes.items ≤ limit)
-HasBytes work left after before now (Err unread.ReadFault) = (work ≡ None) × Rose before now
-HasBytes work left after before now (Err unread.TooLarge) = (work ≡ None) × IsTooMuch left after
-HasBytes work left after before now (Err unread.OutOfMemory) = Unit {0}
 
 -- the run's text, where it is asked for
 abbrev pub traced : Bool → Script → Run → List ℕ
@@ -92,20 +54,22 @@ AreDriven None script steps = AreFirst script [] steps
 AreDriven (Some seed) script steps = AreDrawn script seed [] steps
 
 -- The run is a legal history of one store without segments. Its nodes follow their rules and the commit protocol, its messages are
--- numbered, follow what they tell of, and arrive after they were sent, clocks rise, its locks are legal, who is blocked stays blocked until
+-- numbered, follow what they tell of, and arrive after they were sent, clocks rise, rows are skipped where they stand, its locks are legal, who is blocked stays blocked until
 -- one of them aborts, and each event is the one that the driver takes. Its rounds of the deadlock detector ask, report and decide as they
 -- are defined; where one names somebody the waits that it found stuck still stand, and whoever it names is the youngest of those who
--- can't go on.
-pub record IsRunOf (script : Script) (seed : Option ℕ) (run : Run) : Type 0 where
+-- can't go on. It has no more steps than turns were asked for.
+pub record IsRunOf (script : Script) (options : Options) (run : Run) : Type 0 where
   pub legal : IsLegalHistory script run
   pub ordered : AreOrdered script [] run.steps
   pub system : IsSystemRun script run
   pub protocol : DoStepsFollow script [] run.steps
   pub tells : DoStepsTell [] run.steps
+  pub skipped : DoSkippedStand [] run.steps
   pub locks : AreLocksLegal script run.steps
   pub blocked : DoStayBlocked (marks_of run)
   pub rounds : AreRoundsLegal script run.steps
-  pub driven : AreDriven seed script run.steps
+  pub driven : AreDriven options.seed script run.steps
+  pub within : length run.steps ≤ options.turns
 
 -- the tables of a script as they are behind a run
 pub record AreTables (script : Script) (run : Run) (tables : List (Vec KeyedRow Global)) : Type 0 where
@@ -136,21 +100,21 @@ pub record IsStoppedText (script : Script) (options : Options) (run : Run) (why 
 
 -- no session is unfinished: every line was answered in it, every block is closed, every transaction has ended; and this is its text
 pub record IsWholeRunOf (script : Script) (options : Options) (run : Run) (text : List ℕ) : Type 0 where
-  pub is : IsRunOf script options.seed run
+  pub is : IsRunOf script options run
   pub ended : IsEnd script run.steps options.turns end.Done
   pub over : IsFinished script run
   pub told : IsEndedText script options run text
 
 -- all turns were taken, a session is unfinished, and this is the text that says so
 pub record IsStoppedRunOf (script : Script) (options : Options) (run : Run) (text : List ℕ) : Type 0 where
-  pub is : IsRunOf script options.seed run
+  pub is : IsRunOf script options run
   pub ended : IsEnd script run.steps options.turns end.Turns
   pub told : IsStoppedText script options run turns_spent text
 
 -- The detector is off, turns are left and a session is unfinished, but nothing may happen; and this is the text that says so and
 -- which waits are stuck.
 pub record IsStuckRunOf (script : Script) (options : Options) (run : Run) (text : List ℕ) : Type 0 where
-  pub is : IsRunOf script options.seed run
+  pub is : IsRunOf script options run
   pub off : script.detector ≡ false
   pub graphs : List LocalGraph
   pub ended : IsEnd script run.steps options.turns (end.Stuck graphs)
@@ -161,7 +125,7 @@ abbrev pub IsRan : Script → Options → Attempt → Type 0
 IsRan script options (Done run text) = IsWholeRunOf script options run text.items
 IsRan script options (Stopped run text) = IsStoppedRunOf script options run text.items
 IsRan script options (Stuck run text) = IsStuckRunOf script options run text.items
-IsRan script options (OutOfMemory run) = (run ≡ no_run) ⊎ IsRunOf script options.seed run
+IsRan script options (OutOfMemory run) = (run ≡ no_run) ⊎ IsRunOf script options run
 IsRan script options _ = ⊥
 
 -- what is said of bytes that are no script for this reason
@@ -180,7 +144,7 @@ IsOfBytes bytes options (Done run text) = IsScriptWith bytes (λ script. IsWhole
 IsOfBytes bytes options (Stopped run text) = IsScriptWith bytes (λ script. IsStoppedRunOf script options run text.items)
 IsOfBytes bytes options (Stuck run text) = IsScriptWith bytes (λ script. IsStuckRunOf script options run text.items)
 IsOfBytes bytes options (Refused text) = (refusal : Refusal) × Reads bytes (Err refusal) × (refusal_text refusal ≡ Some text.items)
-IsOfBytes bytes options (OutOfMemory run) = (run ≡ no_run) ⊎ IsScriptWith bytes (λ script. IsRunOf script options.seed run)
+IsOfBytes bytes options (OutOfMemory run) = (run ≡ no_run) ⊎ IsScriptWith bytes (λ script. IsRunOf script options run)
 IsOfBytes bytes options _ = ⊥
 
 -- the bytes that were given are this script, or no script for this reason
@@ -211,7 +175,7 @@ pub record HasScript (words : List (String Global)) (left after : Option (List �
 
 -- nothing was run, or a run of the script that was read, up to some step
 abbrev pub IsPartRun : List (String Global) → Option (List ℕ) → Option (List ℕ) → Run → Type 0
-IsPartRun words left after run = (run ≡ no_run) ⊎ HasScript words left after (λ script options. IsRunOf script options.seed run)
+IsPartRun words left after run = (run ≡ no_run) ⊎ HasScript words left after (λ script options. IsRunOf script options run)
 
 -- a script was read, and this is its run and the text of that
 abbrev pub IsDone : List (String Global) → Option (List ℕ) → Option (List ℕ) → Run → List ℕ → Type 0
@@ -263,12 +227,13 @@ IsAttempt words left after before now Usage = AreUnknown words
 IsAttempt words left after before now (Refused text) = IsRefused words left after no_run text.items
 IsAttempt words left after before now ReadFault = IsForSource words × Rose before now
 IsAttempt words left after before now TooLarge = IsForSource words × IsTooMuch left after
-IsAttempt words left after before now (OutOfMemory run) = IsPartRun words left after run
+IsAttempt words left after before now (OutOfMemory run) = IsPartRun words left after run × (now ≡ before)
 
--- what became of the journals: no node has more JournalFailed marks than its journal's count has risen, and where the work came to its end each journal
--- holds the items that the marks of its node stand for, and nothing else
+-- What became of the journals: no node has more JournalFailed marks than its journal's count has risen, and each journal holds the items that the marks
+-- of its node stand for; where the work came to its end nothing else, and else at most one item more.
 pub record AreKept (steps : List Step) (over : Bool) (before after : List Shelf) : Type 0 where
   pub failures : AreFailuresFew steps before after
+  pub so_far : AreHeldSoFar steps after
   pub held : over ≡ true → AreHeld steps after
 
 -- a text of this kind was written

@@ -1,20 +1,21 @@
 // The work before the writing: words, bytes, script, run and text.
 ghost use Rattle.std.specs.Prelude.{◌≡◌, ◌≤◌, length, map};
 ghost use Rattle.gx_outside.specs.Shelves.{AreEmpty};
-ghost use Rattle.gx.specs.Top.{AreKept, IsAttempt, IsForSource, IsOfBytes, IsRefusedFor, limit};
+ghost use Rattle.gx.specs.Top.{AreKept, IsAttempt, IsOfBytes, IsRefusedFor};
+ghost use Rattle.gx_words.specs.Asked.{IsForSource, limit};
 ghost use Rattle.gx_store.specs.Told.{is_over, run_in};
 
-use crate::bytes::{NoBytes, script_bytes};
 use crate::refused::refusal_text;
 use crate::running::run_script;
 use gx_outside::{Gate, Journal, Source};
 use gx_sql::{Refusal, parse_script};
 use gx_store::{Attempt, Run};
-use gx_words::{Options, WordsFault, read_words};
+use gx_words::{NoBytes, Options, WordsFault, read_words, script_bytes};
 use std::alloc::Global;
 
 /// Reads or generates a script, runs it and tells its run, and writes nothing but to the journals. Nothing is read unless the words ask
 /// for a script that is read.
+#[tactic(auto, using(crate::proofs::Kept::none_ran))]
 pub fn make_attempt<S: Source, J: Journal, G: Gate>(
     alloc: Global,
     words: &[String],

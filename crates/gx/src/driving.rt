@@ -3,7 +3,7 @@ ghost use Rattle.std.specs.Prelude.{◌≡◌, ◌≤◌, [], false, IfOk, OnOk,
 ghost use Rattle.gx_store.specs.Whole.{AreInsertsWhole};
 ghost use Rattle.gx_outside.specs.Shelves.{AreEmpty};
 ghost use Rattle.gx_drive.specs.Ends.{IsEnd};
-ghost use Rattle.gx_drive.specs.Ordered.{AreFailuresFew, AreHeld};
+ghost use Rattle.gx_drive.specs.Ordered.{AreFailuresFew, AreHeld, AreHeldSoFar};
 ghost use Rattle.gx.specs.Top.{AreDriven};
 
 use gx_drive::{End, run_ordered, run_seeded};
@@ -30,7 +30,9 @@ pub(crate) fn drive<J: Journal, G: Gate>(
     ensures journals { length journals.new ≡ 17 }
     ensures script { world.new.script ≡ world.old.script }
     ensures driven { AreDriven options.seed world.old.script world.new.run.steps }
+    ensures within { length world.new.run.steps ≤ options.turns }
     ensures failures { AreFailuresFew world.new.run.steps (map J.shelf journals.old) (map J.shelf journals.new) }
+    ensures so_far { AreHeldSoFar world.new.run.steps (map J.shelf journals.new) }
     ensures end { IfOk result (IsEnd world.old.script world.new.run.steps options.turns) }
     ensures held { OnOk result (AreHeld world.new.run.steps (map J.shelf journals.new)) }
     ensures unspent { OnOk result (world.new.spent ≡ false) }

@@ -3,7 +3,6 @@
 #![tactic(auto)]
 
 mod attempt;
-mod bytes;
 mod driving;
 mod refused;
 mod running;

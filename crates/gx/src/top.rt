@@ -1,8 +1,9 @@
 // The top call.
 ghost use Rattle.std.specs.Prelude.{◌≡◌, ◌≢◌, length, map};
-ghost use Rattle.gx_drive.specs.Ordered.{AreFailuresFew, AreHeld};
+ghost use Rattle.gx_drive.specs.Ordered.{AreFailuresFew, AreHeld, AreHeldSoFar};
 ghost use Rattle.gx_outside.specs.Shelves.{AreEmpty};
-ghost use Rattle.gx.specs.Top.{IsCutShort, IsDone, IsDue, IsForSource, IsOfLanguage, IsPartRun, IsReadFault, IsRefused, IsStatus, IsStopped, IsStuck, IsTooLarge, IsUsage, IsWritten};
+ghost use Rattle.gx_words.specs.Asked.{IsForSource};
+ghost use Rattle.gx.specs.Top.{IsCutShort, IsDone, IsDue, IsOfLanguage, IsPartRun, IsReadFault, IsRefused, IsStatus, IsStopped, IsStuck, IsTooLarge, IsUsage, IsWritten};
 
 use crate::attempt::make_attempt;
 use gx_outside::{Gate, Journal, Sink, Source};
@@ -41,7 +42,8 @@ pub fn run_gx<S: Source, K: Sink, J: Journal, G: Gate>(
     ensures write_fault { result.status ≡ 5 → IsCutShort (IsDue words.now (S.left source.old) (S.left source.new) (S.fault_count source.old) (S.fault_count source.new) result.run)
         (K.written sink.old) (K.written sink.new) (K.fault_count sink.old) (K.fault_count sink.new) }
 
-    // Nothing was written, and what was run is a part of a legal history of the script.
+    // Nothing was written, the source has counted no fault, and what was run is a part of a legal history of the script, within its turns.
+    ensures unfailed { result.status ≡ 6 → S.fault_count source.new ≡ S.fault_count source.old }
     ensures memory { result.status ≡ 6 → (K.written sink.new ≡ K.written sink.old) × IsPartRun words.now (S.left source.old) (S.left source.new) result.run }
 
     // The run has as many steps as turns were asked for and a session is unfinished; the text of the answers so far was written, or the line on
@@ -66,6 +68,9 @@ pub fn run_gx<S: Source, K: Sink, J: Journal, G: Gate>(
 
     // Each journal holds the items that the marks of its node stand for, and nothing else.
     ensures held { result.status ≢ 6 → AreHeld result.run.steps (map J.shelf journals.new.items) }
+
+    // At any status a journal has at most one item more.
+    ensures so_far { AreHeldSoFar result.run.steps (map J.shelf journals.new.items) }
 
     // No node has more JournalFailed marks than its journal's count has risen.
     ensures failures { AreFailuresFew result.run.steps (map J.shelf journals.old.items) (map J.shelf journals.new.items) }

@@ -1,5 +1,5 @@
 -- What leaves the journal alone: an answer for a command, and what comes by itself.
-use Rattle.std.proofs.Common.{◌≡◌, ◌&&◌, ◌+◌, ℕ, List, [], ◌∷◌, Option, Some, None, Result, Ok, Err, Bool, true, false, if◌then◌else◌, ap, append-nil, arith, nat_lt, refl, sym, subst}
+use Rattle.std.proofs.Common.{◌≡◌, ◌&&◌, ◌+◌, ℕ, List, [], ◌∷◌, Option, Some, None, Result, Ok, Err, Bool, true, false, if◌then◌else◌, ap, append-nil, arith, inl, nat_lt, refl, sym, subst}
 use Rattle.std.proofs.lemmas.Bool.Decides.{nat_tests}
 use Rattle.gx_ids.specs.declared.ids.Cid.{Cid}
 use Rattle.gx_ids.specs.declared.ids.Gxid.{Gxid}
@@ -51,7 +51,7 @@ follows-quiet c g turn (outcome.Refused i) = refl
 follows-quiet c g turn outcome.Ended = refl
 
 took-nothing : (shelf : Shelf) → Took shelf shelf false None
-took-nothing shelf = record { items = sym (append-nil shelf.items); later = omega arith; caused = λ e. absurd (cc) }
+took-nothing shelf = record { items = sym (append-nil shelf.items); later = record { faults = omega arith; items = inl refl }; caused = λ e. absurd (cc); calm = λ e. refl }
 
 if-quiet : (b : Bool) (t u : CoordTurn) → IsQuiet t → IsQuiet u → IsQuiet (if b then t else u)
 if-quiet true t u h k = h

@@ -90,11 +90,6 @@ abbrev pub done_work : rule.Work → Node → Bool → ℕ → Part → rule.Wor
 done_work w i wrote count part = record w { writers = writers_with wrote i w.writers; command = option_map (λ k. with_done k i count part) w.command }
 
 -- ANSWERS FOR A STATUS
--- it was the coordinator's own journal that failed
-abbrev pub own_failure : Outcome → Bool
-own_failure (outcome.Refused i) = i.0 == 0
-own_failure _ = false
-
 -- the nodes whose answers are awaited
 abbrev pub left_in : Option rule.Command → List Node
 left_in None = []

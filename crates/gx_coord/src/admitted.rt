@@ -1,22 +1,21 @@
 // What is admitted.
-ghost use Rattle.std.specs.Prelude.{◌≡◌, IfOk, is_some, length};
+ghost use Rattle.std.specs.Prelude.{◌≡◌, is_some, length};
 ghost use Rattle.gx_store.specs.Language.{IsScript};
 ghost use Rattle.gx_rules.specs.AtCoordinator as turns;
 ghost use Rattle.gx_coord.specs.Books.{coord_of};
 ghost use Rattle.gx_coord.specs.Places.{AreIndexed};
 
-use crate::again::awaited;
+use crate::again::is_awaited;
 use crate::books::find_session;
 use crate::coord::Coord;
 use crate::locking::can_take;
 use crate::rounds::{awaits_graph, can_begin};
 use crate::starting::next_place;
 use crate::work::Session;
-use gx_ids::{Gxid, Mem, Node, SessionId};
+use gx_ids::{Node, SessionId};
 use gx_script::Script;
 use gx_script::state::{Block, Pending};
 use gx_store::NodeEvent;
-use std::alloc::Global;
 
 fn is_segment(script: &Script, node: Node) -> bool
     ensures { result ≡ turns.is_segment script.now node }
@@ -68,30 +67,21 @@ fn can_end(coord: &Coord, id: SessionId) -> bool
     is_idle(session) && !is_left(coord, id) && is_in_block(session)
 }
 
-fn can_resend(alloc: Global, coord: &Coord, node: Node, gxid: Gxid) -> Mem<bool>
-    ensures { IfOk result (λ can. can ≡ is_some (turns.awaited (coord_of coord.now) gxid node)) }
-{
-    let message = awaited(alloc, coord, gxid, node)?;
-    let can = message.is_some();
-    drop(message);
-    Ok(can)
-}
-
 // Whether the event may happen.
-pub(crate) fn can(alloc: Global, coord: &Coord, event: &NodeEvent) -> Mem<bool>
+pub(crate) fn can(coord: &Coord, event: &NodeEvent) -> bool
     requires language { IsScript coord.now.script.value }
     requires places { AreIndexed coord.now.script.value.lines (length coord.now.script.value.sessions) coord.now.places.items }
-    ensures { IfOk result (λ can. can ≡ turns.coord_can coord.now.script.value (coord_of coord.now) event.now) }
+    ensures { result ≡ turns.coord_can coord.now.script.value (coord_of coord.now) event.now }
 {
     match event {
-        NodeEvent::Deliver { from, .. } => Ok(is_segment(&coord.script, *from)),
-        NodeEvent::Start(id) => Ok(can_start(coord, *id)),
-        NodeEvent::End(id) => Ok(can_end(coord, *id)),
+        NodeEvent::Deliver { from, .. } => is_segment(&coord.script, *from),
+        NodeEvent::Start(id) => can_start(coord, *id),
+        NodeEvent::End(id) => can_end(coord, *id),
         NodeEvent::Resend(node, of) => match of {
-            Some(gxid) => can_resend(alloc, coord, *node, *gxid),
-            None => Ok(awaits_graph(coord, *node)),
+            Some(gxid) => is_awaited(coord, *gxid, *node),
+            None => awaits_graph(coord, *node),
         },
-        NodeEvent::Resume(gxid) => Ok(can_take(coord, *gxid)),
-        NodeEvent::Round => Ok(can_begin(coord)),
+        NodeEvent::Resume(gxid) => can_take(coord, *gxid),
+        NodeEvent::Round => can_begin(coord),
     }
 }

@@ -1,5 +1,5 @@
 // Messages that are sent again.
-ghost use Rattle.std.specs.Prelude.{◌≡◌, IfOk, Some};
+ghost use Rattle.std.specs.Prelude.{◌≡◌, IfOk, Some, is_some};
 ghost use Rattle.gx_rules.specs.AtCoordinator as turns;
 ghost use Rattle.gx_dtx.specs.Rules.{awaited_order};
 ghost use Rattle.gx_store.specs.Schedule.{is_exec as asks_exec};
@@ -50,6 +50,44 @@ fn status_order(coord: &Coord, gxid: Gxid, node: Node) -> Mem<Option<Message>>
     match coord.dtx.resend(gxid, node)? {
         Some(out) => Ok(Some(out.message)),
         None => Ok(None),
+    }
+}
+
+// Whether there is an order to the node.
+fn is_order_to(node: Node, orders: &[Out]) -> bool
+    ensures { result ≡ is_some (turns.order_to node orders.now) }
+{
+    for out in orders {
+        if out.node == node {
+            return true;
+        }
+    }
+    false
+}
+
+fn has_command_order(coord: &Coord, gxid: Gxid, node: Node) -> bool
+    ensures { result ≡ is_some (order_in ((coord_of coord.now).works gxid.0).command node) }
+{
+    match find_command(coord, gxid) {
+        Some(command) => is_order_to(node, command.orders.as_slice()),
+        None => false,
+    }
+}
+
+fn has_status_order(coord: &Coord, gxid: Gxid, node: Node) -> bool
+    ensures { result ≡ is_some (turns.status_order gxid (awaited_order coord.now.dtx gxid node)) }
+{
+    coord.dtx.is_awaited(gxid, node)
+}
+
+// Whether an answer of the node is awaited.
+pub(crate) fn is_awaited(coord: &Coord, gxid: Gxid, node: Node) -> bool
+    ensures { result ≡ is_some (turns.awaited (coord_of coord.now) gxid node) }
+{
+    if is_ordered(coord, gxid, node) {
+        has_command_order(coord, gxid, node)
+    } else {
+        has_status_order(coord, gxid, node)
     }
 }
 

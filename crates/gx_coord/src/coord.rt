@@ -164,13 +164,14 @@ impl Coord {
         }
     }
 
-    /// Whether the event may happen now.
-    pub fn can(&self, event: &NodeEvent) -> Mem<bool>
+    /// Whether the event may happen now. Once memory has run out in a step none may.
+    pub fn can(&self, event: &NodeEvent) -> bool
         ghost c: { RuleCoord }
-        requires { IsCoord self.now c }
-        ensures { IfOk result (λ can. can ≡ coord_can self.now.script.value c event.now) }
+        requires { self.now.spent ≡ false → IsCoord self.now c }
+        ensures value { self.now.spent ≡ false → result ≡ coord_can self.now.script.value c event.now }
+        ensures spent { self.now.spent ≡ true → result ≡ false }
     {
-        admitted::can(self.alloc, self, event)
+        !self.spent && admitted::can(self, event)
     }
 
     /// The least transaction whose wait here is ready.

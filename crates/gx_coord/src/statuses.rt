@@ -1,11 +1,12 @@
 // Answers of segments for a transaction's status.
 ghost use Rattle.std.specs.Prelude.{◌≡◌, ◌<◌, [], Bool, true, IfOk};
+ghost use Rattle.gx_dtx.specs.Deciding.{own_failure};
 ghost use Rattle.gx_dtx.specs.Rules.{on_reply};
 ghost use Rattle.gx_outside.specs.Shelves.{IsLater};
 ghost use Rattle.gx_node.specs.Orders.{Took};
 ghost use Rattle.gx_rules.specs.AtCoordinator as turns;
 ghost use Rattle.gx_coord.specs.Books.{coord_of};
-ghost use Rattle.gx_coord.specs.Turns.{IsFit, IsBusy, IsTurn, answers_line, own_failure};
+ghost use Rattle.gx_coord.specs.Turns.{IsFit, IsBusy, IsTurn, answers_line};
 
 use crate::coord::Coord;
 use crate::ends::follow;

@@ -1,5 +1,5 @@
 -- One turn behind others.
-use Rattle.std.proofs.Common.{◌≡◌, ◌≤◌, inl, inr, ℕ, ◌+◌, List, [], ◌∷◌, ◌++◌, refl, sym, ap, ◌∙◌, subst, length, length-append, true, false}
+use Rattle.std.proofs.Common.{◌≡◌, ◌<◌, ◌≤◌, inl, inr, ℕ, ◌+◌, List, [], ◌∷◌, ◌++◌, refl, sym, ap, ◌∙◌, subst, arith, length, length-append, true, false}
 use Rattle.gx_outside.specs.Shelves.{Shelf, AreEmpty}
 use Rattle.gx_script.specs.declared.Script.{Script}
 use Rattle.gx_store.specs.declared.run.Step.{Step}
@@ -10,14 +10,22 @@ use Rattle.gx_law_runs.specs.Reached.{IsReached}
 use Rattle.gx_drive.specs.declared.agenda.Agenda.{Agenda}
 use Rattle.gx_drive.specs.Agrees.{HasTurned, IsAgreed, IsDue, IsNoMore, IsUnderWay}
 use Rattle.gx_drive.specs.Chosen.{AreChosen, Choice}
-use Rattle.gx_drive.specs.Ordered.{AreFailuresFew, AreHeld}
-use Rattle.gx_drive.proofs.Journals.{none-failed, none-held}
-use Rattle.gx_drive.proofs.Turning.{chosen-more, stepped-held, stepped-reached}
+use Rattle.gx_drive.specs.Ordered.{AreFailuresFew, AreHeld, AreHeldSoFar}
+use Rattle.gx_drive.proofs.Journals.{none-failed, none-held, none-held-so-far}
+use Rattle.gx_drive.proofs.Turning.{chosen-more, held-so-far, stepped-held, stepped-reached}
 
 -- what was chosen stays so, whether a step was done or not
 pub no-more : (choice : Choice) (old new : List Step) (event : Event) → AreChosen choice [] old → choice old event → IsNoMore event old new → AreChosen choice [] new
 no-more choice old new event all chosen (inl same) = subst (AreChosen choice []) (sym same) all
 no-more choice old new event all chosen (inr next) = subst (AreChosen choice []) (sym next.is) (chosen-more choice [] old next.step all (subst (choice old) (sym next.of) chosen))
+
+-- so at most one turn was taken
+pub no-more-within : (old new : List Step) (event : Event) (turns : ℕ) → length old < turns → IsNoMore event old new → length new ≤ turns
+no-more-within old new event turns left (inl same) = subst (λ (steps : List Step). length steps ≤ turns) (sym same) (omega (arith, left))
+no-more-within old new event turns left (inr next) = subst (λ (n : ℕ). n ≤ turns) (sym (ap length next.is ∙ length-append old (next.step ∷ []))) (one (length old) left)
+  where
+    one : (n : ℕ) → n < turns → n + 1 ≤ turns
+    one n h = omega (arith, h)
 
 pub under-way : (choice : Choice) (script : Script) (turns : ℕ) (old new : WorldState) (before after : Agenda) (event : Event) (start was now : List Shelf)
     → IsUnderWay choice script turns old before start was → choice old.run.steps event → new.script ≡ old.script → IsNoMore event old.run.steps new.run.steps → HasTurned old new after was now → AreFailuresFew new.run.steps start now → IsUnderWay choice script (turns + 1) new after start now
@@ -31,6 +39,7 @@ under-way choice script turns old new before after event start was now way chose
       driven = no-more choice old.run.steps new.run.steps event way.driven chosen more;
       journals = turned.journals ∙ way.journals;
       held = turned.held way.held;
+      so_far = held-so-far new.run.steps now (turned.held way.held);
       few = few;
     }
   where
@@ -69,6 +78,7 @@ none-done choice shelves world agenda new usable many empty agreed =
       driven = back (AreChosen choice []) tt;
       journals = many;
       held = back (λ ss. AreHeld ss shelves) (none-held shelves empty);
+      so_far = back (λ ss. AreHeldSoFar ss shelves) (none-held-so-far shelves empty);
       few = back (λ ss. AreFailuresFew ss shelves shelves) (none-failed shelves);
     }
   where

@@ -1,11 +1,11 @@
 -- Journals before anything was done.
-use Rattle.std.proofs.Common.{◌≡◌, ◌≤◌, ℕ, zero, suc, ◌+◌, ◌-◌, ◌^◌, List, [], ◌∷◌, Some, sym, ap, ◌∙◌, subst, arith, length}
+use Rattle.std.proofs.Common.{◌≡◌, ◌≤◌, ℕ, zero, suc, ◌+◌, List, [], ◌∷◌, Some, inl, sym, ap, ◌∙◌, subst, arith, length}
 use Rattle.std.proofs.lemmas.List.{length-map}
 use Rattle.std.proofs.lemmas.List.Elements.{recursion_from_All}
 use Rattle.std.specs.List.{AllByRecursion}
-use Rattle.std.specs.Prelude.{map, min, slice_get}
+use Rattle.std.specs.Prelude.{map, slice_get}
 use Rattle.gx_outside.specs.Shelves.{Shelf, AreEmpty}
-use Rattle.gx_drive.specs.Ordered.{AreFailuresFew, AreHeld}
+use Rattle.gx_drive.specs.Ordered.{AreFailuresFew, AreHeld, AreHeldSoFar}
 
 same-some : (a b : Shelf) → Some a ≡ Some b → a ≡ b
 same-some a b e = cc
@@ -19,11 +19,14 @@ empty-there (x ∷ shelves) (suc k) s all e = empty-there shelves k s all.1 e
 pub none-held : (shelves : List Shelf) → AreEmpty shelves → AreHeld [] shelves
 none-held shelves all node s there = empty-there shelves node.0 s (recursion_from_All (λ (shelf : Shelf). shelf.items ≡ []) shelves all) there
 
+pub none-held-so-far : (shelves : List Shelf) → AreEmpty shelves → AreHeldSoFar [] shelves
+none-held-so-far shelves all node s there = inl (none-held shelves all node s there)
+
 -- and none has failed
 pub none-failed : (shelves : List Shelf) → AreFailuresFew [] shelves shelves
-none-failed shelves node b a was now = subst (λ (x : Shelf). min (0 + b.faults) (2 ^ 64 - 1) ≤ x.faults) (same-some b a (sym was ∙ now)) (least b.faults)
+none-failed shelves node b a was now = subst (λ (x : Shelf). 0 + b.faults ≤ x.faults) (same-some b a (sym was ∙ now)) (least b.faults)
   where
-    least : (n : ℕ) → min (0 + n) (2 ^ 64 - 1) ≤ n
+    least : (n : ℕ) → 0 + n ≤ n
     least n = omega arith
 
 -- as many shelves as journals

@@ -7,6 +7,7 @@ pub mod Turning
 pub mod Driving
 pub mod Journals
 pub mod Unfinished
+pub mod Undetected
 pub mod Noting
 pub mod Answers
 pub mod Pushed

@@ -1,11 +1,11 @@
 -- A turn that was done.
-use Rattle.std.proofs.Common.{◌≡◌, ◌≤◌, ℕ, zero, suc, ◌+◌, ◌-◌, ◌^◌, List, [], ◌∷◌, ◌++◌, Some, Bool, true, false, if◌then◌else◌, ◌&&◌, refl, sym, ap, ◌∙◌, subst, arith, length, append-nil}
+use Rattle.std.proofs.Common.{◌≡◌, ◌<◌, ◌≤◌, inl, ℕ, zero, suc, ◌+◌, List, [], ◌∷◌, ◌++◌, Some, Bool, true, false, if◌then◌else◌, ◌&&◌, refl, sym, ap, ◌∙◌, subst, arith, length, append-nil}
 use Rattle.std.proofs.lemmas.List.{append_assoc}
-use Rattle.std.specs.Prelude.{map, min, slice_get}
+use Rattle.std.specs.Prelude.{map, slice_get}
 use Rattle.gx_ids.specs.declared.ids.Node.{Node}
 use Rattle.gx_msg.specs.ItemBytes.{bytes_of_item}
 use Rattle.gx_msg.specs.declared.item.JournalItem.{JournalItem}
-use Rattle.gx_outside.specs.Shelves.{Shelf}
+use Rattle.gx_outside.specs.Shelves.{Shelf, IsAtMostOneMore}
 use Rattle.gx_script.specs.declared.Script.{Script}
 use Rattle.gx_store.specs.declared.event.Event.{Event}
 use Rattle.gx_store.specs.declared.mark.Mark.{Mark}
@@ -23,7 +23,7 @@ use Rattle.gx_law_order.proofs.More.{marks-last}
 use Rattle.gx_law_runs.specs.Failures.{failures_in}
 use Rattle.gx_law_runs.proofs.Steps.{behind-few}
 use Rattle.gx_drive.specs.Chosen.{AreChosen, Choice}
-use Rattle.gx_drive.specs.Ordered.{AreFailuresFew, AreHeld}
+use Rattle.gx_drive.specs.Ordered.{AreFailuresFew, AreHeld, AreHeldSoFar}
 use Rattle.gx_drive.proofs.Held.{items-after}
 
 -- one step more that is chosen
@@ -67,7 +67,7 @@ module _ (script : Script) (some : 1 ≤ script.segments) (old new : List Step) 
   -- no more failures are told than counts rose
   pub stepped-few : AreLater before after → (start : List Shelf) → AreFailuresFew old start before → AreFailuresFew new start after
   stepped-few later start few node b a was now =
-      subst (λ (n : ℕ). min (n + b.faults) (2 ^ 64 - 1) ≤ a.faults) (sym counted)
+      subst (λ (n : ℕ). n + b.faults ≤ a.faults) (sym counted)
       (by (is_same_node (node_of event) node) h.fails refl refl (behind-few script old event h.fails h.step node some is (sym h.by_rule ∙ h.is)))
     where
       mid : (x : Shelf) × (slice_get before node.0 ≡ Some x)
@@ -76,13 +76,32 @@ module _ (script : Script) (some : 1 ≤ script.segments) (old new : List Step) 
       counted : failures_in node (marks_in new) ≡ failures_in node (marks_in old) + failures_in node h.step.marks
       counted = ap (λ ss. failures_in node (marks_in ss)) h.is ∙ ap (failures_in node) (marks-last old h.step) ∙ failures-append node (marks_in old) h.step.marks
 
-      one : (f c m n s : ℕ) → min (f + c) (2 ^ 64 - 1) ≤ m → min (m + 1) (2 ^ 64 - 1) ≤ n → s ≤ 1 → min (f + s + c) (2 ^ 64 - 1) ≤ n
+      one : (f c m n s : ℕ) → f + c ≤ m → m < n → s ≤ 1 → f + s + c ≤ n
       one f c m n s h k l = omega (arith, h, k, l)
 
-      none : (f c m n s : ℕ) → min (f + c) (2 ^ 64 - 1) ≤ m → m ≤ n → s ≤ 0 → min (f + s + c) (2 ^ 64 - 1) ≤ n
+      none : (f c m n s : ℕ) → f + c ≤ m → m ≤ n → s ≤ 0 → f + s + c ≤ n
       none f c m n s h k l = omega (arith, h, k, l)
 
-      by : (x y : Bool) → is_same_node (node_of event) node ≡ x → h.fails ≡ y → failures_in node h.step.marks ≤ (if x && y then 1 else 0) → min (failures_in node (marks_in old) + failures_in node h.step.marks + b.faults) (2 ^ 64 - 1) ≤ a.faults
+      by : (x y : Bool) → is_same_node (node_of event) node ≡ x → h.fails ≡ y → failures_in node h.step.marks ≤ (if x && y then 1 else 0) → failures_in node (marks_in old) + failures_in node h.step.marks + b.faults ≤ a.faults
       by true true same fails bound = one _ b.faults mid.0.faults a.faults _ (few node b mid.0 was mid.1) ((h.journals node mid.0 a mid.1 now).caused same fails) bound
-      by true false same fails bound = none _ b.faults mid.0.faults a.faults _ (few node b mid.0 was mid.1) (later.each node.0 mid.0 a mid.1 now) bound
-      by false y same fails bound = none _ b.faults mid.0.faults a.faults _ (few node b mid.0 was mid.1) (later.each node.0 mid.0 a mid.1 now) bound
+      by true false same fails bound = none _ b.faults mid.0.faults a.faults _ (few node b mid.0 was mid.1) (later.each node.0 mid.0 a mid.1 now).faults bound
+      by false y same fails bound = none _ b.faults mid.0.faults a.faults _ (few node b mid.0 was mid.1) (later.each node.0 mid.0 a mid.1 now).faults bound
+
+-- what is held so far
+pub held-so-far : (steps : List Step) (shelves : List Shelf) → AreHeld steps shelves → AreHeldSoFar steps shelves
+held-so-far steps shelves held node s there = inl (held node s there)
+
+-- where nothing was done
+module _ (steps : List Step) (before after : List Shelf) (later : AreLater before after) where
+  pub undone-few : (start : List Shelf) → AreFailuresFew steps start before → AreFailuresFew steps start after
+  undone-few start few node b a was now =
+      let mid = there-too before after node.0 a (sym later.count) now in
+      on (failures_in node (marks_in steps) + b.faults) mid.0.faults a.faults (few node b mid.0 was mid.1) (later.each node.0 mid.0 a mid.1 now).faults
+    where
+      on : (x m n : ℕ) → x ≤ m → m ≤ n → x ≤ n
+      on x m n h k = omega (arith, h, k)
+
+  pub undone-held : AreHeld steps before → AreHeldSoFar steps after
+  undone-held held node a now =
+      let mid = there-too before after node.0 a (sym later.count) now in
+      subst (λ xs. IsAtMostOneMore xs a.items) (held node mid.0 mid.1) (later.each node.0 mid.0 a mid.1 now).items

@@ -17,7 +17,7 @@ use Rattle.gx_world.specs.Worlds.{WorldState}
 use Rattle.gx_agenda.specs.Queued.{AreQueued}
 use Rattle.gx_law_runs.specs.Reached.{IsReached}
 use Rattle.gx_drive.specs.Chosen.{AreChosen, Choice}
-use Rattle.gx_drive.specs.Ordered.{AreFailuresFew, AreHeld}
+use Rattle.gx_drive.specs.Ordered.{AreFailuresFew, AreHeld, AreHeldSoFar}
 use Rattle.gx_drive.specs.declared.agenda.Agenda.{Agenda}
 
 -- links, lines and awaited answers are where the steps have led, and nothing is left where no delivery is looked for
@@ -72,4 +72,5 @@ pub record IsUnderWay (choice : Choice) (script : Script) (turns : ℕ) (world :
   pub driven : AreChosen choice [] world.run.steps
   pub journals : length now ≡ 17
   pub held : AreHeld world.run.steps now
+  pub so_far : AreHeldSoFar world.run.steps now
   pub few : AreFailuresFew world.run.steps start now

@@ -1,8 +1,8 @@
 -- The run of the ordered driver.
-use Rattle.std.specs.Prelude.{◌≡◌, ◌≤◌, ◌+◌, ◌-◌, ◌^◌, min, ◌∷◌, [], true, List, map, slice_get, Some}
+use Rattle.std.specs.Prelude.{◌≡◌, ◌≤◌, ◌+◌, ◌∷◌, [], true, List, map, slice_get, Some}
 use Rattle.gx_ids.specs.declared.ids.Node.{Node}
 use Rattle.gx_msg.specs.ItemBytes.{bytes_of_item}
-use Rattle.gx_outside.specs.Shelves.{Shelf}
+use Rattle.gx_outside.specs.Shelves.{Shelf, IsAtMostOneMore}
 use Rattle.gx_script.specs.declared.Script.{Script}
 use Rattle.gx_store.specs.declared.event.Event.{Event}
 use Rattle.gx_store.specs.declared.run.Step.{Step}
@@ -25,7 +25,12 @@ AreFirst script before steps = AreChosen (IsFirst script) before steps
 abbrev pub AreHeld : List Step → List Shelf → Type 0
 AreHeld steps shelves = (node : Node) (shelf : Shelf) → slice_get shelves node.0 ≡ Some shelf → shelf.items ≡ map bytes_of_item (items_of node (marks_in steps))
 
--- no node has more JournalFailed marks than the count of its journal has risen, unless that stands at the end of its type
+-- the same, but for one item more, which a step has added in which memory ran out
+abbrev pub AreHeldSoFar : List Step → List Shelf → Type 0
+AreHeldSoFar steps shelves =
+    (node : Node) (shelf : Shelf) → slice_get shelves node.0 ≡ Some shelf → IsAtMostOneMore (map bytes_of_item (items_of node (marks_in steps))) shelf.items
+
+-- no node has more JournalFailed marks than the count of its journal has risen
 abbrev pub AreFailuresFew : List Step → List Shelf → List Shelf → Type 0
 AreFailuresFew steps before after =
-    (node : Node) (b a : Shelf) → slice_get before node.0 ≡ Some b → slice_get after node.0 ≡ Some a → min (failures_in node (marks_in steps) + b.faults) (2 ^ 64 - 1) ≤ a.faults
+    (node : Node) (b a : Shelf) → slice_get before node.0 ≡ Some b → slice_get after node.0 ≡ Some a → failures_in node (marks_in steps) + b.faults ≤ a.faults

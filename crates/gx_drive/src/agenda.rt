@@ -53,52 +53,51 @@ impl Agenda {
 
     /// The first that is enabled; none where nothing is. While no round of the detector runs, it costs nothing more than without one
     /// until nothing else is enabled.
-    pub fn first(&mut self, world: &World) -> Mem<Option<Event>>
+    pub fn first(&mut self, world: &World) -> Option<Event>
         requires usable { world.now.spent ≡ false }
         requires language { IsScript world.now.script }
         requires reached { IsReached world.now.script world.now.run.steps }
         requires agreed { IsAgreed world.now.script world.now.run.steps self.old }
-        ensures first { IfOk result (λ event. option_to_list event ≡ first_of (enabled world.now.script world.now.run.steps)) }
-        ensures due { IfOk result (λ event. IfSome event (IsDue world.now.script world.now.run.steps)) }
+        ensures first { option_to_list result ≡ first_of (enabled world.now.script world.now.run.steps) }
+        ensures due { IfSome result (IsDue world.now.script world.now.run.steps) }
         ensures agreed { IsAgreed world.now.script world.now.run.steps self.new }
     {
         let waiting = self.asked.is_any_waiting();
         match first_move(&self.cursors, &mut self.quiet, world, waiting) {
-            Some(event) => Ok(Some(event)),
+            Some(event) => Some(event),
             None => self.asked_for(world),
         }
     }
 
     // What is sent again, where no node does anything by itself, or else what a session does.
-    fn asked_for(&self, world: &World) -> Mem<Option<Event>>
+    fn asked_for(&self, world: &World) -> Option<Event>
         requires usable { world.now.spent ≡ false }
         requires language { IsScript world.now.script }
         requires reached { IsReached world.now.script world.now.run.steps }
         requires agreed { IsAgreed world.now.script world.now.run.steps self.now }
         requires none { first_of (moves_of world.now.script world.now.run.steps) ≡ [] }
-        ensures first { IfOk result (λ event. option_to_list event ≡ first_of (flat_map (resends world.now.script world.now.run.steps) (segments_of world.now.script)
-            ++ starts world.now.script world.now.run.steps ++ ends world.now.script world.now.run.steps ++ rounds world.now.script world.now.run.steps)) }
-        ensures due { IfOk result (λ event. IfSome event (IsDue world.now.script world.now.run.steps)) }
+        ensures first { option_to_list result ≡ first_of (flat_map (resends world.now.script world.now.run.steps) (segments_of world.now.script)
+            ++ starts world.now.script world.now.run.steps ++ ends world.now.script world.now.run.steps ++ rounds world.now.script world.now.run.steps) }
+        ensures due { IfSome result (IsDue world.now.script world.now.run.steps) }
     {
-        let graph = first_graph(world)?;
-        match self.asked.first(graph) {
-            Some(event) => Ok(Some(event)),
+        match self.asked.first(first_graph(world)) {
+            Some(event) => Some(event),
             None => self.begun(world),
         }
     }
 
     // The first line, or else what is last in order.
-    fn begun(&self, world: &World) -> Mem<Option<Event>>
+    fn begun(&self, world: &World) -> Option<Event>
         requires usable { world.now.spent ≡ false }
         requires language { IsScript world.now.script }
         requires reached { IsReached world.now.script world.now.run.steps }
         requires agreed { IsAgreed world.now.script world.now.run.steps self.now }
-        ensures first { IfOk result (λ event. option_to_list event ≡ first_of (starts world.now.script world.now.run.steps ++ ends world.now.script world.now.run.steps
-            ++ rounds world.now.script world.now.run.steps)) }
-        ensures due { IfOk result (λ event. IfSome event (IsDue world.now.script world.now.run.steps)) }
+        ensures first { option_to_list result ≡ first_of (starts world.now.script world.now.run.steps ++ ends world.now.script world.now.run.steps
+            ++ rounds world.now.script world.now.run.steps) }
+        ensures due { IfSome result (IsDue world.now.script world.now.run.steps) }
     {
         match self.queue.first() {
-            Some(session) => Ok(Some(Event::Start(session))),
+            Some(session) => Some(Event::Start(session)),
             None => last(world),
         }
     }
@@ -121,15 +120,15 @@ impl Agenda {
 }
 
 // The first end of a session, or else the next round.
-fn last(world: &World) -> Mem<Option<Event>>
+fn last(world: &World) -> Option<Event>
     requires usable { world.now.spent ≡ false }
     requires language { IsScript world.now.script }
     requires reached { IsReached world.now.script world.now.run.steps }
-    ensures first { IfOk result (λ event. option_to_list event ≡ first_of (ends world.now.script world.now.run.steps ++ rounds world.now.script world.now.run.steps)) }
-    ensures due { IfOk result (λ event. IfSome event (IsDue world.now.script world.now.run.steps)) }
+    ensures first { option_to_list result ≡ first_of (ends world.now.script world.now.run.steps ++ rounds world.now.script world.now.run.steps) }
+    ensures due { IfSome result (IsDue world.now.script world.now.run.steps) }
 {
-    match first_end(world)? {
-        Some(event) => Ok(Some(event)),
+    match first_end(world) {
+        Some(event) => Some(event),
         None => next_round(world),
     }
 }

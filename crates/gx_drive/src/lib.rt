@@ -12,6 +12,7 @@ mod links;
 mod listing;
 mod moves;
 pub mod ordered;
+pub mod refused;
 pub mod seeded;
 mod stuck;
 mod turn;

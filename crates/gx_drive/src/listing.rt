@@ -37,11 +37,11 @@ impl Agenda {
         push_from(&self.cursors, world, &mut events)?;
         push_segment_moves(&self.cursors, world, &mut events)?;
         push_option(resumption(world, Node(0)), &mut events)?;
-        let running = is_round_running(world)?;
+        let running = is_round_running(world);
         push_resends(self, world, running, &mut events)?;
         self.queue.push_starts(&mut events)?;
         push_ends(world, &mut events)?;
-        push_option(next_round(world)?, &mut events)?;
+        push_option(next_round(world), &mut events)?;
         Ok(events)
     }
 }
@@ -113,7 +113,7 @@ fn push_resends_to(
     ensures { OnOk result (events.new.items ≡ events.old.items ++ resends world.now.script world.now.run.steps segment) }
 {
     if is_quiet(&agenda.cursors, world, segment) {
-        let graph = is_graph_awaited(world, segment, running)?;
+        let graph = is_graph_awaited(world, segment, running);
         agenda.asked.push_resends(events, segment, graph)?;
     }
     Ok(())
@@ -162,7 +162,7 @@ fn push_end(world: &World, place: usize, events: &mut Vec<Event>) -> Mem<()>
         ++ (if is_to_end world.now.script world.now.run.steps (record { 0 = place }) then End (record { 0 = place }) ∷ [] else [])) }
 {
     let event = end_of(place);
-    if world.can(&event)? {
+    if world.can(&event) {
         events.push(event)?;
     }
     Ok(())

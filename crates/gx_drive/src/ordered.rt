@@ -4,8 +4,8 @@ ghost use Rattle.gx_outside.specs.Shelves.{AreEmpty};
 ghost use Rattle.gx_law_runs.specs.Reached.{IsReached};
 ghost use Rattle.gx_store.specs.Language.{IsScript};
 ghost use Rattle.gx_drive.specs.Agrees.{IsAgreed};
-ghost use Rattle.gx_drive.specs.Ends.{IsEnd};
-ghost use Rattle.gx_drive.specs.Ordered.{AreFailuresFew, AreFirst, AreHeld};
+ghost use Rattle.gx_drive.specs.Ends.{IsEnd, IsStuckWithout};
+ghost use Rattle.gx_drive.specs.Ordered.{AreFailuresFew, AreFirst, AreHeld, AreHeldSoFar};
 ghost use Rattle.gx_drive.specs.declared.end.End.TheVariants.{Done, Turns};
 
 use crate::agenda::Agenda;
@@ -36,8 +36,11 @@ pub fn run_ordered<J: Journal, G: Gate>(
     ensures journals { length journals.new ≡ 17 }
     ensures script { world.new.script ≡ world.old.script }
     ensures first { AreFirst world.old.script [] world.new.run.steps }
+    ensures within { length world.new.run.steps ≤ turns }
     ensures failures { AreFailuresFew world.new.run.steps (map J.shelf journals.old) (map J.shelf journals.new) }
+    ensures so_far { AreHeldSoFar world.new.run.steps (map J.shelf journals.new) }
     ensures end { IfOk result (IsEnd world.old.script world.new.run.steps turns) }
+    ensures off { IfOk result (IsStuckWithout world.old.script) }
     ensures held { OnOk result (AreHeld world.new.run.steps (map J.shelf journals.new)) }
     ensures unspent { OnOk result (world.new.spent ≡ false) }
 {
@@ -66,8 +69,11 @@ fn run_firsts<J: Journal, G: Gate>(
     ensures journals { length journals.new ≡ 17 }
     ensures script { world.new.script ≡ world.old.script }
     ensures first { AreFirst world.old.script [] world.new.run.steps }
+    ensures within { length world.new.run.steps ≤ turns }
     ensures failures { AreFailuresFew world.new.run.steps (map J.shelf journals.old) (map J.shelf journals.new) }
+    ensures so_far { AreHeldSoFar world.new.run.steps (map J.shelf journals.new) }
     ensures end { IfOk result (IsEnd world.old.script world.new.run.steps turns) }
+    ensures off { IfOk result (IsStuckWithout world.old.script) }
     ensures held { OnOk result (AreHeld world.new.run.steps (map J.shelf journals.new)) }
     ensures unspent { OnOk result (world.new.spent ≡ false) }
 {
@@ -75,7 +81,7 @@ fn run_firsts<J: Journal, G: Gate>(
         if !is_unfinished(world) {
             return Ok(End::Done);
         }
-        let Some(event) = next_event(world, agenda)? else {
+        let Some(event) = next_event(world, agenda) else {
             return stuck(alloc, world, turns);
         };
         turn(world, agenda, journals, gate, event)?;

@@ -2,8 +2,8 @@ ghost use Rattle.std.specs.Prelude.{◌≡◌, ◌≤◌, [], false, IfOk, OnOk,
 ghost use Rattle.gx_outside.specs.Shelves.{AreEmpty};
 ghost use Rattle.gx_store.specs.Language.{IsScript};
 ghost use Rattle.gx_drive.specs.Agrees.{IsAgreed};
-ghost use Rattle.gx_drive.specs.Ends.{IsEnd};
-ghost use Rattle.gx_drive.specs.Ordered.{AreFailuresFew, AreHeld};
+ghost use Rattle.gx_drive.specs.Ends.{IsEnd, IsStuckWithout};
+ghost use Rattle.gx_drive.specs.Ordered.{AreFailuresFew, AreHeld, AreHeldSoFar};
 ghost use Rattle.gx_drive.specs.Seeded.{AreDrawn};
 
 use crate::agenda::Agenda;
@@ -38,8 +38,11 @@ pub fn run_seeded<J: Journal, G: Gate>(
     ensures journals { length journals.new ≡ 17 }
     ensures script { world.new.script ≡ world.old.script }
     ensures drawn { AreDrawn world.old.script seed [] world.new.run.steps }
+    ensures within { length world.new.run.steps ≤ turns }
     ensures failures { AreFailuresFew world.new.run.steps (map J.shelf journals.old) (map J.shelf journals.new) }
+    ensures so_far { AreHeldSoFar world.new.run.steps (map J.shelf journals.new) }
     ensures end { IfOk result (IsEnd world.old.script world.new.run.steps turns) }
+    ensures off { IfOk result (IsStuckWithout world.old.script) }
     ensures held { OnOk result (AreHeld world.new.run.steps (map J.shelf journals.new)) }
     ensures unspent { OnOk result (world.new.spent ≡ false) }
 {
@@ -69,8 +72,11 @@ fn run_drawn<J: Journal, G: Gate>(
     ensures journals { length journals.new ≡ 17 }
     ensures script { world.new.script ≡ world.old.script }
     ensures drawn { AreDrawn world.old.script seed [] world.new.run.steps }
+    ensures within { length world.new.run.steps ≤ turns }
     ensures failures { AreFailuresFew world.new.run.steps (map J.shelf journals.old) (map J.shelf journals.new) }
+    ensures so_far { AreHeldSoFar world.new.run.steps (map J.shelf journals.new) }
     ensures end { IfOk result (IsEnd world.old.script world.new.run.steps turns) }
+    ensures off { IfOk result (IsStuckWithout world.old.script) }
     ensures held { OnOk result (AreHeld world.new.run.steps (map J.shelf journals.new)) }
     ensures unspent { OnOk result (world.new.spent ≡ false) }
 {

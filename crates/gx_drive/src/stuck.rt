@@ -1,7 +1,9 @@
 // How a run ends that can't go on.
 ghost use Rattle.std.specs.Prelude.{◌≡◌, ◌<◌, [], true, IfOk, length};
+ghost use Rattle.gx_law_runs.specs.Reached.{IsReached};
+ghost use Rattle.gx_store.specs.Language.{IsScript};
 ghost use Rattle.gx_store.specs.Schedule.{enabled, is_any_unfinished};
-ghost use Rattle.gx_drive.specs.Ends.{AreStuckWaits, IsEnd};
+ghost use Rattle.gx_drive.specs.Ends.{AreStuckWaits, IsEnd, IsStuckWithout};
 
 use crate::end::End;
 use gx_detect::reduce;
@@ -12,10 +14,13 @@ use std::alloc::Global;
 
 // The end of a run that can't go on, with the waits that are stuck.
 pub(crate) fn stuck(alloc: Global, world: &World, _turns: u64) -> Mem<End>
+    requires language { IsScript world.now.script }
+    requires reached { IsReached world.now.script world.now.run.steps }
     requires left { length world.now.run.steps < _turns }
     requires unfinished { is_any_unfinished world.now.script world.now.run.steps ≡ true }
     requires nothing { enabled world.now.script world.now.run.steps ≡ [] }
-    ensures { IfOk result (IsEnd world.now.script world.now.run.steps _turns) }
+    ensures end { IfOk result (IsEnd world.now.script world.now.run.steps _turns) }
+    ensures off { IfOk result (IsStuckWithout world.now.script) }
 {
     let graphs = stuck_waits(alloc, world)?;
     Ok(End::Stuck(Seq::from_vec(graphs)))

@@ -1,5 +1,5 @@
 // One turn: an event that is enabled is done.
-ghost use Rattle.std.specs.Prelude.{◌≡◌, ◌<◌, ◌^◌, ◌++◌, ◌∷◌, [], List, Some, true, false, IfNone, IfOk, IfSome, OnOk, length, map, option_copied};
+ghost use Rattle.std.specs.Prelude.{◌≡◌, ◌<◌, ◌^◌, ◌++◌, ◌∷◌, [], List, Some, true, false, IfNone, IfSome, OnOk, length, map, option_copied};
 ghost use Rattle.gx_agenda.specs.Awaited.{told_in};
 ghost use Rattle.gx_store.specs.Journals.{is_same_node};
 ghost use Rattle.gx_store.specs.Refusals.{the_coordinator};
@@ -10,7 +10,7 @@ ghost use Rattle.gx_law_runs.specs.Replays.{is_admitted};
 ghost use Rattle.gx_store.specs.Language.{IsScript};
 ghost use Rattle.gx_store.specs.declared.run.Step.{Step as OneStep};
 ghost use Rattle.gx_drive.specs.Agrees.{HasTurned, IsAgreed, IsDue, IsNoMore};
-ghost use Rattle.gx_drive.specs.Ordered.{AreFailuresFew, IsFirst};
+ghost use Rattle.gx_drive.specs.Ordered.{AreFailuresFew, AreHeld, AreHeldSoFar, IsFirst};
 
 use crate::agenda::Agenda;
 use gx_ids::{Mem, Node};
@@ -20,16 +20,16 @@ use gx_store::Event;
 use gx_world::World;
 
 // What is first, where a session is unfinished; none where nothing is enabled.
-pub(crate) fn next_event(world: &World, agenda: &mut Agenda) -> Mem<Option<Event>>
+pub(crate) fn next_event(world: &World, agenda: &mut Agenda) -> Option<Event>
     requires usable { world.now.spent ≡ false }
     requires language { IsScript world.now.script }
     requires reached { IsReached world.now.script world.now.run.steps }
     requires agreed { IsAgreed world.now.script world.now.run.steps agenda.old }
     requires unfinished { is_any_unfinished world.now.script world.now.run.steps ≡ true }
-    ensures first { IfOk result (λ event. IfSome event (IsFirst world.now.script world.now.run.steps)) }
-    ensures due { IfOk result (λ event. IfSome event (IsDue world.now.script world.now.run.steps)) }
-    ensures admitted { IfOk result (λ event. IfSome event (λ e. is_admitted world.now.script world.now.run.steps e ≡ true)) }
-    ensures stuck { IfOk result (λ event. IfNone event (enabled world.now.script world.now.run.steps ≡ [])) }
+    ensures first { IfSome result (IsFirst world.now.script world.now.run.steps) }
+    ensures due { IfSome result (IsDue world.now.script world.now.run.steps) }
+    ensures admitted { IfSome result (λ event. is_admitted world.now.script world.now.run.steps event ≡ true) }
+    ensures stuck { IfNone result (enabled world.now.script world.now.run.steps ≡ []) }
     ensures agreed { IsAgreed world.now.script world.now.run.steps agenda.new }
 {
     agenda.first(world)
@@ -94,6 +94,7 @@ pub(crate) fn turn<J: Journal, G: Gate>(
     ensures done { IsNoMore event world.old.run.steps world.new.run.steps }
     ensures failures { (start : List Shelf) → AreFailuresFew world.old.run.steps start (map J.shelf journals.old)
         → AreFailuresFew world.new.run.steps start (map J.shelf journals.new) }
+    ensures held { AreHeld world.old.run.steps (map J.shelf journals.old) → AreHeldSoFar world.new.run.steps (map J.shelf journals.new) }
     ensures turned { OnOk result (HasTurned world.old world.new agenda.new (map J.shelf journals.old)
         (map J.shelf journals.new)) }
 {

@@ -13,6 +13,7 @@ pub mod History
 pub mod Low
 pub mod Promises
 pub mod Causes
+pub mod Calm
 pub mod Over
 pub mod Awaited
 pub mod Settled

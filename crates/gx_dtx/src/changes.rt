@@ -107,7 +107,42 @@ pub(crate) fn refuse(
     ensures value { IfOk result (λ taken. IsMade (refuses gxid txn.old.participants node) txn.old txn.new taken) }
     ensures err { OnErr result (txn.new ≡ txn.old) }
 {
-    tell_abort(alloc, spent, gxid, txn, Outcome::Refused(node))
+    let aborting = abort_orders(alloc, spent, gxid, txn)?;
+    Ok(refuse_by(txn, aborting, node))
+}
+
+// What an abort sends, and whose answers it awaits.
+#[derive(Drop)]
+pub struct Aborting {
+    pub awaited: Seq<Node>,
+    pub outs: Seq<Out>,
+}
+
+// What an abort of the transaction takes.
+pub(crate) fn abort_orders(
+    alloc: Global,
+    spent: &mut Vec<Out>,
+    gxid: Gxid,
+    txn: &Txn,
+) -> Mem<Aborting>
+    ensures { IfOk result (λ aborting. aborting ≡ record { awaited = txn.now.participants; outs = messages (message.Abort gxid) txn.now.participants }) }
+{
+    let (awaited, outs) = told(
+        alloc,
+        spent,
+        gxid,
+        Order::Abort,
+        txn.participants.as_slice(),
+    )?;
+    Ok(Aborting { awaited, outs })
+}
+
+// The transaction aborts, since the journal of this node has failed.
+pub(crate) fn refuse_by(txn: &mut Txn, aborting: Aborting, node: Node) -> Taken
+    ensures { IsMade (goes_to (phase.Aborting aborting.awaited) aborting.outs (outcome.Refused node)) txn.old txn.new result }
+{
+    let Aborting { awaited, outs } = aborting;
+    go_on(txn, Phase::Aborting(awaited), outs, Outcome::Refused(node))
 }
 
 // Abort.

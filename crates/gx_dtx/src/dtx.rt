@@ -1,4 +1,4 @@
-ghost use Rattle.std.specs.Prelude.{◌≡◌, ◌≤◌, ◌<◌, ◌^◌, ◌++◌, ◌∷◌, [], true, false, All, Contains, IfOk, OnOk, OnErr, None, Some, option_map};
+ghost use Rattle.std.specs.Prelude.{◌≡◌, is_some, ◌≤◌, ◌<◌, ◌^◌, ◌++◌, ◌∷◌, [], true, false, All, Contains, IfOk, OnOk, OnErr, None, Some, option_map};
 ghost use Rattle.std.specs.List.{flat_map};
 ghost use Rattle.gx_ids.specs.declared.ids.Gxid.{Gxid};
 ghost use Rattle.gx_outside.specs.Shelves.{HasKept};
@@ -38,7 +38,7 @@ impl Model for Dtx {
 impl Dtx {
     ghost use Rattle.gx_dtx.specs.Table.{new_table, active_of, status_of, IsActive, participants_of, xmax_of, listed_of, xmin_of, has_ended, holds_back, horizon_of};
     ghost use Rattle.gx_dtx.specs.Rules.{begun, with_live, enlisted, on_commit, on_abort, on_reply, awaits, is_deciding, awaited_order, AreWriters, is_refused, ended_alone, silently};
-    ghost use Rattle.gx_dtx.specs.Deciding.{HasDecided};
+    ghost use Rattle.gx_dtx.specs.Deciding.{HasDecided, own_failure};
     ghost use Rattle.gx_dtx.specs.Laws.{HasCause};
     ghost use Rattle.gx_dtx.specs.Orders.{message_of};
     ghost use Rattle.gx_dtx.specs.declared.outcome.Outcome.TheVariants as outcome;
@@ -175,6 +175,7 @@ impl Dtx {
         ensures cause { IfOk result (λ out. HasCause self.old gxid node answer (is_refused out.outcome) out.outcome) }
         ensures unawaited { awaits self.old gxid node answer ≡ false → OnOk result (self.new ≡ self.old) }
         ensures decided { IfOk result (λ out. HasDecided (J.shelf journal.old) (J.shelf journal.new) gxid (is_deciding self.old gxid node answer) out.outcome) }
+        ensures calm { IfOk result (λ out. own_failure out.outcome ≡ false → (J.shelf journal.new).faults ≡ (J.shelf journal.old).faults) }
         ensures untouched { is_deciding self.old gxid node answer ≡ false → journal.new ≡ journal.old }
         ensures err { OnErr result (self.new ≡ self.old) }
         ensures kept { OnErr result (HasKept (J.shelf journal.old) (J.shelf journal.new)) }
@@ -190,6 +191,13 @@ impl Dtx {
     {
         let order = found::order(self.txns.find(gxid), node);
         Ok(order.map(|order| order.out(gxid, node)))
+    }
+
+    /// Whether an answer of the node about the transaction is awaited.
+    pub fn is_awaited(&self, gxid: Gxid, node: Node) -> bool
+        ensures { result ≡ is_some (awaited_order self.now gxid node) }
+    {
+        found::order(self.txns.find(gxid), node).is_some()
     }
 
     /// The horizon: the least of the gxids that run, or that have ended and that not every participant has forgotten,

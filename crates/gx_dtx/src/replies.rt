@@ -6,11 +6,13 @@ ghost use Rattle.gx_dtx.specs.declared.due.Due.TheVariants as dues;
 ghost use Rattle.gx_outside.specs.Shelves.{HasKept, IsAppended};
 ghost use Rattle.gx_msg.specs.ItemBytes.{bytes_of_item};
 ghost use Rattle.gx_msg.specs.declared.item.JournalItem.TheVariants as item;
+ghost use Rattle.gx_msg.specs.declared.message.Message.TheVariants as message;
+ghost use Rattle.gx_dtx.specs.Nodes.{to_each as messages};
 ghost use Rattle.gx_dtx.specs.Rules.{decides, decides_in, is_refused};
 ghost use Rattle.gx_dtx.specs.Deciding.{HasDecided};
 ghost use Rattle.gx_dtx.specs.Due.{IsMade, answered, change_due, is_decision, once_all as due_once_all, writers_in};
 
-use crate::changes::{end_committed, refuse};
+use crate::changes::{Aborting, abort_orders, end_committed, refuse, refuse_by};
 use crate::due::Due;
 use crate::nodes::{has, is_only};
 use crate::order::Order;
@@ -127,8 +129,8 @@ fn take_due<J: Journal>(
     }
 }
 
-// All writers are prepared: appends the decide item. What is to be sent is made before, so that no memory is needed
-// once it is appended.
+// All writers are prepared: appends the decide item. What is to be sent is made before, for either end of the append, so that no
+// memory is needed once it was tried.
 fn decide<J: Journal>(
     alloc: Global,
     spent: &mut Vec<Out>,
@@ -142,17 +144,43 @@ fn decide<J: Journal>(
     ensures kept { OnErr result (HasKept (J.shelf journal.old) (J.shelf journal.new)) }
 {
     let outs = Order::CommitPrepared.to_each(alloc, spent, gxid, txn.phase.writers())?;
+    match abort_orders(alloc, spent, gxid, txn) {
+        Ok(aborting) => decide_by(alloc, gxid, txn, outs, aborting, journal),
+        Err(fault) => {
+            drop(outs);
+            Err(fault)
+        }
+    }
+}
+
+// With what is to be sent where the journal takes the decision, and where it doesn't.
+fn decide_by<J: Journal>(
+    alloc: Global,
+    gxid: Gxid,
+    txn: &mut Txn,
+    outs: Seq<Out>,
+    aborting: Aborting,
+    journal: &mut J,
+) -> Mem<Taken>
+    requires outs { outs ≡ messages (message.CommitPrepared gxid) (writers_in txn.old.phase) }
+    requires aborting { aborting ≡ record { awaited = txn.old.participants; outs = messages (message.Abort gxid) txn.old.participants } }
+    ensures value { IfOk result (λ taken. IsMade (decides gxid (writers_in txn.old.phase) txn.old.participants (is_refused taken.out.outcome)) txn.old txn.new taken) }
+    ensures err { OnErr result (txn.new ≡ txn.old) }
+    ensures decided { IfOk result (λ taken. HasDecided (J.shelf journal.old) (J.shelf journal.new) gxid true taken.out.outcome) }
+    ensures kept { OnErr result (HasKept (J.shelf journal.old) (J.shelf journal.new)) }
+{
     match append_decide(alloc, gxid, journal) {
         Ok(()) => {
+            drop(aborting);
             txn.commit_prepared(alloc);
             Ok(Taken::sends(outs, Outcome::Decided))
         }
         Err(AppendFault::Failed) => {
             drop(outs);
-            refuse(alloc, spent, gxid, txn, Node(0))
+            Ok(refuse_by(txn, aborting, Node(0)))
         }
         Err(AppendFault::OutOfMemory) => {
-            drop(outs);
+            drop((outs, aborting));
             Err(OutOfMemory)
         }
     }

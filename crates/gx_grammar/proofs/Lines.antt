@@ -1,5 +1,5 @@
 -- What the readers of whole lines say.
-use Rattle.std.proofs.Common.{◌≡◌, List, [], ◌∷◌, ◌++◌, refl, sym, ◌∙◌, ap, subst, append_assoc, append-nil, Result, Ok, Err}
+use Rattle.std.proofs.Common.{◌≡◌, ℕ, List, [], ◌∷◌, ◌++◌, length, refl, sym, ◌∙◌, ap, subst, append_assoc, append-nil, Result, Ok, Err}
 use Rattle.gx_lex.specs.declared.token.Token.{Token}
 use Rattle.gx_grammar.specs.declared.fault.Limits.{Limits}
 use Rattle.gx_grammar.specs.declared.fault.LineLimit.{LineLimit}
@@ -8,14 +8,10 @@ use Rattle.gx_grammar.specs.declared.fault.Fault.TheVariants.{Syntax, TooMany}
 use Rattle.gx_grammar.specs.declared.fault.ReadError.{ReadError}
 use Rattle.gx_grammar.specs.declared.fault.ReadError.TheVariants as errors
 use Rattle.gx_grammar.specs.Limiting.{Keeps}
-use Rattle.gx_grammar.specs.Rules.{Reading, Same, CanGo, CannotGo, Verdict, whole_of, whole_at}
-use Rattle.gx_grammar.specs.Code.{Says, Judged}
+use Rattle.gx_grammar.specs.Rules.{Reading, Same, CanGo, CannotGo, Verdict, Stops, whole_of, whole_at}
+use Rattle.gx_grammar.specs.Code.{Says, Judged, Placed, Leaves, rest_of}
 use Rattle.gx_grammar.proofs.Good.{Good, Tells, Stays}
 use Rattle.gx_grammar.proofs.Bounds.{join, join_left, join_right, join_keeps}
-
-abbrev rest_of : {A : Type 0} → Reading A → List Token
-rest_of (Ok (a, rest)) = rest
-rest_of (Err (a, rest)) = rest
 
 module _ {A : Type 0} (g : Limits → A → List Token → Type 0) (ends : List Token → Type 0) (r : Limits → List Token → Reading A) (R : Good g ends r) (last : ends []) where
   clash : (a : Reading A) (x : A × List Token) (y : Fault × List Token) → a ≡ Ok x → a ≡ Err y → ⊥
@@ -71,7 +67,29 @@ module _ {A : Type 0} (g : Limits → A → List Token → Type 0) (ends : List 
   pub judged : (d : Limits) (ts : List Token) (a : Result A ReadError) → Says a (whole_at (r d) ts) → Judged g d ts a
   judged d ts (Ok x) h = subst (λ (v : Result A Fault). Verdict g d ts v) h (verdict d ts)
   judged d ts (Err errors.OutOfMemory) h = tt
-  judged d ts (Err (errors.Fault f)) h = subst (λ (v : Result A Fault). Verdict g d ts v) h (verdict d ts)
+  judged d ts (Err (errors.Fault f left)) h = subst (λ (v : Result A Fault). Verdict g d ts v) h (verdict d ts)
 
   pub only : (d : Limits) (ts : List Token) (a : Result A ReadError) (x : A) → g d x ts → Says a (whole_at (r d) ts) → Says a (Ok x)
   only d ts a x q h = subst (λ (v : Result A Fault). Says a v) (whole_complete d x ts q) h
+
+  fault_same : (k f : Fault) (a : Result A Fault) → a ≡ Err k → a ≡ Err f → k ≡ f
+  fault_same k f a v w = cc
+
+  -- where a fault is
+  stopped : (d : Limits) (ts : List Token) (a : Reading A) (f : Fault) (left : ℕ) → Tells g d (r d) ts a → whole_of a ≡ Err f → left ≡ length (rest_of a) → Placed {X = A} g d ts (Err (errors.Fault f left))
+  stopped d ts (Ok (s, [])) f left t w h = absurd cc
+  stopped d ts (Ok (s, y ∷ ys)) f left (us, e, q, k) w h =
+      subst (λ (f : Fault). Placed {X = A} g d ts (Err (errors.Fault f left))) (fault_same Syntax f (Err Syntax) refl w) (us, y ∷ ys, e, h, (([], s, subst (λ (t : List Token). g d s t) (sym (append-nil us)) q), over d us y ys s k))
+  stopped d ts (Err (Syntax, [])) f left (us, e, q, k, o) w h =
+      subst (λ (f : Fault). Placed {X = A} g d ts (Err (errors.Fault f left))) (fault_same Syntax f (Err Syntax) refl w) (us, [], e, h, (q, bad_end d us o))
+  stopped d ts (Err (Syntax, y ∷ ys)) f left (us, e, q, k, o) w h =
+      subst (λ (f : Fault). Placed {X = A} g d ts (Err (errors.Fault f left))) (fault_same Syntax f (Err Syntax) refl w) (us, y ∷ ys, e, h, (q, bad_next d us y ys o))
+  stopped d ts (Err (TooMany m, [])) f left (us, e, q, k, o) w h = absurd k
+  stopped d ts (Err (TooMany m, y ∷ ys)) f left (us, e, q, (n, b, p, c), o) w h =
+      subst (λ (f : Fault). Placed {X = A} g d ts (Err (errors.Fault f left))) (fault_same (TooMany m) f (Err (TooMany m)) refl w) (us, y ∷ ys, e, h, (q, passes_next d m us y ys o, (n, p, c)))
+
+  -- the same of the code's answers
+  pub placed : (d : Limits) (ts : List Token) (a : Result A ReadError) → Says a (whole_at (r d) ts) → Leaves a (r d ts) → Placed g d ts a
+  placed d ts (Ok x) h l = tt
+  placed d ts (Err errors.OutOfMemory) h l = tt
+  placed d ts (Err (errors.Fault f left)) h l = stopped d ts (r d ts) f left (R.tells d ts) h l

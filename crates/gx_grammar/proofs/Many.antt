@@ -156,9 +156,9 @@ module _ {A : Type 0} (is : Token → Bool) (r : List Token → Reading A) where
 
   pub turn_stop : (e : ReadError) (n : ℕ) (s : List A) (ts : List Token) (answer : Reading (List A)) → 0 < n → heads_with is ts ≡ true → many_on is r n s ts ≡ answer → Fails e (r ts) → Fails e answer
   turn_stop errors.OutOfMemory n s ts answer l b q h = tt
-  turn_stop (errors.Fault f) zero s ts answer l b q h = absurd (omega arith)
-  turn_stop (errors.Fault f) (suc n) s [] answer l b q h = absurd (cc)
-  turn_stop (errors.Fault f) (suc n) s (y ∷ ys) answer l b q h = (h.0, sym q ∙ rw (b, h.1) refl)
+  turn_stop (errors.Fault f left) zero s ts answer l b q h = absurd (omega arith)
+  turn_stop (errors.Fault f left) (suc n) s [] answer l b q h = absurd (cc)
+  turn_stop (errors.Fault f left) (suc n) s (y ∷ ys) answer l b q h = (h.0, sym q ∙ rw (b, h.1) refl, h.2)
 
   onto_bind : (n : ℕ) (x : A) (s : List A) (a : Reading A) → ((s : List A) (ts : List Token) → many_on is r n (x ∷ s) ts ≡ (many_on is r n s ts >>= λ a. Ok (x ∷ a.0, a.1)))
       → (a >>= λ a. many_on is r n ((x ∷ s) ++ a.0 ∷ []) a.1) ≡ ((a >>= λ a. many_on is r n (s ++ a.0 ∷ []) a.1) >>= λ a. Ok (x ∷ a.0, a.1))
@@ -191,4 +191,4 @@ module _ {A : Type 0} (is : Token → Bool) (r : List Token → Reading A) where
 
   pub listed_fails : (e : ReadError) (f : List Token → Reading A) (x : A) (ts mid : List Token) → f ts ≡ Ok (x, mid) → Fails e (many_on is r (length mid) (x ∷ []) mid) → Fails e (made_at (λ p. p.0 ∷ p.1) (both_at f (many_at is r)) ts)
   listed_fails errors.OutOfMemory f x ts mid q h = tt
-  listed_fails (errors.Fault k) f x ts mid q h = (h.0, listed_same f x ts mid q ∙ h.1)
+  listed_fails (errors.Fault k left) f x ts mid q h = (h.0, listed_same f x ts mid q ∙ h.1, h.2)

@@ -1,5 +1,5 @@
 -- What the readers' values stand for.
-use Rattle.std.specs.Prelude.{◌≡◌, List, reverse, Result, Ok, Err}
+use Rattle.std.specs.Prelude.{◌≡◌, List, ◌++◌, length, reverse, Result, Ok, Err}
 use Rattle.std.specs.declared.vec.Vec.{Vec}
 use Rattle.std.specs.declared.alloc.Global.{Global}
 use Rattle.gx_lex.specs.declared.token.Token.{Token}
@@ -15,7 +15,7 @@ use Rattle.gx_grammar.specs.declared.expr.Turn.TheVariants as turn
 use Rattle.gx_grammar.specs.Machine.{Mode, Want, Have, Step, Go, Stop, Done}
 use Rattle.gx_grammar.specs.declared.class.Picked.{Picked}
 use Rattle.gx_grammar.specs.declared.class.Picked.TheVariants as picked
-use Rattle.gx_grammar.specs.Rules.{Pick, Is, Isnt, Passes, Reading, Verdict}
+use Rattle.gx_grammar.specs.Rules.{Pick, Is, Isnt, Passes, Reading, Verdict, Stops}
 
 -- the innermost first
 abbrev pub stack : Vec Frame Global → List Frame
@@ -38,7 +38,7 @@ pick_of (picked.Passes l) = Passes l
 -- a result is this answer, unless memory ran out
 abbrev pub Fails : {X : Type 0} → ReadError → Reading X → Type 0
 Fails errors.OutOfMemory answer = Unit {0}
-Fails (errors.Fault f) answer = (rest : List Token) × (answer ≡ Err (f, rest))
+Fails (errors.Fault f left) answer = (rest : List Token) × (answer ≡ Err (f, rest)) × (left ≡ length rest)
 
 abbrev pub Gives : {X Y : Type 0} → (X → Y × List Token) → Result X ReadError → Reading Y → Type 0
 Gives view (Ok x) answer = answer ≡ Ok (view x)
@@ -48,10 +48,27 @@ Gives view (Err e) answer = Fails e answer
 abbrev pub Says : {X : Type 0} → Result X ReadError → Result X Fault → Type 0
 Says (Ok x) answer = answer ≡ Ok x
 Says (Err errors.OutOfMemory) answer = Unit {0}
-Says (Err (errors.Fault f)) answer = answer ≡ Err f
+Says (Err (errors.Fault f left)) answer = answer ≡ Err f
 
 -- the verdict on the tokens, unless memory ran out
 abbrev pub Judged : {X : Type 0} → (Limits → X → List Token → Type 0) → Limits → List Token → Result X ReadError → Type 0
 Judged g d ts (Ok x) = Verdict g d ts (Ok x)
 Judged g d ts (Err errors.OutOfMemory) = Unit {0}
-Judged g d ts (Err (errors.Fault f)) = Verdict g d ts (Err f)
+Judged g d ts (Err (errors.Fault f left)) = Verdict g d ts (Err f)
+
+-- the tokens that are left
+abbrev pub rest_of : {X : Type 0} → Reading X → List Token
+rest_of (Ok (x, rest)) = rest
+rest_of (Err (e, rest)) = rest
+
+-- a fault tells how many tokens there are from the bad one on
+abbrev pub Leaves : {X : Type 0} → Result X ReadError → Reading X → Type 0
+Leaves (Ok x) reading = Unit {0}
+Leaves (Err errors.OutOfMemory) reading = Unit {0}
+Leaves (Err (errors.Fault f left)) reading = left ≡ length (rest_of reading)
+
+-- a fault is that of the token from which on there are so many, or of the end where none is
+abbrev pub Placed : {X : Type 0} → (Limits → X → List Token → Type 0) → Limits → List Token → Result X ReadError → Type 0
+Placed g d ts (Ok x) = Unit {0}
+Placed g d ts (Err errors.OutOfMemory) = Unit {0}
+Placed g d ts (Err (errors.Fault f left)) = (us : List Token) × (rest : List Token) × (ts ≡ us ++ rest) × (left ≡ length rest) × Stops g d us rest f

@@ -127,6 +127,12 @@ Verdict g d ts (Err Syntax) = (us : List Token) × (rest : List Token) × (ts �
 Verdict g d ts (Err (TooMany l)) = (us : List Token) × (y : Token) × (rest : List Token) × (ts ≡ us ++ y ∷ rest) × CanGo (g d) us
     × ((e : Limits) → Keeps l d e → CanGo (g e) (us ++ y ∷ []) → ⊥) × ((e : Limits) × KeepsBefore l d e × CanGo (g e) (us ++ y ∷ []))
 
+-- The tokens go on, and with the first of the rest, or where there is none the end, they don't, for this fault.
+abbrev pub Stops : {X : Type 0} → (Limits → X → List Token → Type 0) → Limits → List Token → List Token → Fault → Type 0
+Stops g d us rest Syntax = CanGo (g d) us × CannotGo g us rest
+Stops g d us [] (TooMany l) = ⊥
+Stops g d us (y ∷ rest) (TooMany l) = CanGo (g d) us × ((e : Limits) → Keeps l d e → CanGo (g e) (us ++ y ∷ []) → ⊥) × ((e : Limits) × KeepsBefore l d e × CanGo (g e) (us ++ y ∷ []))
+
 -- a reading with nothing behind it
 abbrev pub whole_of : {X : Type 0} → Reading X → Result X Fault
 whole_of (Ok (x, [])) = Ok x

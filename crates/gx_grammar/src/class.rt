@@ -38,11 +38,11 @@ pub fn read_one<'a, 't, T: TokenClass>(
     ensures { Gives (λ r. (r.0, r.1.now)) result (one_at (T.class limits) tokens.now) }
 {
     match tokens.split_first() {
-        None => Err(ReadError::Fault(Fault::Syntax)),
+        None => Err(ReadError::Fault(Fault::Syntax, tokens.len())),
         Some((token, rest)) => match T::pick(alloc, limits, token)? {
             Picked::Is(value) => Ok((value, rest)),
-            Picked::Isnt => Err(ReadError::Fault(Fault::Syntax)),
-            Picked::Passes(limit) => Err(ReadError::Fault(Fault::TooMany(limit))),
+            Picked::Isnt => Err(ReadError::Fault(Fault::Syntax, tokens.len())),
+            Picked::Passes(limit) => Err(ReadError::Fault(Fault::TooMany(limit), tokens.len())),
         },
     }
 }
@@ -90,11 +90,11 @@ pub fn read_name<'a, 't>(
     ensures { Gives (λ r. (r.0, r.1.now)) result (one_at (of.name_of limits) tokens.now) }
 {
     match tokens.split_first() {
-        None => Err(ReadError::Fault(Fault::Syntax)),
+        None => Err(ReadError::Fault(Fault::Syntax, tokens.len())),
         Some((token, rest)) => match name_at(limits, token) {
             Picked::Is(name) => Ok((name, rest)),
-            Picked::Isnt => Err(ReadError::Fault(Fault::Syntax)),
-            Picked::Passes(limit) => Err(ReadError::Fault(Fault::TooMany(limit))),
+            Picked::Isnt => Err(ReadError::Fault(Fault::Syntax, tokens.len())),
+            Picked::Passes(limit) => Err(ReadError::Fault(Fault::TooMany(limit), tokens.len())),
         },
     }
 }

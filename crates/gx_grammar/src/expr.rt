@@ -530,7 +530,7 @@ pub fn expr_by_steps<'a, 't>(
     let mut rest = Rest { tokens };
     while let Some((token, others)) = rest.tokens.split_first() {
         match step(alloc, limits, &mut frames, wait, token)? {
-            Turn::Stop(fault) => return Err(ReadError::Fault(fault)),
+            Turn::Stop(fault) => return Err(ReadError::Fault(fault, rest.tokens.len())),
             Turn::Go(next) => {
                 wait = next;
                 rest = Rest { tokens: others };
@@ -540,7 +540,7 @@ pub fn expr_by_steps<'a, 't>(
     }
     match finish(alloc, &mut frames, wait)? {
         Turn::Done(tree) => Ok((tree, rest.tokens)),
-        _ => Err(ReadError::Fault(Fault::Syntax)),
+        _ => Err(ReadError::Fault(Fault::Syntax, rest.tokens.len())),
     }
 }
 

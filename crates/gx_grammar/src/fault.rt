@@ -28,10 +28,11 @@ pub enum Fault {
     TooMany(LineLimit),
 }
 
-/// Why nothing was read.
+/// Why nothing was read: what is wrong with a token, and how many tokens there are from that one on, which are none where
+/// tokens are missing; or there was no memory.
 #[derive(Clone, Copy)]
 pub enum ReadError {
-    Fault(Fault),
+    Fault(Fault, usize),
     OutOfMemory,
 }
 

@@ -52,12 +52,12 @@ pub fn read_word<'a, 't>(word: Word, tokens: &'a [Token<'t>]) -> Result<&'a [Tok
     ensures { Gives (λ r. (tt, r.now)) result (one_at (marked (of.is_word word)) tokens.now) }
 {
     match tokens.split_first() {
-        None => Err(ReadError::Fault(Fault::Syntax)),
+        None => Err(ReadError::Fault(Fault::Syntax, tokens.len())),
         Some((token, rest)) => {
             if is_word(word, token) {
                 Ok(rest)
             } else {
-                Err(ReadError::Fault(Fault::Syntax))
+                Err(ReadError::Fault(Fault::Syntax, tokens.len()))
             }
         }
     }
@@ -71,12 +71,12 @@ pub fn read_sign<'a, 't>(
     ensures { Gives (λ r. (tt, r.now)) result (one_at (marked (of.is_sign sign)) tokens.now) }
 {
     match tokens.split_first() {
-        None => Err(ReadError::Fault(Fault::Syntax)),
+        None => Err(ReadError::Fault(Fault::Syntax, tokens.len())),
         Some((token, rest)) => {
             if is_sign(sign, token) {
                 Ok(rest)
             } else {
-                Err(ReadError::Fault(Fault::Syntax))
+                Err(ReadError::Fault(Fault::Syntax, tokens.len()))
             }
         }
     }

@@ -19,7 +19,7 @@ fn whole(alloc: Global, limits: Limits, tokens: &[Token]) -> Result<Syn, ReadErr
     if rest.is_empty() {
         Ok(tree)
     } else {
-        Err(ReadError::Fault(Fault::Syntax))
+        Err(ReadError::Fault(Fault::Syntax, rest.len()))
     }
 }
 

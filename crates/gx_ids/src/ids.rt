@@ -21,5 +21,5 @@ pub struct Node(pub u8);
 pub struct Table(pub u8);
 
 /// A session, by its place in the order of first appearance in the script, from 0.
-#[derive(Clone, Copy, PartialEq, Eq)]
+#[derive(Clone, Copy, PartialEq, Eq, PartialOrd, Ord)]
 pub struct SessionId(pub u8);

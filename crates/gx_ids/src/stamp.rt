@@ -2,8 +2,8 @@ ghost use Rattle.std.specs.Prelude.{◌≡◌, ◌+◌, ◌<◌, ◌^◌, max};
 
 use crate::ids::Node;
 
-/// A moment of a node's Lamport clock.
-#[derive(Clone, Copy)]
+/// A moment of a node's Lamport clock. Moments are ordered by clock, and those of one clock by node.
+#[derive(Clone, Copy, PartialEq, Eq, PartialOrd, Ord)]
 pub struct Stamp {
     pub clock: u64,
     pub node: Node,

@@ -1,6 +1,9 @@
 -- What the judge says of a script, and why.
-use Rattle.std.specs.Prelude.{◌≡◌, ℕ, List, [], Option, None, Some, Result, Ok, codes}
-use Rattle.gx_words.specs.Words.{IsCommand}
+use Rattle.std.specs.Prelude.{◌≡◌, ◌⊎◌, ℕ, ◌≤◌, List, [], length, Option, None, Some, Result, Ok, codes}
+use Rattle.std.specs.declared.string.String.{String}
+use Rattle.std.specs.declared.alloc.Global.{Global}
+use Rattle.gx_outside.specs.Causes.{Rose}
+use Rattle.gx_words.specs.Asked.{AreAsked, AreGiven, AreUnknown, IsForSource, IsTooMuch, limit}
 use Rattle.gx_words.specs.declared.options.Options.{Options}
 use Rattle.gx_script.specs.declared.Script.{Script}
 use Rattle.gx_store.specs.declared.run.Run.{Run}
@@ -14,10 +17,6 @@ use Rattle.gx_drive.specs.Seeded.{AreDrawn}
 use Rattle.gx_drive.specs.declared.end.End.{End}
 use Rattle.gx_judge.specs.declared.verdict.Verdict.{Verdict}
 use Rattle.gx_judge.specs.declared.verdict.Verdict.TheVariants.{Legal, NotLegal, NoRun, OutOfMemory}
-
--- the most bytes of a script
-abbrev pub limit : ℕ
-limit = 16777216
 
 -- each event is the one among all that may happen then that the seed draws, or the first of these where no seed is given
 abbrev pub AreDriven : Option ℕ → Script → List Step → Type 0
@@ -47,19 +46,27 @@ IsOfBytes bytes options NotLegal = (script : Script) × Reads bytes (Ok script) 
 IsOfBytes bytes options NoRun = (script : Script) → Reads bytes (Ok script) → ⊥
 IsOfBytes bytes options OutOfMemory = Unit {0}
 
--- a script's run is judged that is driven as these options say
-abbrev pub IsOfOptions : Options → Verdict → Type 0
-IsOfOptions options Legal = (script : Script) × IsJudged script options Legal
-IsOfOptions options NotLegal = (script : Script) × IsJudged script options NotLegal
-IsOfOptions options NoRun = Unit {0}
-IsOfOptions options OutOfMemory = Unit {0}
+-- the bytes that were given are a script of which this is so
+pub record IsJudgedOf (words : List (String Global)) (left after : Option (List ℕ)) (verdict : Verdict) : Type 0 where
+  pub options : Options
+  pub asked : AreAsked words options
+  pub bytes : List ℕ
+  pub given : AreGiven options.work left after bytes
+  pub few : length bytes ≤ limit
+  pub is : IsOfBytes bytes options verdict
 
--- or as the words ask
-abbrev pub IsOfWords : List (List ℕ) → Verdict → Type 0
-IsOfWords words Legal = (options : Options) × IsCommand words options × IsOfOptions options Legal
-IsOfWords words NotLegal = (options : Options) × IsCommand words options × IsOfOptions options NotLegal
-IsOfWords words NoRun = Unit {0}
-IsOfWords words OutOfMemory = Unit {0}
+-- There is no run where the words are not in the language, or the source was to be read and failed or had too many bytes, or the bytes
+-- that were given are no script.
+abbrev pub HasNoRun : List (String Global) → Option (List ℕ) → Option (List ℕ) → ℕ → ℕ → Type 0
+HasNoRun words left after before now =
+    AreUnknown words ⊎ (IsForSource words × Rose before now) ⊎ (IsForSource words × IsTooMuch left after) ⊎ IsJudgedOf words left after NoRun
+
+-- what is said of what the words ask for
+abbrev pub IsAnswered : List (String Global) → Option (List ℕ) → Option (List ℕ) → ℕ → ℕ → Verdict → Type 0
+IsAnswered words left after before now Legal = IsJudgedOf words left after Legal
+IsAnswered words left after before now NotLegal = IsJudgedOf words left after NotLegal
+IsAnswered words left after before now NoRun = HasNoRun words left after before now
+IsAnswered words left after before now OutOfMemory = now ≡ before
 
 -- the verdict as it is printed
 abbrev pub line_of : Verdict → List ℕ

@@ -1,23 +1,21 @@
 // From the words and the source to the verdict.
-ghost use Rattle.std.specs.Prelude.{◌≡◌, ◌≤◌, [], false, IfOk, length, map, string_bytes};
+ghost use Rattle.std.specs.Prelude.{◌≡◌, ◌≤◌, [], false, IfOk, length, map};
 ghost use Rattle.gx_outside.specs.Memory.{shelf_of};
 ghost use Rattle.gx_outside.specs.Shelves.{AreEmpty};
 ghost use Rattle.gx_store.specs.Language.{IsScript};
-ghost use Rattle.gx_judge.specs.Judged.{IsJudged, IsOfBytes, IsOfOptions, IsOfWords, limit};
+ghost use Rattle.gx_judge.specs.Judged.{IsAnswered, IsJudged, IsOfBytes};
+ghost use Rattle.gx_words.specs.Asked.{limit};
 
 use crate::driving::drive;
 use crate::verdict::Verdict;
 use gx_ids::Mem;
 use gx_legal::legal;
-use gx_outside::{JournalMem, ReadFault, Source, read_up_to};
+use gx_outside::{JournalMem, Source};
 use gx_script::Script;
 use gx_sql::{Refusal, parse_script};
-use gx_words::{Options, WordsFault, generate, read_words};
+use gx_words::{NoBytes, Options, WordsFault, read_words, script_bytes};
 use gx_world::World;
 use std::alloc::Global;
-
-// The most bytes of a script.
-const LIMIT: usize = 16_777_216;
 
 /// Reads or generates the script that the words ask for, and judges its run.
 pub fn judge<S: Source>(
@@ -28,35 +26,18 @@ pub fn judge<S: Source>(
 ) -> Verdict
     requires journals { length journals.old.items ≡ 17 }
     requires empty { AreEmpty (map shelf_of journals.old.items) }
-    ensures { IsOfWords (map string_bytes words.now) result }
+    ensures { IsAnswered words.now (S.left source.old) (S.left source.new) (S.fault_count source.old) (S.fault_count source.new) result }
 {
-    match read_words(alloc, words) {
-        Ok(options) => judge_source(alloc, options, source, journals),
-        Err(WordsFault::Usage) => Verdict::NoRun,
-        Err(WordsFault::OutOfMemory) => Verdict::OutOfMemory,
-    }
-}
-
-fn judge_source<S: Source>(
-    alloc: Global,
-    options: Options,
-    source: &mut S,
-    journals: &mut Vec<JournalMem>,
-) -> Verdict
-    requires turns { options.turns ≤ 10000000 }
-    requires journals { length journals.old.items ≡ 17 }
-    requires empty { AreEmpty (map shelf_of journals.old.items) }
-    ensures { IsOfOptions options result }
-{
-    let bytes = match options.work {
-        Some(number) => generate(alloc, number).map_err(|_| ReadFault::OutOfMemory),
-        None => read_up_to(alloc, source, LIMIT + 1),
+    let options = match read_words(alloc, words) {
+        Ok(options) => options,
+        Err(WordsFault::Usage) => return Verdict::NoRun,
+        Err(WordsFault::OutOfMemory) => return Verdict::OutOfMemory,
     };
-    match bytes {
-        Ok(bytes) if bytes.len() > LIMIT => Verdict::NoRun,
+    match script_bytes(alloc, options, source) {
         Ok(bytes) => judge_bytes(alloc, options, bytes.as_slice(), journals),
-        Err(ReadFault::Failed) => Verdict::NoRun,
-        Err(ReadFault::OutOfMemory) => Verdict::OutOfMemory,
+        Err(NoBytes::OutOfMemory) => Verdict::OutOfMemory,
+        Err(NoBytes::ReadFault) => Verdict::NoRun,
+        Err(NoBytes::TooLarge) => Verdict::NoRun,
     }
 }
 

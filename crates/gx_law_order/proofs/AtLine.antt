@@ -15,8 +15,8 @@ use Rattle.gx_store.specs.declared.mark.Mark.TheVariants as mark
 use Rattle.gx_store.specs.declared.run.Step.{Step}
 use Rattle.gx_store.specs.Answers.{IsAnswer}
 use Rattle.gx_store.specs.Commands.{IsUnderWay, RunsCommand, RunsLine, has_own_snapshot, state_at}
-use Rattle.gx_store.specs.Legal.{LegalAbort, LegalAnswer, LegalCommit, LegalSnap, LegalStart, draws, may_abort, may_commit}
-use Rattle.gx_store.specs.Lines.{BlockState, Outside, InBlock, Failed, cid_of, is_command, is_on_rows, level_of, state_after_line, stmt_of, transaction_of}
+use Rattle.gx_store.specs.Legal.{LegalAbort, LegalAnswer, LegalCommit, LegalSnap, LegalStart, draws, may_abort}
+use Rattle.gx_store.specs.Lines.{BlockState, Outside, InBlock, Failed, cid_of, is_command, is_on_rows, level_of, may_commit, state_after_line, stmt_of, transaction_of}
 use Rattle.gx_store.specs.Marks.{is_answered, is_ended, start_count, started_after}
 use Rattle.gx_store.specs.Points.{Point, before, marks_in, starts_by, starts_in}
 use Rattle.gx_law_order.specs.Seen.{SeesEnded}

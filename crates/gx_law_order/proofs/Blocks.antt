@@ -1,5 +1,5 @@
 -- Lines in a block, and all lines.
-use Rattle.std.proofs.Common.{◌≡◌, ◌≤◌, inl, inr, ℕ, ◌+◌, List, [], ◌∷◌, ◌++◌, Some, None, true, false, refl, sym, subst, ap, ◌∙◌, if◌then◌else◌, ◌||◌, arith, append-nil}
+use Rattle.std.proofs.Common.{◌≡◌, ◌<◌, ◌≤◌, inl, inr, ℕ, ◌+◌, List, [], ◌∷◌, ◌++◌, Some, None, true, false, refl, sym, subst, ap, ◌∙◌, if◌then◌else◌, ◌||◌, arith, append-nil}
 use Rattle.gx_lemmas.proofs.Numbers.{eqb-self}
 use Rattle.gx_lemmas.proofs.Tests.{false-true}
 use Rattle.gx_ids.specs.declared.ids.Cid.{Cid}
@@ -31,7 +31,7 @@ use Rattle.gx_store.specs.declared.mark.Mark.TheVariants as mark
 use Rattle.gx_store.specs.declared.run.Step.{Step}
 use Rattle.gx_store.specs.Answers.{IsAnswer}
 use Rattle.gx_store.specs.Lines.{Outside, InBlock, is_command, state_after, transaction_of}
-use Rattle.gx_store.specs.Marks.{answer_count, is_committed, is_ended, start_count, started_after}
+use Rattle.gx_store.specs.Marks.{answer_count, is_committed, is_ended, is_sent, start_count, started_after}
 use Rattle.gx_store.specs.Points.{Point, ends_in, marks_in, starts_in}
 use Rattle.gx_rules.specs.AtCoordinator.{answer_at_commit, answer_mark, answers_at_once, begins, behind, commits, dispatches, follows, next_cid, next_line, on_line, rolls_back, starts, starts_line}
 use Rattle.gx_rules.specs.Coordinators.{Command, Coord, Session, Work, no_work, session_of, work_of}
@@ -45,6 +45,7 @@ use Rattle.gx_law_order.specs.Standing.{IsSession, Owns, Roots, Stands, is_alone
 use Rattle.gx_law_order.proofs.AtLine.{AtLine, answered-now, at-calm, legal-abort, legal-answer, transaction-is}
 use Rattle.gx_law_order.proofs.Awaited.{bare-all, none-awaited}
 use Rattle.gx_law_order.proofs.Dispatch.{dispatch-does}
+use Rattle.gx_law_order.proofs.Unsent.{Unsent}
 use Rattle.gx_law_order.proofs.Others.{Fresh}
 use Rattle.gx_law_order.proofs.Frame.{Does}
 use Rattle.gx_law_order.proofs.Given.{Given}
@@ -73,7 +74,7 @@ is-sound block.Outside = refl
 is-sound (block.Open l) = refl
 is-sound block.Failed = refl
 
-module _ (script : Script) (steps : List Step) (c : Coord) (k : Kept script c) (p : Past c (marks_in steps)) (fr : Fresh (marks_in steps) c.table.next.0) (number : c.table.next.0 ≡ start_count (marks_in steps) + 1) (s : SessionId) (all : IsSession script s steps c) (idle : is_nothing_in (session_of c s).state.pending ≡ true) where
+module _ (script : Script) (steps : List Step) (c : Coord) (k : Kept script c) (p : Past c (marks_in steps)) (fr : Fresh (marks_in steps) c.table.next.0) (number : c.table.next.0 ≡ start_count (marks_in steps) + 1) (s : SessionId) (all : IsSession script s steps c) (idle : is_nothing_in (session_of c s).state.pending ≡ true) (u : Unsent c (marks_in steps)) where
   abbrev y : Session
   y = session_of c s
 
@@ -194,7 +195,7 @@ module _ (script : Script) (steps : List Step) (c : Coord) (k : Kept script c) (
       ends-does : Does script steps c e (follows c1 g turn outcome.Committed)
       ends-does =
           commit-does script steps c e c1 s g (work_of c g) (moved step.CommitBlock) y.lines (InBlock l (st script steps c k p fr number s all idle line is_next).1.commands) false line [] (under-own step.CommitBlock l eb) turn refl
-          (subst (λ q. Rattle.gx_store.specs.Legal.may_commit (InBlock l (st script steps c k p fr number s all idle line is_next).1.commands) q ≡ true) (sym is) refl) refl
+          (subst (λ q. Rattle.gx_store.specs.Lines.may_commit (InBlock l (st script steps c k p fr number s all idle line is_next).1.commands) q ≡ true) (sym is) refl) refl
           (subst (λ q. state_after (InBlock l (st script steps c k p fr number s all idle line is_next).1.commands) q r ≡ Outside) (sym is) refl)
           (λ later q. subst (λ z. IsAnswer script (point later) s (InBlock l (st script steps c k p fr number s all idle line is_next).1.commands) line z) (sym told-is) (subst (λ z. IsAnswer script (point later) s (InBlock l (st script steps c k p fr number s all idle line is_next).1.commands) z told.Commit) (sym is) (committed later)))
           (commit-bare c.table g (work_of c g).writers) (λ a i level q. absurd (none-awaited (work_of c g) a i level (own l eb).1 q))
@@ -274,7 +275,8 @@ module _ (script : Script) (steps : List Step) (c : Coord) (k : Kept script c) (
         (dispatch-does script steps e (λ A. tt) c (starts_line c s (step.Command false)) s g (moved (step.Command false)) y.lines (block.Open l) (st script steps c k p fr number s all idle line is_next).1.commands line [] (under-own (step.Command false) l eb)
         (subst (λ q. block_after q (step.Command false) ≡ block.Open l) eb refl) refl refl cmd (own-late l eb) (own l eb).1 (free l eb)
         (ap (λ i. let d : Cid = record { 0 = i + 1 } in d) (same-plus (st script steps c k p fr number s all idle line is_next).1.commands _ (sym (ap (λ q. (st script steps c k p fr number s all idle line is_next).1.commands + under_way q) (own l eb).1) ∙ (own l eb).0.counted refl)))
-        (subst (λ m. Past (starts_line c s (step.Command false)) m) (sym (append-nil ms)) (record { committed = p.committed; ended = p.ended; dropped = p.dropped; latest = p.latest; drawn = p.drawn })) roots (λ a i level q. none-awaited (work_of c g) a i level (own l eb).1 q) held_up)
+        (subst (λ m. Past (starts_line c s (step.Command false)) m) (sym (append-nil ms)) (record { committed = p.committed; ended = p.ended; dropped = p.dropped; latest = p.latest; drawn = p.drawn }))
+        (subst (λ m. is_sent m g (next_cid (work_of c g)) ≡ false) (sym (append-nil ms)) (u.live g.0 ((k.placed s.0).free (subst (λ q. is_open_in q ≡ true) eb refl) idle) (next_cid (work_of c g)) (one-more (work_of c g).last))) roots (λ a i level q. none-awaited (work_of c g) a i level (own l eb).1 q) held_up)
       where
         command-any : (q : Stmt) → is_command (InBlock l (st script steps c k p fr number s all idle line is_next).1.commands) q ≡ is_command (InBlock ReadCommitted 0) q
         command-any (stmt.Begin v) = refl
@@ -299,6 +301,9 @@ module _ (script : Script) (steps : List Step) (c : Coord) (k : Kept script c) (
         same-plus : (a n : ℕ) → a + 0 ≡ n → a ≡ n
         same-plus a n h = omega arith
 
+        one-more : (a : ℕ) → a < a + 1
+        one-more a = omega arith
+
     -- EACH LINE
     simply : (b : Block) (asked : LineStep) (r : StmtAnswer) (l : Stmt) → b ≡ y.state.block → line ≡ l → pending_after asked ≡ pending.Nothing → (is_open (block_after b asked) ≡ true → b ≡ block_after b asked) → (is_open (block_after b asked) ≡ true → (is_command (InBlock ReadCommitted 0) l ≡ false) × (closes_block l ≡ false)) → ((later : List Mark) → IsAnswer script (record { steps = steps; event = e; earlier = []; later = later }) s (state_in b (st script steps c k p fr number s all idle line is_next).1.commands) l r) → state_after (state_in b (st script steps c k p fr number s all idle line is_next).1.commands) l r ≡ state_in (block_after b asked) (st script steps c k p fr number s all idle line is_next).1.commands → ((later : List Mark) → RestAnswer script (record { steps = steps; event = e; earlier = []; later = later }) s r) → Does script steps c e (answers_at_once (starts_line c s asked) s r)
     simply b asked r l eb el waiting same quiet is after rest =
@@ -309,7 +314,7 @@ module _ (script : Script) (steps : List Step) (c : Coord) (k : Kept script c) (
     alone-line : (l : Stmt) → block.Outside ≡ y.state.block → line ≡ l → is_command Outside l ≡ true → Rattle.gx_store.specs.Legal.draws Outside l ≡ true → Does script steps c e (behind (begun ∷ []) (dispatches script (begins (starts_line c s (step.Command true)) s ReadCommitted) c.table.next l))
     alone-line l eb el cmd d =
         subst (λ q. Does script steps c e (behind (begun ∷ []) (dispatches script (begins (starts_line c s (step.Command true)) s ReadCommitted) c.table.next q))) el
-        ((alone-does script steps c k p fr number s all idle line is_next) eb (ap (is_command Outside) el ∙ cmd) (ap (Rattle.gx_store.specs.Legal.draws Outside) el ∙ d))
+        ((alone-does script steps c k p fr number s all idle line is_next) (u.unborn next (le-same next)) eb (ap (is_command Outside) el ∙ cmd) (ap (Rattle.gx_store.specs.Legal.draws Outside) el ∙ d))
 
     inside-line : (l : Level) (q : Stmt) → block.Open l ≡ y.state.block → line ≡ q → is_command (InBlock l (st script steps c k p fr number s all idle line is_next).1.commands) q ≡ true → Does script steps c e (dispatches script (starts_line c s (step.Command false)) (session_of (starts_line c s (step.Command false)) s).transaction q)
     inside-line l q eb el cmd =

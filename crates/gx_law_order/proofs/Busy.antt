@@ -286,8 +286,8 @@ module _ (script : Script) (steps : List Step) (c : Coord) (from : Node) (to : N
         rows : Rattle.gx_store.specs.Lines.is_on_rows line ≡ true
         rows = subst (λ x. is_command (state_in x q.stands.commands) line ≡ true) outside cmd
 
-        may : Rattle.gx_store.specs.Legal.may_commit b line ≡ true
-        may = subst (λ x. Rattle.gx_store.specs.Legal.may_commit (state_in x q.stands.commands) line ≡ true) (sym outside) rows
+        may : Rattle.gx_store.specs.Lines.may_commit b line ≡ true
+        may = subst (λ x. Rattle.gx_store.specs.Lines.may_commit (state_in x q.stands.commands) line ≡ true) (sym outside) rows
 
         closed : block_after_done y.state.block y.state.pending ≡ block.Outside
         closed = ap (λ z. block_after_done z y.state.pending) (q.in_block ∙ outside) ∙ ap (block_after_done block.Outside) (q.in_line ∙ working)
@@ -295,7 +295,7 @@ module _ (script : Script) (steps : List Step) (c : Coord) (from : Node) (to : N
     -- A BLOCK COMMITS
     pub block-commit : (c1 : Coord) (w : Work) (turn : Turn) (l : Level) → Under script steps c e c1 s g w y n b (is_alone B P) line [] → B ≡ block.Open l → P ≡ pending.Commit → line ≡ stmt.Commit → turn.table.next.0 ≡ c1.table.next.0 → Each IsBare turn.out.outs → Does script steps c e (is_closed c1 g turn)
     block-commit c1 w turn l o opened closing is next outs =
-        commit-does script steps c e c1 s g w y n b (is_alone B P) line [] o turn next (subst (λ x. Rattle.gx_store.specs.Legal.may_commit (state_in x q.stands.commands) line ≡ true) (sym opened) (subst (λ z. Rattle.gx_store.specs.Legal.may_commit (InBlock l q.stands.commands) z ≡ true) (sym is) refl))
+        commit-does script steps c e c1 s g w y n b (is_alone B P) line [] o turn next (subst (λ x. Rattle.gx_store.specs.Lines.may_commit (state_in x q.stands.commands) line ≡ true) (sym opened) (subst (λ z. Rattle.gx_store.specs.Lines.may_commit (InBlock l q.stands.commands) z ≡ true) (sym is) refl))
         (ap (λ z. block_after_done y.state.block z) (q.in_line ∙ closing))
         (subst (λ x. state_after (state_in x q.stands.commands) line r ≡ Outside) (sym opened) (subst (λ z. state_after (InBlock l q.stands.commands) z r ≡ Outside) (sym is) refl))
         (λ later rest. subst (λ z. IsAnswer script (record { steps = steps; event = e; earlier = mark.Commit g ∷ []; later = later }) s b line z) (sym told-as)

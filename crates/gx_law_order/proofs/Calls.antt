@@ -38,7 +38,7 @@ use Rattle.gx_law_order.proofs.Commits.{few, filter-few}
 use Rattle.gx_law_order.proofs.Counts.{NoEnd, NoPart, decided-append, local-append, no-aborted, no-committed, no-decided, no-local}
 use Rattle.gx_law_order.proofs.Nodes.{each-has}
 use Rattle.gx_law_order.proofs.Shifts.{Shift, alone-shift, ask-shift, over-shift}
-use Rattle.gx_law_order.proofs.Ways.{Agrees, AsksFor, Fol, FolAt, Led, One as OneChange, SaidOut, Stands, Working, at-one, becomes, fol-append, known-here}
+use Rattle.gx_law_order.proofs.Ways.{Agrees, Fol, FolAt, IsToldFrom, Led, One as OneChange, SaidOut, Stands, Working, asks-from, at-one, becomes, fol-append, known-here}
 use Rattle.gx_locks.specs.Locks.{Locks}
 use Rattle.gx_rules.specs.Locks.{release_marks}
 use Rattle.gx_law_order.proofs.Releases.{each-released}
@@ -64,6 +64,9 @@ Mute (mark.Write g c n t r x) = ⊥
 Mute (mark.Prepared n g) = ⊥
 Mute (mark.LocalCommit n g) = ⊥
 Mute (mark.Sent to number told) = ⊥
+Mute (mark.Skip g c r) = ⊥
+Mute (mark.Fault g c r x) = x ≡ None
+Mute (mark.JournalFailed n g) = ⊥
 Mute _ = Unit {0}
 
 mute-at : (script : Script) (ms : List Mark) (m : Mark) → Mute m → FolAt script ms m
@@ -74,6 +77,9 @@ mute-at script ms (mark.Write g c n t r x) e = e
 mute-at script ms (mark.Prepared n g) e = e
 mute-at script ms (mark.LocalCommit n g) e = e
 mute-at script ms (mark.Sent to number told) e = e
+mute-at script ms (mark.Skip g c r) e = e
+mute-at script ms (mark.Fault g c r x) e = e
+mute-at script ms (mark.JournalFailed n g) e = absurd e
 mute-at script ms m e = tt
 
 pub mute-fol : (script : Script) (ms ns : List Mark) → Each Mute ns → Fol script ms ns
@@ -91,6 +97,12 @@ mute-part (mark.Write g c n t r x) e = e
 mute-part (mark.Prepared n g) e = e
 mute-part (mark.LocalCommit n g) e = e
 mute-part m e = tt
+
+pub mute-ends : (ns : List Mark) → Each Mute ns → Each NoEnd ns
+mute-ends ns e = each_weaker Mute NoEnd mute-end ns e
+
+pub mute-parts : (ns : List Mark) → Each Mute ns → Each NoPart ns
+mute-parts ns e = each_weaker Mute NoPart mute-part ns e
 
 pub mute-decided : (ns : List Mark) (g : Gxid) → Each Mute ns → decided_count ns g ≡ 0
 mute-decided ns g e = no-decided ns g (each_weaker Mute NoEnd mute-end ns e)
@@ -118,13 +130,13 @@ apart-back g h e = grind (arith, nat_tests)
 pub not-self : (g h : ℕ) → eqb h g ≡ false → eqb g h ≡ false
 not-self g h e = grind (arith, nat_tests)
 
-abort-elsewhere : (why rest : List Mark) (g : ℕ) → Each Mute why → Each Mute rest → Elsewhere (why ++ mark.Abort (gx g) ∷ rest) g
+abort-elsewhere : (why rest : List Mark) (g : ℕ) → Each NoEnd why → Each Mute rest → Elsewhere (why ++ mark.Abort (gx g) ∷ rest) g
 abort-elsewhere why rest g a b =
     record {
       others = λ h e. (
-        decided-append why (mark.Abort (gx g) ∷ rest) (gx h) ∙ ap (λ n. n + decided_count rest (gx h)) (mute-decided why (gx h) a) ∙ ap (λ n. 0 + n) (mute-decided rest (gx h) b),
-        aborted-append why (mark.Abort (gx g) ∷ rest) (gx h) ∙ ap (λ x. x || (eqb g h || is_aborted rest (gx h))) (mute-aborted why (gx h) a) ∙ ap (λ x. eqb g h || x) (mute-aborted rest (gx h) b) ∙ apart-back g h e,
-        committed-append why (mark.Abort (gx g) ∷ rest) (gx h) ∙ ap (λ x. x || is_committed rest (gx h)) (mute-committed why (gx h) a) ∙ mute-committed rest (gx h) b,
+        decided-append why (mark.Abort (gx g) ∷ rest) (gx h) ∙ ap (λ n. n + decided_count rest (gx h)) (no-decided why (gx h) a) ∙ ap (λ n. 0 + n) (mute-decided rest (gx h) b),
+        aborted-append why (mark.Abort (gx g) ∷ rest) (gx h) ∙ ap (λ x. x || (eqb g h || is_aborted rest (gx h))) (no-aborted why (gx h) a) ∙ ap (λ x. eqb g h || x) (mute-aborted rest (gx h) b) ∙ apart-back g h e,
+        committed-append why (mark.Abort (gx g) ∷ rest) (gx h) ∙ ap (λ x. x || is_committed rest (gx h)) (no-committed why (gx h) a) ∙ mute-committed rest (gx h) b,
       );
     }
 
@@ -181,15 +193,18 @@ module _ (script : Script) (P : ℕ → ℕ → Part) (c : Coord) (ms : List Mar
         by_test false e = refl
 
     -- WITHOUT A MARK
-    pub calm-led : (ch : Change) → ((i : ℕ) → Shift (known i) (known_of (standing (nat_le c.table.next.0 g) (left_of ch.step (Some t)) i) (c.works g) i (decided_count ms (gx g)) (is_aborted ms (gx g)) (is_committed ms (gx g))) (P i g)) → Agrees ms g (left_of ch.step (Some t)) (c.works g).writers → Each (λ (o : Out). (is_answer o.message ≡ false) × (gxid_in o.message ≡ g) × Said (known_of (standing (nat_le c.table.next.0 g) (left_of ch.step (Some t)) o.node.0) (c.works g) o.node.0 (decided_count ms (gx g)) (is_aborted ms (gx g)) (is_committed ms (gx g))) (P o.node.0 g) o.message × ((d : Coord) → AsksFor d o.node.0 o.message)) ch.out.outs → Led script P c ms (record { coord = record c { table = changed c.table (gx g) ch }; marks = []; outs = ch.out.outs; item = None })
+    pub calm-led : (ch : Change) → ((i : ℕ) → Shift (known i) (known_of (standing (nat_le c.table.next.0 g) (left_of ch.step (Some t)) i) (c.works g) i (decided_count ms (gx g)) (is_aborted ms (gx g)) (is_committed ms (gx g))) (P i g)) → Agrees ms g (left_of ch.step (Some t)) (c.works g).writers → Each (λ (o : Out). (is_answer o.message ≡ false) × (gxid_in o.message ≡ g) × Said (known_of (standing (nat_le c.table.next.0 g) (left_of ch.step (Some t)) o.node.0) (c.works g) o.node.0 (decided_count ms (gx g)) (is_aborted ms (gx g)) (is_committed ms (gx g))) (P o.node.0 g) o.message × IsToldFrom (standing (nat_le c.table.next.0 g) (left_of ch.step (Some t)) o.node.0) o.message) ch.out.outs → Led script P c ms (record { coord = record c { table = changed c.table (gx g) ch }; marks = []; outs = ch.out.outs; item = None })
     calm-led ch shift agree outs =
         let d : Coord = record c { table = changed c.table (gx g) ch } in
         let o = one-change ch d [] (c.works g) refl same-works (record { others = λ h e. (refl, refl, refl) }) in
         record {
           way = at-one script P c d ms [] g (left_of ch.step (Some t)) (c.works g) o s (λ i. subst (λ k. Shift (known i) k (P i g)) (sym (becomes-calm [] (left_of ch.step (Some t)) (c.works g) i refl refl refl)) (shift i)) (s.works g) (subst (λ m. Agrees m g (left_of ch.step (Some t)) (c.works g).writers) (sym (append-nil ms)) agree) tt;
-          outs = each_weaker _ (SaidOut script P d (ms ++ [])) (λ q h. (h.0, moved d o q (h.0, h.1, h.2), h.3 d)) ch.out.outs outs;
+          outs = each_weaker _ (SaidOut script P d (ms ++ [])) (λ q h. (h.0, moved d o q (h.0, h.1, h.2), asks-from d q.node.0 g _ q.message h.1 (ap (λ (x : Known). x.at) (now d o q.node.0)) h.3)) ch.out.outs outs;
         }
       where
+        now : (d : Coord) → OneChange script P c d ms [] g (left_of ch.step (Some t)) (c.works g) → (i : ℕ) → known_at d (ms ++ []) i g ≡ known_of (standing (nat_le c.table.next.0 g) (left_of ch.step (Some t)) i) (c.works g) i (decided_count ms (gx g)) (is_aborted ms (gx g)) (is_committed ms (gx g))
+        now d o i = known-here script P c d ms [] g (left_of ch.step (Some t)) (c.works g) o i ∙ becomes-calm [] (left_of ch.step (Some t)) (c.works g) i refl refl refl
+
         moved : (d : Coord) → OneChange script P c d ms [] g (left_of ch.step (Some t)) (c.works g) → (q : Out) → (is_answer q.message ≡ false) × (gxid_in q.message ≡ g) × Said (known_of (standing (nat_le c.table.next.0 g) (left_of ch.step (Some t)) q.node.0) (c.works g) q.node.0 (decided_count ms (gx g)) (is_aborted ms (gx g)) (is_committed ms (gx g))) (P q.node.0 g) q.message → Said (known_at d (ms ++ []) q.node.0 (gxid_in q.message)) (P q.node.0 (gxid_in q.message)) q.message
         moved d o q h =
             subst (λ j. Said (known_at d (ms ++ []) q.node.0 j) (P q.node.0 j) q.message) (sym h.1)
@@ -280,12 +295,12 @@ module _ (script : Script) (P : ℕ → ℕ → Part) (c : Coord) (ms : List Mar
             (λ x f. absurd (true-false _ (or_right (is_aborted ms (gx g)) (is_aborted turn.marks (gx g)) ab) f))
 
     -- with marks around it that tell of nothing
-    pub abort-led : (turn : CoordTurn) (ch : Change) (why rest : List Mark) → turn.marks ≡ why ++ mark.Abort (gx g) ∷ rest → Each Mute why → Each Mute rest → CanEnd → decided_count ms (gx g) ≡ 0 → ((i : ℕ) → local_count ms (at i) (gx g) ≡ 0) → turn.coord.table ≡ changed c.table (gx g) ch → ((h : ℕ) → turn.coord.works h ≡ (if eqb h g then no_work else c.works h)) → ((i : ℕ) → standing (nat_le c.table.next.0 g) (left_of ch.step (Some t)) i ≡ Over) → Agrees (ms ++ turn.marks) g (left_of ch.step (Some t)) [] → (parts : List Node) → turn.outs ≡ to_each (message.Abort (gx g)) parts → Led script P c ms turn
-    abort-led turn ch why rest m a b can dec loc e works over agree parts outs =
+    pub abort-led : (turn : CoordTurn) (ch : Change) (why rest : List Mark) → turn.marks ≡ why ++ mark.Abort (gx g) ∷ rest → Fol script ms why → Each NoPart why → Each NoEnd why → Each Mute rest → CanEnd → decided_count ms (gx g) ≡ 0 → ((i : ℕ) → local_count ms (at i) (gx g) ≡ 0) → turn.coord.table ≡ changed c.table (gx g) ch → ((h : ℕ) → turn.coord.works h ≡ (if eqb h g then no_work else c.works h)) → ((i : ℕ) → standing (nat_le c.table.next.0 g) (left_of ch.step (Some t)) i ≡ Over) → Agrees (ms ++ turn.marks) g (left_of ch.step (Some t)) [] → (parts : List Node) → turn.outs ≡ to_each (message.Abort (gx g)) parts → Led script P c ms turn
+    abort-led turn ch why rest m fol part a b can dec loc e works over agree parts outs =
         aborted-led turn ch can e works over agree (subst (λ x. Elsewhere x g) (sym m) (abort-elsewhere why rest g a b)) (ap (λ x. is_aborted x (gx g)) m ∙ aborted-append why (mark.Abort (gx g) ∷ rest) (gx g) ∙ or_right (is_aborted why (gx g)) (eqb g g || is_aborted rest (gx g)) (or_left (eqb g g) (is_aborted rest (gx g)) (eqb-self g)))
-        (ap (λ x. is_committed x (gx g)) m ∙ committed-append why (mark.Abort (gx g) ∷ rest) (gx g) ∙ ap (λ x. x || is_committed rest (gx g)) (mute-committed why (gx g) a) ∙ mute-committed rest (gx g) b)
-        (subst (Fol script ms) (sym m) (fol-append script ms why (mark.Abort (gx g) ∷ rest) (mute-fol script ms why a)
-        ((decided-append ms why (gx g) ∙ ap (λ n. decided_count ms (gx g) + n) (mute-decided why (gx g) a) ∙ plus-none (decided_count ms (gx g)) ∙ dec, λ n. local-append ms why n (gx g) ∙ ap (λ x. local_count ms n (gx g) + x) (mute-local why n (gx g) a) ∙ plus-none (local_count ms n (gx g)) ∙ loc n.0), mute-fol script ((ms ++ why) ++ mark.Abort (gx g) ∷ []) rest b))) parts outs
+        (ap (λ x. is_committed x (gx g)) m ∙ committed-append why (mark.Abort (gx g) ∷ rest) (gx g) ∙ ap (λ x. x || is_committed rest (gx g)) (no-committed why (gx g) a) ∙ mute-committed rest (gx g) b)
+        (subst (Fol script ms) (sym m) (fol-append script ms why (mark.Abort (gx g) ∷ rest) fol
+        ((decided-append ms why (gx g) ∙ ap (λ n. decided_count ms (gx g) + n) (no-decided why (gx g) a) ∙ plus-none (decided_count ms (gx g)) ∙ dec, λ n. local-append ms why n (gx g) ∙ ap (λ x. local_count ms n (gx g) + x) (no-local why n (gx g) part) ∙ plus-none (local_count ms n (gx g)) ∙ loc n.0), mute-fol script ((ms ++ why) ++ mark.Abort (gx g) ∷ []) rest b))) parts outs
 
     -- COMMIT IS ASKED FOR
     pub record IsReady : Type 0 where
@@ -364,10 +379,10 @@ module _ (script : Script) (P : ℕ → ℕ → Part) (c : Coord) (ms : List Mar
         never : (a : Standing) → a ≡ Live → a ≡ Preparing true → ⊥
         never a x y = grind arith
     commit-writers r (w ∷ []) e =
-        calm-led (commit_change (gx g) (w ∷ []) t) (λ i. let x = ready-shift r (w ∷ []) e i in alone-shift (eqb w.0 i) (known i) (P i g) (s.pairs i g) x.0 x.1 (sym (or-false (eqb w.0 i)) ∙ x.2)) tt ((refl, refl, λ v. ap One (eqb-self w.0), λ d. tt), tt)
+        calm-led (commit_change (gx g) (w ∷ []) t) (λ i. let x = ready-shift r (w ∷ []) e i in alone-shift (eqb w.0 i) (known i) (P i g) (s.pairs i g) x.0 x.1 (sym (or-false (eqb w.0 i)) ∙ x.2)) tt ((refl, refl, λ v. ap One (eqb-self w.0), ap One (eqb-self w.0)), tt)
     commit-writers r (w ∷ x ∷ ws) e =
         calm-led (commit_change (gx g) (w ∷ x ∷ ws) t) (λ i. let y = ready-shift r (w ∷ x ∷ ws) e i in ask-shift (has (at i) (w ∷ x ∷ ws)) (known i) (P i g) (s.pairs i g) y.0 y.1 y.2) (sym e, subst AreSeveral (sym e) tt)
-        (to-nodes _ (message.Prepare (gx g)) (w ∷ x ∷ ws) (each_weaker (λ (y : Node). has y (w ∷ x ∷ ws) ≡ true) _ (λ y h. (refl, refl, (wrote-there y h, λ v. Rattle.std.proofs.Common.inl (ap Preparing h)), λ d. tt)) (w ∷ x ∷ ws) (each-has (w ∷ x ∷ ws))))
+        (to-nodes _ (message.Prepare (gx g)) (w ∷ x ∷ ws) (each_weaker (λ (y : Node). has y (w ∷ x ∷ ws) ≡ true) _ (λ y h. (refl, refl, (wrote-there y h, λ v. Rattle.std.proofs.Common.inl (ap Preparing h)), ap Preparing h)) (w ∷ x ∷ ws) (each-has (w ∷ x ∷ ws))))
       where
         wrote-there : (y : Node) → has y (w ∷ x ∷ ws) ≡ true → (P y.0 g).wrote ≡ true
         wrote-there y h = sym ((s.pairs y.0 g).learned (live-there r.live y.0) (r.done y.0)) ∙ sym (ready-shift r (w ∷ x ∷ ws) e y.0).2 ∙ h

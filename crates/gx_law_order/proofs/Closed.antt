@@ -2,7 +2,9 @@
 use Rattle.std.proofs.Common.{◌≡◌, ◌≤◌, inl, inr, ℕ, ◌+◌, List, [], ◌∷◌, ◌++◌, Some, None, true, false, refl, sym, subst, ap, ◌∙◌, if◌then◌else◌, ◌||◌, arith, eqb, append-nil}
 use Rattle.gx_lemmas.proofs.Numbers.{eqb-self, eqb-turned}
 use Rattle.gx_lemmas.proofs.Tests.{false-true}
+use Rattle.gx_ids.specs.declared.ids.Gxid.{Gxid}
 use Rattle.gx_ids.specs.declared.ids.SessionId.{SessionId}
+use Rattle.gx_lemmas.proofs.Options.{some-same}
 use Rattle.gx_script.specs.declared.Script.{Script}
 use Rattle.gx_script.specs.Session.{idle_outside}
 use Rattle.gx_script.specs.declared.state.Block.{Block}
@@ -62,13 +64,22 @@ module _ (script : Script) (steps : List Step) (c : Coord) (s : SessionId) (all 
   answered : answer_count s ms ≡ y.lines
   answered = plus-none _ _ st.1.answered
 
-  pub legal-end : LegalEnd script steps s
-  legal-end =
+  -- its open block's transaction aborts
+  aborts : (b : Block) → b ≡ y.state.block → (ns : List Mark) (g : Gxid) → transaction_of (state_in b st.1.commands) s ms ≡ Some g → is_aborted ((ends_session c s b).marks ++ ns) g ≡ true
+  aborts block.Outside e ns g t = absurd (false-true (ap is_block e ∙ inside))
+  aborts (block.Open l) e ns g t =
+      ap (λ q. q || is_aborted (release_marks the_coordinator c.locks y.transaction ++ ns) g)
+      (ap (λ (h : Gxid). eqb h.0 g.0) (some-same y.transaction g (sym ((st.1.owns (subst (λ q. is_busy q pending.Nothing ≡ true) e refl)).0).started ∙ t)) ∙ eqb-self g.0)
+  aborts block.Failed e ns g t = absurd (cc)
+
+  pub legal-end : (ns : List Mark) → LegalEnd script steps s ((ends_session c s y.state.block).marks ++ ns)
+  legal-end ns =
       record {
         idle = all.starts ∙ sym answered;
         over = ap (λ i. stmt_of s (i + 1) script.lines) answered ∙ none;
         block = subst (λ q. is_in_block q ≡ true) (sym st.1.state) (by_block y.state.block inside);
         once = st.0;
+        rolled_back = λ g t. aborts y.state.block refl ns g (subst (λ q. transaction_of q s ms ≡ Some g) st.1.state t);
       }
     where
       by_block : (b : Block) → is_block b ≡ true → is_in_block (state_in b st.1.commands) ≡ true

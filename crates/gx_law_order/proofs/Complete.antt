@@ -140,7 +140,7 @@ pub record Replied (script : Script) (w : World) : Type 0 where
   pub answers : DoStepsAnswer script [] w.steps
 
 -- LISTS
-each-get : {A : Type 0} (P : A → Type 0) (xs : List A) (k : ℕ) (x : A) → Each P xs → slice_get xs k ≡ Some x → P x
+pub each-get : {A : Type 0} (P : A → Type 0) (xs : List A) (k : ℕ) (x : A) → Each P xs → slice_get xs k ≡ Some x → P x
 each-get P [] k x e f = absurd (cc)
 each-get P (y ∷ ys) zero x e f = subst P (some-same y x f) e.0
 each-get P (y ∷ ys) (suc k) x e f = each-get P ys k x e.1 f
@@ -161,7 +161,7 @@ starts-more t [] ms = refl
 starts-more t (x ∷ []) ms = refl
 starts-more t (x ∷ y ∷ steps) ms = ap (λ n. starts_by t x.event + n) (starts-more t (y ∷ steps) ms)
 
-each-parts : {A : Type 0} (P : A → Type 0) (xs ys : List A) → Each P (xs ++ ys) → Each P xs × Each P ys
+pub each-parts : {A : Type 0} (P : A → Type 0) (xs ys : List A) → Each P (xs ++ ys) → Each P xs × Each P ys
 each-parts P [] ys e = (tt, e)
 each-parts P (x ∷ xs) ys e = let p = each-parts P xs ys e.1 in ((e.0, p.0), p.1)
 
@@ -389,9 +389,9 @@ module _ (script : Script) (w : World) (n : Knows script w) (v : Holds script w)
 
     asks : (m : Message) (i : ℕ) → AsksFor turn.coord i m → AsksFor last_coord i m
     asks (message.Exec g k level y h z) i a = a
-    asks (message.Prepare g) i a = tt
-    asks (message.Commit g) i a = tt
-    asks (message.CommitPrepared g) i a = tt
+    asks (message.Prepare g) i a = a
+    asks (message.Commit g) i a = a
+    asks (message.CommitPrepared g) i a = a
     asks (message.Abort g) i a = tt
     asks (message.Forget g) i a = tt
     asks (message.Collect round) i a = tt

@@ -38,7 +38,7 @@ use Rattle.gx_store.specs.declared.mark.Mark.TheVariants as mark
 use Rattle.gx_store.specs.declared.run.Step.{Step}
 use Rattle.gx_store.specs.Commands.{has_own_snapshot}
 use Rattle.gx_store.specs.Lines.{BlockState, cid_of, is_command, level_of, state_after, stmt_of, state_of}
-use Rattle.gx_store.specs.Marks.{has_snapshot, is_aborted, is_ended, is_snapped, answer_count, is_begun, started_after}
+use Rattle.gx_store.specs.Marks.{has_snapshot, is_aborted, is_ended, is_sent, is_snapped, answer_count, is_begun, started_after}
 use Rattle.gx_store.specs.Points.{marks_in}
 use Rattle.gx_store.specs.Refusals.{IsCause, the_coordinator, is_journal}
 use Rattle.gx_store.specs.Writes.{dist_of}
@@ -64,6 +64,7 @@ use Rattle.gx_law_order.proofs.Outs.{CommandIs, OutIs, abort-bare}
 use Rattle.gx_law_order.proofs.Roots.{roots-level}
 use Rattle.gx_law_order.proofs.Said.{CalmFor, said-calm}
 use Rattle.gx_law_order.proofs.Under.{Under, refuse-does}
+use Rattle.gx_law_order.proofs.Unsent.{unsent-more}
 use Rattle.gx_law_order.proofs.Reading.{Reads, reads-for}
 use Rattle.gx_locks.specs.Locks.{Locks}
 use Rattle.gx_rules.specs.Locks.{hold_mark, wait_mark, with_hold}
@@ -100,7 +101,7 @@ module _ (script : Script) (steps : List Step) (ev : Event) (exempt : (A : Type 
     (o : Under script steps c ev c1 s g (work_of c1 g) x n (state_in B commands) (is_alone B pending.Command) line earlier)
     (xb : x.state.block ≡ B) (xp : x.state.pending ≡ pending.Command) (busy : is_busy B pending.Command ≡ true) (cmd : is_command (state_in B commands) line ≡ true)
     (owns : Owns s commands (marks_in steps ++ earlier) c1.table.next.0 B g (work_of c1 g)) (none : (work_of c1 g).command ≡ None) (free : (work_of c1 g).waiting ≡ None) (cid : cid_of (state_in B commands) ≡ next_cid (work_of c1 g))
-    (past : Past c1 (marks_in steps ++ earlier))
+    (past : Past c1 (marks_in steps ++ earlier)) (unsent : is_sent (marks_in steps ++ earlier) g (next_cid (work_of c1 g)) ≡ false)
     (roots : (m : Command) (v : Work) (ns : List Mark) → m.stmt ≡ line → m.cid ≡ next_cid (work_of c1 g) → v.last ≡ (work_of c1 g).last + 1 → v.command ≡ Some m → v.waiting ≡ None → Roots script s ((marks_in steps ++ earlier) ++ ns) B pending.Command x.lines g v)
     (unawaited : (k : Cid) (i : Node) (level : Level) → IsAwaited (c.works g.0) k i level → ⊥) where
   abbrev w : Work
@@ -289,8 +290,13 @@ module _ (script : Script) (steps : List Step) (ev : Event) (exempt : (A : Type 
     abbrev seam : List Mark
     seam = marks_in steps ++ (earlier ++ r.marks)
 
-    is-fault : (marks : List Mark) → Rattle.gx_store.specs.Faults.IsFaultOf marks (level_of b) g (next_cid w) line rid None fault
-    is-fault marks = subst (λ l. Rattle.gx_store.specs.Faults.IsFaultOf marks (level_of b) g (next_cid w) l rid None fault) (sym is_insert) (constants-fault g (next_cid w) tuples fault faulty)
+    not-sent : is_sent seam g (next_cid w) ≡ false
+    not-sent = subst (λ m. is_sent m g (next_cid w) ≡ false) (append_assoc (marks_in steps) earlier r.marks) (unsent-more ms r.marks g (next_cid w) unsent R.unsent)
+
+    is-fault : (marks : List Mark) → marks ≡ seam → Rattle.gx_store.specs.Faults.IsFaultOf marks (level_of b) g (next_cid w) line rid None fault
+    is-fault marks at =
+        subst (λ l. Rattle.gx_store.specs.Faults.IsFaultOf marks (level_of b) g (next_cid w) l rid None fault) (sym is_insert)
+        (constants-fault marks g (next_cid w) tuples fault (subst (λ m. is_sent m g (next_cid w) ≡ false) (sym at) not-sent) faulty)
 
     joined : marks_in steps ++ ((earlier ++ why) ++ mark.Abort g ∷ []) ≡ seam ++ noted ∷ mark.Abort g ∷ []
     joined =
@@ -311,7 +317,7 @@ module _ (script : Script) (steps : List Step) (ev : Event) (exempt : (A : Type 
           image = None;
           noted = subst (λ m. slice_get m (length seam) ≡ Some noted) (sym joined) (get_last seam (mark.Abort g ∷ []) noted);
           unaborted = subst (λ m. is_aborted (take (length seam) m) g ≡ false) (sym joined) (subst (λ m. is_aborted m g ≡ false) (sym (take-append_seam seam (noted ∷ mark.Abort g ∷ []))) (not-aborted seam (running-there r R)));
-          faults = is-fault _;
+          faults = is-fault _ (ap (take (length seam)) joined ∙ take-append_seam seam (noted ∷ mark.Abort g ∷ []));
           heard = subst (λ l. Rattle.gx_store.specs.Refusals.IsHeard (record { steps = steps; event = ev; earlier = (earlier ++ why) ++ mark.Abort g ∷ []; later = later }) (length seam) l g (next_cid w) rid None (cause_of fault)) (sym is_insert) (at-least (length (marks_in steps)) (length (earlier ++ r.marks)) (length seam) (length-append (marks_in steps) (earlier ++ r.marks)));
         }
       where
@@ -334,7 +340,7 @@ module _ (script : Script) (steps : List Step) (ev : Event) (exempt : (A : Type 
           fault = fault;
           runs = subst (λ q. Rattle.gx_store.specs.Commands.IsUnderWay script (record { steps = steps; event = ev; earlier = earlier ++ r.marks; later = later }) s line (level_of b) g q) cid
               (at_line.under-way script steps ev s line n b (is_alone B pending.Command) (Some g) (earlier ++ r.marks) (at-reading r R) later g o.has refl cmd (running-there r R));
-          faults = is-fault _;
+          faults = is-fault _ refl;
         })
 
     under2 : Under script steps c ev r.coord s g R.w2 x n b (is_alone B pending.Command) line earlier
@@ -404,7 +410,7 @@ module _ (script : Script) (steps : List Step) (ev : Event) (exempt : (A : Type 
     (o : Under script steps c ev c1 s g (work_of c1 g) x n (state_in B commands) (is_alone B pending.Command) line earlier)
     (xb : x.state.block ≡ B) (xp : x.state.pending ≡ pending.Command) (busy : is_busy B pending.Command ≡ true) (cmd : is_command (state_in B commands) line ≡ true)
     (owns : Owns s commands (marks_in steps ++ earlier) c1.table.next.0 B g (work_of c1 g)) (none : (work_of c1 g).command ≡ None) (free : (work_of c1 g).waiting ≡ None) (cid : cid_of (state_in B commands) ≡ next_cid (work_of c1 g))
-    (past : Past c1 (marks_in steps ++ earlier))
+    (past : Past c1 (marks_in steps ++ earlier)) (unsent : is_sent (marks_in steps ++ earlier) g (next_cid (work_of c1 g)) ≡ false)
     (roots : (m : Command) (v : Work) (ns : List Mark) → m.stmt ≡ line → m.cid ≡ next_cid (work_of c1 g) → v.last ≡ (work_of c1 g).last + 1 → v.command ≡ Some m → v.waiting ≡ None → Roots script s ((marks_in steps ++ earlier) ++ ns) B pending.Command x.lines g v)
     (unawaited : (k : Cid) (i : Node) (level : Level) → IsAwaited (c.works g.0) k i level → ⊥) where
   module _ (locks : Locks) (wanted : Claim) where
@@ -446,6 +452,7 @@ module _ (script : Script) (steps : List Step) (ev : Event) (exempt : (A : Type 
         (subst (λ m. Owns s commands m c1.table.next.0 B g (work_of c1 g)) (sym seam-held) (owns-more script s commands (marks_in steps ++ earlier) (hold ∷ []) c1.table.next.0 c1.table.next.0 B g (work_of c1 g) owns (same-le c1.table.next.0) started refl refl))
         none free cid
         (subst (λ m. Past held m) (sym seam-held) (past-still c1 held (marks_in steps ++ earlier) (hold ∷ []) past refl (tt, tt)))
+        (subst (λ m. is_sent m g (next_cid (work_of c1 g)) ≡ false) (sym seam-held) (unsent-more (marks_in steps ++ earlier) (hold ∷ []) g (next_cid (work_of c1 g)) unsent refl))
         (λ m v ns a b d e f. subst (λ ms. Roots script s ms B pending.Command x.lines g v) (ap (λ ms. ms ++ ns) (sym seam-held)) (subst (λ ms. Roots script s ms B pending.Command x.lines g v) (sym (append_assoc (marks_in steps ++ earlier) (hold ∷ []) ns)) (roots m v (hold ∷ ns) a b d e f)))
         unawaited)
       where
@@ -542,5 +549,5 @@ module _ (script : Script) (steps : List Step) (ev : Event) (exempt : (A : Type 
 
   pub dispatch-does : ((v : Work) (ns : List Mark) → v.last ≡ (work_of c1 g).last → v.command ≡ None → v.waiting ≡ Some line → Roots script s ((marks_in steps ++ earlier) ++ ns) B pending.Command x.lines g v) → Does script steps c ev (behind earlier (dispatches script c1 g line))
   dispatch-does held_up_roots =
-      dispatch-ways (λ t. Does script steps c ev (behind earlier t)) script c1 g line (λ e. locked-does script steps ev exempt c c1 s g x n B commands line earlier o xb xp busy cmd owns none free cid past roots unawaited)
+      dispatch-ways (λ t. Does script steps c ev (behind earlier t)) script c1 g line (λ e. locked-does script steps ev exempt c c1 s g x n B commands line earlier o xb xp busy cmd owns none free cid past unsent roots unawaited)
       (λ wanted e f. held-does (with_hold c1.locks wanted) wanted) (λ wanted e f. waits-does wanted held_up_roots)

@@ -43,7 +43,7 @@ use Rattle.gx_law_order.proofs.Stages.{At, IsWhole, left_of, txn-at}
 use Rattle.gx_law_order.specs.Said.{IsDone, Said}
 use Rattle.gx_law_order.specs.Standings.{Known, Part, at, gx, is_undecided, known_at, known_of, standing, standing_in, waits_in}
 use Rattle.gx_law_order.specs.Standings.Standing.{Live}
-use Rattle.gx_law_order.proofs.Calls.{Mute, abort-led, becomes-calm, commits-ready, dropped-over, live-calm, live-can, live-there, mute-aborted, mute-committed, mute-decided, mute-fol, stands-as, back-mute}
+use Rattle.gx_law_order.proofs.Calls.{Mute, abort-led, becomes-calm, commits-ready, dropped-over, live-calm, live-can, live-there, mute-aborted, mute-committed, mute-decided, mute-ends, mute-fol, mute-parts, stands-as, back-mute}
 use Rattle.gx_law_order.proofs.Nodes.{AreApart, apart-with, each-has, has-with, has-without}
 use Rattle.gx_law_order.proofs.Shifts.{Shift, is-sent, learn-shift, send-shift, sending, shift-same}
 use Rattle.gx_law_order.proofs.Ways.{Agrees, AgreesIn, CommandOf, IsOrderOf, Led, Same, SaidOut, Stands, Way, Working, at-one, rest-led, same-then, way-same, way-then}
@@ -67,7 +67,7 @@ each-unmap P f [] e = tt
 each-unmap P f (x ∷ xs) e = (e.0, each-unmap P f xs e.1)
 
 fault-mute : (g : Gxid) (cid : Cid) (line : Stmt) → Each Mute (fault_mark g cid line)
-fault-mute g cid (stmt.Insert t x) = (tt, tt)
+fault-mute g cid (stmt.Insert t x) = (refl, tt)
 fault-mute g cid (stmt.Begin level) = tt
 fault-mute g cid stmt.Commit = tt
 fault-mute g cid stmt.Rollback = tt
@@ -139,14 +139,14 @@ module _ (script : Script) (P : ℕ → ℕ → Part) (c : Coord) (ms : List Mar
   refusing-led why reason e =
       subst (λ o. Led script P c ms (is_refused c (gx g) (turns c.table (gx g) (abort_found (gx g) o)) why reason)) (sym live.found)
       (abort-led script P c ms s whole g live.txn live.found (is_refused c (gx g) (turns c.table (gx g) (aborts (gx g) live.txn.participants)) why reason) (aborts (gx g) live.txn.participants) why
-      (answer_mark c (work_of c (gx g)).session (told.Refused reason) ∷ release_marks the_coordinator c.locks (gx g)) refl e (tt, back-mute c.locks (gx g)) (live-can script P c ms s whole g live.txn live.found live.active) no-decision no-local-commit refl (λ h. refl)
+      (answer_mark c (work_of c (gx g)).session (told.Refused reason) ∷ release_marks the_coordinator c.locks (gx g)) refl (mute-fol script ms why e) (mute-parts why e) (mute-ends why e) (tt, back-mute c.locks (gx g)) (live-can script P c ms s whole g live.txn live.found live.active) no-decision no-local-commit refl (λ h. refl)
       (dropped-over script P c ms s whole g live.txn live.found live.txn.participants) (abort-agrees _ live.txn.participants) live.txn.participants (abort-outs live.txn.participants))
 
   pub rolling-led : (marks : List Mark) → Each Mute marks → Led script P c ms (rolls_back c (gx g) marks (on_abort c.table (gx g)))
   rolling-led marks e =
       subst (λ o. Led script P c ms (rolls_back c (gx g) marks (turns c.table (gx g) (abort_found (gx g) o)))) (sym live.found)
       (abort-led script P c ms s whole g live.txn live.found (rolls_back c (gx g) marks (turns c.table (gx g) (aborts (gx g) live.txn.participants))) (aborts (gx g) live.txn.participants) []
-      (marks ++ release_marks the_coordinator c.locks (gx g)) refl tt (each_append Mute marks _ e (back-mute c.locks (gx g))) (live-can script P c ms s whole g live.txn live.found live.active) no-decision no-local-commit refl (λ h. refl)
+      (marks ++ release_marks the_coordinator c.locks (gx g)) refl tt tt tt (each_append Mute marks _ e (back-mute c.locks (gx g))) (live-can script P c ms s whole g live.txn live.found live.active) no-decision no-local-commit refl (λ h. refl)
       (dropped-over script P c ms s whole g live.txn live.found live.txn.participants) (abort-agrees _ live.txn.participants) live.txn.participants (abort-outs live.txn.participants))
 
   -- the standing where the phase stays

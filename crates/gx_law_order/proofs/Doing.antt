@@ -42,6 +42,7 @@ use Rattle.gx_law_order.proofs.Outs.{OutIs}
 use Rattle.gx_law_order.proofs.Resuming.{resume-does}
 use Rattle.gx_law_order.proofs.Sendings.{IsToldOf, command-order-is}
 use Rattle.gx_law_order.proofs.Stepping.{Holds}
+use Rattle.gx_law_order.proofs.Unsent.{Unsent}
 
 idle-so : (q : Pending) → is_nothing q ≡ true → is_nothing_in q ≡ true
 idle-so q e = grind arith
@@ -49,10 +50,10 @@ idle-so q e = grind arith
 -- it has this effect, may happen there, and draws a transaction where it has to
 pub record Happens (script : Script) (w : World) (e : Event) (turn : CoordTurn) : Type 0 where
   pub effect : Effect script w.steps w.coord e turn
-  pub legal : LegalEvent script w.steps e
+  pub legal : LegalEvent script w.steps e (turn.marks ++ numbered turn.coord.sent turn.outs)
   pub drawn : IsDrawn script w.steps e (turn.marks ++ numbered turn.coord.sent turn.outs)
 
-module _ (script : Script) (some : 1 ≤ script.segments) (w : World) (n : Knows script w) (h : Holds script w) where
+module _ (script : Script) (some : 1 ≤ script.segments) (w : World) (n : Knows script w) (h : Holds script w) (u : Unsent w.coord (marks_in w.steps)) where
   -- a message comes
   heard : (e : Event) (from : Node) (envelope : Envelope) (fails : Bool) → IsReceipt script w e the_coordinator from envelope → coord_can script w.coord (here.Deliver from envelope) ≡ true → Happens script w e (on_event script w.coord (here.Deliver from envelope) fails)
   heard e from envelope fails r can =
@@ -82,10 +83,10 @@ module _ (script : Script) (some : 1 ≤ script.segments) (w : World) (n : Knows
       by_next : (o : Option Stmt) → next_line script w.coord s ≡ o → is_left o ≡ true → Happens script w (event.Start s) (starts script w.coord s o)
       by_next None e q = absurd (cc)
       by_next (Some line) e q =
-          let counts = start-counts script w.steps w.coord n.kept n.past h.fresh h.numbers s (h.sessions s) idle line e in
+          let counts = start-counts script w.steps w.coord n.kept n.past h.fresh h.numbers s (h.sessions s) idle u line e in
           let same : next_stmt s script (marks_in w.steps) ≡ Some line = ap (λ i. stmt_of s (i + 1) script.lines) (sym counts ∙ (h.sessions s).starts) ∙ e in
           record {
-            effect = inl (start-does script w.steps w.coord n.kept n.past h.fresh h.numbers s (h.sessions s) idle line e);
+            effect = inl (start-does script w.steps w.coord n.kept n.past h.fresh h.numbers s (h.sessions s) idle u line e);
             legal = (counts, subst IsSome (sym same) refl);
             drawn = drawn-at script w.steps w.coord s (h.sessions s) line e same (numbered (starts script w.coord s (Some line)).coord.sent (starts script w.coord s (Some line)).outs);
           }
@@ -93,9 +94,10 @@ module _ (script : Script) (some : 1 ≤ script.segments) (w : World) (n : Knows
   -- a session ends
   session-ends : (s : SessionId) (fails : Bool) → coord_can script w.coord (here.End s) ≡ true → Happens script w (event.End s) (on_event script w.coord (here.End s) fails)
   session-ends s fails ok =
+      let did : CoordTurn = on_event script w.coord (here.End s) fails in
       record {
         effect = inl (end-does script w.steps w.coord s (h.sessions s) idle over b.1 (session_of w.coord s).state.block refl);
-        legal = legal-end script w.steps w.coord s (h.sessions s) idle over b.1;
+        legal = legal-end script w.steps w.coord s (h.sessions s) idle over b.1 (numbered did.coord.sent did.outs);
         drawn = tt;
       }
     where
@@ -145,7 +147,7 @@ module _ (script : Script) (some : 1 ≤ script.segments) (w : World) (n : Knows
   goes-out g fails =
       resume-ways (Effect script w.steps w.coord (event.Resume the_coordinator g)) script w.coord g
       (inr (record { sessions = λ j. refl; works = λ j. refl; next = refl; quiet = tt; alone = λ j. (refl, refl); outs = λ o. tt; sent = λ o. tt }))
-      (λ wanted line e f. inl (resume-does script w.steps w.coord n.kept n.past h.sessions h.gathers the_coordinator refl g wanted line f))
+      (λ wanted line e f. inl (resume-does script w.steps w.coord n.kept n.past h.sessions h.gathers the_coordinator refl g wanted line f u))
 
   -- a round begins
   round-begins : (fails : Bool) → Effect script w.steps w.coord event.Round (on_event script w.coord here.Round fails)

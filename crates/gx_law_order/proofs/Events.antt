@@ -1,6 +1,8 @@
 -- Every event of the coordinator.
-use Rattle.std.proofs.Common.{◌≡◌, inl, ℕ, ◌+◌, List, [], ◌∷◌, ◌++◌, Option, Some, None, Bool, true, false, refl, sym, subst, ap, ◌∙◌, if◌then◌else◌, ◌==◌, ◌&&◌, arith, eqb, append-nil}
+use Rattle.std.proofs.Common.{◌≡◌, ◌≤◌, inl, ℕ, ◌+◌, List, [], ◌∷◌, ◌++◌, Option, Some, None, Bool, true, false, refl, sym, subst, ap, ◌∙◌, if◌then◌else◌, ◌==◌, ◌&&◌, arith, eqb, append-nil}
 use Rattle.std.proofs.lemmas.Bool.{and_parts, eqb-true}
+use Rattle.std.proofs.lemmas.Bool.Decides.{nat_tests}
+use Rattle.std.specs.Prelude.{nat_le}
 use Rattle.gx_lemmas.proofs.Numbers.{eqb-self}
 use Rattle.gx_ids.specs.declared.ids.Cid.{Cid}
 use Rattle.gx_ids.specs.declared.ids.Node.{Node}
@@ -152,15 +154,15 @@ module _ (script : Script) (P : ℕ → ℕ → Part) (c : Coord) (ms : List Mar
       by_test true f = refusing-led script P c ms st k.whole g (awaited-live g m e j (and_parts _ _ f).1) [] (reason_of cause) tt
       by_test false f = rest
 
-  answer-led : (g : ℕ) (j : Node) (fails : Bool) (r : Reply) → Answers (known_at c ms j.0 g) (P j.0 g) r → Leads (on_answer c (gx g) j fails r)
-  answer-led g j fails (reply.Done cid wrote count part) d = on-done-led g j cid wrote count part (c.works g).command refl d
-  answer-led g j fails (reply.Failed cid cause) d = on-failed-led g j cid cause (c.works g).command refl
-  answer-led g j fails reply.Prepared d = status-led script P c ms st k.whole g (ins g) j fails reply.Prepared d
-  answer-led g j fails reply.Committed d = status-led script P c ms st k.whole g (ins g) j fails reply.Committed d
-  answer-led g j fails reply.Jfault d = status-led script P c ms st k.whole g (ins g) j fails reply.Jfault d
-  answer-led g j fails reply.Again d = status-led script P c ms st k.whole g (ins g) j fails reply.Again d
-  answer-led g j fails reply.Aborted d = status-led script P c ms st k.whole g (ins g) j fails reply.Aborted d
-  answer-led g j fails reply.Forgotten d = status-led script P c ms st k.whole g (ins g) j fails reply.Forgotten d
+  answer-led : (g : ℕ) (j : Node) → 1 ≤ j.0 → (fails : Bool) (r : Reply) → Answers (known_at c ms j.0 g) (P j.0 g) r → Leads (on_answer c (gx g) j fails r)
+  answer-led g j one fails (reply.Done cid wrote count part) d = on-done-led g j cid wrote count part (c.works g).command refl d
+  answer-led g j one fails (reply.Failed cid cause) d = on-failed-led g j cid cause (c.works g).command refl
+  answer-led g j one fails reply.Prepared d = status-led script P c ms st k.whole g (ins g) j one fails reply.Prepared d
+  answer-led g j one fails reply.Committed d = status-led script P c ms st k.whole g (ins g) j one fails reply.Committed d
+  answer-led g j one fails reply.Jfault d = status-led script P c ms st k.whole g (ins g) j one fails reply.Jfault d
+  answer-led g j one fails reply.Again d = status-led script P c ms st k.whole g (ins g) j one fails reply.Again d
+  answer-led g j one fails reply.Aborted d = status-led script P c ms st k.whole g (ins g) j one fails reply.Aborted d
+  answer-led g j one fails reply.Forgotten d = status-led script P c ms st k.whole g (ins g) j one fails reply.Forgotten d
 
   -- ROUNDS
   -- which touch no transaction
@@ -178,16 +180,16 @@ module _ (script : Script) (P : ℕ → ℕ → Part) (c : Coord) (ms : List Mar
   begins-led : Leads (begins_round script c)
   begins-led = record { way = (round-led (c.rounds + 1) (begins_round script c).coord.reports [] tt).way; outs = collects-each _ script.segments (c.rounds + 1) (λ i one within. (refl, tt, tt)) }
 
-  message-led : (j : Node) (fails : Bool) (m : Message) → (is_answer m ≡ true → Said (known_at c ms j.0 (gxid_in m)) (P j.0 (gxid_in m)) m) → Leads (on_message c j fails m)
-  message-led j fails (message.Answer g r) d = answer-led g.0 j fails r (d refl)
-  message-led j fails (message.Exec g cid level x h y) d = rest
-  message-led j fails (message.Prepare g) d = rest
-  message-led j fails (message.Commit g) d = rest
-  message-led j fails (message.CommitPrepared g) d = rest
-  message-led j fails (message.Abort g) d = rest
-  message-led j fails (message.Forget g) d = rest
-  message-led j fails (message.Collect round) d = rest
-  message-led j fails (message.Graph round graph) d = graph-led j round graph
+  message-led : (j : Node) → 1 ≤ j.0 → (fails : Bool) (m : Message) → (is_answer m ≡ true → Said (known_at c ms j.0 (gxid_in m)) (P j.0 (gxid_in m)) m) → Leads (on_message c j fails m)
+  message-led j one fails (message.Answer g r) d = answer-led g.0 j one fails r (d refl)
+  message-led j one fails (message.Exec g cid level x h y) d = rest
+  message-led j one fails (message.Prepare g) d = rest
+  message-led j one fails (message.Commit g) d = rest
+  message-led j one fails (message.CommitPrepared g) d = rest
+  message-led j one fails (message.Abort g) d = rest
+  message-led j one fails (message.Forget g) d = rest
+  message-led j one fails (message.Collect round) d = rest
+  message-led j one fails (message.Graph round graph) d = graph-led j round graph
 
   -- MESSAGES SENT AGAIN
   abbrev IsSaidTo : ℕ → Node → Message → Type 0
@@ -221,7 +223,7 @@ module _ (script : Script) (P : ℕ → ℕ → Part) (c : Coord) (ms : List Mar
   status-said g i t f (status.Preparing ws aw) e = by_test (has i aw) refl
     where
       by_test : (b : Bool) → has i aw ≡ b → AnySaid g i (status_order (gx g) (if b then Some Rattle.gx_dtx.specs.declared.order.Order.TheVariants.Prepare else None))
-      by_test true h = (refl, refl, (sym (pair.closing (ap is_closing preparing)) ∙ (pair.asked true preparing).0 refl, λ v. inl preparing), tt)
+      by_test true h = (refl, refl, (sym (pair.closing (ap is_closing preparing)) ∙ (pair.asked true preparing).0 refl, λ v. inl preparing), preparing)
         where
           pair : Pair (known_at c ms i.0 g) (P i.0 g)
           pair = st.pairs i.0 g
@@ -232,12 +234,12 @@ module _ (script : Script) (P : ℕ → ℕ → Part) (c : Coord) (ms : List Mar
   status-said g i t f (status.CommittingOne w) e = by_test (w.0 == i.0) refl
     where
       by_test : (b : Bool) → (w.0 == i.0) ≡ b → AnySaid g i (status_order (gx g) (if b then Some Rattle.gx_dtx.specs.declared.order.Order.TheVariants.Commit else None))
-      by_test true h = (refl, refl, λ v. stands-as script P c ms st k.whole g t f i.0 ∙ ap (λ q. standing_in q i.0) e ∙ ap One h, tt)
+      by_test true h = (refl, refl, λ v. stands-as script P c ms st k.whole g t f i.0 ∙ ap (λ q. standing_in q i.0) e ∙ ap One h, stands-as script P c ms st k.whole g t f i.0 ∙ ap (λ q. standing_in q i.0) e ∙ ap One h)
       by_test false h = tt
   status-said g i t f (status.CommittingTwo aw) e = by_test (has i aw) refl
     where
       by_test : (b : Bool) → has i aw ≡ b → AnySaid g i (status_order (gx g) (if b then Some Rattle.gx_dtx.specs.declared.order.Order.TheVariants.CommitPrepared else None))
-      by_test true h = (refl, refl, inl (stands-as script P c ms st k.whole g t f i.0 ∙ ap (λ q. standing_in q i.0) e ∙ ap Two h), tt)
+      by_test true h = (refl, refl, inl (stands-as script P c ms st k.whole g t f i.0 ∙ ap (λ q. standing_in q i.0) e ∙ ap Two h), stands-as script P c ms st k.whole g t f i.0 ∙ ap (λ q. standing_in q i.0) e ∙ ap Two h)
       by_test false h = tt
   status-said g i t f (status.Ended aw) e = by_test (has i aw)
     where
@@ -400,7 +402,10 @@ module _ (script : Script) (P : ℕ → ℕ → Part) (c : Coord) (ms : List Mar
   IsSaidIn _ = Unit {0}
 
   pub event-led : ((g : Gxid) → coord_can script c (event.Resume g) ≡ true → GoesOut script c g) → (x : NodeEvent) (fails : Bool) → coord_can script c x ≡ true → IsSaidIn x → Leads (on_event script c x fails)
-  event-led out (event.Deliver from envelope) fails e d = message-led from fails envelope.message d
+  event-led out (event.Deliver from envelope) fails e d = message-led from (at-least from.0 (and_parts _ _ e).0) fails envelope.message d
+    where
+      at-least : (a : ℕ) → nat_le 1 a ≡ true → 1 ≤ a
+      at-least a q = grind (arith, nat_tests)
   event-led out (event.Start s) fails e d = start-led s (idle-first s _ e) (next_line script c s)
   event-led out (event.End s) fails e d = end-led s (idle-first s _ e)
   event-led out (event.Resend i (Some g)) fails e d = again-led g.0 i (awaited c g i) (command-said g.0 i (c.works g.0).command refl _ (found-said g.0 i (find_txn c.table g) refl))

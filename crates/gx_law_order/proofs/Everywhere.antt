@@ -1,5 +1,5 @@
 -- Over every run of the machine: what always holds of transactions, messages and marks.
-use Rattle.std.proofs.Common.{◌≡◌, ◌⊎◌, inl, inr, ℕ, ◌+◌, List, [], ◌∷◌, ◌++◌, Option, Some, None, Bool, true, false, refl, sym, subst, ap, ◌∙◌, if◌then◌else◌, ◌||◌, ◌&&◌, arith, eqb, append-nil}
+use Rattle.std.proofs.Common.{◌≡◌, ◌⊎◌, inl, inr, ℕ, ◌+◌, List, [], ◌∷◌, ◌++◌, Option, Some, Bool, true, false, refl, sym, subst, ap, ◌∙◌, if◌then◌else◌, ◌||◌, ◌&&◌, arith, eqb, append-nil}
 use Rattle.std.proofs.lemmas.Bool.{and_parts, eqb-true, or_from}
 use Rattle.std.proofs.lemmas.Bool.Decides.{nat_tests}
 use Rattle.std.proofs.lemmas.List.{append_assoc}
@@ -9,9 +9,6 @@ use Rattle.gx_lemmas.proofs.Tests.{or-false}
 use Rattle.gx_ids.specs.declared.ids.Gxid.{Gxid}
 use Rattle.gx_ids.specs.declared.ids.Node.{Node}
 use Rattle.gx_dtx.specs.Table.{find_txn}
-use Rattle.gx_dtx.specs.declared.phase.Phase.{Phase as Status}
-use Rattle.gx_dtx.specs.declared.phase.Phase.TheVariants as status
-use Rattle.gx_dtx.specs.declared.txn.Txn.{Txn}
 use Rattle.gx_msg.specs.declared.message.Envelope.{Envelope}
 use Rattle.gx_msg.specs.declared.message.Message.{Message}
 use Rattle.gx_msg.specs.declared.message.Message.TheVariants as message
@@ -35,7 +32,7 @@ use Rattle.gx_rules.specs.AtSegment as segment
 use Rattle.gx_rules.specs.AtSegment.{seg_rule}
 use Rattle.gx_rules.specs.Coordinators.{Coord, CoordTurn}
 use Rattle.gx_rules.specs.Machine.{Letter, World, and_cancelled, coord_did, posted, seg_can, seg_did}
-use Rattle.gx_rules.specs.Segments.{Local, Seg, SegTurn, Suspended, local_of}
+use Rattle.gx_rules.specs.Segments.{Local, Phase, Seg, SegTurn, Suspended, has_committed, local_of}
 use Rattle.gx_rules.specs.Sending.{clock_after, counted, numbered}
 use Rattle.gx_law_order.proofs.Induction.{after_turn, marks-by-event, marks-by-victim}
 use Rattle.gx_law_order.proofs.Lists.{Each, each_weaker}
@@ -45,10 +42,10 @@ use Rattle.gx_law_order.proofs.More.{marks-last}
 use Rattle.gx_law_order.proofs.Moves.{HasNamed}
 use Rattle.gx_law_order.proofs.World.{Knows}
 use Rattle.gx_law_order.specs.Followed.{DoMarksEnd, DoStepsEnd}
-use Rattle.gx_law_order.specs.Pairs.{Pair}
+use Rattle.gx_law_order.specs.Pairs.{Pair, bit, is_open}
 use Rattle.gx_law_order.specs.Said.{Said, SaidIn, gxid_in, is_answer, segment_of}
-use Rattle.gx_law_order.specs.Standings.{Known, Part, at, gx, is_closing, known_at, part_at, part_of, standing, standing_in}
-use Rattle.gx_law_order.specs.Standings.Standing.{One}
+use Rattle.gx_law_order.specs.Standings.{Known, Part, at, gx, is_closing, is_undecided, known_at, part_at, part_of}
+use Rattle.gx_law_order.specs.Standings.Standing.{Live, One}
 use Rattle.gx_law_order.specs.Told.{AreTold, DoStepsTell, IsTold}
 use Rattle.gx_law_order.proofs.Telling.{coord-told, seg-told, step-told, tell-push}
 use Rattle.gx_law_order.proofs.Counts.{NoEnd, NoPart, NoSent, decided-append, local-append, no-aborted, no-committed, no-decided, no-local, no-prepared, no-writer, prepared-append, sent-no-end, sent-no-part, writer-append}
@@ -57,6 +54,8 @@ use Rattle.gx_law_order.proofs.Following.{HasReached, coord-end, end-push, has-l
 use Rattle.gx_law_order.proofs.Handled.{Does, Follows, HasMark, Tells, after_marks, handled, part-eq, went-on}
 use Rattle.gx_law_order.proofs.Later.{end-more, tell-more}
 use Rattle.gx_law_order.proofs.Parts.{said-grows}
+use Rattle.gx_law_order.proofs.RightOrders.{IsRightOrder, live-of, one-of, right-order}
+use Rattle.gx_law_order.proofs.Unfinished.{IsUnfinished, aborted-unfinished}
 use Rattle.gx_law_order.proofs.Ways.{Agrees, Fol, FolAt, Led, SaidOut, Stands, agrees-append, known-eq}
 
 abbrev pub parts_in : World → ℕ → ℕ → Part
@@ -145,8 +144,11 @@ module _ (script : Script) (P : ℕ → ℕ → Part) (c : Coord) (before : List
   abbrev so_far : List Mark
   so_far = marks_in before ++ earlier
 
-  pub turn-ends : DoMarksEnd script before step earlier (turn.marks ++ numbered turn.coord.sent turn.outs)
-  turn-ends = coord-end script before step earlier turn.marks turn.coord.sent turn.outs f.way.fol (each_weaker (SaidOut script P turn.coord (so_far ++ turn.marks)) (λ (o : Out). is_answer o.message ≡ false) (λ o h. h.0) turn.outs f.outs)
+  pub turn-ends : step.stamp.node ≡ the_coordinator → DoMarksEnd script before step earlier (turn.marks ++ numbered turn.coord.sent turn.outs)
+  turn-ends own =
+      coord-end script before step own earlier turn.marks turn.coord.sent turn.outs f.way.fol
+      (each_weaker (SaidOut script P turn.coord (so_far ++ turn.marks)) (λ (o : Out). IsRightOrder (so_far ++ turn.marks) o.node o.message)
+      (λ o h. right-order script P turn.coord (so_far ++ turn.marks) f.way.stands o.node o.message h.0 h.2) turn.outs f.outs)
 
   pub turn-tells : AreTold the_coordinator so_far (turn.marks ++ numbered turn.coord.sent turn.outs)
   turn-tells =
@@ -159,7 +161,7 @@ module _ (script : Script) (w : World) (n : Knows script w) (v : Holds script w)
   pub coord-holds : (e : Event) (x : NodeEvent) (fails : Bool) → coord_can script w.coord x ≡ true → IsSaidIn script (parts_in w) w.coord (marks_in w.steps) v.stands n.kept n.past (λ g. (n.well.coordinator.works g).writers) x → Holds script (coord_did w e (coord_turn script w.coord x fails))
   coord-holds e x fails ok d =
       turn-holds script w v turn (clock_after w.coord.clock x) (coord_did w e (coord_turn script w.coord x fails)).steps f (marks-by-event script w e x fails)
-      (end-push script [] w.steps step v.ends (turn-ends script (parts_in w) w.coord w.steps step [] turn (subst (λ q. Led script (parts_in w) w.coord q turn) (sym (append-nil (marks_in w.steps))) f)))
+      (end-push script [] w.steps step v.ends (turn-ends script (parts_in w) w.coord w.steps step [] turn (subst (λ q. Led script (parts_in w) w.coord q turn) (sym (append-nil (marks_in w.steps))) f) refl))
       (tell-push [] w.steps step v.tells (subst (λ q. AreTold the_coordinator q step.marks) (append-nil (marks_in w.steps)) (turn-tells script (parts_in w) w.coord w.steps step [] turn (subst (λ q. Led script (parts_in w) w.coord q turn) (sym (append-nil (marks_in w.steps))) f))))
     where
       turn : CoordTurn
@@ -175,7 +177,7 @@ module _ (script : Script) (w : World) (n : Knows script w) (v : Holds script w)
   pub victim-holds : (g : Gxid) → HasNamed w.steps w.coord.clock w.coord.rounds g → Holds script (and_cancelled w g)
   victim-holds g h =
       turn-holds script w v turn w.coord.clock (and_cancelled w g).steps f (marks-by-victim w g h)
-      (end-more script h.step more w.steps h.before h.is v.ends (turn-ends script (parts_in w) w.coord h.before h.step h.step.marks turn there))
+      (end-more script h.step more w.steps h.before h.is v.ends (turn-ends script (parts_in w) w.coord h.before h.step h.step.marks turn there h.node))
       (tell-more script h.step more w.steps h.before h.is v.tells (subst (λ n. AreTold n (marks_in h.before ++ h.step.marks) more) (sym h.node) (turn-tells script (parts_in w) w.coord h.before h.step h.step.marks turn there)))
     where
       turn : CoordTurn
@@ -191,23 +193,6 @@ module _ (script : Script) (w : World) (n : Knows script w) (v : Holds script w)
       there = subst (λ q. Led script (parts_in w) w.coord q turn) (ap marks_in h.is ∙ marks-last h.before h.step) f
 
 -- A STEP OF A SEGMENT
--- where one writer alone is to commit, it stands so at every segment
-one-of : (b : Bool) (o : Option Txn) (i j : ℕ) → standing b o i ≡ One true → standing b o j ≡ One (eqb i j)
-one-of true None i j e = absurd (cc)
-one-of false None i j e = absurd (cc)
-one-of b (Some t) i j e = by_phase t.phase e
-  where
-    one-same : (a b : Bool) → One a ≡ One b → a ≡ b
-    one-same a b e = cc
-
-    by_phase : (p : Status) → standing_in p i ≡ One true → standing_in p j ≡ One (eqb i j)
-    by_phase status.Active e = absurd (cc)
-    by_phase (status.Preparing xs aw) e = absurd (cc)
-    by_phase (status.CommittingOne w) e = ap (λ n. One (eqb n j)) (eqb-true w.0 i (one-same (eqb w.0 i) true e))
-    by_phase (status.CommittingTwo aw) e = absurd (cc)
-    by_phase (status.Ended aw) e = absurd (cc)
-    by_phase (status.Aborting aw) e = absurd (cc)
-
 both-apart : (a n g i h j : ℕ) → a ≡ g → n ≡ i → (eqb j i && eqb h g) ≡ false → (eqb a h && eqb n j) ≡ false
 both-apart a n g i h j e f q = grind (arith, nat_tests)
 
@@ -382,8 +367,8 @@ module _ (script : Script) (w : World) (n : Knows script w) (v : Holds script w)
         failed = λ j h y. subst (HasMark (mark.JournalFailed (at j) (gx h))) (append_assoc ms2 turn2.marks sent2 ∙ all2) (has-left _ (ms2 ++ turn2.marks) sent2 (failed-next j h y (eqb j i && eqb h g) refl));
         tells = tell-push [] w.steps step2 v.tells (step-told (at i) ms2 turn2.marks (λ node. turn2.seg.sent) turn2.outs (follows-no-sent msg (known i g) i g turn2.marks does.marks)
             (each_weaker (λ (o : Out). Tells (known i g) part_then i g turn2.marks o.message) (λ (o : Out). IsTold (at i) (ms2 ++ turn2.marks) o.message) (λ o h. seg-told (known i g) part_then i g turn2.marks (ms2 ++ turn2.marks) does.next.pair (sym (prepared-append ms2 turn2.marks (at i) (gx g))) (sym (local-append ms2 turn2.marks (at i) (gx g))) o.message h) turn2.outs does.outs));
-        ends = end-push script [] w.steps step2 v.ends (seg-end script w.steps step2 msg (known i g) i g refl reached refl refl refl (parts_in w i g) (v.stands.pairs i g) (v.stands.parts i g) only-one part_then turn2.marks
-            (λ y. failed-next i g (ap (λ b. ((if b then seg_now else s).locals g).vote) (eqb-self i) ∙ y) (eqb i i && eqb g g) refl) (λ node. turn2.seg.sent) turn2.outs does.marks does.votes does.unsettled does.outs);
+        ends = end-push script [] w.steps step2 v.ends (seg-end script w.steps step2 msg (known i g) i g refl reached refl refl refl (parts_in w i g) (v.stands.pairs i g) (v.stands.parts i g) only-one unfinished part_then turn2.marks
+            (λ y. failed-next i g (ap (λ b. ((if b then seg_now else s).locals g).vote) (eqb-self i) ∙ y) (eqb i i && eqb g g) refl) (λ node. turn2.seg.sent) turn2.outs does.marks does.votes does.unsettled does.outs does.replies);
       }
     where
       -- the only writer
@@ -392,6 +377,17 @@ module _ (script : Script) (w : World) (n : Knows script w) (v : Holds script w)
           let one : (known n.0 g).at ≡ One (eqb i n.0) = one-of (nat_le w.coord.table.next.0 g) (find_txn w.coord.table (gx g)) i n.0 alone in
           let pair : Pair (known n.0 g) (parts_in w n.0 g) = v.stands.pairs n.0 g in
           sym (pair.closing (ap is_closing one)) ∙ sym (pair.alone (eqb i n.0) one).0 ∙ eqb-swap i n.0
+
+      -- who runs commands is decided and committed nowhere, and so is who has aborted
+      unfinished : ((known i g).at ≡ Live) ⊎ ((known i g).aborted ≡ true) → IsUnfinished ms2 (gx g)
+      unfinished (inl live) = ((v.stands.pairs i g).undecided (ap is_undecided live), λ n. none n.0 (live-of (nat_le w.coord.table.next.0 g) (find_txn w.coord.table (gx g)) i n.0 live))
+        where
+          open-not : (p : Phase) → is_open p ≡ true → has_committed p ≡ false
+          open-not p o = grind (arith, nat_tests)
+
+          none : (j : ℕ) → (known j g).at ≡ Live → local_count ms2 (at j) (gx g) ≡ 0
+          none j l = let pair : Pair (known j g) (parts_in w j g) = v.stands.pairs j g in pair.committed ∙ ap bit (open-not (parts_in w j g).phase (pair.live l).0)
+      unfinished (inr a) = aborted-unfinished script (gx g) w.steps v.ends a
 
       each-out : (outs : List Out) → Each (λ (o : Out). Tells (known i g) part_then i g turn2.marks o.message) outs → Each (λ (o : Out). (number : ℕ) → SaidIn world_then (record { from = at i; to = o.node; envelope = record { number = number; clock = clock_after s.clock x; message = o.message } })) outs
       each-out [] y = tt

@@ -1,5 +1,5 @@
 -- The first constant of an INSERT that faults.
-use Rattle.std.proofs.Common.{◌≡◌, ◌<◌, ◌≤◌, ℕ, zero, suc, ◌+◌, List, [], ◌∷◌, Some, None, Result, Ok, Err, refl, subst, ap, ◌∙◌, arith}
+use Rattle.std.proofs.Common.{◌≡◌, ◌<◌, ◌≤◌, ℕ, zero, suc, ◌+◌, false, List, [], ◌∷◌, Some, None, Result, Ok, Err, refl, subst, ap, ◌∙◌, arith}
 use Rattle.std.specs.Prelude.{◌-◌, slice_get}
 use Rattle.gx_lemmas.proofs.Numbers.{lt-none, same-plus-none}
 use Rattle.gx_ids.specs.declared.ids.Cid.{Cid}
@@ -10,7 +10,9 @@ use Rattle.gx_tree.specs.declared.value.Value.{Value}
 use Rattle.gx_meaning.specs.Expressions.{and_then}
 use Rattle.gx_meaning.specs.declared.fault.ArithFault.{ArithFault}
 use Rattle.gx_meaning.specs.Constants.{each_from, keyed, rows_of, tuple_row, values_of}
+use Rattle.gx_store.specs.declared.mark.Mark.{Mark}
 use Rattle.gx_store.specs.Faults.{FaultsInConstants}
+use Rattle.gx_store.specs.Marks.{is_sent}
 use Rattle.gx_rules.specs.AtCoordinator.{faulting_from}
 
 record Finds (o : ℕ) (tuples : List (List Expr)) (fault : ArithFault) : Type 0 where
@@ -65,8 +67,8 @@ finds g c o (t ∷ ts) fault e = by_value (values_of t) refl e (λ f h. finds g 
         record { place = 0; is = here x v ∙ same-plus-none o; tuple = t; among = refl; faults = v ∙ ap (λ q. let a : Result (List Value) ArithFault = Err q in a) (same-fault x fault h); first = λ k earlier l m. absurd (lt-none k l) }
     by_value (Ok vs) v h rest = more vs v (rest fault (by_rest (each_from (tuple_row g c) (o + 1) ts) (keyed g c o vs) h))
 
-pub constants-fault : (g : Gxid) (c : Cid) (tuples : List (List Expr)) (fault : ArithFault) → rows_of g c tuples ≡ Err fault → FaultsInConstants g c tuples (record { gxid = g; cid = c; ordinal = faulting_from 1 tuples }) None fault
-constants-fault g c tuples fault e = of (finds g c 1 tuples fault e)
+pub constants-fault : (marks : List Mark) (g : Gxid) (c : Cid) (tuples : List (List Expr)) (fault : ArithFault) → is_sent marks g c ≡ false → rows_of g c tuples ≡ Err fault → FaultsInConstants marks g c tuples (record { gxid = g; cid = c; ordinal = faulting_from 1 tuples }) None fault
+constants-fault marks g c tuples fault unsent e = of (finds g c 1 tuples fault e)
   where
     counted : (a p : ℕ) → a ≡ 1 + p → 1 ≤ a
     counted a p h = omega arith
@@ -74,7 +76,7 @@ constants-fault g c tuples fault e = of (finds g c 1 tuples fault e)
     back : (a p : ℕ) → a ≡ 1 + p → a - 1 ≡ p
     back a p h = omega arith
 
-    of : Finds 1 tuples fault → FaultsInConstants g c tuples (record { gxid = g; cid = c; ordinal = faulting_from 1 tuples }) None fault
+    of : Finds 1 tuples fault → FaultsInConstants marks g c tuples (record { gxid = g; cid = c; ordinal = faulting_from 1 tuples }) None fault
     of f =
         record {
           own = (refl, refl);
@@ -84,4 +86,5 @@ constants-fault g c tuples fault e = of (finds g c 1 tuples fault e)
           faults = f.faults;
           first = λ k earlier l h. f.first k earlier (subst (λ i. k < i) (back _ f.place f.is) l) h;
           meant = refl;
+          unsent = unsent;
         }

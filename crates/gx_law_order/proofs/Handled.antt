@@ -1,5 +1,6 @@
 -- What a segment's rule makes of its part of a transaction, message by message.
 use Rattle.std.proofs.Common.{◌≡◌, ◌⊎◌, inl, inr, ◌≤◌, ℕ, ◌+◌, List, [], ◌∷◌, ◌++◌, Option, Some, None, Bool, true, false, not, refl, sym, subst, ap, ◌∙◌, if◌then◌else◌, ◌==◌, ◌||◌, ◌&&◌, nat_lt, arith, eqb}
+use Rattle.std.proofs.lemmas.Bool.{eqb-true}
 use Rattle.std.proofs.lemmas.Bool.Decides.{nat_tests}
 use Rattle.std.specs.Prelude.{fold, is_some, length}
 use Rattle.gx_lemmas.proofs.Numbers.{eqb-self, lt-of, plus-none}
@@ -71,33 +72,47 @@ pub record IsExecOf (told : Message) (g : ℕ) (c : Cid) : Type 0 where
   pub slice : Slice
   pub is : told ≡ message.Exec (gx g) c level snapshot horizon slice
 
+-- the message is an order that a journal takes an item for
+abbrev pub IsOrderTo : Message → ℕ → Type 0
+IsOrderTo told g = (told ≡ message.Prepare (gx g)) ⊎ (told ≡ message.Commit (gx g)) ⊎ (told ≡ message.CommitPrepared (gx g))
+
 -- what a mark of the segment answers
 abbrev pub Follows : Message → Known → ℕ → ℕ → Mark → Type 0
-Follows told k i g (mark.Write h c n t r x) = (h.0 ≡ g) × (n.0 ≡ i) × IsExecOf told g c
+Follows told k i g (mark.Write h c n t r x) = (h.0 ≡ g) × (n.0 ≡ i) × IsExecOf told g c × ((k.at ≡ Live) ⊎ (k.aborted ≡ true))
 Follows told k i g (mark.Prepared n h) = (h.0 ≡ g) × (n.0 ≡ i) × (told ≡ message.Prepare (gx g)) × (k.committed ≡ false)
 Follows told k i g (mark.LocalCommit n h) = (h.0 ≡ g) × (n.0 ≡ i) × ((told ≡ message.Commit (gx g)) ⊎ (told ≡ message.CommitPrepared (gx g))) × (k.aborted ≡ false) × (k.committed ≡ false)
-Follows told k i g (mark.Skip h c r) = Unit {0}
-Follows told k i g (mark.Fault h c r x) = Unit {0}
-Follows told k i g (mark.JournalFailed n h) = Unit {0}
+Follows told k i g (mark.Skip h c r) = (h.0 ≡ g) × IsExecOf told g c
+Follows told k i g (mark.Fault h c r x) = (h.0 ≡ g) × IsExecOf told g c
+Follows told k i g (mark.JournalFailed n h) = (h.0 ≡ g) × (n.0 ≡ i) × IsOrderTo told g
 Follows told k i g (mark.Hold n h o m) = Unit {0}
 Follows told k i g (mark.Wait n h o m) = Unit {0}
 Follows told k i g (mark.Release n h o m) = Unit {0}
 Follows told k i g (mark.Report n r x) = Unit {0}
 Follows told k i g _ = ⊥
 
--- its promise or its commit is the first mark of its step, and the only such one
+-- its promise, its commit or its journal's failure is the first mark of its step, and the only such one
 abbrev pub NoVote : Mark → Type 0
 NoVote (mark.Prepared n h) = ⊥
 NoVote (mark.LocalCommit n h) = ⊥
+NoVote (mark.JournalFailed n h) = ⊥
 NoVote _ = Unit {0}
 
+-- what a promise asks for, and what a commit does
+abbrev pub MayPromise : Message → Known → Part → ℕ → Type 0
+MayPromise told k p g = (told ≡ message.Prepare (gx g)) × (k.committed ≡ false) × (p.wrote ≡ true) × (p.promises ≡ 0) × (p.commits ≡ 0)
+
+abbrev pub MayCommit : Message → Known → Part → ℕ → Type 0
+MayCommit told k p g =
+    (k.aborted ≡ false) × (k.committed ≡ false) × (p.commits ≡ 0) × (((told ≡ message.Commit (gx g)) × (k.at ≡ One true)) ⊎ ((told ≡ message.CommitPrepared (gx g)) × (k.at ≡ Two true)))
+
 -- who promises has written, and has neither promised nor committed before; who commits has not before, and is told so as the only
--- writer or behind the decision
+-- writer or behind the decision; a journal fails where one of both might be
 abbrev pub Votes : Message → Known → Part → ℕ → List Mark → Type 0
 Votes told k p g [] = Unit {0}
 Votes told k p g (mark.Prepared n h ∷ ms) = (p.wrote ≡ true) × (p.promises ≡ 0) × (p.commits ≡ 0) × Each NoVote ms
 Votes told k p g (mark.LocalCommit n h ∷ ms) =
     (p.commits ≡ 0) × (((told ≡ message.Commit (gx g)) × (k.at ≡ One true)) ⊎ ((told ≡ message.CommitPrepared (gx g)) × (k.at ≡ Two true))) × Each NoVote ms
+Votes told k p g (mark.JournalFailed n h ∷ ms) = (MayPromise told k p g ⊎ MayCommit told k p g) × Each NoVote ms
 Votes told k p g (m ∷ ms) = Each NoVote ms
 
 -- who writes has neither promised nor committed
@@ -122,12 +137,28 @@ no-vote-of-command told k i g c e (mark.LocalCommit n h) f = absurd (by_order f.
       where
         differ : message.Exec (gx g) c e.level e.snapshot e.horizon e.slice ≡ message.CommitPrepared (gx g) → ⊥
         differ q = cc
+no-vote-of-command told k i g c e (mark.JournalFailed n h) f = absurd (by_order f.2)
+  where
+    by_order : IsOrderTo told g → ⊥
+    by_order (inl q) = differ (sym e.is ∙ q)
+      where
+        differ : message.Exec (gx g) c e.level e.snapshot e.horizon e.slice ≡ message.Prepare (gx g) → ⊥
+        differ q = cc
+    by_order (inr (inl q)) = differ (sym e.is ∙ q)
+      where
+        differ : message.Exec (gx g) c e.level e.snapshot e.horizon e.slice ≡ message.Commit (gx g) → ⊥
+        differ q = cc
+    by_order (inr (inr q)) = differ (sym e.is ∙ q)
+      where
+        differ : message.Exec (gx g) c e.level e.snapshot e.horizon e.slice ≡ message.CommitPrepared (gx g) → ⊥
+        differ q = cc
 no-vote-of-command told k i g c e m f = tt
 
 no-votes : (told : Message) (k : Known) (p : Part) (g : ℕ) (ms : List Mark) → Each NoVote ms → Votes told k p g ms
 no-votes told k p g [] e = tt
 no-votes told k p g (mark.Prepared n h ∷ ms) e = absurd e.0
 no-votes told k p g (mark.LocalCommit n h ∷ ms) e = absurd e.0
+no-votes told k p g (mark.JournalFailed n h ∷ ms) e = absurd e.0
 no-votes told k p g (m ∷ ms) e = e.1
 
 pub no-votes-prepared : (ms : List Mark) (n : Node) (g : Gxid) → Each NoVote ms → prepared_count ms n g ≡ 0
@@ -146,6 +177,14 @@ Tells k q i g marks (message.Answer h reply.Again) = (h.0 ≡ g) × HasMark (mar
 Tells k q i g marks (message.Answer h r) = (h.0 ≡ g) × Answers k q r
 Tells k q i g marks (message.Graph round graph) = 0 ≡ g
 Tells k q i g marks _ = ⊥
+
+-- what it has received where it sends that: its command, or the order that it has obeyed
+abbrev pub IsReplyTo : Message → ℕ → Message → Type 0
+IsReplyTo told g (message.Answer h (reply.Done c wrote count part)) = IsExecOf told g c
+IsReplyTo told g (message.Answer h (reply.Failed c cause)) = IsExecOf told g c
+IsReplyTo told g (message.Answer h reply.Aborted) = told ≡ message.Abort (gx g)
+IsReplyTo told g (message.Answer h reply.Forgotten) = told ≡ message.Forget (gx g)
+IsReplyTo told g _ = Unit {0}
 
 abbrev pub after_marks : Local → Bool → ℕ → ℕ → ℕ → ℕ → List Mark → Part
 after_marks l w pc lc i g ms = part_of l (w || is_writer ms (gx g) (at i)) (pc + prepared_count ms (at i) (gx g)) (lc + local_count ms (at i) (gx g))
@@ -170,6 +209,7 @@ module _ (told : Message) (k : Known) (s : Seg) (i g : ℕ) (named : s.node ≡ 
     pub votes : Votes told k p g turn.marks
     pub unsettled : Each (IsUnsettled p) turn.marks
     pub outs : Each (λ (o : Out). Tells k (after turn) i g turn.marks o.message) turn.outs
+    pub replies : Each (λ (o : Out). IsReplyTo told g o.message) turn.outs
     pub fails : (turn.seg.locals g).vote ≡ Some reply.Jfault → (l.vote ≡ Some reply.Jfault) ⊎ HasMark (mark.JournalFailed (at i) (gx g)) turn.marks
 
   -- no mark of it
@@ -180,13 +220,13 @@ module _ (told : Message) (k : Known) (s : Seg) (i g : ℕ) (named : s.node ≡ 
   same-next = subst (Next k p) (sym (none-after l)) (record { pair = e; grows = grows-same p })
 
   stay : Does (stays s)
-  stay = record { others = λ h d. refl; next = same-next; marks = tt; votes = tt; unsettled = tt; outs = tt; fails = λ v. inl v }
+  stay = record { others = λ h d. refl; next = same-next; marks = tt; votes = tt; unsettled = tt; outs = tt; replies = tt; fails = λ v. inl v }
 
   -- a segment's graph says nothing of its part
   collect : (round : ℕ) → 0 ≡ g → Does (on_collect s round)
   collect round none =
-      collect-ways Does s round stay (λ e. record { others = λ h d. refl; next = same-next; marks = (tt, tt); votes = tt; unsettled = (tt, tt); outs = (none, tt); fails = λ v. inl v })
-      (λ e graph f. record { others = λ h d. refl; next = same-next; marks = tt; votes = tt; unsettled = tt; outs = (none, tt); fails = λ v. inl v })
+      collect-ways Does s round stay (λ e. record { others = λ h d. refl; next = same-next; marks = (tt, tt); votes = tt; unsettled = (tt, tt); outs = (none, tt); replies = (tt, tt); fails = λ v. inl v })
+      (λ e graph f. record { others = λ h d. refl; next = same-next; marks = tt; votes = tt; unsettled = tt; outs = (none, tt); replies = (tt, tt); fails = λ v. inl v })
 
   -- an answer that changes nothing
   abbrev not-again : Reply → Bool
@@ -203,8 +243,8 @@ module _ (told : Message) (k : Known) (s : Seg) (i g : ℕ) (named : s.node ≡ 
   told-of k q ms reply.Aborted n a = (refl, tt)
   told-of k q ms reply.Forgotten n a = (refl, tt)
 
-  tell : (r : Reply) → not-again r ≡ true → Answers k p r → Does (tells s (gx g) r)
-  tell r n a = record { others = λ h d. refl; next = same-next; marks = tt; votes = tt; unsettled = tt; outs = (subst (λ q. Tells k q i g [] (message.Answer (gx g) r)) (sym (none-after l)) (told-of k p [] r n a), tt); fails = λ v. inl v }
+  tell : (r : Reply) → not-again r ≡ true → Answers k p r → IsReplyTo told g (message.Answer (gx g) r) → Does (tells s (gx g) r)
+  tell r n a y = record { others = λ h d. refl; next = same-next; marks = tt; votes = tt; unsettled = tt; outs = (subst (λ q. Tells k q i g [] (message.Answer (gx g) r)) (sym (none-after l)) (told-of k p [] r n a), tt); replies = (y, tt); fails = λ v. inl v }
 
   vote-not-again : (ph : Phase) (r : Reply) → IsVote ph (Some r) → not-again r ≡ true
   vote-not-again ph reply.Again v = absurd v
@@ -226,8 +266,18 @@ module _ (told : Message) (k : Known) (s : Seg) (i g : ℕ) (named : s.node ≡ 
   vote-answers reply.Aborted f v = tt
   vote-answers reply.Forgotten f v = tt
 
+  vote-replies : (ph : Phase) (r : Reply) → IsVote ph (Some r) → IsReplyTo told g (message.Answer (gx g) r)
+  vote-replies ph (reply.Done c x y z) v = absurd v
+  vote-replies ph (reply.Failed c x) v = absurd v
+  vote-replies ph reply.Aborted v = absurd v
+  vote-replies ph reply.Forgotten v = absurd v
+  vote-replies ph reply.Prepared v = tt
+  vote-replies ph reply.Committed v = tt
+  vote-replies ph reply.Jfault v = tt
+  vote-replies ph reply.Again v = tt
+
   tell-vote : (r : Reply) → l.vote ≡ Some r → Does (tells s (gx g) r)
-  tell-vote r f = let v : IsVote l.phase (Some r) = subst (IsVote l.phase) f e.vote in tell r (vote-not-again l.phase r v) (vote-answers r f v)
+  tell-vote r f = let v : IsVote l.phase (Some r) = subst (IsVote l.phase) f e.vote in tell r (vote-not-again l.phase r v) (vote-answers r f v) (vote-replies l.phase r v)
 
   kept-vote : (v : Option Reply) → l.vote ≡ v → Does (tells_kept s (gx g) v)
   kept-vote None f = stay
@@ -241,8 +291,8 @@ module _ (told : Message) (k : Known) (s : Seg) (i g : ℕ) (named : s.node ≡ 
   here : (x : Local) → with_at s.locals g x g ≡ x
   here x = ap (λ b. if b then x else l) (eqb-self g)
 
-  change : (x : Local) (ms : List Mark) (r : Reply) (it : Option JournalItem) → Next k p (after_marks x w pc lc i g ms) → Each (Follows told k i g) ms → Votes told k p g ms → Each (IsUnsettled p) ms → Tells k (after_marks x w pc lc i g ms) i g ms (message.Answer (gx g) r) → (x.vote ≡ Some reply.Jfault → (l.vote ≡ Some reply.Jfault) ⊎ HasMark (mark.JournalFailed (at i) (gx g)) ms) → Does (changes s (gx g) x ms r it)
-  change x ms r it n m v u t f =
+  change : (x : Local) (ms : List Mark) (r : Reply) (it : Option JournalItem) → Next k p (after_marks x w pc lc i g ms) → Each (Follows told k i g) ms → Votes told k p g ms → Each (IsUnsettled p) ms → Tells k (after_marks x w pc lc i g ms) i g ms (message.Answer (gx g) r) → IsReplyTo told g (message.Answer (gx g) r) → (x.vote ≡ Some reply.Jfault → (l.vote ≡ Some reply.Jfault) ⊎ HasMark (mark.JournalFailed (at i) (gx g)) ms) → Does (changes s (gx g) x ms r it)
+  change x ms r it n m v u t y f =
       record {
         others = λ h d. ap (λ b. if b then x else s.locals h) d;
         next = subst (λ y. Next k p (after_marks y w pc lc i g ms)) (sym (here x)) n;
@@ -250,6 +300,7 @@ module _ (told : Message) (k : Known) (s : Seg) (i g : ℕ) (named : s.node ≡ 
         votes = v;
         unsettled = u;
         outs = (subst (λ y. Tells k (after_marks y w pc lc i g ms) i g ms (message.Answer (gx g) r)) (sym (here x)) t, tt);
+        replies = (y, tt);
         fails = λ v. f (subst (λ (y : Local). y.vote ≡ Some reply.Jfault) (here x) v);
       }
 
@@ -270,11 +321,14 @@ module _ (told : Message) (k : Known) (s : Seg) (i g : ℕ) (named : s.node ≡ 
   failed-here : HasMark (mark.JournalFailed (at i) (gx g)) (mark.JournalFailed s.node (gx g) ∷ [])
   failed-here = inl (ap (λ n. mark.JournalFailed n (gx g)) (sym named))
 
-  refuse : (it : JournalItem) → l.vote ≡ None → is_open l.phase ≡ true → (k.at ≡ Preparing true) ⊎ (k.at ≡ One true) ⊎ (k.aborted ≡ true) → Does (is_refused s (gx g) l it)
-  refuse it v o st =
+  at-node : s.node.0 ≡ i
+  at-node = ap (λ (n : Node). n.0) named
+
+  refuse : (it : JournalItem) → l.vote ≡ None → is_open l.phase ≡ true → (k.at ≡ Preparing true) ⊎ (k.at ≡ One true) ⊎ (k.aborted ≡ true) → IsOrderTo told g → MayPromise told k p g ⊎ MayCommit told k p g → Does (is_refused s (gx g) l it)
+  refuse it v o st order may =
       let n : Next k p (refusing p) = refuse-next k p e v o st in
       change (record l { vote = Some reply.Jfault }) (mark.JournalFailed s.node (gx g) ∷ []) reply.Jfault (Some it)
-      (subst (Next k p) (sym (none-after (record l { vote = Some reply.Jfault }))) n) (tt, tt) tt (tt, tt) (refl, refl) (λ x. inr failed-here)
+      (subst (Next k p) (sym (none-after (record l { vote = Some reply.Jfault }))) n) ((refl, at-node, order), tt) (may, tt) (tt, tt) (refl, refl) tt (λ x. inr failed-here)
 
   -- counts of one mark
   node-is : eqb s.node.0 i ≡ true
@@ -289,9 +343,6 @@ module _ (told : Message) (k : Known) (s : Seg) (i g : ℕ) (named : s.node ≡ 
   local-after : (x : Local) → after_marks x w pc lc i g (mark.LocalCommit s.node (gx g) ∷ []) ≡ part_of x w pc (lc + 1)
   local-after x = part-eq x _ w _ pc _ (lc + 1) (or-false w) (plus-none pc) (counted-one lc)
 
-  at-node : s.node.0 ≡ i
-  at-node = ap (λ (n : Node). n.0) named
-
   -- nothing promised or committed there yet
   unpromised : l.vote ≡ None → pc ≡ 0
   unpromised v = e.promised ∙ ap (λ x. bit (was_prepared x)) v
@@ -304,7 +355,7 @@ module _ (told : Message) (k : Known) (s : Seg) (i g : ℕ) (named : s.node ≡ 
 
   -- PREPARE
   promised : (fails : Bool) → told ≡ message.Prepare (gx g) → l.vote ≡ None → is_open l.phase ≡ true → (k.at ≡ Preparing true) ⊎ (k.aborted ≡ true) → k.committed ≡ false → w ≡ true → is_waiting l ≡ false → Does (promises s (gx g) fails l)
-  promised true m v o st c wr y = refuse _ v o (wider st)
+  promised true m v o st c wr y = refuse _ v o (wider st) (inl m) (inl (m, c, wr, unpromised v, uncommitted l.phase refl (open-uncommitted l.phase o)))
     where
       wider : (k.at ≡ Preparing true) ⊎ (k.aborted ≡ true) → (k.at ≡ Preparing true) ⊎ (k.at ≡ One true) ⊎ (k.aborted ≡ true)
       wider (inl x) = inl x
@@ -312,7 +363,7 @@ module _ (told : Message) (k : Known) (s : Seg) (i g : ℕ) (named : s.node ≡ 
   promised false m v o st c wr y =
       let n : Next k p (promising p) = promise-next k p e v o y st in
       change (record l { phase = Prepared; vote = Some reply.Prepared }) (mark.Prepared s.node (gx g) ∷ []) reply.Prepared _
-      (subst (Next k p) (sym (prepared-after (record l { phase = Prepared; vote = Some reply.Prepared }))) n) ((refl, at-node, m, c), tt) (wr, unpromised v, uncommitted l.phase refl (open-uncommitted l.phase o), tt) (tt, tt) (refl, refl) (λ x. absurd (cc))
+      (subst (Next k p) (sym (prepared-after (record l { phase = Prepared; vote = Some reply.Prepared }))) n) ((refl, at-node, m, c), tt) (wr, unpromised v, uncommitted l.phase refl (open-uncommitted l.phase o), tt) (tt, tt) (refl, refl) tt (λ x. absurd (cc))
 
   not-ended-prepare : (k.at ≡ Preparing true) ⊎ (k.aborted ≡ true) → k.committed ≡ false
   not-ended-prepare st = plain k.committed k.aborted st e.either e.ends
@@ -349,12 +400,14 @@ module _ (told : Message) (k : Known) (s : Seg) (i g : ℕ) (named : s.node ≡ 
       differ z = cc
 
   committed : (fails : Bool) → told ≡ message.Commit (gx g) → l.vote ≡ None → is_open l.phase ≡ true → k.at ≡ One true → is_waiting l ≡ false → Does (commits s (gx g) fails l)
-  committed true m v o st y = refuse _ v o (inr (inl st))
+  committed true m v o st y =
+      let x = live-marks (one-not-over st) in
+      refuse _ v o (inr (inl st)) (inr (inl m)) (inr (x.0, x.1, uncommitted l.phase refl (open-uncommitted l.phase o), inl (m, st)))
   committed false m v o st y =
       let n : Next k p (committing p) = commit-next k p e v o y st in
       let x = live-marks (one-not-over st) in
       change (record l { phase = Committed; vote = Some reply.Committed }) (mark.LocalCommit s.node (gx g) ∷ []) reply.Committed _
-      (subst (Next k p) (sym (local-after (record l { phase = Committed; vote = Some reply.Committed }))) n) ((refl, at-node, inl m, x.0, x.1), tt) (uncommitted l.phase refl (open-uncommitted l.phase o), inl (m, st), tt) (tt, tt) (refl, refl) (λ x. absurd (cc))
+      (subst (Next k p) (sym (local-after (record l { phase = Committed; vote = Some reply.Committed }))) n) ((refl, at-node, inl m, x.0, x.1), tt) (uncommitted l.phase refl (open-uncommitted l.phase o), inl (m, st), tt) (tt, tt) (refl, refl) tt (λ x. absurd (cc))
 
   unless-prepared : (b : Bool) → Does (if b then stays s else tells_kept s (gx g) l.vote)
   unless-prepared true = stay
@@ -371,12 +424,13 @@ module _ (told : Message) (k : Known) (s : Seg) (i g : ℕ) (named : s.node ≡ 
   -- COMMIT PREPARED
   finished : (fails : Bool) → told ≡ message.CommitPrepared (gx g) → l.phase ≡ Prepared → k.at ≡ Two true → Does (finishes s (gx g) fails l)
   finished true m f st =
-      change l (mark.JournalFailed s.node (gx g) ∷ []) reply.Again _ same-next (tt, tt) tt (tt, tt) (refl, failed-here) (λ v. inl v)
+      let x = live-marks (two-not-over st) in
+      change l (mark.JournalFailed s.node (gx g) ∷ []) reply.Again _ same-next ((refl, at-node, inr (inr m)), tt) (inr (x.0, x.1, uncommitted Prepared f refl, inr (m, st)), tt) (tt, tt) (refl, failed-here) tt (λ v. inl v)
   finished false m f st =
       let n : Next k p (finishing p) = finish-next k p e f st in
       let x = live-marks (two-not-over st) in
       change (record l { phase = Committed }) (mark.LocalCommit s.node (gx g) ∷ []) reply.Committed _
-      (subst (Next k p) (sym (local-after (record l { phase = Committed }))) n) ((refl, at-node, inr m, x.0, x.1), tt) (uncommitted Prepared f refl, inr (m, st), tt) (tt, tt) (refl, refl) (λ v. inl v)
+      (subst (Next k p) (sym (local-after (record l { phase = Committed }))) n) ((refl, at-node, inr m, x.0, x.1), tt) (uncommitted Prepared f refl, inr (m, st), tt) (tt, tt) (refl, refl) tt (λ v. inl v)
 
   decided-still : (ph : Phase) → l.phase ≡ ph → has_committed ph ≡ false → (k.at ≡ Two true) ⊎ (has_committed l.phase ≡ true) → k.at ≡ Two true
   decided-still ph f n (inl x) = x
@@ -386,14 +440,14 @@ module _ (told : Message) (k : Known) (s : Seg) (i g : ℕ) (named : s.node ≡ 
   commit-prepared fails Reading f m st = stay
   commit-prepared fails Writing f m st = stay
   commit-prepared fails Prepared f m st = finished fails m f (decided-still Prepared f refl st)
-  commit-prepared fails Committed f m st = tell reply.Committed refl (ap has_committed f)
-  commit-prepared fails (Forgotten true) f m st = tell reply.Committed refl (ap has_committed f)
+  commit-prepared fails Committed f m st = tell reply.Committed refl (ap has_committed f) tt
+  commit-prepared fails (Forgotten true) f m st = tell reply.Committed refl (ap has_committed f) tt
   commit-prepared fails (Forgotten false) f m st = stay
   commit-prepared fails Aborted f m st = stay
 
   -- ABORT and FORGET
-  ended : (ph : Phase) (r : Reply) → not-again r ≡ true → ((q : Part) → Answers k q r) → is_open ph ≡ false → (ph ≡ Prepared → ⊥) → has_committed ph ≡ has_committed l.phase → k.at ≡ Over → Does (ends s (gx g) l ph r)
-  ended ph r n a o d c st =
+  ended : (ph : Phase) (r : Reply) → IsReplyTo told g (message.Answer (gx g) r) → not-again r ≡ true → ((q : Part) → Answers k q r) → is_open ph ≡ false → (ph ≡ Prepared → ⊥) → has_committed ph ≡ has_committed l.phase → k.at ≡ Over → Does (ends s (gx g) l ph r)
+  ended ph r y n a o d c st =
       let x : Local = record l { phase = ph; suspended = None } in
       let back : List Mark = release_marks s.node s.locks (gx g) in
       record {
@@ -404,27 +458,28 @@ module _ (told : Message) (k : Known) (s : Seg) (i g : ℕ) (named : s.node ≡ 
         votes = no-votes told k p g back (each-released NoVote s.node s.locks (gx g) (λ claim. tt));
         unsettled = each-released (IsUnsettled p) s.node s.locks (gx g) (λ claim. tt);
         outs = (told-of k _ back r n (a _), tt);
+        replies = (y, tt);
         fails = λ v. inl (subst (λ (y : Local). y.vote ≡ Some reply.Jfault) (here x) v);
       }
 
-  abort : (ph : Phase) → l.phase ≡ ph → Said k p (message.Abort (gx g)) → Does (on_abort s (gx g) l ph)
-  abort Reading f st = ended Aborted reply.Aborted refl (λ q. tt) refl (λ x. absurd (cc)) (sym (ap has_committed f)) (e.aborts st)
-  abort Writing f st = ended Aborted reply.Aborted refl (λ q. tt) refl (λ x. absurd (cc)) (sym (ap has_committed f)) (e.aborts st)
-  abort Prepared f st = ended Aborted reply.Aborted refl (λ q. tt) refl (λ x. absurd (cc)) (sym (ap has_committed f)) (e.aborts st)
-  abort Committed f st = stay
-  abort (Forgotten b) f st = stay
-  abort Aborted f st = tell reply.Aborted refl tt
+  abort : (ph : Phase) → l.phase ≡ ph → told ≡ message.Abort (gx g) → Said k p (message.Abort (gx g)) → Does (on_abort s (gx g) l ph)
+  abort Reading f m st = ended Aborted reply.Aborted m refl (λ q. tt) refl (λ x. absurd (cc)) (sym (ap has_committed f)) (e.aborts st)
+  abort Writing f m st = ended Aborted reply.Aborted m refl (λ q. tt) refl (λ x. absurd (cc)) (sym (ap has_committed f)) (e.aborts st)
+  abort Prepared f m st = ended Aborted reply.Aborted m refl (λ q. tt) refl (λ x. absurd (cc)) (sym (ap has_committed f)) (e.aborts st)
+  abort Committed f m st = stay
+  abort (Forgotten b) f m st = stay
+  abort Aborted f m st = tell reply.Aborted refl tt m
 
-  forgotten : Said k p (message.Forget (gx g)) → Does (ends s (gx g) l (Forgotten (has_committed l.phase)) reply.Forgotten)
-  forgotten st = ended (Forgotten (has_committed l.phase)) reply.Forgotten refl (λ q. tt) refl (λ x. absurd (cc)) refl (e.ends st)
+  forgotten : told ≡ message.Forget (gx g) → Said k p (message.Forget (gx g)) → Does (ends s (gx g) l (Forgotten (has_committed l.phase)) reply.Forgotten)
+  forgotten m st = ended (Forgotten (has_committed l.phase)) reply.Forgotten m refl (λ q. tt) refl (λ x. absurd (cc)) refl (e.ends st)
 
-  forget : (ph : Phase) → l.phase ≡ ph → Said k p (message.Forget (gx g)) → Does (on_forget s (gx g) l ph)
-  forget Reading f st = forgotten st
-  forget Writing f st = forgotten st
-  forget Prepared f st = forgotten st
-  forget Committed f st = forgotten st
-  forget (Forgotten b) f st = tell reply.Forgotten refl tt
-  forget Aborted f st = stay
+  forget : (ph : Phase) → l.phase ≡ ph → told ≡ message.Forget (gx g) → Said k p (message.Forget (gx g)) → Does (on_forget s (gx g) l ph)
+  forget Reading f m st = forgotten m st
+  forget Writing f m st = forgotten m st
+  forget Prepared f m st = forgotten m st
+  forget Committed f m st = forgotten m st
+  forget (Forgotten b) f m st = tell reply.Forgotten refl tt m
+  forget Aborted f m st = stay
 
   -- EXEC
   kept-answers : (k.at ≡ Unborn → ⊥) → (q : Part) (r : Reply) → Pair k q → q.answer ≡ Some r → Answers k q r
@@ -460,16 +515,35 @@ module _ (told : Message) (k : Known) (s : Seg) (i g : ℕ) (named : s.node ≡ 
   kept-not-again n b reply.Aborted v = refl
   kept-not-again n b reply.Forgotten v = refl
 
-  kept-answer : (k.at ≡ Unborn → ⊥) → (v : Option Reply) → l.answer ≡ v → Does (tells_kept s (gx g) v)
-  kept-answer born None f = stay
-  kept-answer born (Some r) f = tell r (kept-not-again p.last p.wrote r (subst (IsKept p.last p.wrote) f e.kept)) (kept-answers born p r e f)
+  -- what is kept is of the command that has come
+  exec-of : (c d : Cid) → IsExecOf told g c → d.0 ≡ c.0 → IsExecOf told g d
+  exec-of c d m q = subst (IsExecOf told g) (ap (λ (n : ℕ). cid n) (sym q)) m
+    where
+      cid : ℕ → Cid
+      cid n = record { 0 = n }
 
-  repeat-if : (k.at ≡ Unborn → ⊥) → (b : Bool) → Does (if b then tells_kept s (gx g) l.answer else stays s)
-  repeat-if born true = kept-answer born l.answer refl
-  repeat-if born false = stay
+  kept-replies : (c : Cid) (b : Bool) (r : Reply) → IsExecOf told g c → IsKept c.0 b (Some r) → IsReplyTo told g (message.Answer (gx g) r)
+  kept-replies c b (reply.Done d x y z) m v = exec-of c d m v.0
+  kept-replies c b (reply.Failed d x) m v = exec-of c d m v
+  kept-replies c b reply.Aborted m v = absurd v
+  kept-replies c b reply.Forgotten m v = absurd v
+  kept-replies c b reply.Prepared m v = tt
+  kept-replies c b reply.Committed m v = tt
+  kept-replies c b reply.Jfault m v = tt
+  kept-replies c b reply.Again m v = tt
 
-  repeat : (k.at ≡ Unborn → ⊥) → (c : Cid) → Does (repeats s (gx g) c l)
-  repeat born c = repeat-if born (c.0 == l.last)
+  kept-answer : (k.at ≡ Unborn → ⊥) → (c : Cid) → IsExecOf told g c → c.0 ≡ l.last → (v : Option Reply) → l.answer ≡ v → Does (tells_kept s (gx g) v)
+  kept-answer born c m q None f = stay
+  kept-answer born c m q (Some r) f =
+      let kept : IsKept p.last p.wrote (Some r) = subst (IsKept p.last p.wrote) f e.kept in
+      tell r (kept-not-again p.last p.wrote r kept) (kept-answers born p r e f) (kept-replies c p.wrote r m (subst (λ n. IsKept n p.wrote (Some r)) (sym q) kept))
+
+  repeat : (k.at ≡ Unborn → ⊥) → (c : Cid) → IsExecOf told g c → Does (repeats s (gx g) c l)
+  repeat born c m = by_test (c.0 == l.last) refl
+    where
+      by_test : (b : Bool) → (c.0 == l.last) ≡ b → Does (if b then tells_kept s (gx g) l.answer else stays s)
+      by_test true q = kept-answer born c m (eqb-true c.0 l.last q) l.answer refl
+      by_test false q = stay
 
   -- a segment at which no slice of it waits, and which is as this one but for horizon and locks
   record Base (t : Seg) : Type 0 where
@@ -526,7 +600,7 @@ module _ (told : Message) (k : Known) (s : Seg) (i g : ℕ) (named : s.node ≡ 
           local = ap (λ b. if b then new else x.seg.locals g) (eqb-self g) ∙ ap (λ (z : Local). record z { phase = Writing }) f.local;
           opens = refl;
           wrote = sym (ap (λ b. w || b) (writer-append x.marks (y ∷ []) (gx g) (at i)) ∙ all-true w (is_writer x.marks (gx g) (at i)) (eqb g g) (eqb x.seg.node.0 i) (eqb-self g) at-node-there);
-          marks = each_append (Follows told k i g) x.marks (y ∷ []) f.marks ((refl, ap (λ (n : Node). n.0) f.node ∙ at-node, m), tt);
+          marks = each_append (Follows told k i g) x.marks (y ∷ []) f.marks ((refl, ap (λ (n : Node). n.0) f.node ∙ at-node, m, may.stands), tt);
           calm = each_append NoVote x.marks (y ∷ []) f.calm (tt, tt);
           unsettled = each_append (IsUnsettled p) x.marks (y ∷ []) f.unsettled ((e.promised ∙ ap bit (e.unpromised may.opens), e.committed ∙ ap bit (open-uncommitted l.phase may.opens)), tt);
           node = f.node;
@@ -559,9 +633,9 @@ module _ (told : Message) (k : Known) (s : Seg) (i g : ℕ) (named : s.node ≡ 
     -- its record there, and what it sends
     stopped : (x : Moved) (f : Going x) (y : Local) (r : Option Reply) (o : Option Suspended) (outs : List Out) → y ≡ record l { phase = f.phase; last = c.0; answer = r; suspended = o }
         → IsKept c.0 (w || is_writer x.marks (gx g) (at i)) r → (is_some o ≡ true → r ≡ None)
-        → ((q : Part) → Pair k q → q.answer ≡ r → Each (λ (out : Out). Tells k q i g (ns ++ x.marks) out.message) outs)
+        → ((q : Part) → Pair k q → q.answer ≡ r → Each (λ (out : Out). Tells k q i g (ns ++ x.marks) out.message) outs) → Each (λ (out : Out). IsReplyTo told g out.message) outs
         → Does (behind ns (record { seg = with_local x.seg (gx g) y; marks = x.marks; outs = outs; item = None }))
-    stopped x f y r o outs is a unanswered tells-so =
+    stopped x f y r o outs is a unanswered tells-so replies-so =
         record {
           others = λ j d. ap (λ b. if b then y else x.seg.locals j) d ∙ f.others j d;
           next = subst (Next k p) (sym same) next;
@@ -569,6 +643,7 @@ module _ (told : Message) (k : Known) (s : Seg) (i g : ℕ) (named : s.node ≡ 
           votes = no-votes told k p g (ns ++ x.marks) calm;
           unsettled = each_append (IsUnsettled p) ns x.marks (each_weaker IsAside (IsUnsettled p) aside-unsettled ns aside) f.unsettled;
           outs = subst (λ q. Each (λ (out : Out). Tells k q i g (ns ++ x.marks) out.message) outs) (sym same) (tells-so left next.pair refl);
+          replies = replies-so;
           fails = λ v. inl (ap (λ (z : Local). z.vote) (sym set) ∙ v);
         }
       where
@@ -598,7 +673,7 @@ module _ (told : Message) (k : Known) (s : Seg) (i g : ℕ) (named : s.node ≡ 
     ran x r f a =
         stopped x f (record (x.seg.locals g) { last = c.0; answer = Some r }) (Some r) None (reply (gx g) r ∷ [])
         (ap (λ (z : Local). record z { last = c.0; answer = Some r }) f.local) a (λ z. absurd (cc))
-        (λ q pair is. (told-of k q (ns ++ x.marks) r (kept-not-again c.0 _ r a) (kept-answers (drawn-runs k p e may.stands) q r pair is), tt))
+        (λ q pair is. (told-of k q (ns ++ x.marks) r (kept-not-again c.0 _ r a) (kept-answers (drawn-runs k p e may.stands) q r pair is), tt)) (kept-replies c _ r m a, tt)
 
     is-done : (x : Moved) (count : ℕ) (part : QueryPart) → Going x → Does (behind ns (answers x.seg (gx g) c x.marks (reply.Done c (has_written (local_of x.seg (gx g)).phase) count part)))
     is-done x count part f = ran x (reply.Done c (has_written (local_of x.seg (gx g)).phase) count part) f (refl, ap (λ (z : Local). has_written z.phase) f.local ∙ f.wrote)
@@ -608,24 +683,27 @@ module _ (told : Message) (k : Known) (s : Seg) (i g : ℕ) (named : s.node ≡ 
         → Does (behind ns (record { seg = with_local x.seg (gx g) (record (local_of x.seg (gx g)) { last = c.0; answer = None; suspended = Some z }); marks = x.marks; outs = []; item = None }))
     waits x z f =
         stopped x f (record (x.seg.locals g) { last = c.0; answer = None; suspended = Some z }) None (Some z) []
-        (ap (λ (v : Local). record v { last = c.0; answer = None; suspended = Some z }) f.local) tt (λ q. refl) (λ q pair is. tt)
+        (ap (λ (v : Local). record v { last = c.0; answer = None; suspended = Some z }) f.local) tt (λ q. refl) (λ q pair is. tt) tt
 
     -- or fails on a row
     fault : (f : KeyedRow × ArithFault) → Does (behind ns (fails_on t (gx g) c f))
     fault f =
         ran (record { seg = t; marks = mark.Fault (gx g) c f.0.rid (Some f.0.row) ∷ [] }) (reply.Failed c (cause_of f.1))
-        (aside-more (starts_from t) t.locks (mark.Fault (gx g) c f.0.rid (Some f.0.row)) starts (tt, tt, tt)) tt
+        (aside-more (starts_from t) t.locks (mark.Fault (gx g) c f.0.rid (Some f.0.row)) starts (tt, tt, (refl, m))) refl
 
     -- UPDATE and DELETE
     module _ (change : Change) (own : change.cid ≡ c) where
+      its : IsExecOf told g change.cid
+      its = subst (IsExecOf told g) (sym own) m
+
       row-keeps : Keeps (gx g) change Going
       row-keeps =
           record {
             takes = λ x rid free f. aside-more x (with_hold x.seg.locks (tuple_lock (gx g) rid)) (hold_mark x.seg.node (tuple_lock (gx g) rid)) f (tt, tt, tt);
             gives = λ x rid held f. aside-more x (without_hold x.seg.locks (tuple_lock (gx g) rid)) (release_mark x.seg.node (tuple_lock (gx g) rid)) f (tt, tt, tt);
             writes = λ x rid image why f. subst (λ d. Going (writes_row (gx g) d change.table x rid image)) (sym own) (writes-more change.table x rid image f);
-            skips = λ x rid why f. aside-more x x.seg.locks (mark.Skip (gx g) change.cid rid) f (tt, tt, tt);
-            faults = λ x rid image f. aside-more x x.seg.locks (mark.Fault (gx g) change.cid rid image) f (tt, tt, tt);
+            skips = λ x rid why f. aside-more x x.seg.locks (mark.Skip (gx g) change.cid rid) f (tt, tt, (refl, its));
+            faults = λ x rid image f. aside-more x x.seg.locks (mark.Fault (gx g) change.cid rid image) f (tt, tt, (refl, its));
           }
 
       at-stop : (x : Moved) (rid : Rid) (turn : RowTurn) (stop : DidStop x (gx g) change rid turn) → Going x → Going stop.stopped
@@ -644,7 +722,7 @@ module _ (told : Message) (k : Known) (s : Seg) (i g : ℕ) (named : s.node ≡ 
           record {
             done = λ x count f. subst (λ d. Does (behind ns (loop.is_done x (gx g) d count))) (sym own) (is-done x count _ f);
             stopped = λ x rid rest count turn stop f. suspend stop.stopped (suspended_at change rid rest count) (at-stop x rid turn stop f);
-            failed = λ x cause f. subst (λ d. Does (behind ns (answers x.seg (gx g) d x.marks (reply.Failed d cause)))) (sym own) (ran x (reply.Failed c cause) f tt);
+            failed = λ x cause f. subst (λ d. Does (behind ns (answers x.seg (gx g) d x.marks (reply.Failed d cause)))) (sym own) (ran x (reply.Failed c cause) f refl);
           }
 
       rows-run : Does (behind ns (changes_rows t (gx g) (Some change)))
@@ -728,14 +806,14 @@ module _ (told : Message) (k : Known) (s : Seg) (i g : ℕ) (named : s.node ≡ 
       where
         by_test : (b : Bool) → nat_lt l.last c.0 ≡ b → Does (if b then starts_slice script (raised s h) (gx g) c level x y else repeats s (gx g) c l)
         by_test true q = request q (slice_lock script (gx g) y)
-        by_test false q = repeat st.drawn c
+        by_test false q = repeat st.drawn c m
 
   exec : (script : Script) (c : Cid) → IsExecOf told g c → IsCommand k p c.0 → (level : Level) (x : Option Snapshot) (h : Gxid) (y : Slice) → fits_exec script s (gx g) c x h y ≡ true
       → (ph : Phase) → l.phase ≡ ph → Does (on_exec script s (gx g) c level x h y l ph)
   exec script c m st level x h y fit Reading f = take script c m st level x h y (ap is_open f) fit
   exec script c m st level x h y fit Writing f = take script c m st level x h y (ap is_open f) fit
-  exec script c m st level x h y fit Prepared f = repeat st.drawn c
-  exec script c m st level x h y fit Committed f = repeat st.drawn c
+  exec script c m st level x h y fit Prepared f = repeat st.drawn c m
+  exec script c m st level x h y fit Committed f = repeat st.drawn c m
   exec script c m st level x h y fit (Forgotten b) f = stay
   exec script c m st level x h y fit Aborted f = stay
 
@@ -792,8 +870,8 @@ handled script fails k s i named w pc lc (message.Exec g c level x h y) e st =
 handled script fails k s i named w pc lc (message.Prepare g) e st = unless-low _ k s i g.0 named w pc lc e _ (if-fit _ k s i g.0 named w pc lc e (not (is_waiting (s.locals g.0))) _ (λ fit. prepare _ k s i g.0 named w pc lc e fails (s.locals g.0).phase refl refl (st refl) (off (is_waiting (s.locals g.0)) fit)))
 handled script fails k s i named w pc lc (message.Commit g) e st = unless-low _ k s i g.0 named w pc lc e _ (if-fit _ k s i g.0 named w pc lc e (not (is_waiting (s.locals g.0))) _ (λ fit. commit _ k s i g.0 named w pc lc e fails (s.locals g.0).phase refl refl (st refl) (off (is_waiting (s.locals g.0)) fit)))
 handled script fails k s i named w pc lc (message.CommitPrepared g) e st = unless-low _ k s i g.0 named w pc lc e _ (commit-prepared _ k s i g.0 named w pc lc e fails (s.locals g.0).phase refl refl (st refl))
-handled script fails k s i named w pc lc (message.Abort g) e st = unless-low _ k s i g.0 named w pc lc e _ (abort _ k s i g.0 named w pc lc e (s.locals g.0).phase refl (st refl))
-handled script fails k s i named w pc lc (message.Forget g) e st = unless-low _ k s i g.0 named w pc lc e _ (forget _ k s i g.0 named w pc lc e (s.locals g.0).phase refl (st refl))
+handled script fails k s i named w pc lc (message.Abort g) e st = unless-low _ k s i g.0 named w pc lc e _ (abort _ k s i g.0 named w pc lc e (s.locals g.0).phase refl refl (st refl))
+handled script fails k s i named w pc lc (message.Forget g) e st = unless-low _ k s i g.0 named w pc lc e _ (forget _ k s i g.0 named w pc lc e (s.locals g.0).phase refl refl (st refl))
 handled script fails k s i named w pc lc (message.Answer g r) e st = stay (message.Answer g r) k s i g.0 named w pc lc e
 handled script fails k s i named w pc lc (message.Collect round) e st = collect (message.Collect round) k s i 0 named w pc lc e round refl
 handled script fails k s i named w pc lc (message.Graph round graph) e st = stay (message.Graph round graph) k s i 0 named w pc lc e

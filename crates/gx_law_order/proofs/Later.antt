@@ -1,6 +1,6 @@
 -- What stands so at each mark of a step also where more marks come behind them: how transactions end, what messages tell, and when
 -- commands are answered.
-use Rattle.std.proofs.Common.{◌≡◌, ◌⊎◌, inl, inr, ℕ, zero, suc, List, [], ◌∷◌, ◌++◌, sym, subst, ap, ◌∙◌, arith, append-nil}
+use Rattle.std.proofs.Common.{◌≡◌, ◌⊎◌, inl, inr, ℕ, zero, suc, List, [], ◌∷◌, ◌++◌, sym, subst, ap, ◌∙◌, arith, Option, append-nil}
 use Rattle.std.proofs.lemmas.List.{append_assoc}
 use Rattle.std.proofs.lemmas.List.Elements.{Contains-append_cases}
 use Rattle.std.specs.Prelude.{◌<◌, Contains, length, slice_index_or}
@@ -11,6 +11,7 @@ use Rattle.gx_ids.specs.declared.ids.Node.{Node}
 use Rattle.gx_ids.specs.declared.ids.SessionId.{SessionId}
 use Rattle.gx_tree.specs.declared.stmt.Level.{Level}
 use Rattle.gx_tree.specs.declared.stmt.Stmt.{Stmt}
+use Rattle.gx_tree.specs.declared.value.Value.{Value}
 use Rattle.gx_msg.specs.declared.message.Message.{Message}
 use Rattle.gx_msg.specs.declared.message.Message.TheVariants as message
 use Rattle.gx_msg.specs.declared.message.Out.{Out}
@@ -24,12 +25,12 @@ use Rattle.gx_store.specs.declared.mark.Mark.TheVariants as mark
 use Rattle.gx_store.specs.declared.run.Step.{Step}
 use Rattle.gx_store.specs.Commands.{RunsCommand}
 use Rattle.gx_store.specs.Points.{Point, marks_in}
-use Rattle.gx_store.specs.Protocol.{CommitsAlone, CommitsAsPromised, IsComplete, IsDispatched, IsReturned, IsSentBy}
+use Rattle.gx_store.specs.Protocol.{CommitsAlone, CommitsAsPromised, CommitsThere, FailsThere, FaultsThere, IsCommitting, IsComplete, IsDispatched, IsExecuted, IsReturned, IsSentBy, Promises}
 use Rattle.gx_rules.specs.Machine.{with_more}
 use Rattle.gx_rules.specs.Sending.{counted, numbered}
 use Rattle.gx_rules.proofs.Turns.{with_more-last}
 use Rattle.gx_law_order.proofs.Lists.{Each}
-use Rattle.gx_law_order.specs.Followed.{AnswersAt, DoMarksAnswer, DoMarksEnd, DoStepsAnswer, DoStepsEnd, EndsAt}
+use Rattle.gx_law_order.specs.Followed.{AnswersAt, CommitsAt, DoMarksAnswer, DoMarksCommit, DoMarksEnd, DoStepsAnswer, DoStepsCommit, DoStepsEnd, EndsAt}
 use Rattle.gx_law_order.specs.Told.{AreTold, DoStepsTell}
 use Rattle.gx_law_order.proofs.Counts.{NoSent}
 use Rattle.gx_law_order.proofs.Lowered.{NoExec}
@@ -69,19 +70,37 @@ module _ (script : Script) (steps : List Step) (event : Event) (earlier later ne
   committed-by n g (inl c) = inl (record { told = c.told; only = c.only; unprepared = c.unprepared })
   committed-by n g (inr c) = inr (record { told = c.told; writer = c.writer; promised = c.promised; decided = c.decided })
 
+  executed-later : (node : Node) (g : Gxid) (c : Cid) → IsExecuted old g c node → IsExecuted now g c node
+  executed-later node g c e = record { level = e.level; snapshot = e.snapshot; horizon = e.horizon; slice = e.slice; received = e.received }
+
+  promises-later : (n : Node) (g : Gxid) → Promises old n g → Promises now n g
+  promises-later n g e = record { told = e.told; writer = e.writer; first = e.first; uncommitted = e.uncommitted; uncommitted_there = e.uncommitted_there }
+
+  commits-later : (n : Node) (g : Gxid) → CommitsThere old n g → CommitsThere now n g
+  commits-later n g e = record { running = e.running; first = e.first; by = committed-by n g e.by }
+
+  faults-later : (node : Node) (g : Gxid) (c : Cid) (x : Option (List Value)) → FaultsThere old node g c x → FaultsThere now node g c x
+  faults-later node g c x (inl e) = inl e
+  faults-later node g c x (inr e) = inr (executed-later node g c e)
+
+  fails-later : (n : Node) (g : Gxid) → FailsThere script old n g → FailsThere script now n g
+  fails-later n g (inl e) = inl e
+  fails-later n g (inr (inl e)) = inr (inl (promises-later n g e))
+  fails-later n g (inr (inr e)) = inr (inr (commits-later n g e))
+
   sent-later : (node to : Node) (number : ℕ) (m : Message) → EndsAt script node old (mark.Sent to number m) → EndsAt script node now (mark.Sent to number m)
   sent-later node to number (message.Answer g reply.Jfault) e = e
   sent-later node to number (message.Answer g reply.Again) e = e
-  sent-later node to number (message.Answer g (reply.Done c x y z)) e = tt
-  sent-later node to number (message.Answer g (reply.Failed c x)) e = tt
+  sent-later node to number (message.Answer g (reply.Done c x y z)) e = executed-later node g c e
+  sent-later node to number (message.Answer g (reply.Failed c x)) e = executed-later node g c e
   sent-later node to number (message.Answer g reply.Prepared) e = tt
   sent-later node to number (message.Answer g reply.Committed) e = tt
-  sent-later node to number (message.Answer g reply.Aborted) e = tt
-  sent-later node to number (message.Answer g reply.Forgotten) e = tt
+  sent-later node to number (message.Answer g reply.Aborted) e = e
+  sent-later node to number (message.Answer g reply.Forgotten) e = e
   sent-later node to number (message.Exec g c level x h y) e = tt
-  sent-later node to number (message.Prepare g) e = tt
-  sent-later node to number (message.Commit g) e = tt
-  sent-later node to number (message.CommitPrepared g) e = tt
+  sent-later node to number (message.Prepare g) e = e
+  sent-later node to number (message.Commit g) e = e
+  sent-later node to number (message.CommitPrepared g) e = e
   sent-later node to number (message.Abort g) e = tt
   sent-later node to number (message.Forget g) e = tt
   sent-later node to number (message.Collect round) e = tt
@@ -91,15 +110,12 @@ module _ (script : Script) (steps : List Step) (event : Event) (earlier later ne
   end-later node (mark.Commit g) e = e
   end-later node (mark.Decided g) e = e
   end-later node (mark.Abort g) e = e
-  end-later node (mark.LocalCommit n g) e = record { running = e.running; first = e.first; by = committed-by n g e.by }
-  end-later node (mark.Prepared n g) e = record { told = e.told; writer = e.writer; first = e.first; uncommitted = e.uncommitted; uncommitted_there = e.uncommitted_there }
-  end-later node (mark.Write g c n t r x) e =
-      let ran = e.executed in
-      record {
-        executed = record { level = ran.level; snapshot = ran.snapshot; horizon = ran.horizon; slice = ran.slice; received = ran.received };
-        unpromised = e.unpromised;
-        uncommitted = e.uncommitted;
-      }
+  end-later node (mark.LocalCommit n g) e = commits-later n g e
+  end-later node (mark.Prepared n g) e = promises-later n g e
+  end-later node (mark.Write g c n t r x) e = record { executed = executed-later n g c e.executed; unpromised = e.unpromised; undecided = e.undecided; uncommitted = e.uncommitted }
+  end-later node (mark.Skip g c r) e = executed-later node g c e
+  end-later node (mark.Fault g c r x) e = faults-later node g c x e
+  end-later node (mark.JournalFailed n g) e = fails-later n g e
   end-later node (mark.Sent to number m) e = sent-later node to number m e
   end-later node m e = tt
 
@@ -146,6 +162,32 @@ module _ (script : Script) (steps : List Step) (event : Event) (earlier later mo
   answer-later node (mark.Answer s n a) f = complete-later s a f
   answer-later node m f = tt
 
+  committing-later : (g : Gxid) → IsCommitting script first g → IsCommitting script longer g
+  committing-later g e =
+      record {
+        session = e.session;
+        line = e.line;
+        runs = record { started = e.runs.started; line = e.runs.line };
+        transaction = e.transaction;
+        committing = e.committing;
+        done = whole-later e.session e.done;
+      }
+
+  sent-commits-later : (to : Node) (number : ℕ) (m : Message) → CommitsAt script first (mark.Sent to number m) → CommitsAt script longer (mark.Sent to number m)
+  sent-commits-later to number (message.Prepare g) f = committing-later g f
+  sent-commits-later to number (message.Commit g) f = committing-later g f
+  sent-commits-later to number (message.CommitPrepared g) f = tt
+  sent-commits-later to number (message.Abort g) f = tt
+  sent-commits-later to number (message.Forget g) f = tt
+  sent-commits-later to number (message.Exec g c level x h y) f = tt
+  sent-commits-later to number (message.Answer g r) f = tt
+  sent-commits-later to number (message.Collect round) f = tt
+  sent-commits-later to number (message.Graph round graph) f = tt
+
+  commit-later : (m : Mark) → CommitsAt script first m → CommitsAt script longer m
+  commit-later (mark.Sent to number m) f = sent-commits-later to number m f
+  commit-later m f = tt
+
 -- THE LAST STEP
 module _ (script : Script) (steps : List Step) (s : Step) (all : List Mark) where
   ends-same : (earlier ns : List Mark) → DoMarksEnd script steps s earlier ns → DoMarksEnd script steps (record s { marks = all }) earlier ns
@@ -170,6 +212,17 @@ module _ (script : Script) (steps : List Step) (s : Step) (all : List Mark) wher
     answers-both (earlier ++ x ∷ []) xs ys quiet e.1 (subst (λ q. DoMarksAnswer script steps s q ys) (sym (append_assoc earlier (x ∷ []) xs)) f),
   )
 
+  commits-same : (earlier ns : List Mark) → DoMarksCommit script steps s earlier ns → DoMarksCommit script steps (record s { marks = all }) earlier ns
+  commits-same earlier [] e = tt
+  commits-same earlier (n ∷ ns) e = (e.0, commits-same (earlier ++ n ∷ []) ns e.1)
+
+  commits-both : (earlier xs ys : List Mark) → Each NoOrder ys → DoMarksCommit script steps s earlier xs → DoMarksCommit script steps s (earlier ++ xs) ys → DoMarksCommit script steps (record s { marks = all }) earlier (xs ++ ys)
+  commits-both earlier [] ys quiet e f = commits-same earlier ys (subst (λ q. DoMarksCommit script steps s q ys) (append-nil earlier) f)
+  commits-both earlier (x ∷ xs) ys quiet e f = (
+    commit-later script steps s.event earlier xs ys quiet x e.0,
+    commits-both (earlier ++ x ∷ []) xs ys quiet e.1 (subst (λ q. DoMarksCommit script steps s q ys) (sym (append_assoc earlier (x ∷ []) xs)) f),
+  )
+
 told-both : (node : Node) (ms xs ys : List Mark) → AreTold node ms xs → AreTold node (ms ++ xs) ys → AreTold node ms (xs ++ ys)
 told-both node ms [] ys e f = subst (λ q. AreTold node q ys) (append-nil ms) f
 told-both node ms (mark.Sent to number m ∷ xs) ys e f = (e.0, told-both node (ms ++ mark.Sent to number m ∷ []) xs ys e.1 (subst (λ q. AreTold node q ys) (sym (append_assoc ms (mark.Sent to number m ∷ []) xs)) f))
@@ -188,6 +241,10 @@ module _ (script : Script) (s : Step) (more : List Mark) where
   answers-there done [] quiet e f = (answers-both script done s (s.marks ++ more) [] s.marks more quiet e.0 (subst (λ q. DoMarksAnswer script q s s.marks more) (append-nil done) f), tt)
   answers-there done (x ∷ before) quiet e f = (e.0, answers-there (done ++ x ∷ []) before quiet e.1 (subst (λ q. DoMarksAnswer script q s s.marks more) (sym (append_assoc done (x ∷ []) before)) f))
 
+  commits-there : (done before : List Step) → Each NoOrder more → DoStepsCommit script done (before ++ s ∷ []) → DoMarksCommit script (done ++ before) s s.marks more → DoStepsCommit script done (before ++ grown ∷ [])
+  commits-there done [] quiet e f = (commits-both script done s (s.marks ++ more) [] s.marks more quiet e.0 (subst (λ q. DoMarksCommit script q s s.marks more) (append-nil done) f), tt)
+  commits-there done (x ∷ before) quiet e f = (e.0, commits-there (done ++ x ∷ []) before quiet e.1 (subst (λ q. DoMarksCommit script q s s.marks more) (sym (append_assoc done (x ∷ []) before)) f))
+
   tells-there : (done before : List Step) → DoStepsTell done (before ++ s ∷ []) → AreTold s.stamp.node (marks_in (done ++ before) ++ s.marks) more → DoStepsTell done (before ++ grown ∷ [])
   tells-there done [] e f = (told-both s.stamp.node (marks_in done) s.marks more e.0 (subst (λ q. AreTold s.stamp.node (marks_in q ++ s.marks) more) (append-nil done) f), tt)
   tells-there done (x ∷ before) e f = (e.0, tells-there (done ++ x ∷ []) before e.1 (subst (λ q. AreTold s.stamp.node (marks_in q ++ s.marks) more) (sym (append_assoc done (x ∷ []) before)) f))
@@ -201,6 +258,9 @@ module _ (script : Script) (s : Step) (more : List Mark) where
 
     pub answer-more : Each NoOrder more → DoStepsAnswer script [] steps → DoMarksAnswer script before s s.marks more → DoStepsAnswer script [] (with_more steps more)
     answer-more quiet e f = subst (DoStepsAnswer script []) (sym more-now) (answers-there [] before quiet (subst (DoStepsAnswer script []) is e) f)
+
+    pub commit-more : Each NoOrder more → DoStepsCommit script [] steps → DoMarksCommit script before s s.marks more → DoStepsCommit script [] (with_more steps more)
+    commit-more quiet e f = subst (DoStepsCommit script []) (sym more-now) (commits-there [] before quiet (subst (DoStepsCommit script []) is e) f)
 
     pub tell-more : DoStepsTell [] steps → AreTold s.stamp.node (marks_in before ++ s.marks) more → DoStepsTell [] (with_more steps more)
     tell-more e f = subst (DoStepsTell []) (sym more-now) (tells-there [] before (subst (DoStepsTell []) is e) f)

@@ -1,6 +1,7 @@
 -- Steps whose marks are legal if the rest is.
-use Rattle.std.proofs.Common.{◌≡◌, ◌≤◌, ℕ, Bool, true, false, List, [], ◌∷◌, ◌++◌, Option, Some, None, sym, subst, ap, append-nil, refl, if◌then◌else◌}
+use Rattle.std.proofs.Common.{◌≡◌, ◌≤◌, ℕ, Bool, true, false, List, [], ◌∷◌, ◌++◌, Option, Some, None, sym, subst, ap, append-nil, refl, ◌∙◌, if◌then◌else◌}
 use Rattle.std.specs.Prelude.{IsSome}
+use Rattle.std.proofs.lemmas.Bool.{or_left}
 use Rattle.std.proofs.lemmas.List.{append_assoc}
 use Rattle.gx_lemmas.proofs.Numbers.{one-le-zero}
 use Rattle.gx_ids.specs.declared.ids.Gxid.{Gxid}
@@ -12,9 +13,9 @@ use Rattle.gx_store.specs.declared.mark.Mark.{Mark}
 use Rattle.gx_store.specs.declared.mark.Mark.TheVariants as mark
 use Rattle.gx_store.specs.declared.run.Step.{Step}
 use Rattle.gx_store.specs.Legal.{AreLegalSteps, IsDrawn, LegalEvent}
-use Rattle.gx_store.specs.Marks.{is_same_session, started_after}
+use Rattle.gx_store.specs.Marks.{is_aborted, is_same_session, started_after}
 use Rattle.gx_store.specs.Ordered.{IsAtNode}
-use Rattle.gx_store.proofs.Marks.{started_after-append}
+use Rattle.gx_store.proofs.Marks.{is_aborted-append, started_after-append}
 use Rattle.gx_store.specs.Refusals.{the_coordinator}
 use Rattle.gx_law_order.proofs.Lists.{Each}
 use Rattle.gx_law_order.proofs.Numbers.{NoStart}
@@ -30,7 +31,7 @@ use Rattle.gx_ids.specs.declared.ids.SessionId.{SessionId}
 -- STEPS
 -- whatever marks the step will have behind these
 abbrev pub IsGivenStep : Script → List Step → Step → Type 0
-IsGivenStep script before s = LegalEvent script before s.event × IsDrawn script before s.event s.marks × ((later : List Mark) → EachMark (Given script) before s.event [] s.marks later)
+IsGivenStep script before s = LegalEvent script before s.event s.marks × IsDrawn script before s.event s.marks × ((later : List Mark) → EachMark (Given script) before s.event [] s.marks later)
 
 abbrev pub AreGiven : Script → List Step → List Step → Type 0
 AreGiven script before [] = Unit {0}
@@ -58,10 +59,19 @@ drawn-more script before (event.End s) ms ns d = d
 drawn-more script before (event.Resend i g) ms ns d = d
 drawn-more script before event.Round ms ns d = d
 
+legal-more : (script : Script) (before : List Step) (e : Event) (ms ns : List Mark) → LegalEvent script before e ms → LegalEvent script before e (ms ++ ns)
+legal-more script before (event.Start s) ms ns l = l
+legal-more script before (event.Receive from to number) ms ns l = l
+legal-more script before (event.Resume n g) ms ns l = l
+legal-more script before (event.End s) ms ns l =
+    record { idle = l.idle; over = l.over; block = l.block; once = l.once; rolled_back = λ g e. is_aborted-append ms ns g ∙ or_left (is_aborted ms g) (is_aborted ns g) (l.rolled_back g e) }
+legal-more script before (event.Resend i g) ms ns l = l
+legal-more script before event.Round ms ns l = l
+
 pub given-more : (script : Script) (done before : List Step) (s : Step) (ns : List Mark) → AreGiven script done (before ++ s ∷ []) → ((later : List Mark) → EachMark (Given script) (done ++ before) s.event s.marks ns later) → AreGiven script done (before ++ record s { marks = s.marks ++ ns } ∷ [])
 given-more script done [] s ns e h = (
   (
-    e.0.0,
+    legal-more script done s.event s.marks ns e.0.0,
     drawn-more script done s.event s.marks ns e.0.1,
     λ later. marks-append (Given script) done s.event [] s.marks ns later (e.0.2 (ns ++ later)) (subst (λ q. EachMark (Given script) q s.event s.marks ns later) (append-nil done) (h later)),
   ),
@@ -136,13 +146,13 @@ ends-no (event.End t) q s = absurd q
 ends-no (event.Resend i g) q s = refl
 ends-no event.Round q s = refl
 
-pub legal-no : (script : Script) (steps : List Step) (e : Event) → StartsNothing e → LegalEvent script steps e
-legal-no script steps (event.Receive from to number) q = tt
-legal-no script steps (event.Resume n g) q = tt
-legal-no script steps (event.Start t) q = absurd q
-legal-no script steps (event.End t) q = absurd q
-legal-no script steps (event.Resend i g) q = tt
-legal-no script steps event.Round q = tt
+pub legal-no : (script : Script) (steps : List Step) (e : Event) (ms : List Mark) → StartsNothing e → LegalEvent script steps e ms
+legal-no script steps (event.Receive from to number) ms q = tt
+legal-no script steps (event.Resume n g) ms q = tt
+legal-no script steps (event.Start t) ms q = absurd q
+legal-no script steps (event.End t) ms q = absurd q
+legal-no script steps (event.Resend i g) ms q = tt
+legal-no script steps event.Round ms q = tt
 
 pub drawn-no : (script : Script) (steps : List Step) (e : Event) (ms : List Mark) → StartsNothing e → IsDrawn script steps e ms
 drawn-no script steps (event.Receive from to number) ms q = tt

@@ -27,6 +27,7 @@ use Rattle.gx_law_order.proofs.Ran.{have-run}
 use Rattle.gx_law_order.proofs.Sendings.{orders-all}
 use Rattle.gx_law_order.proofs.Stepping.{Holds, cancel-holds, event-holds, seg-holds}
 use Rattle.gx_law_order.proofs.LegalSteps.{given-events, given-steps}
+use Rattle.gx_law_order.proofs.Unsent.{Unsent, moves-unsent}
 
 -- one event more
 pub after-last : (script : Script) (some : 1 ≤ script.segments) (w : World) (es : List (Event × Bool)) (x : Event × Bool) → after script w (es ++ x ∷ []) ≡ happens script (after script w es) x.0 x.1
@@ -46,6 +47,10 @@ none-goes script w e i (here.Resend j g) one ok r = absurd (cc)
 none-goes script w e i here.Round one ok r = absurd (cc)
 
 module _ (script : Script) (some : 1 ≤ script.segments) where
+  -- what is known of each world
+  abbrev Known : World → Type 0
+  Known w = Knows script w × Unsent w.coord (marks_in w.steps)
+
   new-holds : Holds script new_world
   new-holds =
       record {
@@ -65,10 +70,10 @@ module _ (script : Script) (some : 1 ≤ script.segments) where
 
   pub moves-holds : (ms : List Move) → Holds script (world_by script ms)
   moves-holds =
-      at-moves script some (Knows script) (Holds script) (moves_knows script some) new-holds
-      (λ w n h e x fails t ok next. let d = event-does script some w n h e x fails t ok in event-holds script some w n h e x fails d.effect d.legal d.drawn)
-      (λ w n h g a next. cancel-holds script some w n h g a (cancel-turns script w.steps w.coord n.kept h.sessions h.gathers g) (cancel-said script w.steps w.coord n.kept h.sessions h.gathers g a.before a.step a.is a.named))
-      (λ w n h e x fails i place t ok next. seg-holds script some w n h e x fails i (starts-nothing script w e (at i) x ok t) (none-goes script w e i x place.0 ok t) place)
+      at-moves script some Known (Holds script) (λ ms. (moves_knows script some ms, moves-unsent script some ms)) new-holds
+      (λ w n h e x fails t ok next. let d = event-does script some w n.0 h n.1 e x fails t ok in event-holds script some w n.0 h e x fails d.effect d.legal d.drawn)
+      (λ w n h g a next. cancel-holds script some w n.0 h g a (cancel-turns script w.steps w.coord n.0.kept h.sessions h.gathers g) (cancel-said script w.steps w.coord n.0.kept h.sessions h.gathers g a.before a.step a.is a.named))
+      (λ w n h e x fails i place t ok next. seg-holds script some w n.0 h e x fails i (starts-nothing script w e (at i) x ok t) (none-goes script w e i x place.0 ok t) place)
 
   pub world-holds : (es : List (Event × Bool)) → Holds script (world_of script es)
   world-holds es = subst (Holds script) (sym (world-moves script es)) (moves-holds (moves_after script new_world es))

@@ -81,6 +81,8 @@ pub mod Nodes
 pub mod Shifts
 pub mod Commits
 pub mod Ways
+pub mod RightOrders
+pub mod Unfinished
 pub mod Calls
 pub mod Replying
 pub mod Dispatching
@@ -90,10 +92,12 @@ pub mod Telling
 pub mod Later
 pub mod Everywhere
 pub mod Always
+pub mod Unsent
 pub mod Answering
 pub mod Completing
 pub mod Asked
 pub mod Complete
+pub mod Committing
 pub mod Whole
 pub mod Lows
 pub mod Lowered

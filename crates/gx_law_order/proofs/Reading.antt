@@ -23,7 +23,7 @@ use Rattle.gx_store.specs.declared.mark.Mark.TheVariants as mark
 use Rattle.gx_store.specs.declared.run.Step.{Step}
 use Rattle.gx_store.specs.Commands.{has_own_snapshot}
 use Rattle.gx_store.specs.Lines.{BlockState, cid_of, is_command, is_on_rows, level_of}
-use Rattle.gx_store.specs.Marks.{is_ended, is_snapped}
+use Rattle.gx_store.specs.Marks.{is_ended, is_sent, is_snapped}
 use Rattle.gx_store.specs.Points.{marks_in}
 use Rattle.gx_rules.specs.AtCoordinator.{Reading, kept_at, next_cid, reads_by, reads_for, takes_snapshot}
 use Rattle.gx_rules.specs.Coordinators.{Coord, Session, Work, work_of}
@@ -75,6 +75,7 @@ module _ (script : Script) (steps : List Step) (ev : Event) (c c1 : Coord) (s : 
     pub calm : Each (CalmFor s) r.marks
     pub running : is_ended r.marks g ≡ false
     pub unread : (d : Cid) → w.last + 1 < d.0 → is_snapped r.marks g d ≡ false
+    pub unsent : is_sent r.marks g (next_cid w) ≡ false
     pub snapshot : HasSnapshot w2.level (marks_in steps ++ (earlier ++ r.marks)) g w2.snapshot
     pub legal : (later : List Mark) → EachMark (Given script) steps ev earlier r.marks later
     pub rests : (later : List Mark) → EachMark (Rest script) steps ev earlier r.marks later
@@ -98,6 +99,7 @@ module _ (script : Script) (steps : List Step) (ev : Event) (c c1 : Coord) (s : 
         calm = tt;
         running = refl;
         unread = λ d l. refl;
+        unsent = refl;
         snapshot = subst (λ m. HasSnapshot w.level m g w.snapshot) same-marks owns.snapshot;
         legal = λ later. tt;
         rests = λ later. tt;
@@ -124,6 +126,7 @@ module _ (script : Script) (steps : List Step) (ev : Event) (c c1 : Coord) (s : 
         calm = (tt, tt);
         running = refl;
         unread = λ d l. not-later (w.last + 1) d.0 (eqb g.0 g.0) l;
+        unsent = refl;
         snapshot = kept w.level;
         legal = λ later. (λ q. snap later, tt);
         rests = λ later. (tt, tt);

@@ -33,6 +33,7 @@ use Rattle.gx_law_order.proofs.World.{world_knows}
 use Rattle.gx_law_order.specs.Finish.{AreVerdictsLegal, IsRestShown, IsVerdictLegal}
 use Rattle.gx_law_order.specs.Rest.{AreRestLegal, EachMark, Rest}
 use Rattle.gx_law_order.proofs.Doing.{event-does}
+use Rattle.gx_law_order.proofs.Unsent.{world-unsent}
 use Rattle.gx_law_order.proofs.Frame.{Effect, Quiet}
 use Rattle.gx_law_order.proofs.Given.{marks-append, sent-rest}
 use Rattle.gx_law_order.proofs.LegalSteps.{rest-last}
@@ -142,7 +143,7 @@ module _ (script : Script) (some : 1 ≤ script.segments) (shown : IsRestShown s
   turn-rest : (x : NodeEvent) → IsThere script w e the_coordinator x → coord_can script w.coord x ≡ true → IsNext (coord_did w e (coord_rule script w.coord x fails))
   turn-rest x t ok same =
       rest-last script [] w.steps _ rest
-      (once-rest script w.steps e [] _ [] (rule-once x (event-does script some w (world_knows script some done) (world-holds script some done) e x fails t ok).effect)
+      (once-rest script w.steps e [] _ [] (rule-once x (event-does script some w (world_knows script some done) (world-holds script some done) (world-unsent script some done) e x fails t ok).effect)
       (verdicts-last [] w.steps _ (subst (λ v. AreVerdictsLegal [] v.steps) same (shown.verdicts (done ++ (e, fails) ∷ [])))))
 
   serve-rest : (x : NodeEvent) (i : ℕ) → IsSegment script (at i) → IsThere script w e (at i) x → seg_can script (w.segs i) x ≡ true → IsNext (seg_did w (at i) e (seg_rule script (w.segs i) x fails))

@@ -1,5 +1,5 @@
 -- Answers to PREPARE, COMMIT, COMMIT PREPARED, FORGET and ABORT.
-use Rattle.std.proofs.Common.{◌≡◌, inl, ℕ, ◌+◌, List, [], ◌∷◌, ◌++◌, Option, Some, None, Bool, true, false, refl, sym, subst, ap, ◌∙◌, if◌then◌else◌, ◌||◌, ◌==◌, arith, eqb}
+use Rattle.std.proofs.Common.{◌≡◌, ◌≤◌, inl, ℕ, ◌+◌, List, [], ◌∷◌, ◌++◌, Option, Some, None, Bool, true, false, refl, sym, subst, ap, ◌∙◌, if◌then◌else◌, ◌||◌, ◌==◌, arith, eqb}
 use Rattle.std.proofs.lemmas.Bool.{eqb-true, or_from}
 use Rattle.std.proofs.lemmas.Bool.Decides.{nat_tests}
 use Rattle.std.specs.Prelude.{length, nat_le, take}
@@ -36,11 +36,12 @@ use Rattle.gx_law_order.specs.Pairs.{IsVote, Pair, bit}
 use Rattle.gx_law_order.specs.Said.{Answers}
 use Rattle.gx_law_order.specs.Standings.{Known, Part, Standing, at, gx, is_closing, is_undecided, known_at, known_of, standing, standing_in}
 use Rattle.gx_law_order.specs.Standings.Standing.{Unborn, Live, Preparing, One, Two, Over}
-use Rattle.gx_law_order.proofs.Calls.{CanEnd, Elsewhere, Mute, abort-led, becomes-calm, calm-led, committed-led, ended-follows, for-all, known, one-change, stands-as, still-led, to-nodes, unaborted, uncommitted, not-self, back-mute}
+use Rattle.gx_law_order.proofs.Calls.{CanEnd, Elsewhere, abort-led, becomes-calm, calm-led, committed-led, ended-follows, for-all, known, one-change, stands-as, still-led, to-nodes, unaborted, uncommitted, not-self, back-mute}
 use Rattle.gx_law_order.proofs.Commits.{AtMostOne, Decision, few, filter-few, filter-many, many, several}
 use Rattle.gx_law_order.proofs.Nodes.{AreApart, each-has, has-without}
 use Rattle.gx_law_order.proofs.Shifts.{Shift, decide-shift, deciding, finished-shift, promised-shift, shift-same}
-use Rattle.gx_law_order.proofs.Ways.{Agrees, AgreesIn, Led, Stands, at-one, becomes, known-here}
+use Rattle.gx_law_order.proofs.Counts.{NoEnd, NoPart}
+use Rattle.gx_law_order.proofs.Ways.{Agrees, AgreesIn, Fol, Led, Stands, at-one, becomes, known-here}
 use Rattle.gx_rules.specs.Locks.{release_marks}
 
 pub take-length : {A : Type 0} (xs ys : List A) → take (length xs) (xs ++ ys) ≡ xs
@@ -112,17 +113,39 @@ module _ (script : Script) (P : ℕ → ℕ → Part) (c : Coord) (ms : List Mar
         plain a e x = grind arith
 
     -- A JOURNAL HAS FAILED
-    failure-mute : (n : Node) → Each Mute (failure_marks n (gx g))
-    failure-mute n = by_test (n.0 == 0)
+    failure-part : (n : Node) → Each NoPart (failure_marks n (gx g))
+    failure-part n = by_test (n.0 == 0)
       where
-        by_test : (b : Bool) → Each Mute (if b then mark.JournalFailed the_coordinator (gx g) ∷ [] else [])
+        by_test : (b : Bool) → Each NoPart (if b then mark.JournalFailed the_coordinator (gx g) ∷ [] else [])
         by_test true = (tt, tt)
         by_test false = tt
 
-    refused-led : (n : Node) → CanEnd script P c ms s whole g t f → ((i : ℕ) → is_closing (k i).at ≡ true) → ((i : ℕ) → is_undecided (k i).at ≡ true) → ((i : ℕ) → has_committed (P i g).phase ≡ false) → Gives (refuses (gx g) t.participants n)
-    refused-led n can closing undecided none =
+    failure-end : (n : Node) → Each NoEnd (failure_marks n (gx g))
+    failure-end n = by_test (n.0 == 0)
+      where
+        by_test : (b : Bool) → Each NoEnd (if b then mark.JournalFailed the_coordinator (gx g) ∷ [] else [])
+        by_test true = (tt, tt)
+        by_test false = tt
+
+    -- the coordinator's own where it would have decided
+    failure-fol : (n : Node) → ((n.0 == 0) ≡ true → Decides script ms (gx g)) → Fol script ms (failure_marks n (gx g))
+    failure-fol n d = by_test (n.0 == 0) d
+      where
+        by_test : (b : Bool) → (b ≡ true → Decides script ms (gx g)) → Fol script ms (if b then mark.JournalFailed the_coordinator (gx g) ∷ [] else [])
+        by_test true d = ((refl, d refl), tt)
+        by_test false d = tt
+
+    -- a segment's is another's
+    not-own : (n : Node) → 1 ≤ n.0 → (n.0 == 0) ≡ true → Decides script ms (gx g)
+    not-own n one q = absurd (plain n.0 one q)
+      where
+        plain : (a : ℕ) → 1 ≤ a → (a == 0) ≡ true → ⊥
+        plain a x y = grind (arith, nat_tests)
+
+    refused-led : (n : Node) → ((n.0 == 0) ≡ true → Decides script ms (gx g)) → CanEnd script P c ms s whole g t f → ((i : ℕ) → is_closing (k i).at ≡ true) → ((i : ℕ) → is_undecided (k i).at ≡ true) → ((i : ℕ) → has_committed (P i g).phase ≡ false) → Gives (refuses (gx g) t.participants n)
+    refused-led n decides can closing undecided none =
         abort-led script P c ms s whole g t f (follows c (gx g) (turns c.table (gx g) (refuses (gx g) t.participants n)) (outcome.Refused n)) (refuses (gx g) t.participants n) (failure_marks n (gx g))
-        (answer_mark c (work_of c (gx g)).session (told.Refused (refused.JournalFault n)) ∷ release_marks the_coordinator c.locks (gx g)) refl (failure-mute n) (tt, back-mute c.locks (gx g)) can ((pair 0).undecided (undecided 0)) (λ i. local-is i false (none i)) refl (λ h. refl) (λ i. refl) tt t.participants refl
+        (answer_mark c (work_of c (gx g)).session (told.Refused (refused.JournalFault n)) ∷ release_marks the_coordinator c.locks (gx g)) refl (failure-fol n decides) (failure-part n) (failure-end n) (tt, back-mute c.locks (gx g)) can ((pair 0).undecided (undecided 0)) (λ i. local-is i false (none i)) refl (λ h. refl) (λ i. refl) tt t.participants refl
 
     -- A PROMISE
     module _ (xs aw : List Node) (e : t.phase ≡ status.Preparing xs aw) (j : Node) (asked : has j aw ≡ true) where
@@ -142,8 +165,8 @@ module _ (script : Script) (P : ℕ → ℕ → Part) (c : Coord) (ms : List Mar
           two : (a : Standing) (b : Bool) → a ≡ Preparing b → a ≡ Two true → ⊥
           two a b x y = grind arith
 
-      jfault-led : (n : Node) → Gives (refuses (gx g) t.participants n)
-      jfault-led n = refused-led n preparing-can preparing-closing (λ i. ap is_undecided (at-preparing i)) (λ i. ((pair i).asked (has (at i) aw) (at-preparing i)).3)
+      jfault-led : (n : Node) → ((n.0 == 0) ≡ true → Decides script ms (gx g)) → Gives (refuses (gx g) t.participants n)
+      jfault-led n decides = refused-led n decides preparing-can preparing-closing (λ i. ap is_undecided (at-preparing i)) (λ i. ((pair i).asked (has (at i) aw) (at-preparing i)).3)
 
       module _ (promised : was_prepared (P j.0 g).vote ≡ true) where
         -- all have promised
@@ -157,6 +180,16 @@ module _ (script : Script) (P : ℕ → ℕ → Part) (c : Coord) (ms : List Mar
             by_same false q =
                 ((pair i).asked (has (at i) aw) (at-preparing i)).1 (sym (has-without (at i) j aw ∙ ap (λ b. if b then false else has (at i) aw) q) ∙ ap (has (at i)) none)
 
+        decides-here : without j aw ≡ [] → Decides script ms (gx g)
+        decides-here none =
+            record {
+              running = or_from (is_committed ms (gx g)) (is_aborted ms (gx g)) (uncommitted script P c ms s whole g t f (k 0) (P 0 g) (pair 0) (not-over 0 (preparing-closing 0))) (unaborted script P c ms s whole g t f (k 0) (P 0 g) (pair 0) (not-over 0 (preparing-closing 0)));
+              first = (pair 0).undecided (ap is_undecided (at-preparing 0));
+              several = several (writers_of script ms (gx g)) (two-writers (λ i. writer-is i (preparing-closing i)) (agrees-in (status.Preparing xs aw) e).1);
+              promised = λ node. promised-is node.0 (has node ws) (all-promised none node.0) ∙ as-bit (has node ws) ∙ ap (λ b. if b then 1 else 0) (sym (writer-is node.0 (preparing-closing node.0)));
+              uncommitted = λ node. local-is node.0 false (((pair node.0).asked (has node aw) (at-preparing node.0)).3);
+            }
+
         decided-led : without j aw ≡ [] → Gives (decides (gx g) xs t.participants false)
         decided-led none =
             let ch : Change = decides (gx g) xs t.participants false in
@@ -164,26 +197,13 @@ module _ (script : Script) (P : ℕ → ℕ → Part) (c : Coord) (ms : List Mar
             let o = one-change script P c ms s whole g t f ch turn.coord turn.marks (c.works g) refl (λ h. same h (eqb h g) refl) (record { others = λ h n. (other h (not-self g h n), refl, refl) }) in
             record {
               way = at-one script P c turn.coord ms turn.marks g (left_of ch.step (Some t)) (c.works g) o s (λ i. subst (λ q. Shift (k i) q (P i g)) (sym (known-now i)) (decide-shift (has (at i) aw) (has (at i) xs) (k i) (P i g) (pair i) (at-preparing i) (all-promised none i) (ap (has (at i)) (agrees-in (status.Preparing xs aw) e).0)))
-                  (s.works g) ((agrees-in (status.Preparing xs aw) e).1, decision) (decides-here, tt);
-              outs = to-nodes _ (message.CommitPrepared (gx g)) xs (each_weaker (λ (y : Node). has y xs ≡ true) _ (λ y h. (refl, inl (ap (λ (q : Known). q.at) (known-here script P c turn.coord ms turn.marks g (left_of ch.step (Some t)) (c.works g) o y.0) ∙ ap Two h), tt)) xs (each-has xs));
+                  (s.works g) ((agrees-in (status.Preparing xs aw) e).1, decision) (decides-here none, tt);
+              outs = to-nodes _ (message.CommitPrepared (gx g)) xs (each_weaker (λ (y : Node). has y xs ≡ true) _ (λ y h. (refl, inl (ap (λ (q : Known). q.at) (known-here script P c turn.coord ms turn.marks g (left_of ch.step (Some t)) (c.works g) o y.0) ∙ ap Two h), ap (λ (q : Known). q.at) (known-here script P c turn.coord ms turn.marks g (left_of ch.step (Some t)) (c.works g) o y.0) ∙ ap Two h)) xs (each-has xs));
             }
           where
             same : (h : ℕ) (b : Bool) → eqb h g ≡ b → c.works h ≡ (if b then c.works g else c.works h)
             same h true q = ap c.works (eqb-true h g q)
             same h false q = refl
-
-            writes : (i : ℕ) → is_writer ms (gx g) (at i) ≡ has (at i) ws
-            writes i = writer-is i (preparing-closing i)
-
-            decides-here : Decides script ms (gx g)
-            decides-here =
-                record {
-                  running = or_from (is_committed ms (gx g)) (is_aborted ms (gx g)) (uncommitted script P c ms s whole g t f (k 0) (P 0 g) (pair 0) (not-over 0 (preparing-closing 0))) (unaborted script P c ms s whole g t f (k 0) (P 0 g) (pair 0) (not-over 0 (preparing-closing 0)));
-                  first = (pair 0).undecided (ap is_undecided (at-preparing 0));
-                  several = several (writers_of script ms (gx g)) (two-writers writes (agrees-in (status.Preparing xs aw) e).1);
-                  promised = λ node. promised-is node.0 (has node ws) (all-promised none node.0) ∙ as-bit (has node ws) ∙ ap (λ b. if b then 1 else 0) (sym (writes node.0));
-                  uncommitted = λ node. local-is node.0 false (((pair node.0).asked (has node aw) (at-preparing node.0)).3);
-                }
 
             other : (h : ℕ) → eqb g h ≡ false → decided_count (mark.Decided (gx g) ∷ []) (gx h) ≡ 0
             other h q = ap (λ b. if b then 0 + 1 else 0) q
@@ -208,7 +228,7 @@ module _ (script : Script) (P : ℕ → ℕ → Part) (c : Coord) (ms : List Mar
 
         decides-led : (fails : Bool) → without j aw ≡ [] → Gives (decides (gx g) xs t.participants fails)
         decides-led false none = decided-led none
-        decides-led true none = jfault-led (record { 0 = 0 })
+        decides-led true none = jfault-led (record { 0 = 0 }) (λ q. decides-here none)
 
         prepares-led : (fails : Bool) (rest : List Node) → without j aw ≡ rest → Gives (prepares (gx g) xs t.participants rest fails)
         prepares-led fails [] r = decides-led fails r
@@ -260,9 +280,9 @@ module _ (script : Script) (P : ℕ → ℕ → Part) (c : Coord) (ms : List Mar
       other-uncommitted : (i : ℕ) → eqb w.0 i ≡ false → has_committed (P i g).phase ≡ false
       other-uncommitted i q = no-vote (P i g).phase (P i g).vote (pair i).vote (((pair i).alone (eqb w.0 i) (at-one-writer i)).2 q)
 
-      one-refused : (P j.0 g).vote ≡ Some reply.Jfault → Gives (refuses (gx g) t.participants j)
-      one-refused v =
-          refused-led j (one-can (λ x. differ (sym (subst (λ n. (P n g).vote ≡ Some reply.Jfault) j-is v) ∙ x))) one-closing (λ i. ap is_undecided (at-one-writer i)) (λ i. by_same i (eqb w.0 i) refl)
+      one-refused : 1 ≤ j.0 → (P j.0 g).vote ≡ Some reply.Jfault → Gives (refuses (gx g) t.participants j)
+      one-refused one v =
+          refused-led j (not-own j one) (one-can (λ x. differ (sym (subst (λ n. (P n g).vote ≡ Some reply.Jfault) j-is v) ∙ x))) one-closing (λ i. ap is_undecided (at-one-writer i)) (λ i. by_same i (eqb w.0 i) refl)
         where
           differ : Some reply.Jfault ≡ None → ⊥
           differ x = cc
@@ -388,26 +408,26 @@ module _ (script : Script) (P : ℕ → ℕ → Part) (c : Coord) (ms : List Mar
     gives-up-led aw e (y ∷ ys) = calm-led script P c ms s whole g t f (gives_up (y ∷ ys)) (over-same (λ i. stands-in (status.Aborting aw) e i) (left_of (gives_up (y ∷ ys)).step (Some t)) (λ i. refl)) tt tt
 
     -- EVERY ANSWER
-    takes-led : (j : Node) (fails : Bool) (p : Status) (r : Reply) → t.phase ≡ p → is_awaited p j r ≡ true → Answers (k j.0) (P j.0 g) r → Gives (takes (gx g) t.participants j fails p r)
-    takes-led j fails (status.Preparing xs aw) reply.Prepared e a h = prepares-led xs aw e j a h fails (without j aw) refl
-    takes-led j fails (status.Preparing xs aw) reply.Jfault e a h = jfault-led xs aw e j a j
-    takes-led j fails (status.CommittingOne w) reply.Committed e a h = one-committed w e j a h
-    takes-led j fails (status.CommittingOne w) reply.Jfault e a h = one-refused w e j a h
-    takes-led j fails (status.CommittingTwo aw) reply.Committed e a h = finishes-led aw e j a h (without j aw) refl
-    takes-led j fails (status.Ended aw) reply.Forgotten e a h = forgets-led aw e (without j aw)
-    takes-led j fails (status.Aborting aw) reply.Aborted e a h = gives-up-led aw e (without j aw)
-    takes-led j fails p r e a h = still-led script P c ms s whole g
+    takes-led : (j : Node) → 1 ≤ j.0 → (fails : Bool) (p : Status) (r : Reply) → t.phase ≡ p → is_awaited p j r ≡ true → Answers (k j.0) (P j.0 g) r → Gives (takes (gx g) t.participants j fails p r)
+    takes-led j one fails (status.Preparing xs aw) reply.Prepared e a h = prepares-led xs aw e j a h fails (without j aw) refl
+    takes-led j one fails (status.Preparing xs aw) reply.Jfault e a h = jfault-led xs aw e j a j (not-own j one)
+    takes-led j one fails (status.CommittingOne w) reply.Committed e a h = one-committed w e j a h
+    takes-led j one fails (status.CommittingOne w) reply.Jfault e a h = one-refused w e j a one h
+    takes-led j one fails (status.CommittingTwo aw) reply.Committed e a h = finishes-led aw e j a h (without j aw) refl
+    takes-led j one fails (status.Ended aw) reply.Forgotten e a h = forgets-led aw e (without j aw)
+    takes-led j one fails (status.Aborting aw) reply.Aborted e a h = gives-up-led aw e (without j aw)
+    takes-led j one fails p r e a h = still-led script P c ms s whole g
 
-    found-led : (j : Node) (fails : Bool) (r : Reply) → Answers (k j.0) (P j.0 g) r → Gives (reply_found (gx g) j r fails (Some t))
-    found-led j fails r h = by_test (is_awaited t.phase j r) refl
+    found-led : (j : Node) → 1 ≤ j.0 → (fails : Bool) (r : Reply) → Answers (k j.0) (P j.0 g) r → Gives (reply_found (gx g) j r fails (Some t))
+    found-led j one fails r h = by_test (is_awaited t.phase j r) refl
       where
         by_test : (b : Bool) → is_awaited t.phase j r ≡ b → Gives (if b then takes (gx g) t.participants j fails t.phase r else stays)
-        by_test true a = takes-led j fails t.phase r refl a h
+        by_test true a = takes-led j one fails t.phase r refl a h
         by_test false a = still-led script P c ms s whole g
 
-  any-led : (j : Node) (fails : Bool) (r : Reply) → Answers (k j.0) (P j.0 g) r → (o : Option Txn) → find_txn c.table (gx g) ≡ o → Led script P c ms (follows c (gx g) (turns c.table (gx g) (reply_found (gx g) j r fails o)) (reply_found (gx g) j r fails o).out.outcome)
-  any-led j fails r h None f = still-led script P c ms s whole g
-  any-led j fails r h (Some t) f = found-led t f j fails r h
+  any-led : (j : Node) → 1 ≤ j.0 → (fails : Bool) (r : Reply) → Answers (k j.0) (P j.0 g) r → (o : Option Txn) → find_txn c.table (gx g) ≡ o → Led script P c ms (follows c (gx g) (turns c.table (gx g) (reply_found (gx g) j r fails o)) (reply_found (gx g) j r fails o).out.outcome)
+  any-led j one fails r h None f = still-led script P c ms s whole g
+  any-led j one fails r h (Some t) f = found-led t f j one fails r h
 
-  pub status-led : (j : Node) (fails : Bool) (r : Reply) → Answers (k j.0) (P j.0 g) r → Led script P c ms (on_status c (gx g) j r fails)
-  status-led j fails r h = let x = any-led j fails r h (find_txn c.table (gx g)) refl in record { way = x.way; outs = x.outs }
+  pub status-led : (j : Node) → 1 ≤ j.0 → (fails : Bool) (r : Reply) → Answers (k j.0) (P j.0 g) r → Led script P c ms (on_status c (gx g) j r fails)
+  status-led j one fails r h = let x = any-led j one fails r h (find_txn c.table (gx g)) refl in record { way = x.way; outs = x.outs }

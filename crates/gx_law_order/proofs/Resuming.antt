@@ -1,5 +1,5 @@
 -- A statement that has waited goes out: its session has it as its line under way.
-use Rattle.std.proofs.Common.{◌≡◌, inl, inr, ℕ, ◌+◌, List, [], ◌++◌, Option, Some, None, true, refl, sym, subst, ap, ◌∙◌, if◌then◌else◌, arith, append-nil}
+use Rattle.std.proofs.Common.{◌≡◌, ◌<◌, inl, inr, ℕ, ◌+◌, List, [], ◌++◌, Option, Some, None, true, false, refl, sym, subst, ap, ◌∙◌, if◌then◌else◌, arith, append-nil}
 use Rattle.gx_lemmas.proofs.Numbers.{eqb-self}
 use Rattle.gx_lemmas.proofs.Options.{some-same}
 use Rattle.gx_ids.specs.declared.ids.Cid.{Cid}
@@ -21,7 +21,7 @@ use Rattle.gx_store.specs.declared.mark.Mark.{Mark}
 use Rattle.gx_store.specs.declared.run.Step.{Step}
 use Rattle.gx_store.specs.Journals.{is_same_node}
 use Rattle.gx_store.specs.Lines.{BlockState, cid_of, is_command}
-use Rattle.gx_store.specs.Marks.{answer_count}
+use Rattle.gx_store.specs.Marks.{answer_count, is_sent}
 use Rattle.gx_store.specs.Points.{ends_in, marks_in}
 use Rattle.gx_store.specs.Refusals.{the_coordinator}
 use Rattle.gx_rules.specs.AtCoordinator.{next_cid}
@@ -42,8 +42,9 @@ use Rattle.gx_law_order.proofs.Gathers.{GathersIn}
 use Rattle.gx_law_order.proofs.SegAnswers.{same-gxid, stand}
 use Rattle.gx_law_order.proofs.Roots.{roots-out}
 use Rattle.gx_law_order.proofs.Under.{Under}
+use Rattle.gx_law_order.proofs.Unsent.{Unsent}
 
-module _ (script : Script) (steps : List Step) (c : Coord) (k : Kept script c) (p : Past c (marks_in steps)) (all : (j : SessionId) → IsSession script j steps c) (gath : (j : ℕ) → GathersIn script (IsHeard steps) (gx j) (c.works j).command) (m : Node) (is : is_same_node m the_coordinator ≡ true) (g : Gxid) (wanted : Claim) (line : Stmt) (held : (work_of c g).waiting ≡ Some line) where
+module _ (script : Script) (steps : List Step) (c : Coord) (k : Kept script c) (p : Past c (marks_in steps)) (all : (j : SessionId) → IsSession script j steps c) (gath : (j : ℕ) → GathersIn script (IsHeard steps) (gx j) (c.works j).command) (m : Node) (is : is_same_node m the_coordinator ≡ true) (g : Gxid) (wanted : Claim) (line : Stmt) (held : (work_of c g).waiting ≡ Some line) (u : Unsent c (marks_in steps)) where
   abbrev e : Event
   e = event.Resume m g
 
@@ -139,10 +140,16 @@ module _ (script : Script) (steps : List Step) (c : Coord) (k : Kept script c) (
           subst (λ z. Roots script s (z ++ ns) B pending.Command y.lines g v) (sym (append-nil ms))
           (roots-out script s ms ns B y.lines g (work_of c g) v line o (st.1.owns busy).2 held a (l ∙ ap (λ (z : Work). z.last + 1) work-now) has out (ap (λ (i : Cid). i.0) n ∙ ap (λ (z : Work). z.last + 1) work-now))
 
+      not-sent : is_sent (ms ++ []) g (next_cid (work_of c1 g)) ≡ false
+      not-sent = subst (λ z. is_sent z g (next_cid (work_of c1 g)) ≡ false) (sym (append-nil ms)) (u.live g.0 live.0 (next_cid (work_of c1 g)) (further (work_of c g).last _ (ap (λ (v : Work). v.last) work-now)))
+        where
+          further : (a b : ℕ) → b ≡ a → a < b + 1
+          further a b e = omega arith
+
       out-does : Does script steps c (event.Resume m g) (out_of_wait script c g line wanted)
       out-does =
           held-does script steps (event.Resume m g) exempt c c1 s g y (answer_count s ms) B st.1.commands line [] under eb working busy cmd owns (ap (λ (v : Work). v.command) work-now ∙ live.1) (ap (λ (v : Work). v.waiting) work-now) number-now
-          (subst (λ z. Past c1 z) (sym (append-nil ms)) (record { committed = p.committed; ended = p.ended; dropped = p.dropped; latest = p.latest; drawn = p.drawn })) roots unawaited (resumed c.locks g (Some wanted)) wanted
+          (subst (λ z. Past c1 z) (sym (append-nil ms)) (record { committed = p.committed; ended = p.ended; dropped = p.dropped; latest = p.latest; drawn = p.drawn })) not-sent roots unawaited (resumed c.locks g (Some wanted)) wanted
 
     by_line : IsLineOf script s y.lines B st.1.commands (work_of c g) pending.Command → Does script steps c (event.Resume m g) (out_of_wait script c g line wanted)
     by_line (inl l) = absurd (nothing (work_of c g).command live.1 l.1)

@@ -27,7 +27,7 @@ use Rattle.gx_store.specs.declared.mark.Mark.TheVariants as mark
 use Rattle.gx_store.specs.declared.run.Step.{Step}
 use Rattle.gx_store.specs.Answers.{IsAnswer}
 use Rattle.gx_store.specs.Lines.{Outside, InBlock, is_command, is_on_rows, state_after}
-use Rattle.gx_store.specs.Marks.{answer_count, is_committed, is_ended, start_count, started_after}
+use Rattle.gx_store.specs.Marks.{answer_count, is_committed, is_ended, is_sent, start_count, started_after}
 use Rattle.gx_store.specs.Points.{ends_by, ends_in, marks_in, starts_by, starts_in}
 use Rattle.gx_rules.specs.AtCoordinator.{answer_mark, answers_at_once, begins, behind, dispatches, next_cid, next_line, starts_line}
 use Rattle.gx_rules.specs.Coordinators.{Command, Coord, Session, Work, new_work, session_of, work_of}
@@ -49,6 +49,7 @@ use Rattle.gx_law_order.proofs.Outs.{CommandIs}
 use Rattle.gx_law_order.proofs.Roots.{roots-alone, roots-alone-held-up, roots-begin, roots-other}
 use Rattle.gx_law_order.proofs.Said.{Said}
 use Rattle.gx_law_order.proofs.Under.{Under}
+use Rattle.gx_law_order.proofs.Unsent.{unsent-more}
 
 le-same : (a : ℕ) → a ≤ a
 le-same a = omega arith
@@ -316,12 +317,12 @@ module _ (script : Script) (steps : List Step) (c : Coord) (k : Kept script c) (
             }
 
     -- A COMMAND OUTSIDE A BLOCK
-    pub alone-does : block.Outside ≡ y.state.block → is_command Outside line ≡ true → Rattle.gx_store.specs.Legal.draws Outside line ≡ true → Does script steps c e (behind (begun ∷ []) (dispatches script (begins (starts_line c s (step.Command true)) s ReadCommitted) c.table.next line))
-    alone-does outside cmd d =
+    pub alone-does : ((d : Cid) → is_sent ms c.table.next d ≡ false) → block.Outside ≡ y.state.block → is_command Outside line ≡ true → Rattle.gx_store.specs.Legal.draws Outside line ≡ true → Does script steps c e (behind (begun ∷ []) (dispatches script (begins (starts_line c s (step.Command true)) s ReadCommitted) c.table.next line))
+    alone-does unsent outside cmd d =
         dispatch-does script steps e (λ A. tt) c c1 s c.table.next (fresh asked) y.lines block.Outside 0 line (begun ∷ []) under (ap (λ q. block_after q asked) (sym outside)) refl refl cmd
         (subst (λ v. Owns s 0 (ms ++ begun ∷ []) (next + 1) block.Outside c.table.next v) (sym (fresh-work asked ReadCommitted)) (fresh-owns ReadCommitted block.Outside 0 (begun ∷ []) refl refl (at-begun outside).said.started refl refl))
         (ap (λ (v : Work). v.command) (fresh-work asked ReadCommitted)) (ap (λ (v : Work). v.waiting) (fresh-work asked ReadCommitted)) (ap (λ (v : Work). next_cid v) (sym (fresh-work asked ReadCommitted)))
-        (past-begun c c1 ms (begun ∷ []) p k.whole refl (tt, tt)) roots undrawn-unawaited held_up
+        (past-begun c c1 ms (begun ∷ []) p k.whole refl (tt, tt)) (unsent-more ms (begun ∷ []) c.table.next _ (unsent _) refl) roots undrawn-unawaited held_up
       where
         asked : LineStep
         asked = step.Command true

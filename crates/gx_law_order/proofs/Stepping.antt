@@ -236,7 +236,7 @@ module _ (script : Script) (some : 1 ≤ script.segments) (w : World) (n : Knows
     event-given (inl d) later = marks-append (Given script) w.steps e [] did.marks _ later (d.legal _) (sent-given script w.steps e did.coord.sent did.outs did.marks later)
     event-given (inr d) later = marks-append (Given script) w.steps e [] did.marks _ later (quiet-given script w.steps e [] did.marks _ d.quiet) (sent-given script w.steps e did.coord.sent did.outs did.marks later)
 
-    pub event-holds : Effect script w.steps w.coord e did → LegalEvent script w.steps e → IsDrawn script w.steps e (coord_turn script w.coord x fails).marks → Holds script (coord_did w e (coord_turn script w.coord x fails))
+    pub event-holds : Effect script w.steps w.coord e did → LegalEvent script w.steps e (coord_turn script w.coord x fails).marks → IsDrawn script w.steps e (coord_turn script w.coord x fails).marks → Holds script (coord_did w e (coord_turn script w.coord x fails))
     event-holds d legal drawn =
         turn-holds e did (clock_after w.coord.clock x) (w.steps ++ step ∷ []) (by-step w.steps step) (coord_stays script some w.coord x fails n.well.coordinator).marks (turns script w.steps w.coord e did d)
         (event-numbered (marks_in w.steps) script w.coord x fails h.numbers) (given-last script [] w.steps step h.given (legal, drawn, event-given d))
@@ -262,7 +262,7 @@ module _ (script : Script) (some : 1 ≤ script.segments) (w : World) (n : Knows
         numbers = h.numbers ∙ ap (λ a. a + 1) (sym (ap start_count (marks-last w.steps late) ∙ calm-more (marks_in w.steps) late.marks (no-start late.marks silent)));
         fresh = subst (λ m. Fresh m w.coord.table.next.0) (sym (marks-last w.steps late)) (fresh-more (marks_in w.steps) late.marks w.coord.table.next.0 w.coord.table.next.0 h.fresh (le-same w.coord.table.next.0) (silent-fresh w.coord.table.next.0 late.marks silent));
         sessions = silent-sessions script w.steps w.coord h.sessions e (w.steps ++ late ∷ []) late.marks by w.coord (λ j. refl) (λ j. refl) refl silent (λ j. (starts-no e q j, ends-no e q j));
-        given = given-last script [] w.steps late h.given (legal-no script w.steps e q, drawn-no script w.steps e late.marks q, λ later. silent-given script w.steps e still [] late.marks later silent);
+        given = given-last script [] w.steps late h.given (legal-no script w.steps e late.marks q, drawn-no script w.steps e late.marks q, λ later. silent-given script w.steps e still [] late.marks later silent);
         notes = at-both (λ j (t : Seg). SegNoted (marks_in (w.steps ++ late ∷ [])) (at j) t) w.segs i _ (λ j. own-notes j) (λ j no. notes-kept new e late.marks by j);
         letters = each-posted (IsToldOf (marks_in (w.steps ++ late ∷ []))) (at i) (clock_after (w.segs i).clock x) late.marks w.sent told (letters-kept new e late.marks by);
         commands = commands-kept new e late.marks by;

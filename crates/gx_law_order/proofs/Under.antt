@@ -23,8 +23,7 @@ use Rattle.gx_store.specs.declared.mark.Mark.{Mark}
 use Rattle.gx_store.specs.declared.mark.Mark.TheVariants as mark
 use Rattle.gx_store.specs.declared.run.Step.{Step}
 use Rattle.gx_store.specs.Answers.{IsAnswer}
-use Rattle.gx_store.specs.Legal.{may_commit}
-use Rattle.gx_store.specs.Lines.{BlockState, Outside, cid_of, level_of, state_after}
+use Rattle.gx_store.specs.Lines.{BlockState, Outside, cid_of, level_of, may_commit, state_after}
 use Rattle.gx_store.specs.Marks.{is_aborted, is_answered, is_ended}
 use Rattle.gx_store.specs.Points.{Point, ends_by, ends_in, marks_in, starts_by}
 use Rattle.gx_store.specs.Refusals.{IsCause, the_coordinator, may_refuse}

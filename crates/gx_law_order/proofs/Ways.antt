@@ -21,6 +21,7 @@ use Rattle.gx_store.specs.declared.mark.Mark.{Mark}
 use Rattle.gx_store.specs.declared.mark.Mark.TheVariants as mark
 use Rattle.gx_store.specs.Marks.{is_aborted, is_committed}
 use Rattle.gx_store.specs.Protocol.{AreSeveral, CommitsBy, Decides, decided_count, is_writer, local_count, prepared_count, writers_of}
+use Rattle.gx_store.specs.Refusals.{the_coordinator}
 use Rattle.gx_rules.specs.Coordinators.{Command, Coord, CoordTurn, Work, rests}
 use Rattle.gx_law_order.proofs.Ends.{begun-finds}
 use Rattle.gx_law_order.proofs.Lines.{undrawn}
@@ -30,7 +31,7 @@ use Rattle.gx_law_order.proofs.Stages.{IsWhole}
 use Rattle.gx_law_order.specs.Pairs.{Pair}
 use Rattle.gx_law_order.specs.Said.{Said, gxid_in, is_answer}
 use Rattle.gx_law_order.specs.Standings.{Known, Part, Standing, at, gx, known_at, known_of, standing, waits_in}
-use Rattle.gx_law_order.specs.Standings.Standing.{Unborn, Live}
+use Rattle.gx_law_order.specs.Standings.Standing.{Unborn, Live, Preparing, One as OneWriter, Two}
 use Rattle.gx_law_order.proofs.Commits.{Decision, decision-append}
 use Rattle.gx_law_order.proofs.Counts.{NoPart, decided-append, local-append, no-local, no-prepared, no-writer, prepared-append, writer-append}
 use Rattle.gx_law_order.proofs.Nodes.{AreApart}
@@ -59,6 +60,9 @@ FolAt script ms (mark.Write g c n t r x) = ⊥
 FolAt script ms (mark.Prepared n g) = ⊥
 FolAt script ms (mark.LocalCommit n g) = ⊥
 FolAt script ms (mark.Sent to number told) = ⊥
+FolAt script ms (mark.Skip g c r) = ⊥
+FolAt script ms (mark.Fault g c r x) = x ≡ None
+FolAt script ms (mark.JournalFailed n g) = (n ≡ the_coordinator) × Decides script ms g
 FolAt script ms _ = Unit {0}
 
 abbrev pub Fol : Script → List Mark → List Mark → Type 0
@@ -116,10 +120,35 @@ pub record Working (g : ℕ) (w : Work) : Type 0 where
   pub apart : AreApart w.writers
   pub command : CommandOf g w.last w.command
 
--- a command that is sent is the one whose answer is awaited
+-- where a transaction stands that is told so
+abbrev pub IsToldFrom : Standing → Message → Type 0
+IsToldFrom a (message.Exec g c level snapshot horizon slice) = ⊥
+IsToldFrom a (message.Prepare g) = a ≡ Preparing true
+IsToldFrom a (message.Commit g) = a ≡ OneWriter true
+IsToldFrom a (message.CommitPrepared g) = a ≡ Two true
+IsToldFrom a _ = Unit {0}
+
+abbrev pub stands_for : Coord → ℕ → Gxid → Standing
+stands_for d i g = standing (nat_le d.table.next.0 g.0) (find_txn d.table g) i
+
+-- a command that is sent is the one whose answer is awaited, and so is an order
 abbrev pub AsksFor : Coord → ℕ → Message → Type 0
 AsksFor d i (message.Exec g c level snapshot horizon slice) = (waits_in (d.works g.0).command i ≡ true) × (c.0 ≡ (d.works g.0).last)
+AsksFor d i (message.Prepare g) = stands_for d i g ≡ Preparing true
+AsksFor d i (message.Commit g) = stands_for d i g ≡ OneWriter true
+AsksFor d i (message.CommitPrepared g) = stands_for d i g ≡ Two true
 AsksFor d i _ = Unit {0}
+
+pub asks-from : (d : Coord) (i g : ℕ) (a : Standing) (m : Message) → gxid_in m ≡ g → stands_for d i (gx g) ≡ a → IsToldFrom a m → AsksFor d i m
+asks-from d i g a (message.Exec h c level x y z) e s f = absurd f
+asks-from d i g a (message.Prepare h) e s f = subst (λ (n : ℕ). stands_for d i (gx n) ≡ Preparing true) (sym e) (s ∙ f)
+asks-from d i g a (message.Commit h) e s f = subst (λ (n : ℕ). stands_for d i (gx n) ≡ OneWriter true) (sym e) (s ∙ f)
+asks-from d i g a (message.CommitPrepared h) e s f = subst (λ (n : ℕ). stands_for d i (gx n) ≡ Two true) (sym e) (s ∙ f)
+asks-from d i g a (message.Abort h) e s f = tt
+asks-from d i g a (message.Forget h) e s f = tt
+asks-from d i g a (message.Collect round) e s f = tt
+asks-from d i g a (message.Answer h r) e s f = tt
+asks-from d i g a (message.Graph round graph) e s f = tt
 
 -- WHAT ALWAYS STANDS, AND HOW ONE LEADS TO THE NEXT
 module _ (script : Script) (P : ℕ → ℕ → Part) where

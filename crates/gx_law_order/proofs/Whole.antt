@@ -39,13 +39,16 @@ use Rattle.gx_law_order.proofs.Past.{aborted-append}
 use Rattle.gx_law_order.proofs.Tables.{AreIn}
 use Rattle.gx_law_order.proofs.Waiting.{going-out}
 use Rattle.gx_law_order.proofs.World.{Knows}
-use Rattle.gx_law_order.specs.Followed.{AnswersAt, DoMarksAnswer, DoMarksEnd, DoStepsAnswer, DoStepsEnd, EndsAt}
+use Rattle.gx_law_order.specs.Followed.{AnswersAt, CommitsAt, DoMarksAnswer, DoMarksCommit, DoMarksEnd, DoStepsAnswer, DoStepsCommit, DoStepsEnd, EndsAt}
+use Rattle.gx_law_order.specs.Standing.{AreSessions}
 use Rattle.gx_law_order.specs.Said.{gxid_in}
 use Rattle.gx_law_order.specs.Standings.{Known, at, gx, known_at}
 use Rattle.gx_law_order.proofs.Always.{HeardAt, Sound, by-heard, heard-at, moves-sound, said-in, said-to}
 use Rattle.gx_law_order.proofs.Asked.{IsGot, counted as counted_by, event-told}
 use Rattle.gx_law_order.proofs.Complete.{Comes, GetsIn, IsBack, Refuses, Replied, StartsIn, StepBack, answer-push, away-back, back-all, came-append, coord-replied, none-answers, starts-last, victim-replied}
 use Rattle.gx_law_order.proofs.Completing.{GetsBy, calm-started}
+use Rattle.gx_law_order.proofs.Committing.{heard-commits, turn-commits, victim-commits}
+use Rattle.gx_law_order.proofs.Legality.{moves-holds as moves-stand}
 use Rattle.gx_law_order.proofs.Events.{event-led}
 use Rattle.gx_law_order.proofs.Everywhere.{Holds, does-it, parts_in, resumed-does}
 use Rattle.gx_law_order.proofs.Handled.{Follows}
@@ -183,6 +186,11 @@ module _ (script : Script) (some : 1 ≤ script.segments) where
     pub holds : Holds script w
     pub replied : Replied script w
 
+  -- and where its sessions stand
+  record Full (w : World) : Type 0 where
+    both : Both w
+    sessions : AreSessions script w
+
   new-replied : Replied script new_world
   new-replied = record { lines = λ t. refl; last = λ t h e. absurd (cc); back = tt; answers = tt }
 
@@ -199,17 +207,41 @@ module _ (script : Script) (some : 1 ≤ script.segments) where
   world-both es = subst Both (sym (world-moves script es)) (moves-both (moves_after script new_world es))
 
   -- THE WHOLE
-  follow-mark : (node : Node) (point : Point) (m : Mark) → EndsAt script node point m → AnswersAt script node point m → FollowsAt script node point m
-  follow-mark node point (mark.Answer s n a) e f = f
-  follow-mark node point m e f = e
+  follow-sent : (node : Node) (point : Point) (to : Node) (number : ℕ) (m : Message) → EndsAt script node point (mark.Sent to number m) → CommitsAt script point (mark.Sent to number m) → FollowsAt script node point (mark.Sent to number m)
+  follow-sent node point to number (message.Prepare g) e c = (e, c)
+  follow-sent node point to number (message.Commit g) e c = (e, c)
+  follow-sent node point to number (message.CommitPrepared g) e c = e
+  follow-sent node point to number (message.Abort g) e c = e
+  follow-sent node point to number (message.Forget g) e c = e
+  follow-sent node point to number (message.Exec g k level x h y) e c = e
+  follow-sent node point to number (message.Answer g r) e c = e
+  follow-sent node point to number (message.Collect round) e c = e
+  follow-sent node point to number (message.Graph round graph) e c = e
 
-  follow-marks : (steps : List Step) (step : Step) (earlier ns : List Mark) → DoMarksEnd script steps step earlier ns → DoMarksAnswer script steps step earlier ns → DoMarksFollow script steps step earlier ns
-  follow-marks steps s earlier [] e f = tt
-  follow-marks steps s earlier (m ∷ ns) e f = (follow-mark s.stamp.node (record { steps = steps; event = s.event; earlier = earlier; later = ns }) m e.0 f.0, follow-marks steps s (earlier ++ m ∷ []) ns e.1 f.1)
+  follow-mark : (node : Node) (point : Point) (m : Mark) → EndsAt script node point m → AnswersAt script node point m → CommitsAt script point m → FollowsAt script node point m
+  follow-mark node point (mark.Answer s n a) e f c = f
+  follow-mark node point (mark.Sent to number m) e f c = follow-sent node point to number m e c
+  follow-mark node point m e f c = e
 
-  follow-steps : (before ss : List Step) → DoStepsEnd script before ss → DoStepsAnswer script before ss → DoStepsFollow script before ss
-  follow-steps before [] e f = tt
-  follow-steps before (s ∷ ss) e f = (follow-marks before s [] s.marks e.0 f.0, follow-steps (before ++ s ∷ []) ss e.1 f.1)
+  follow-marks : (steps : List Step) (step : Step) (earlier ns : List Mark) → DoMarksEnd script steps step earlier ns → DoMarksAnswer script steps step earlier ns → DoMarksCommit script steps step earlier ns → DoMarksFollow script steps step earlier ns
+  follow-marks steps s earlier [] e f c = tt
+  follow-marks steps s earlier (m ∷ ns) e f c = (follow-mark s.stamp.node (record { steps = steps; event = s.event; earlier = earlier; later = ns }) m e.0 f.0 c.0, follow-marks steps s (earlier ++ m ∷ []) ns e.1 f.1 c.1)
+
+  follow-steps : (before ss : List Step) → DoStepsEnd script before ss → DoStepsAnswer script before ss → DoStepsCommit script before ss → DoStepsFollow script before ss
+  follow-steps before [] e f c = tt
+  follow-steps before (s ∷ ss) e f c = (follow-marks before s [] s.marks e.0 f.0 c.0, follow-steps (before ++ s ∷ []) ss e.1 f.1 c.1)
+
+  moves-commit : (ms : List Move) → DoStepsCommit script [] (world_by script ms).steps
+  moves-commit =
+      at-moves script some Full (λ w. DoStepsCommit script [] w.steps) (λ ms. record { both = moves-both ms; sessions = (moves-stand script some ms).sessions }) tt
+      (λ w k p e x fails t ok next.
+      turn-commits script w k.both.knows k.both.holds e x fails p next.both.knows next.both.holds next.both.replied next.sessions
+      (event-led script (parts_in w) w.coord (marks_in w.steps) k.both.holds.stands k.both.knows.kept k.both.knows.past (λ g. (k.both.knows.well.coordinator.works g).writers) (going-out script w k.both.knows) x fails ok
+      (said-in script w k.both.knows k.both.holds x (said-to script w k.both.holds e x t))))
+      (λ w k p g h next. victim-commits script w k.both.knows k.both.holds g h p)
+      (λ w k p e x fails i place t ok next. heard-commits script w k.both.knows k.both.holds e x fails i p (heard-at script w k.both.holds e x i place.0 t ok))
 
   pub world-follows : (es : List (Event × Bool)) → DoStepsFollow script [] (world_of script es).steps
-  world-follows es = let b = world-both es in follow-steps [] (world_of script es).steps b.holds.ends b.replied.answers
+  world-follows es =
+      let b = world-both es in
+      follow-steps [] (world_of script es).steps b.holds.ends b.replied.answers (subst (λ (w : World). DoStepsCommit script [] w.steps) (sym (world-moves script es)) (moves-commit (moves_after script new_world es)))

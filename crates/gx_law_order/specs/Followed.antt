@@ -1,15 +1,18 @@
--- The commit protocol in two parts: how transactions end, and what a command's answer waits for.
+-- The commit protocol in three parts: how transactions end, what a command's answer waits for, and of which line a commit is.
 use Rattle.std.specs.Prelude.{List, [], ◌∷◌, ◌++◌}
 use Rattle.gx_ids.specs.declared.ids.Node.{Node}
+use Rattle.gx_msg.specs.declared.message.Message.TheVariants as message
 use Rattle.gx_script.specs.declared.Script.{Script}
 use Rattle.gx_store.specs.declared.mark.Mark.{Mark}
 use Rattle.gx_store.specs.declared.mark.Mark.TheVariants as mark
 use Rattle.gx_store.specs.declared.run.Step.{Step}
-use Rattle.gx_store.specs.Points.{Point}
-use Rattle.gx_store.specs.Protocol.{FollowsAt, IsComplete}
+use Rattle.gx_store.specs.Points.{Point, before}
+use Rattle.gx_store.specs.Protocol.{FollowsAt, IsCommitting, IsComplete, IsToCommit, IsToPrepare}
 
 abbrev pub EndsAt : Script → Node → Point → Mark → Type 0
 EndsAt script node point (mark.Answer session number answer) = Unit {0}
+EndsAt script node point (mark.Sent to number (message.Prepare g)) = IsToPrepare (before point) to g
+EndsAt script node point (mark.Sent to number (message.Commit g)) = IsToCommit (before point) to g
 EndsAt script node point m = FollowsAt script node point m
 
 abbrev pub DoMarksEnd : Script → List Step → Step → List Mark → List Mark → Type 0
@@ -35,3 +38,18 @@ DoMarksAnswer script steps step earlier (m ∷ ms) =
 abbrev pub DoStepsAnswer : Script → List Step → List Step → Type 0
 DoStepsAnswer script before [] = Unit {0}
 DoStepsAnswer script before (s ∷ ss) = DoMarksAnswer script before s [] s.marks × DoStepsAnswer script (before ++ s ∷ []) ss
+
+-- PREPARE and COMMIT are of a transaction that is on its way to a commit
+abbrev pub CommitsAt : Script → Point → Mark → Type 0
+CommitsAt script point (mark.Sent to number (message.Prepare g)) = IsCommitting script point g
+CommitsAt script point (mark.Sent to number (message.Commit g)) = IsCommitting script point g
+CommitsAt script point _ = Unit {0}
+
+abbrev pub DoMarksCommit : Script → List Step → Step → List Mark → List Mark → Type 0
+DoMarksCommit script steps step earlier [] = Unit {0}
+DoMarksCommit script steps step earlier (m ∷ ms) =
+    CommitsAt script (record { steps = steps; event = step.event; earlier = earlier; later = ms }) m × DoMarksCommit script steps step (earlier ++ m ∷ []) ms
+
+abbrev pub DoStepsCommit : Script → List Step → List Step → Type 0
+DoStepsCommit script before [] = Unit {0}
+DoStepsCommit script before (s ∷ ss) = DoMarksCommit script before s [] s.marks × DoStepsCommit script (before ++ s ∷ []) ss

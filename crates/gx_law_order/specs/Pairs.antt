@@ -27,7 +27,7 @@ is_open _ = false
 abbrev pub IsKept : ℕ → Bool → Option Reply → Type 0
 IsKept last wrote None = Unit {0}
 IsKept last wrote (Some (reply.Done c w count part)) = (c.0 ≡ last) × (w ≡ wrote)
-IsKept last wrote (Some (reply.Failed c cause)) = Unit {0}
+IsKept last wrote (Some (reply.Failed c cause)) = c.0 ≡ last
 IsKept last wrote (Some _) = ⊥
 
 -- what was answered to PREPARE or COMMIT

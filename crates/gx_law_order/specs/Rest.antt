@@ -100,4 +100,4 @@ AreRestLegal script before (s ∷ ss) = EachMark (Rest script) before s.event []
 -- the events of these steps may stand behind those before
 abbrev pub AreEventsLegal : Script → List Step → List Step → Type 0
 AreEventsLegal script before [] = Unit {0}
-AreEventsLegal script before (s ∷ ss) = LegalEvent script before s.event × AreEventsLegal script (before ++ s ∷ []) ss
+AreEventsLegal script before (s ∷ ss) = LegalEvent script before s.event s.marks × AreEventsLegal script (before ++ s ∷ []) ss

@@ -1,9 +1,10 @@
--- What a command does to rows once its transaction has aborted: it writes only where a row stands.
+-- What a command does to rows once its transaction has aborted: it writes only rows of its table, where they stand.
 use Rattle.std.proofs.Common.{◌≡◌, ◌∙◌, inr, ℕ, ◌==◌, List, [], ◌∷◌, ◌++◌, Option, Some, None, Bool, true, false, refl, ap, sym, subst, if◌then◌else◌, ◌&&◌, arith}
 use Rattle.std.proofs.lemmas.Bool.Decides.{nat_tests}
 use Rattle.std.proofs.lemmas.List.{append_assoc}
 use Rattle.gx_ids.specs.declared.ids.Gxid.{Gxid}
 use Rattle.gx_ids.specs.declared.ids.Node.{Node}
+use Rattle.gx_ids.specs.declared.ids.Table.{Table}
 use Rattle.gx_ids.specs.declared.rid.Rid.{Rid}
 use Rattle.gx_tree.specs.declared.row.KeyedRow.{KeyedRow}
 use Rattle.gx_tree.specs.declared.stmt.Assign.{Assign}
@@ -20,9 +21,9 @@ use Rattle.gx_store.specs.declared.event.Event.{Event}
 use Rattle.gx_store.specs.declared.mark.Mark.{Mark}
 use Rattle.gx_store.specs.declared.mark.Mark.TheVariants as mark
 use Rattle.gx_store.specs.declared.run.Step.{Step}
+use Rattle.gx_store.specs.Faults.{may_fault_late}
 use Rattle.gx_store.specs.Journals.{is_same_node}
-use Rattle.gx_store.specs.Lines.{is_on_rows}
-use Rattle.gx_store.specs.Marks.{is_aborted, is_same_rid, node_of}
+use Rattle.gx_store.specs.Marks.{is_aborted, is_same_rid, node_of, row_table}
 use Rattle.gx_store.specs.Points.{marks_in}
 use Rattle.gx_store.specs.Writes.{IsLate, IsLateWriteOf, may_skip}
 use Rattle.gx_rules.specs.Changes.{Change, RowTurn, changes_rows, goes_through, selected, shown_to, tuple_lock, unless_fault}
@@ -41,6 +42,7 @@ use Rattle.gx_law_reads.specs.Sights.{IsOnlyAt}
 use Rattle.gx_law_writes.proofs.Comes.{stop-locks}
 use Rattle.gx_law_writes.proofs.Current.{newest-has}
 use Rattle.gx_law_writes.proofs.LegalChange.{IsStatement}
+use Rattle.gx_law_writes.proofs.Never.{IsOfTable}
 use Rattle.gx_law_writes.proofs.Newest.{find-reverse}
 use Rattle.gx_law_writes.proofs.Parts.{node-still}
 use Rattle.gx_law_writes.proofs.Path.{IsLock, Legals, legals-append, legals-locks}
@@ -48,15 +50,22 @@ use Rattle.gx_law_writes.proofs.Points.{Ok, lock-ok}
 use Rattle.gx_law_writes.proofs.SelectedRows.{HaveHomes}
 
 -- WHERE VERSIONS STAND
--- each row with a version at the node has its first write there
+-- the row of the version has its first write at the node, and in the version's table
+abbrev pub IsHere : Node → List Mark → Version → Type 0
+IsHere node ms v = (node_of ms v.rid ≡ Some node) × (row_table ms v.rid ≡ Some v.table)
+
+-- so has each row with a version at the node
 abbrev pub AreHere : Node → List Mark → List Version → Type 0
-AreHere node ms vs = Each (λ (v : Version). node_of ms v.rid ≡ Some node) vs
+AreHere node ms vs = Each (IsHere node ms) vs
 
 node-is : (a b : Node) → is_same_node a b ≡ true → a ≡ b
 node-is a b e = grind (arith, nat_tests)
 
 same-rids : (a b : Rid) → is_same_rid a b ≡ true → a ≡ b
 same-rids a b e = grind (arith, nat_tests)
+
+table-is : (t u : Table) → (t.0 == u.0) ≡ true → t ≡ u
+table-is t u e = grind (arith, nat_tests)
 
 some-same : (a b : Node) → (let p : Option Node = Some a in p) ≡ Some b → a ≡ b
 some-same a b z = cc
@@ -71,48 +80,76 @@ only-first (mark.Write h d m u q y ∷ ms) rid n first e o = by_test (is_same_ri
     by_test false f z more = more z
 only-first (m ∷ ms) rid n first e o = only-first ms rid n first e o
 
--- one of the writes at the node
-pub record IsWrittenAt (node : Node) (ms : List Mark) (rid : Rid) : Type 0 where
-  pub first : Node
-  pub is : node_of ms rid ≡ Some first
-  pub at : IsOnlyAt first rid ms → first ≡ node
-
-written-at : (node : Node) (ms : List Mark) → Each (λ (v : Version). IsWrittenAt node ms v.rid) (writes_at node ms)
-written-at node [] = tt
-written-at node (mark.Write g c n t r x ∷ ms) = by_node (is_same_node n node) refl (each_weaker (λ (v : Version). IsWrittenAt node ms v.rid) (λ (v : Version). IsWrittenAt node (mark.Write g c n t r x ∷ ms) v.rid) (λ v w. behind v.rid (is_same_rid r v.rid) refl w) (writes_at node ms) (written-at node ms))
+-- where all its writes are in one table its first is
+first-in : (ms : List Mark) (rid : Rid) (u : Table) (first : Node) → IsOfTable u rid ms → node_of ms rid ≡ Some first → row_table ms rid ≡ Some u
+first-in [] rid u first o e = absurd (cc)
+first-in (mark.Write h d m t q y ∷ ms) rid u first o e = by_test (is_same_rid q rid) refl e (λ z. first-in ms rid u first o.1 z)
   where
-    behind : (rid : Rid) (b : Bool) → is_same_rid r rid ≡ b → IsWrittenAt node ms rid → IsWrittenAt node (mark.Write g c n t r x ∷ ms) rid
-    behind rid true e w =
+    by_test : (b : Bool) → is_same_rid q rid ≡ b → (if b then Some m else node_of ms rid) ≡ Some first → (node_of ms rid ≡ Some first → row_table ms rid ≡ Some u) → (if b then Some t else row_table ms rid) ≡ Some u
+    by_test true f z more = ap Some (table-is t u (o.0 f))
+    by_test false f z more = more z
+first-in (m ∷ ms) rid u first o e = first-in ms rid u first o e
+
+-- later marks don't change it
+table-still : (ms more : List Mark) (rid : Rid) (t : Table) → row_table ms rid ≡ Some t → row_table (ms ++ more) rid ≡ Some t
+table-still [] more rid t e = absurd (cc)
+table-still (mark.Write h d m u q y ∷ ms) more rid t e = by_test (is_same_rid q rid) e (λ z. table-still ms more rid t z)
+  where
+    by_test : (b : Bool) → (if b then Some u else row_table ms rid) ≡ Some t → (row_table ms rid ≡ Some t → row_table (ms ++ more) rid ≡ Some t) → (if b then Some u else row_table (ms ++ more) rid) ≡ Some t
+    by_test true z f = z
+    by_test false z f = f z
+table-still (m ∷ ms) more rid t e = table-still ms more rid t e
+
+-- one of the writes at the node
+pub record IsWrittenAt (node : Node) (ms : List Mark) (v : Version) : Type 0 where
+  pub first : Node
+  pub is : node_of ms v.rid ≡ Some first
+  pub at : IsOnlyAt first v.rid ms → first ≡ node
+  pub of : (u : Table) → IsOfTable u v.rid ms → v.table ≡ u
+
+written-at : (node : Node) (ms : List Mark) → Each (IsWrittenAt node ms) (writes_at node ms)
+written-at node [] = tt
+written-at node (mark.Write g c n t r x ∷ ms) = by_node (is_same_node n node) refl (each_weaker (IsWrittenAt node ms) (IsWrittenAt node (mark.Write g c n t r x ∷ ms)) (λ v w. behind v (is_same_rid r v.rid) refl w) (writes_at node ms) (written-at node ms))
+  where
+    behind : (v : Version) (b : Bool) → is_same_rid r v.rid ≡ b → IsWrittenAt node ms v → IsWrittenAt node (mark.Write g c n t r x ∷ ms) v
+    behind v true e w =
         record {
           first = n;
-          is = ap (λ q. if q then Some n else node_of ms rid) e;
-          at = λ o. let same = only-first ms rid n w.first w.is o.1 in sym same ∙ w.at (subst (λ (a : Node). IsOnlyAt a rid ms) (sym same) o.1);
+          is = ap (λ q. if q then Some n else node_of ms v.rid) e;
+          at = λ o. let same = only-first ms v.rid n w.first w.is o.1 in sym same ∙ w.at (subst (λ (a : Node). IsOnlyAt a v.rid ms) (sym same) o.1);
+          of = λ u o. w.of u o.1;
         }
-    behind rid false e w = record { first = w.first; is = ap (λ q. if q then Some n else node_of ms rid) e ∙ w.is; at = λ o. w.at o.1 }
+    behind v false e w = record { first = w.first; is = ap (λ q. if q then Some n else node_of ms v.rid) e ∙ w.is; at = λ o. w.at o.1; of = λ u o. w.of u o.1 }
 
-    by_node : (b : Bool) → is_same_node n node ≡ b → Each (λ (v : Version). IsWrittenAt node (mark.Write g c n t r x ∷ ms) v.rid) (writes_at node ms)
-        → Each (λ (v : Version). IsWrittenAt node (mark.Write g c n t r x ∷ ms) v.rid) (if b then record { gxid = g; cid = c; table = t; rid = r; image = x } ∷ writes_at node ms else writes_at node ms)
-    by_node true e more = (record { first = n; is = ap (λ q. if q then Some n else node_of ms r) (is_same_rid-refl r); at = λ o. node-is n node e }, more)
+    by_node : (b : Bool) → is_same_node n node ≡ b → Each (IsWrittenAt node (mark.Write g c n t r x ∷ ms)) (writes_at node ms)
+        → Each (IsWrittenAt node (mark.Write g c n t r x ∷ ms)) (if b then record { gxid = g; cid = c; table = t; rid = r; image = x } ∷ writes_at node ms else writes_at node ms)
+    by_node true e more = (
+      record { first = n; is = ap (λ q. if q then Some n else node_of ms r) (is_same_rid-refl r); at = λ o. node-is n node e; of = λ u o. table-is t u (o.0 (is_same_rid-refl r)) },
+      more,
+    )
     by_node false e more = more
-written-at node (m ∷ ms) = each_weaker (λ (v : Version). IsWrittenAt node ms v.rid) (λ (v : Version). IsWrittenAt node (m ∷ ms) v.rid) (λ v w. record { first = w.first; is = w.is; at = w.at }) (writes_at node ms) (written-at node ms)
+written-at node (m ∷ ms) = each_weaker (IsWrittenAt node ms) (IsWrittenAt node (m ∷ ms)) (λ v w. record { first = w.first; is = w.is; at = w.at; of = w.of }) (writes_at node ms) (written-at node ms)
 
 pub here-all : (node : Node) (ms : List Mark) → HaveHomes ms → AreHere node ms (writes_at node ms)
-here-all node ms homes = each_weaker (λ (v : Version). IsWrittenAt node ms v.rid) (λ (v : Version). node_of ms v.rid ≡ Some node) (λ v w. w.is ∙ ap Some (w.at (homes.nodes v.rid w.first w.is))) (writes_at node ms) (written-at node ms)
+here-all node ms homes = each_weaker (IsWrittenAt node ms) (IsHere node ms) here (writes_at node ms) (written-at node ms)
+  where
+    here : (v : Version) → IsWrittenAt node ms v → IsHere node ms v
+    here v w = let o = homes.tables v.rid in (w.is ∙ ap Some (w.at (homes.nodes v.rid w.first w.is)), first-in ms v.rid o.0 w.first o.1 w.is ∙ ap Some (sym (w.of o.0 o.1)))
 
 pub here-more : (node : Node) (ms more : List Mark) (vs : List Version) → AreHere node ms vs → AreHere node (ms ++ more) vs
-here-more node ms more vs e = each_weaker (λ (v : Version). node_of ms v.rid ≡ Some node) (λ (v : Version). node_of (ms ++ more) v.rid ≡ Some node) (λ v h. node_still v h) vs e
-  where
-    node_still : (v : Version) → node_of ms v.rid ≡ Some node → node_of (ms ++ more) v.rid ≡ Some node
-    node_still v h = node-still ms more v.rid node h
+here-more node ms more vs e = each_weaker (IsHere node ms) (IsHere node (ms ++ more)) (λ v h. (node-still ms more v.rid node h.0, table-still ms more v.rid v.table h.1)) vs e
 
 -- what holds of all versions holds of a row's current one
-pub current-has : (P : Version → Type 0) (s : Seg) (k : Change) (rid : Rid) (v : Version) → Each P s.versions → current_of s k.table rid ≡ Some v → P v × (is_same_rid v.rid rid ≡ true)
+pub current-has : (P : Version → Type 0) (s : Seg) (k : Change) (rid : Rid) (v : Version) → Each P s.versions → current_of s k.table rid ≡ Some v → P v × (is_same_rid v.rid rid ≡ true) × (v.table ≡ k.table)
 current-has P s k rid v e is =
     let a = newest-has P (is_current s k.table rid) None s.versions v e (λ z. absurd (none z)) (sym (find-reverse (is_current s k.table rid) s.versions) ∙ is) in
-    (a.0, second (v.table.0 == k.table.0) (is_same_rid v.rid rid) _ a.1)
+    (a.0, second (v.table.0 == k.table.0) (is_same_rid v.rid rid) _ a.1, table-is v.table k.table (first (v.table.0 == k.table.0) _ a.1))
   where
     none : None ≡ Some v → ⊥
     none z = cc
+
+    first : (a b : Bool) → (a && b) ≡ true → a ≡ true
+    first a b e = grind arith
 
     second : (a b d : Bool) → (a && (b && d)) ≡ true → b ≡ true
     second a b d e = grind arith
@@ -122,9 +159,9 @@ may-skip : (k : Change) (set : Option (List Assign)) (stmt : Stmt) → IsStateme
 may-skip k (Some assigns) stmt of = ap may_skip of
 may-skip k None stmt of = ap may_skip of
 
-on-rows : (k : Change) (set : Option (List Assign)) (stmt : Stmt) → IsStatement k set stmt → is_on_rows stmt ≡ true
-on-rows k (Some assigns) stmt of = ap is_on_rows of
-on-rows k None stmt of = ap is_on_rows of
+may-fault : (k : Change) (set : Option (List Assign)) (stmt : Stmt) → IsStatement k set stmt → may_fault_late stmt ≡ true
+may-fault k (Some assigns) stmt of = ap may_fault_late of
+may-fault k None stmt of = ap may_fault_late of
 
 module _ (script : Script) (steps : List Step) (e : Event) (pre : List Mark) (s : Seg) (g : Gxid) (k : Change) (stmt : Stmt) (of : IsStatement k k.set stmt)
     (late : (earlier later : List Mark) → IsLate script (record { steps = steps; event = e; earlier = earlier; later = later }) g k.cid stmt) where
@@ -137,7 +174,7 @@ module _ (script : Script) (steps : List Step) (e : Event) (pre : List Mark) (s 
   lock-so : (earlier : List Mark) (x : Mark) → IsLock x → IsSo earlier x
   lock-so = lock-ok script steps e s.node
 
-  -- its marks so far are legal, and each row with a version there has its first write there
+  -- its marks so far are legal, and each row with a version there has its first write there, in the version's table
   pub record LateSoFar (m : Moved) : Type 0 where
     pub node : m.seg.node ≡ s.node
     pub marks : Legals (Ok script steps e s.node) pre m.marks
@@ -165,17 +202,17 @@ module _ (script : Script) (steps : List Step) (e : Event) (pre : List Mark) (s 
   skip-so earlier rid = (λ later. inr (record { stmt = stmt; late = late earlier later; kind = may-skip k k.set stmt of }), λ alive. absurd (true-false (is_aborted (marks_in steps ++ earlier) g) (late earlier []).aborted alive))
 
   fault-so : (earlier : List Mark) (rid : Rid) (image : Option (List Value)) → IsSo earlier (mark.Fault g k.cid rid image)
-  fault-so earlier rid image = (λ later. inr (record { stmt = stmt; late = late earlier later; kind = on-rows k k.set stmt of }), tt)
+  fault-so earlier rid image = (λ later. inr (record { stmt = stmt; late = late earlier later; kind = may-fault k k.set stmt of }), tt)
 
-  write-so : (set : Option (List Assign)) → IsStatement k set stmt → (earlier : List Mark) (node : Node) (rid : Rid) (image : Option (List Value)) → node_of (marks_in steps ++ earlier) rid ≡ Some node → IsSo earlier (mark.Write g k.cid node k.table rid image)
+  write-so : (set : Option (List Assign)) → IsStatement k set stmt → (earlier : List Mark) (node : Node) (rid : Rid) (image : Option (List Value)) → (node_of (marks_in steps ++ earlier) rid ≡ Some node) × (row_table (marks_in steps ++ earlier) rid ≡ Some k.table) → IsSo earlier (mark.Write g k.cid node k.table rid image)
   write-so (Some assigns) of earlier node rid image there = (
     λ later.
-        inr (record { stmt = stmt; late = late earlier later; writes = subst (λ q. IsLateWriteOf (marks_in steps ++ earlier) g k.cid q node k.table rid) (sym of) (refl, there) }),
+        inr (record { stmt = stmt; late = late earlier later; writes = subst (λ q. IsLateWriteOf script (marks_in steps ++ earlier) g k.cid q node k.table rid image) (sym of) (refl, there.0, there.1) }),
     tt,
   )
   write-so None of earlier node rid image there = (
     λ later.
-        inr (record { stmt = stmt; late = late earlier later; writes = subst (λ q. IsLateWriteOf (marks_in steps ++ earlier) g k.cid q node k.table rid) (sym of) (refl, there) }),
+        inr (record { stmt = stmt; late = late earlier later; writes = subst (λ q. IsLateWriteOf script (marks_in steps ++ earlier) g k.cid q node k.table rid image) (sym of) (refl, there.0, there.1) }),
     tt,
   )
 
@@ -186,23 +223,26 @@ module _ (script : Script) (steps : List Step) (e : Event) (pre : List Mark) (s 
     abbrev v : Version
     v = version g k.cid k.table rid image
 
-    there : node_of (before ++ m.marks) rid ≡ Some s.node
+    there : (node_of (before ++ m.marks) rid ≡ Some s.node) × (row_table (before ++ m.marks) rid ≡ Some k.table)
     there =
-        let a = current-has (λ (v : Version). node_of (before ++ m.marks) v.rid ≡ Some s.node) m.seg k rid why.version f.here why.settled.current in
-        subst (λ r. node_of (before ++ m.marks) r ≡ Some s.node) (same-rids why.version.rid rid a.1) a.0
+        let a = current-has (IsHere s.node (before ++ m.marks)) m.seg k rid why.version f.here why.settled.current in
+        let same = same-rids why.version.rid rid a.1 in
+        (subst (λ r. node_of (before ++ m.marks) r ≡ Some s.node) same a.0.0, subst (λ r. row_table (before ++ m.marks) r ≡ Some k.table) same (a.0.1 ∙ ap Some a.2))
 
     ok : IsSo (pre ++ m.marks) (mark.Write g k.cid m.seg.node k.table rid image)
     ok =
-        write-so k.set of (pre ++ m.marks) m.seg.node rid image
-        (subst (λ (n : Node). node_of (marks_in steps ++ (pre ++ m.marks)) rid ≡ Some n) (sym f.node) (subst (λ ms. node_of ms rid ≡ Some s.node) (append_assoc (marks_in steps) pre m.marks) there))
+        write-so k.set of (pre ++ m.marks) m.seg.node rid image (
+          subst (λ (n : Node). node_of (marks_in steps ++ (pre ++ m.marks)) rid ≡ Some n) (sym f.node) (subst (λ ms. node_of ms rid ≡ Some s.node) (append_assoc (marks_in steps) pre m.marks) there.0),
+          subst (λ ms. row_table ms rid ≡ Some k.table) (append_assoc (marks_in steps) pre m.marks) there.1,
+        )
 
     now : LateSoFar (record { seg = adds_version m.seg g (version g k.cid k.table rid image); marks = m.marks ++ mark.Write g k.cid m.seg.node k.table rid image ∷ [] })
     now =
         record {
           node = f.node;
           marks = legals-append IsSo pre m.marks (x ∷ []) f.marks (ok, tt);
-          here = each_append (λ (v : Version). node_of (before ++ (m.marks ++ x ∷ [])) v.rid ≡ Some s.node) m.seg.versions (v ∷ []) (here-behind m x m.seg.versions f.here)
-              (subst (λ ms. node_of ms rid ≡ Some s.node) (append_assoc before m.marks (x ∷ [])) (node-still (before ++ m.marks) (x ∷ []) rid s.node there), tt);
+          here = each_append (IsHere s.node (before ++ (m.marks ++ x ∷ []))) m.seg.versions (v ∷ []) (here-behind m x m.seg.versions f.here)
+              (subst (λ ms. IsHere s.node ms v) (append_assoc before m.marks (x ∷ [])) (node-still (before ++ m.marks) (x ∷ []) rid s.node there.0, table-still (before ++ m.marks) (x ∷ []) rid k.table there.1), tt);
         }
 
     own : (p : Phase) (n : Moved) → LateSoFar n → LateSoFar (takes_own g p n)

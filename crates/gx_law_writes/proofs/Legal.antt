@@ -1,11 +1,9 @@
 -- Each write of a segment's step is legal at its point.
-use Rattle.std.proofs.Common.{◌≡◌, ◌≤◌, ◌<◌, ◌⊎◌, inl, inr, ℕ, ◌+◌, List, [], ◌∷◌, ◌++◌, Option, Some, None, Bool, true, false, refl, sym, subst, ap, ◌∙◌, if◌then◌else◌, ◌||◌, ◌&&◌, arith, eqb, zero, suc}
+use Rattle.std.proofs.Common.{◌≡◌, ◌≤◌, ◌<◌, ◌⊎◌, inl, inr, ℕ, ◌+◌, List, [], ◌∷◌, ◌++◌, Option, Some, Bool, true, false, refl, subst, ◌∙◌, ◌||◌, ◌&&◌, arith, eqb, zero, suc}
 use Rattle.std.proofs.lemmas.Bool.Decides.{nat_tests}
-use Rattle.std.specs.Prelude.{◌-◌, length, slice_get}
 use Rattle.std.proofs.lemmas.Bool.{and_from, or_from, or_left, or_right}
 use Rattle.gx_lemmas.proofs.Options.{some-same}
 use Rattle.gx_lemmas.proofs.Numbers.{eqb-self}
-use Rattle.gx_lemmas.proofs.Lists.{place-below}
 use Rattle.gx_ids.specs.declared.ids.Cid.{Cid}
 use Rattle.gx_ids.specs.declared.ids.Gxid.{Gxid}
 use Rattle.gx_ids.specs.declared.ids.Node.{Node}
@@ -33,9 +31,9 @@ use Rattle.gx_store.specs.declared.mark.Mark.TheVariants as mark
 use Rattle.gx_store.specs.declared.run.Step.{Step}
 use Rattle.gx_store.specs.Commands.{IsUnderWay, has_own_snapshot}
 use Rattle.gx_store.specs.Lines.{level_of, stmt_of}
-use Rattle.gx_store.specs.Marks.{has_snapshot, is_aborted, is_ended, is_same_rid, is_snapped, is_written, node_of}
+use Rattle.gx_store.specs.Marks.{has_snapshot, is_aborted, is_ended, is_same_rid, is_snapped, is_written}
 use Rattle.gx_store.specs.Points.{Point, marks_in, starts_by}
-use Rattle.gx_store.specs.Writes.{IsAtHome, IsInserted, IsWriteOf, LegalWrite}
+use Rattle.gx_store.specs.Writes.{IsInserted, LegalWrite}
 use Rattle.gx_store.proofs.Marks.{has_snapshot-append, is_aborted-append, is_ended-append, is_snapped-append, is_written-append}
 use Rattle.gx_store.proofs.Rows.{same_rid}
 use Rattle.gx_rules.specs.Locks.{hold_mark}
@@ -69,24 +67,6 @@ no-writes-legal script steps e earlier (m ∷ ms) later h = (no-write-legal scri
 pub sent-no-write : (f : ℕ → ℕ) (outs : List Out) → Each NoWrite (numbered f outs)
 sent-no-write f [] = tt
 sent-no-write f (o ∷ outs) = (tt, sent-no-write (counted f o) outs)
-
--- a tuple that is there has a number up to theirs
-within : {A : Type 0} (o : ℕ) (xs : List A) (x : A) → 1 ≤ o → slice_get xs (o - 1) ≡ Some x → o ≤ length xs
-within o xs x l e = up o (length xs) l (place-below xs (o - 1) x e)
-  where
-    up : (o n : ℕ) → 1 ≤ o → o - 1 < n → o ≤ n
-    up o n l h = omega arith
-
--- A ROW THAT ISN'T WRITTEN
--- it has no node yet
-pub unwritten-node : (ms : List Mark) (rid : Rid) → is_written ms rid ≡ false → node_of ms rid ≡ None
-unwritten-node [] rid e = refl
-unwritten-node (mark.Write g c n t r x ∷ ms) rid e = by_test (is_same_rid r rid) (λ q. unwritten-node ms rid q) e
-  where
-    by_test : (b : Bool) → (is_written ms rid ≡ false → node_of ms rid ≡ None) → (b || is_written ms rid) ≡ false → (if b then Some n else node_of ms rid) ≡ None
-    by_test true later e = absurd (cc)
-    by_test false later e = later e
-unwritten-node (m ∷ ms) rid e = unwritten-node ms rid e
 
 -- where a row is written, its INSERT has run: the commands from this number on have still to run at the node
 abbrev pub IsPastMark : (ℕ → ℕ → ℕ) → Mark → Type 0
@@ -173,6 +153,10 @@ module _ (script : Script) (numbered : AreLinesNumbered [] script.lines) (w : Wo
       once : is_written (now ++ earlier) row.rid ≡ false
       once = is_written-append now earlier row.rid ∙ or_from (is_written now row.rid) (is_written earlier row.rid) fresh (b.unwritten row.rid l)
 
+      its : IsInserted script (now ++ earlier) (gx g) c table tuples node row.rid (Some row.row)
+      its =
+          record { own = p.row_is.own; counted = p.row_is.counted; tuple = p.row_is.tuple; among = p.row_is.among; values = row.row; constants = p.row_is.constants; written = refl; place = p.place; once = once }
+
       by_how : Live script w g c (stmt.Insert table tuples) level ⊎ Late script w g c → LegalWrite script (record { steps = w.steps; event = e; earlier = earlier; later = later }) (gx g) c node table row.rid (Some row.row)
       by_how (inl v) =
           inl (record {
@@ -181,18 +165,7 @@ module _ (script : Script) (numbered : AreLinesNumbered [] script.lines) (w : Wo
             level = level;
             runs = live-runs script w g c (stmt.Insert table tuples) e earlier later level v (quiet (w.coord.works g).session) (b.calm (w.coord.works g).session) b.running;
             snapped = live-snapped script w g c (stmt.Insert table tuples) e earlier later level v;
-            writes = (
-              refl,
-              record { own = p.row_is.own; counted = p.row_is.counted; tuple = p.row_is.tuple; among = p.row_is.among; values = row.row; constants = p.row_is.constants; written = refl; place = p.place; once = once },
-            );
+            writes = (refl, its);
           })
       by_how (inr v) =
-          inr (record {
-            stmt = stmt.Insert table tuples;
-            late = is-late script w g c (stmt.Insert table tuples) e earlier later numbered v of;
-            writes = (
-              refl,
-              record { own = p.row_is.own; counted = p.row_is.counted; among = within row.rid.ordinal tuples p.row_is.tuple p.row_is.counted p.row_is.among },
-              subst (λ o. IsAtHome o node) (sym (unwritten-node (now ++ earlier) row.rid once)) tt,
-            );
-          })
+          inr (record { stmt = stmt.Insert table tuples; late = is-late script w g c (stmt.Insert table tuples) e earlier later numbered v of; writes = (refl, its) })

@@ -7,11 +7,15 @@ use Rattle.gx_store.specs.Points.{marks_in}
 use Rattle.gx_rules.specs.Machine.{World, world_of}
 use Rattle.gx_law_writes.specs.Legal.{AreLocksLegal}
 use Rattle.gx_law_writes.proofs.World.{world-holds}
+use Rattle.gx_law_locks.specs.Waiting.{KeepsWhileWaiting}
+use Rattle.gx_law_locks.proofs.Committing.{world-free}
+use Rattle.gx_law_locks.proofs.Lets.{LetsWait, behind-weaker, lets-keep}
 use Rattle.gx_law_locks.proofs.Orders.{world-orders}
 use Rattle.gx_law_locks.proofs.HoldsInRuns.{world-exclusive, world-lasting, world-locked}
 use Rattle.gx_law_writes.proofs.Joined.{at-marks, locked-steps}
 use Rattle.gx_law_writes.proofs.Reading.{reads-held}
 use Rattle.gx_law_writes.proofs.AnswersHold.{answers-held}
+use Rattle.gx_law_writes.proofs.AskedRuns.{world-asked}
 use Rattle.gx_law_writes.proofs.Writes.{under-steps}
 
 pub locks-legal : (script : Script) (some : 1 ≤ script.segments) → AreLinesNumbered [] script.lines → (es : List (Event × Bool)) → AreLocksLegal script (world_of script es).steps
@@ -23,8 +27,11 @@ locks-legal script some numbered es =
     let reading = reads-held script some es in
     record {
       locked = locked-steps script [] w.steps marks (answers-held script some es) reading l.own;
+      asked = world-asked script some numbered es;
       reading = reading;
       waits = l.waits;
       exclusive = world-exclusive script some es;
       lasting = world-lasting script some es;
+      committing = (world-free script some es).commits;
+      keeping = behind-weaker LetsWait KeepsWhileWaiting lets-keep [] (marks_in w.steps) l.lets;
     }

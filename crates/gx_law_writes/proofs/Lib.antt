@@ -73,3 +73,10 @@ pub mod Answering
 pub mod AnswersHold
 pub mod Shapes
 pub mod Reading
+pub mod Skipped
+mod AskedMarks
+mod AskedHere
+mod AskedSlices
+mod AskedThere
+mod AskedEvents
+mod AskedRuns

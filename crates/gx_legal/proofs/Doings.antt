@@ -50,16 +50,16 @@ module _ (script : Script) (point : Point) (g : Gxid) (c : Cid) where
           back (inr by) = h.1 by
 
   pub write-either : (row : RowAt) (image : Bor (Option (List Value)))
-      → IsByEither script point g c (act.Write row image) (act.LateWrite row) ↔ LegalWrite script point g c row.node row.table row.rid image.now
+      → IsByEither script point g c (act.Write row image) (act.LateWrite row image) ↔ LegalWrite script point g c row.node row.table row.rid image.now
   write-either row image = (to, back)
     where
-      to : IsByEither script point g c (act.Write row image) (act.LateWrite row) → LegalWrite script point g c row.node row.table row.rid image.now
+      to : IsByEither script point g c (act.Write row image) (act.LateWrite row image) → LegalWrite script point g c row.node row.table row.rid image.now
       to (inl by) = inl (record { session = by.0; stmt = by.1.0; level = by.1.1; runs = by.1.2; snapped = by.1.3.0; writes = by.1.3.1 })
-      to (inr late) = let x = late-of (act.LateWrite row) late in inr (record { stmt = x.0; late = x.2; writes = x.3 })
+      to (inr late) = let x = late-of (act.LateWrite row image) late in inr (record { stmt = x.0; late = x.2; writes = x.3 })
 
-      back : LegalWrite script point g c row.node row.table row.rid image.now → IsByEither script point g c (act.Write row image) (act.LateWrite row)
+      back : LegalWrite script point g c row.node row.table row.rid image.now → IsByEither script point g c (act.Write row image) (act.LateWrite row image)
       back (inl live) = inl (live.session, (live.stmt, live.level, live.runs, (live.snapped, live.writes)))
-      back (inr late) = inr (by-late (act.LateWrite row) late.stmt late.late late.writes)
+      back (inr late) = inr (by-late (act.LateWrite row image) late.stmt late.late late.writes)
 
   pub skip-either : (rid : Rid) → IsByEither script point g c (act.Skip rid) act.LateSkip ↔ LegalSkip script point g c rid
   skip-either rid = (to, back)

@@ -74,7 +74,7 @@ module _ (script : Script) (marks : List Mark) (g : Gxid) (c : Cid) (table : Tab
   abbrev tuple-there : Option (List Expr)
   tuple-there = slice_get tuples (rid.ordinal - 1)
 
-  inserted-is : is_inserted script marks g c table tuples node rid image ≡ true → IsInserted script marks g c table tuples node rid image
+  pub inserted-is : is_inserted script marks g c table tuples node rid image ≡ true → IsInserted script marks g c table tuples node rid image
   inserted-is e =
       let own = and-first (is_own g c rid) _ e in
       let rest = and-second (is_own g c rid) _ e in
@@ -92,7 +92,7 @@ module _ (script : Script) (marks : List Mark) (g : Gxid) (c : Cid) (table : Tab
         once = not-true _ (and-first (not (is_written marks rid)) _ rest);
       }
 
-  is-inserted : IsInserted script marks g c table tuples node rid image → is_inserted script marks g c table tuples node rid image ≡ true
+  pub is-inserted : IsInserted script marks g c table tuples node rid image → is_inserted script marks g c table tuples node rid image ≡ true
   is-inserted i =
       let row : RowOf script.segments dist node rid image tuple-there = record { tuple = i.tuple; among = i.among; values = i.values; constants = i.constants; written = i.written; place = i.place } in
       let own = and_from (is_same_gxid rid.gxid g) _ (eqb-of rid.gxid.0 g.0 (ap (λ (x : Gxid). x.0) i.own.0))

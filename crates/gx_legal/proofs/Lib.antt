@@ -14,6 +14,7 @@ pub mod Lateness
 pub mod Changes
 pub mod Insertions
 pub mod RowFaults
+pub mod Lates
 pub mod RowsTreated
 pub mod Holding
 pub mod Inserting

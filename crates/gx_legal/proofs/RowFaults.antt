@@ -1,6 +1,6 @@
 -- The tests of faults decide the definitions.
-use Rattle.std.proofs.Common.{◌≡◌, ◌∙◌, inl, inr, ℕ, zero, suc, ◌==◌, ◌-◌, ◌<◌, true, take, List, [], ◌∷◌, slice_get, Option, Some, None, Result, Ok, Err, refl, sym, ap, subst, arith}
-use Rattle.std.proofs.lemmas.Bool.{and_from}
+use Rattle.std.proofs.Common.{◌≡◌, ◌∙◌, inl, inr, ℕ, zero, suc, ◌==◌, ◌-◌, ◌<◌, true, not, take, List, [], ◌∷◌, slice_get, Option, Some, None, Result, Ok, Err, refl, sym, ap, subst, arith}
+use Rattle.std.proofs.lemmas.Bool.{and_from, not-true, not_from_false}
 use Rattle.gx_ids.specs.declared.ids.Gxid.{Gxid}
 use Rattle.gx_ids.specs.declared.ids.Cid.{Cid}
 use Rattle.gx_ids.specs.declared.ids.Table.{Table}
@@ -20,7 +20,7 @@ use Rattle.gx_meaning.specs.declared.fault.ArithFault.TheVariants.{Overflow, Div
 use Rattle.gx_store.specs.declared.mark.Mark.{Mark}
 use Rattle.gx_store.specs.Commands.{condition_on}
 use Rattle.gx_store.specs.Faults.{FaultsInConstants, FaultsInSet, FaultsOnCurrent, FaultsOnSeen, IsFaultOf}
-use Rattle.gx_store.specs.Marks.{is_same_gxid}
+use Rattle.gx_store.specs.Marks.{is_same_gxid, is_sent}
 use Rattle.gx_store.specs.Writes.{Written, set_row}
 use Rattle.gx_legal.specs.Changed.{is_changed, is_gone, is_read_committed}
 use Rattle.gx_legal.specs.Faulted.{are_whole, is_constant_fault, is_current_fault, is_fault, is_image_fault, is_same_fault, is_seen_fault, is_set_fault, is_stmt_fault, is_tuple_fault, is_whole, is_write_fault}
@@ -188,12 +188,13 @@ module _ (g : Gxid) (c : Cid) (tuples : List (List Expr)) (rid : Rid) (meant : O
   none-is None e = refl
   none-is (Some row) e = no_more _ e
 
-  constant-is : is_constant_fault g c tuples rid meant fault ≡ true → FaultsInConstants g c tuples rid meant fault
-  constant-is e =
+  constant-is : (marks : List Mark) → is_constant_fault marks g c tuples rid meant fault ≡ true → FaultsInConstants marks g c tuples rid meant fault
+  constant-is marks e =
       let own = and-first (is_own g c rid) _ e in
       let rest = and-second (is_own g c rid) _ e in
       let more = and-second (is_same_gxid rid.gxid g) _ own in
-      let last = and-second (is_gone meant []) _ rest in
+      let unsent = and-second (is_gone meant []) _ rest in
+      let last = and-second (not (is_sent marks g c)) _ unsent in
       let tuple = tuple-is (slice_get tuples (rid.ordinal - 1)) (and-first (is_tuple_fault fault (slice_get tuples (rid.ordinal - 1))) _ last) in
       record {
         own = (gxid-same rid.gxid g (and-first (is_same_gxid rid.gxid g) _ own), cid-same rid.cid c (and-first (rid.cid.0 == c.0) _ more));
@@ -203,20 +204,22 @@ module _ (g : Gxid) (c : Cid) (tuples : List (List Expr)) (rid : Rid) (meant : O
         faults = tuple.2;
         first = all-before (rid.ordinal - 1) tuples (and-second (is_tuple_fault fault (slice_get tuples (rid.ordinal - 1))) _ last);
         meant = none-is meant (and-first (is_gone meant []) _ rest);
+        unsent = not-true _ (and-first (not (is_sent marks g c)) _ unsent);
       }
 
-  is-constant : FaultsInConstants g c tuples rid meant fault → is_constant_fault g c tuples rid meant fault ≡ true
-  is-constant f =
+  is-constant : (marks : List Mark) → FaultsInConstants marks g c tuples rid meant fault → is_constant_fault marks g c tuples rid meant fault ≡ true
+  is-constant marks f =
       let own = and_from (is_same_gxid rid.gxid g) _ (eqb-of rid.gxid.0 g.0 (ap (λ (x : Gxid). x.0) f.own.0))
       (and_from (rid.cid.0 == c.0) _ (eqb-of rid.cid.0 c.0 (ap (λ (x : Cid). x.0) f.own.1)) (is-at-least 1 rid.ordinal f.counted)) in
       let tuple = ap (is_tuple_fault fault) f.among ∙ is-fault (values_of f.tuple) fault f.faults in
       and_from (is_own g c rid) _ own
-      (and_from (is_gone meant []) _ (ap (λ i. is_gone i []) f.meant) (and_from (is_tuple_fault fault (slice_get tuples (rid.ordinal - 1))) _ tuple (before-all (rid.ordinal - 1) tuples f.first)))
+      (and_from (is_gone meant []) _ (ap (λ i. is_gone i []) f.meant)
+      (and_from (not (is_sent marks g c)) _ (not_from_false _ f.unsent) (and_from (is_tuple_fault fault (slice_get tuples (rid.ordinal - 1))) _ tuple (before-all (rid.ordinal - 1) tuples f.first))))
 
 module _ (marks : List Mark) (level : Level) (g : Gxid) (c : Cid) where
   pub stmt-fault : (stmt : Stmt) (rid : Rid) (meant : Option (List Value)) (fault : ArithFault) → is_stmt_fault marks level g c stmt rid meant fault ≡ true → IsFaultOf marks level g c stmt rid meant fault
   stmt-fault (Select query) rid meant fault e = seen-is marks level g c query.table query.cond rid meant fault e
-  stmt-fault (Insert table tuples) rid meant fault e = constant-is g c tuples rid meant fault e
+  stmt-fault (Insert table tuples) rid meant fault e = constant-is g c tuples rid meant fault marks e
   stmt-fault (Update table assigns cond) rid meant fault e =
       or-either (is_seen_fault marks level g c table cond rid meant fault) _ _ e
       (λ h. inl (seen-is marks level g c table cond rid meant fault h))
@@ -231,7 +234,7 @@ module _ (marks : List Mark) (level : Level) (g : Gxid) (c : Cid) where
 
   pub fault-stmt : (stmt : Stmt) (rid : Rid) (meant : Option (List Value)) (fault : ArithFault) → IsFaultOf marks level g c stmt rid meant fault → is_stmt_fault marks level g c stmt rid meant fault ≡ true
   fault-stmt (Select query) rid meant fault f = is-seen marks level g c query.table query.cond rid meant fault f
-  fault-stmt (Insert table tuples) rid meant fault f = is-constant g c tuples rid meant fault f
+  fault-stmt (Insert table tuples) rid meant fault f = is-constant g c tuples rid meant fault marks f
   fault-stmt (Update table assigns cond) rid meant fault (inl f) = or-first (is_seen_fault marks level g c table cond rid meant fault) _ (is-seen marks level g c table cond rid meant fault f)
   fault-stmt (Update table assigns cond) rid meant fault (inr (inl f)) =
       or-second (is_seen_fault marks level g c table cond rid meant fault) _

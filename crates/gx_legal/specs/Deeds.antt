@@ -7,7 +7,7 @@ use Rattle.gx_meaning.specs.declared.fault.ArithFault.{ArithFault}
 use Rattle.gx_script.specs.declared.Script.{Script}
 use Rattle.gx_store.specs.declared.mark.Mark.{Mark}
 use Rattle.gx_store.specs.Commands.{IsUnderWay, has_own_snapshot}
-use Rattle.gx_store.specs.Faults.{IsFaultOf}
+use Rattle.gx_store.specs.Faults.{IsFaultOf, may_fault_late}
 use Rattle.gx_store.specs.Lines.{is_on_rows}
 use Rattle.gx_store.specs.Marks.{is_aborted}
 use Rattle.gx_store.specs.Points.{IsBeforeInStep, IsPointOf, Point, before}
@@ -34,9 +34,9 @@ MayAct script marks g c stmt level act.Snap = (is_on_rows stmt ≡ true) × (has
 MayAct script marks g c stmt level (act.Write row image) = (has_own_snapshot level marks g c ≡ true) × IsWriteOf script marks level g c stmt row.node row.table row.rid image.now
 MayAct script marks g c stmt level (act.Skip rid) = IsSkipOf marks level g c stmt rid
 MayAct script marks g c stmt level (act.Fault rid image) = (fault : ArithFault) × IsFaultOf marks level g c stmt rid image.now fault
-MayAct script marks g c stmt level (act.LateWrite row) = IsLateWriteOf marks g c stmt row.node row.table row.rid
+MayAct script marks g c stmt level (act.LateWrite row image) = IsLateWriteOf script marks g c stmt row.node row.table row.rid image.now
 MayAct script marks g c stmt level act.LateSkip = may_skip stmt ≡ true
-MayAct script marks g c stmt level act.LateFault = is_on_rows stmt ≡ true
+MayAct script marks g c stmt level act.LateFault = may_fault_late stmt ≡ true
 
 abbrev pub May : Script → Doing → Stmt → Level → Type 0
 May script doing stmt level = MayAct script doing.marks doing.g doing.c stmt level doing.act

@@ -4,8 +4,8 @@ use Rattle.gx_ids.specs.declared.ids.Gxid.{Gxid}
 use Rattle.gx_ids.specs.declared.ids.SessionId.{SessionId}
 use Rattle.gx_script.specs.declared.Script.{Script}
 use Rattle.gx_store.specs.Commands.{RunsLine, state_at}
-use Rattle.gx_store.specs.Legal.{may_abort, may_commit}
-use Rattle.gx_store.specs.Lines.{BlockState, transaction_of}
+use Rattle.gx_store.specs.Legal.{may_abort}
+use Rattle.gx_store.specs.Lines.{BlockState, may_commit, transaction_of}
 use Rattle.gx_store.specs.Marks.{is_answered}
 use Rattle.gx_store.specs.Points.{Point, before}
 use Rattle.gx_tree.specs.declared.stmt.Stmt.{Stmt}

@@ -1,5 +1,5 @@
 -- Whether an evaluation of a command gives a fault, as tests.
-use Rattle.std.specs.Prelude.{ℕ, ◌-◌, Bool, true, false, ◌&&◌, ◌||◌, List, [], take, slice_get, Some, None, Ok, Err, Result}
+use Rattle.std.specs.Prelude.{ℕ, ◌-◌, Bool, true, false, not, ◌&&◌, ◌||◌, List, [], take, slice_get, Some, None, Ok, Err, Result}
 use Rattle.std.specs.List.{list_all, list_any}
 use Rattle.std.specs.declared.option.Option.{Option}
 use Rattle.gx_ids.specs.declared.ids.Gxid.{Gxid}
@@ -18,6 +18,7 @@ use Rattle.gx_meaning.specs.declared.fault.ArithFault.{ArithFault}
 use Rattle.gx_meaning.specs.declared.fault.ArithFault.TheVariants.{Overflow, DivisionByZero}
 use Rattle.gx_store.specs.declared.mark.Mark.{Mark}
 use Rattle.gx_store.specs.Commands.{condition_on}
+use Rattle.gx_store.specs.Marks.{is_sent}
 use Rattle.gx_store.specs.Writes.{Written, set_row}
 use Rattle.gx_legal.specs.Changed.{is_changed, is_gone, is_read_committed}
 use Rattle.gx_legal.specs.Images.{is_same_image}
@@ -71,13 +72,13 @@ is_whole (Err fault) = false
 abbrev pub are_whole : List (List Expr) → Bool
 are_whole tuples = list_all (λ tuple. is_whole (values_of tuple)) tuples
 
-abbrev pub is_constant_fault : Gxid → Cid → List (List Expr) → Rid → Option (List Value) → ArithFault → Bool
-is_constant_fault g c tuples rid meant fault =
-    is_own g c rid && (is_gone meant [] && (is_tuple_fault fault (slice_get tuples (rid.ordinal - 1)) && are_whole (take (rid.ordinal - 1) tuples)))
+abbrev pub is_constant_fault : List Mark → Gxid → Cid → List (List Expr) → Rid → Option (List Value) → ArithFault → Bool
+is_constant_fault marks g c tuples rid meant fault =
+    is_own g c rid && (is_gone meant [] && (not (is_sent marks g c) && (is_tuple_fault fault (slice_get tuples (rid.ordinal - 1)) && are_whole (take (rid.ordinal - 1) tuples))))
 
 abbrev pub is_stmt_fault : List Mark → Level → Gxid → Cid → Stmt → Rid → Option (List Value) → ArithFault → Bool
 is_stmt_fault marks level g c (Select query) rid meant fault = is_seen_fault marks level g c query.table query.cond rid meant fault
-is_stmt_fault marks level g c (Insert table tuples) rid meant fault = is_constant_fault g c tuples rid meant fault
+is_stmt_fault marks level g c (Insert table tuples) rid meant fault = is_constant_fault marks g c tuples rid meant fault
 is_stmt_fault marks level g c (Update table assigns cond) rid meant fault =
     is_seen_fault marks level g c table cond rid meant fault
     || (is_current_fault marks level g c table cond rid meant fault || is_changed marks level g c table cond rid (is_set_fault assigns meant fault))

@@ -14,7 +14,7 @@ end_of stretch = record { steps = stretch.steps.now; event = stretch.event; earl
 
 -- a step of this event may stand behind the steps and draw these marks
 abbrev pub MayBegin : Script → List Step → Event → List Mark → Type 0
-MayBegin script steps event marks = LegalEvent script steps event × IsDrawn script steps event marks
+MayBegin script steps event marks = LegalEvent script steps event marks × IsDrawn script steps event marks
 
 -- and make them
 abbrev pub MayFollow : Script → List Step → Event → List Mark → Type 0

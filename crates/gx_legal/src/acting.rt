@@ -1,7 +1,7 @@
 // Whether a command may do something by its statement.
 ghost use Rattle.std.specs.Prelude.{◌≡◌, ◌↔◌, IfOk, IsTrue, true};
 ghost use Rattle.gx_meaning.specs.declared.fault.ArithFault.{ArithFault as OneFault};
-ghost use Rattle.gx_store.specs.Faults.{IsFaultOf};
+ghost use Rattle.gx_store.specs.Faults.{IsFaultOf, may_fault_late as can_fault_late};
 ghost use Rattle.gx_store.specs.Language.{IsScript};
 ghost use Rattle.gx_store.specs.Writes.{IsWriteOf, may_skip as can_skip};
 ghost use Rattle.gx_store.specs.Commands.{has_own_snapshot as is_served};
@@ -27,6 +27,15 @@ fn may_skip(stmt: &Stmt) -> bool
 {
     match stmt {
         Stmt::Update(_, _, _) | Stmt::Delete(_, _) => true,
+        _ => false,
+    }
+}
+
+fn may_fault_late(stmt: &Stmt) -> bool
+    ensures { result ≡ can_fault_late stmt.now }
+{
+    match stmt {
+        Stmt::Select(_) | Stmt::Update(_, _, _) | Stmt::Delete(_, _) => true,
         _ => false,
     }
 }
@@ -93,8 +102,10 @@ pub fn may(alloc: Global, script: &Script, deed: &Deed<'_>, stmt: &Stmt, level: 
         Act::Write { row, image } => may_write(alloc, script, marks, command, stmt, row, image),
         Act::Skip(rid) => is_skip_of(alloc, marks, command, stmt, rid),
         Act::Fault { rid, image } => may_fault(alloc, marks, command, stmt, rid, image),
-        Act::LateWrite(row) => Ok(is_late_write_of(marks, command, stmt, row)),
+        Act::LateWrite { row, image } => {
+            is_late_write_of(alloc, script, marks, command, stmt, row, image)
+        }
         Act::LateSkip => Ok(may_skip(stmt)),
-        Act::LateFault => Ok(is_on_rows(stmt)),
+        Act::LateFault => Ok(may_fault_late(stmt)),
     }
 }

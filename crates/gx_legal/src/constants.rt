@@ -6,24 +6,27 @@ ghost use Rattle.gx_legal.specs.Faulted.{are_whole as have_values, is_constant_f
 use crate::command::Command;
 use crate::faults::is_row_fault;
 use crate::inserts::{is_own, tuple_at};
+use crate::orders::is_sent;
 use crate::setting::constants;
 use gx_ids::{Mem, Rid, Seq};
 use gx_meaning::ArithFault;
+use gx_store::Mark;
 use gx_tree::{Expr, Row};
 use std::alloc::Global;
 
-/// Whether the first constant that faults is one of the tuple that the row's identity names.
+/// Whether the first constant that faults is one of the tuple that the row's identity names, and the command wasn't sent by then.
 pub(crate) fn is_constant_fault(
     alloc: Global,
+    marks: &[Mark],
     command: Command,
     tuples: &[Seq<Expr>],
     rid: Rid,
     image: &Option<Row>,
     fault: ArithFault,
 ) -> Mem<bool>
-    ensures { IfOk result (λ holds. holds ≡ may_be_constant command.gxid command.cid tuples.now rid image.now fault) }
+    ensures { IfOk result (λ holds. holds ≡ may_be_constant marks.now command.gxid command.cid tuples.now rid image.now fault) }
 {
-    if !is_own(command, rid) || image.is_some() {
+    if !is_own(command, rid) || image.is_some() || is_sent(marks, command.gxid, command.cid) {
         return Ok(false);
     }
     match is_tuple_fault(alloc, fault, tuple_at(tuples, rid)) {

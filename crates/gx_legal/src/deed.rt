@@ -13,7 +13,7 @@ pub enum Act<'a> {
     Write { row: RowAt, image: &'a Option<Row> },
     Skip(Rid),
     Fault { rid: Rid, image: &'a Option<Row> },
-    LateWrite(RowAt),
+    LateWrite { row: RowAt, image: &'a Option<Row> },
     LateSkip,
     LateFault,
 }

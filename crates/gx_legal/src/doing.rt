@@ -62,7 +62,7 @@ pub fn is_legal_write(
         moment,
         command,
         Act::Write { row, image },
-        Act::LateWrite(row),
+        Act::LateWrite { row, image },
     )
 }
 

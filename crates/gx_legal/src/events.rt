@@ -2,9 +2,10 @@
 ghost use Rattle.std.specs.Prelude.{◌≡◌, ◌↔◌, IsTrue};
 ghost use Rattle.gx_store.specs.Legal.{IsDrawn, IsIdle, LegalEnd, LegalEvent};
 ghost use Rattle.gx_store.specs.Points.{marks_in};
-ghost use Rattle.gx_legal.specs.Events.{DrawsIfDue};
+ghost use Rattle.gx_legal.specs.Events.{DrawsIfDue, RollsBack};
 
-use crate::lines::{draws, is_in_block, next_line};
+use crate::lines::{draws, is_in_block, next_line, transaction_at};
+use crate::marks::is_aborted;
 use crate::moment::Moment;
 use crate::seats::{end_count_at, standing_at, start_count_at};
 use crate::standing::standing_of;
@@ -19,24 +20,35 @@ fn is_idle(moment: &Moment<'_, '_>, session: SessionId) -> bool
     start_count_at(moment, session) == standing_at(moment, session).answered
 }
 
-fn is_legal_end(moment: &Moment<'_, '_>, session: SessionId) -> bool
+// Whether the transaction that the session is in, if it is in one, aborts among the marks that its step made.
+fn rolls_back(moment: &Moment<'_, '_>, session: SessionId, made: &[Mark]) -> bool
+    ensures { IsTrue result ↔ RollsBack moment.now.script.now session moment.now.before.now made.now }
+{
+    match transaction_at(moment, session) {
+        Some(gxid) => is_aborted(made, gxid),
+        None => true,
+    }
+}
+
+fn is_legal_end(moment: &Moment<'_, '_>, session: SessionId, made: &[Mark]) -> bool
     requires { moment.now.before.now ≡ marks_in moment.now.steps.now }
-    ensures { IsTrue result ↔ LegalEnd moment.now.script.now moment.now.steps.now session }
+    ensures { IsTrue result ↔ LegalEnd moment.now.script.now moment.now.steps.now session made.now }
 {
     is_idle(moment, session)
         && next_line(moment, session).is_none()
         && is_in_block(standing_at(moment, session).block)
         && end_count_at(moment, session) == 0
+        && rolls_back(moment, session, made)
 }
 
-/// Whether the moment's event may happen there, before the marks of its step.
-pub fn is_legal_event(moment: &Moment<'_, '_>) -> bool
+/// Whether the moment's event may happen there and make these marks, as far as the event asks for them.
+pub fn is_legal_event(moment: &Moment<'_, '_>, made: &[Mark]) -> bool
     requires { moment.now.before.now ≡ marks_in moment.now.steps.now }
-    ensures { IsTrue result ↔ LegalEvent moment.now.script.now moment.now.steps.now moment.now.event }
+    ensures { IsTrue result ↔ LegalEvent moment.now.script.now moment.now.steps.now moment.now.event made.now }
 {
     match moment.event {
         Event::Start(session) => is_idle(moment, session) && next_line(moment, session).is_some(),
-        Event::End(session) => is_legal_end(moment, session),
+        Event::End(session) => is_legal_end(moment, session, made),
         _ => true,
     }
 }

@@ -52,7 +52,7 @@ fn is_stmt_fault(
             is_seen_fault(alloc, marks, choice, image, fault)
         }
         Stmt::Insert(_, tuples) => {
-            is_constant_fault(alloc, command, tuples.as_slice(), rid, image, fault)
+            is_constant_fault(alloc, marks, command, tuples.as_slice(), rid, image, fault)
         }
         Stmt::Update(table, assigns, cond) => {
             let choice = Choice {

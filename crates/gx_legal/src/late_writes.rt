@@ -1,52 +1,71 @@
-ghost use Rattle.std.specs.Prelude.{◌≡◌, ◌↔◌, IsTrue};
+ghost use Rattle.std.specs.Prelude.{◌≡◌, ◌≤◌, ◌↔◌, IfOk, IsTrue};
 ghost use Rattle.gx_store.specs.Writes.{IsLateWriteOf};
-ghost use Rattle.gx_legal.specs.Late.{is_at_home as stands_there, is_late as may_be_late, is_own_row as is_one_of, is_written_at as stands_at};
+ghost use Rattle.gx_legal.specs.Late.{is_late as may_be_late, is_written_at as stands_at, is_written_in as stands_within, stands_in as may_stand_in};
 
 use crate::command::{Command, RowAt};
-use crate::marks::node_of;
-use gx_ids::{Node, Rid};
+use crate::inserts::is_inserted;
+use crate::marks::{node_of, table_of};
+use gx_ids::{Mem, Node, Table};
+use gx_script::Script;
 use gx_store::Mark;
-use gx_tree::Stmt;
+use gx_tree::{Row, Stmt};
+use std::alloc::Global;
 
-/// Whether a command of a transaction that has aborted may write the row behind these marks.
-pub fn is_late_write_of(marks: &[Mark], command: Command, stmt: &Stmt, row: RowAt) -> bool
-    ensures { IsTrue result ↔ IsLateWriteOf marks.now command.gxid command.cid stmt.now row.node row.table row.rid }
+/// Whether a command of a transaction that has aborted may write this image of the row behind these marks.
+pub fn is_late_write_of(
+    alloc: Global,
+    script: &Script,
+    marks: &[Mark],
+    command: Command,
+    stmt: &Stmt,
+    row: RowAt,
+    image: &Option<Row>,
+) -> Mem<bool>
+    requires some { 1 ≤ script.now.segments }
+    requires few { script.now.segments ≤ 16 }
+    ensures { IfOk result (λ holds. IsTrue holds ↔ IsLateWriteOf script.now marks.now command.gxid command.cid stmt.now row.node row.table row.rid image.now) }
 {
-    let holds = is_late(marks, command, stmt, row);
-    holds
+    is_late(alloc, script, marks, command, stmt, row, image)
 }
 
-fn is_late(marks: &[Mark], command: Command, stmt: &Stmt, row: RowAt) -> bool
-    ensures { result ≡ may_be_late marks.now command.gxid command.cid stmt.now row.node row.table row.rid }
+fn is_late(
+    alloc: Global,
+    script: &Script,
+    marks: &[Mark],
+    command: Command,
+    stmt: &Stmt,
+    row: RowAt,
+    image: &Option<Row>,
+) -> Mem<bool>
+    requires some { 1 ≤ script.now.segments }
+    requires few { script.now.segments ≤ 16 }
+    ensures { IfOk result (λ holds. holds ≡ may_be_late script.now marks.now command.gxid command.cid stmt.now row.node row.table row.rid image.now) }
 {
     match stmt {
-        Stmt::Insert(table, tuples) => *table == row.table
-            && is_own_row(command, tuples.len(), row.rid)
-            && is_at_home(node_of(marks, row.rid), row.node),
-        Stmt::Update(table, _, _) | Stmt::Delete(table, _) => *table == row.table
-            && is_written_at(node_of(marks, row.rid), row.node),
-        _ => false,
+        Stmt::Insert(table, tuples) if *table == row.table => {
+            is_inserted(
+                alloc,
+                script,
+                marks,
+                command,
+                *table,
+                tuples.as_slice(),
+                row,
+                image,
+            )
+        }
+        Stmt::Update(table, _, _) | Stmt::Delete(table, _) => Ok(stands_in(marks, *table, row)),
+        _ => Ok(false),
     }
 }
 
-// Whether the row is one that the command is to insert, from one of so many tuples.
-fn is_own_row(command: Command, count: usize, rid: Rid) -> bool
-    ensures { result ≡ is_one_of command.gxid command.cid count rid }
+// Whether the row stands there, in the statement's table.
+fn stands_in(marks: &[Mark], table: Table, row: RowAt) -> bool
+    ensures { result ≡ may_stand_in marks.now table row.node row.table row.rid }
 {
-    rid.gxid == command.gxid
-        && rid.cid == command.cid
-        && 1 <= rid.ordinal
-        && rid.ordinal as usize <= count
-}
-
-// Whether the row's first write is at the node, or it has none.
-fn is_at_home(first: Option<Node>, node: Node) -> bool
-    ensures { result ≡ stands_there first node }
-{
-    match first {
-        None => true,
-        Some(first) => first == node,
-    }
+    table == row.table
+        && is_written_at(node_of(marks, row.rid), row.node)
+        && is_written_in(table_of(marks, row.rid), table)
 }
 
 pub(crate) fn is_written_at(first: Option<Node>, node: Node) -> bool
@@ -55,5 +74,14 @@ pub(crate) fn is_written_at(first: Option<Node>, node: Node) -> bool
     match first {
         None => false,
         Some(first) => first == node,
+    }
+}
+
+fn is_written_in(first: Option<Table>, table: Table) -> bool
+    ensures { result ≡ stands_within first table }
+{
+    match first {
+        None => false,
+        Some(first) => first == table,
     }
 }

@@ -36,6 +36,7 @@ pub mod marks;
 pub mod moment;
 pub mod named;
 pub mod noted;
+mod orders;
 pub mod overtaken;
 pub mod overtaken_rows;
 pub mod pieces;

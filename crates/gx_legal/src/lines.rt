@@ -2,8 +2,8 @@
 ghost use Rattle.std.specs.Prelude.{◌≡◌, ◌↔◌, ◌+◌, ◌<◌, ◌^◌, IfOk, IsTrue, Some};
 ghost use Rattle.std.specs.Option.{option_copied};
 ghost use Rattle.gx_store.specs.Commands.{RunsLine, state_at};
-ghost use Rattle.gx_store.specs.Legal.{draws as may_draw, is_in_block as has_block, may_abort as can_abort, may_commit as can_commit};
-ghost use Rattle.gx_store.specs.Lines.{cid_of, is_command as is_command_in, is_on_rows as concerns_rows, level_of, next_stmt, state_of, transaction_of};
+ghost use Rattle.gx_store.specs.Legal.{draws as may_draw, is_in_block as has_block, may_abort as can_abort};
+ghost use Rattle.gx_store.specs.Lines.{cid_of, is_command as is_command_in, is_on_rows as concerns_rows, level_of, may_commit as can_commit, next_stmt, state_of, transaction_of};
 ghost use Rattle.gx_store.specs.Marks.{answer_count};
 ghost use Rattle.gx_store.specs.Points.{before, ends_in, starts_at as starts_up_to, starts_in};
 ghost use Rattle.gx_tree.specs.declared.stmt.Stmt.{Stmt as OneStmt};

@@ -2,10 +2,10 @@
 ghost use Rattle.std.specs.Prelude.{◌≡◌, ◌∷◌, []};
 ghost use Rattle.gx_store.specs.Commands.{has_own_snapshot as is_served};
 ghost use Rattle.gx_store.specs.Marks.{has_snapshot as is_read_by, is_aborted as has_aborted, is_committed as has_committed, is_processed as was_processed};
-ghost use Rattle.gx_store.specs.Marks.{is_snapped as was_snapped, is_written as was_written, node_of as home_of, write_count as count_of};
+ghost use Rattle.gx_store.specs.Marks.{is_snapped as was_snapped, is_written as was_written, node_of as home_of, row_table, write_count as count_of};
 
 use crate::command::Command;
-use gx_ids::{Cid, Gxid, Node, Rid};
+use gx_ids::{Cid, Gxid, Node, Rid, Table};
 use gx_store::Mark;
 use gx_tree::Level;
 
@@ -178,6 +178,25 @@ pub(crate) fn node_of(marks: &[Mark], rid: Rid) -> Option<Node>
         if let Mark::Write { node, rid: row, .. } = mark {
             if *row == rid {
                 return Some(*node);
+            }
+        }
+    }
+    None
+}
+
+// The table of the row's first write.
+pub(crate) fn table_of(marks: &[Mark], rid: Rid) -> Option<Table>
+    ensures { result ≡ row_table marks.now rid }
+{
+    for mark in marks {
+        if let Mark::Write {
+            table,
+            rid: row,
+            ..
+        } = mark
+        {
+            if *row == rid {
+                return Some(*table);
             }
         }
     }

@@ -86,7 +86,7 @@ fn may_begin(stretch: &Stretch<'_>, tally: &Tally) -> bool
     ensures { IsTrue result ↔ MayBegin stretch.now.script.now stretch.now.steps.now stretch.now.event stretch.now.marks.now }
 {
     let moment = moment_at(stretch, 0, &[], tally);
-    is_legal_event(&moment) && is_drawn(&moment, stretch.marks)
+    is_legal_event(&moment, stretch.marks) && is_drawn(&moment, stretch.marks)
 }
 
 fn may_follow(alloc: Global, stretch: &Stretch<'_>, tally: &mut Tally) -> Mem<bool>

@@ -320,10 +320,10 @@ pub fn read_number<'a, 't>(
     ensures { Gives (λ r. (r.0, r.1.now)) result (one_at (of.number_in least greatest) tokens.now) }
 {
     match tokens.split_first() {
-        None => Err(ReadError::Fault(Fault::Syntax)),
+        None => Err(ReadError::Fault(Fault::Syntax, tokens.len())),
         Some((token, rest)) => match number_within(least, greatest, token) {
             Some(number) => Ok((number, rest)),
-            None => Err(ReadError::Fault(Fault::Syntax)),
+            None => Err(ReadError::Fault(Fault::Syntax, tokens.len())),
         },
     }
 }

@@ -52,7 +52,7 @@ pub record IsCounted {T E : Type 0} (calls calls' faults faults' : ℕ) (result 
 
 abbrev pub append_faults_after : ℕ → Result (Unit {0}) AppendFault → ℕ
 append_faults_after faults (Ok _) = faults
-append_faults_after faults (Err Failed) = one_more faults
+append_faults_after faults (Err Failed) = faults + 1
 append_faults_after faults (Err OutOfMemory) = faults
 
 -- an append is counted, and so is a fault, but want of memory is none

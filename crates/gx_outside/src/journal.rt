@@ -13,11 +13,12 @@ pub trait Journal: Drop {
     /// The items kept, and how often it has failed.
     ghost shelf: { Self → Shelf };
 
-    /// Adds an item behind those that are kept.
+    /// Adds an item behind those that are kept. A failure raises the count. An append whose failure the count has no room for isn't tried: it
+    /// is answered by want of memory.
     fn append(&mut self, item: Vec<u8>) -> Result<(), AppendFault>
         ensures appended { IsAppended (shelf self.old) (shelf self.new) item.items result };
 
-    /// How often it has failed, up to the greatest u64. The count never falls.
+    /// How often it has failed. The count never falls, and rises with each failure.
     fn faults(&self) -> u64
         ensures { result ≡ (shelf self.now).faults };
 }

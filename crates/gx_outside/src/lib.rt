@@ -4,6 +4,7 @@
 pub mod gate;
 pub mod journal;
 pub mod memory;
+pub mod refused;
 pub mod sink;
 pub mod source;
 pub mod streams;

@@ -50,6 +50,8 @@ fn read_piece<S: Source>(
         × Consumes (S.left source.old) (S.left source.new) piece × (count ≡ 0 → IsAtEnd (S.left source.new))) }
     ensures later { S.fault_count source.old ≤ S.fault_count source.new }
     ensures failed { IsErrOf result ReadFault.Failed → Rose (S.fault_count source.old) (S.fault_count source.new) }
+    ensures calm { OnOk result (S.fault_count source.new ≡ S.fault_count source.old) }
+    ensures memory { IsErrOf result ReadFault.OutOfMemory → S.fault_count source.new ≡ S.fault_count source.old }
 {
     let mut buf = [0u8; PIECE];
     let most = room.min(PIECE);
@@ -69,6 +71,8 @@ pub fn read_up_to<S: Source>(
     ensures whole { IfOk result (λ bytes. length bytes.items < limit → IsAtEnd (S.left source.new)) }
     ensures later { S.fault_count source.old ≤ S.fault_count source.new }
     ensures failed { IsErrOf result ReadFault.Failed → Rose (S.fault_count source.old) (S.fault_count source.new) }
+    ensures calm { OnOk result (S.fault_count source.new ≡ S.fault_count source.old) }
+    ensures memory { IsErrOf result ReadFault.OutOfMemory → S.fault_count source.new ≡ S.fault_count source.old }
 {
     let mut bytes = Vec::new(alloc);
     for _turn in 0..limit {

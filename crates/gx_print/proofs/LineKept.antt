@@ -37,7 +37,7 @@ use Rattle.gx_sql.specs.declared.refusal.LineFault.TheVariants as fault
 use Rattle.gx_sql.specs.declared.refusal.Refusal.{Refusal}
 use Rattle.gx_sql.specs.declared.refusal.Refusal.TheVariants as refusal
 use Rattle.gx_sql.specs.Lines.{lines_of, is_skipped}
-use Rattle.gx_sql.specs.Progress.{Progress, start, giving, is_known, is_on, link_fault, with_detector, with_table, with_link, with_line, with_session, with_segments, with_line_syn}
+use Rattle.gx_sql.specs.Progress.{Progress, start, giving, is_known, is_on, link_fault, with_detector, with_fault, with_table, with_link, with_line, with_session, with_segments, with_line_syn}
 use Rattle.gx_sql.specs.Counts.{PassesInHead, PassesInLine}
 use Rattle.gx_sql.specs.Script.{the_limits, Follows, Counts, Told, TokensSay, LineSays, Goes, Where, ended, script_of, ReadsOn, Reads}
 use Rattle.gx_print.specs.Reprinting.{Among, ReadsAs}
@@ -95,7 +95,7 @@ detector_kept p s q k e = pick p.detector e
     pick None h = let same : q ≡ record p { detector = Some (is_on s) } = cc in subst Kept (sym same) (record { tables = k.tables; lines = k.lines })
 
 link_kept : (p : Progress) (l : LinkSyn) (q : Progress) → Kept p → with_link p l ≡ Ok q → Kept q
-link_kept p l q k e = let same : q ≡ record p { faults = p.faults ++ link_fault l ∷ [] } = cc in subst Kept (sym same) (record { tables = k.tables; lines = k.lines })
+link_kept p l q k e = let same : q ≡ record p { faults = with_fault (link_fault l) p.faults } = cc in subst Kept (sym same) (record { tables = k.tables; lines = k.lines })
 
 -- a session's line holds a statement of the rule
 line_kept : (p : Progress) (x : LineSyn) (q : Progress) (ts : List Token) → Kept p → session_line the_limits x ts → with_line_syn p x ≡ Ok q → Kept q

@@ -39,3 +39,4 @@ pub mod Ending
 pub mod Starting
 pub mod Progressing
 pub mod AfterSweep
+pub mod SweptTwice

@@ -12,5 +12,6 @@ pub mod Store
 pub mod Filed
 pub mod Keyed
 pub mod Setting
+pub mod Sweeping
 pub mod Changing
 pub mod Stopping

@@ -8,6 +8,7 @@ ghost use Rattle.gx_rules.specs.Shown.{current_of};
 ghost use Rattle.gx_rules.specs.Slices as slices;
 ghost use Rattle.gx_slices.specs.Stopping.{has_row, left_locks, left_marks, locks_after, marks_after, row_locks, row_marks, stop_locks, stop_marks};
 ghost use Rattle.gx_store.specs.Commands.{condition_on};
+ghost use Rattle.gx_slices.specs.Sweeping.{IsSwept};
 ghost use Rattle.gx_slices.specs.Changing.{Came, IsAt, IsFree, IsRightImage, IsTypedFor, MayChange, Spot, Stage, awaited_in, change_in, end_of, is_done_at, newest_in};
 
 use crate::change::Change;
@@ -304,6 +305,7 @@ fn come_to(
     }
 }
 
+// A row that was swept.
 fn look_at(
     alloc: Global,
     change: &Change,
@@ -316,6 +318,7 @@ fn look_at(
     requires may { MayChange stage.found.tables stage.found.start change.now }
     requires at { IsAt stage change.now.writer.gxid held.old entry.old marks.old.items }
     requires free { IsFree stage change.now.writer.gxid }
+    requires swept { IsSwept held.old.store change.now.writer.table rid }
     ensures { IfOk result (λ end. Came stage change.now.writer.gxid held.new entry.new marks.new.items
         (rule.looked_at stage.moved change.now.writer.gxid (change_in change.now) rid) end) }
 {

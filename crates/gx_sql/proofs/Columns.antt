@@ -188,5 +188,5 @@ passes_other d ts begun rest e f l g p =
 pub never : {P : Type 0} → (P → ⊥) → IsTrue false ↔ P
 never n = (λ h. absurd cc, λ p. absurd (n p))
 
-pub full_said : (d : Limits) (ts : List Token) (e : ReadError) (f : Fault) → e ≡ errors.Fault f → Says {X = List ℕ × List ColumnSyn} (Err e) (whole_at (begun_table_at d) ts) → IsFull d ts → ⊥
-full_said d ts e f is h = full_fault d ts f (subst (λ (e : ReadError). Says {X = List ℕ × List ColumnSyn} (Err e) (whole_at (begun_table_at d) ts)) is h)
+pub full_said : (d : Limits) (ts : List Token) (e : ReadError) (f : Fault) (left : ℕ) → e ≡ errors.Fault f left → Says {X = List ℕ × List ColumnSyn} (Err e) (whole_at (begun_table_at d) ts) → IsFull d ts → ⊥
+full_said d ts e f left is h = full_fault d ts f (subst (λ (e : ReadError). Says {X = List ℕ × List ColumnSyn} (Err e) (whole_at (begun_table_at d) ts)) is h)

@@ -1,5 +1,7 @@
 -- A script that was read keeps the rules and the limits of the language.
-use Rattle.std.proofs.Common.{◌≡◌, inl, inr, ℕ, ◌+◌, ◌<◌, ◌≤◌, nat_le, nat_lt, ◌==◌, max, if◌then◌else◌, is_some, Bool, true, false, not, ◌&&◌, List, [], ◌∷◌, ◌++◌, length, map, All, Option, Some, None, Result, Ok, Err, IfOk, refl, sym, ◌∙◌, ap, subst, arith}
+use Rattle.std.proofs.Common.{◌≡◌, inl, inr, ℕ, ◌+◌, ◌<◌, ◌≤◌, nat_le, nat_lt, ◌==◌, max, if◌then◌else◌, is_some, Bool, true, false, not, ◌&&◌, ◌||◌, List, [], ◌∷◌, ◌++◌, length, map, All, Option, Some, None, Result, Ok, Err, IfOk, refl, sym, ◌∙◌, ap, subst, arith}
+use Rattle.std.specs.List.{list_any}
+use Rattle.std.proofs.lemmas.Bool.{eq-eqb}
 use Rattle.std.proofs.lemmas.List.Elements.{All-nil, All-cons, All-push, All-map, All-weaker}
 use Rattle.gx_lex.specs.declared.token.Token.{Token}
 use Rattle.gx_lex.specs.declared.token.Token.TheVariants as token
@@ -35,7 +37,7 @@ use Rattle.gx_sql.specs.Lines.{lines_of, is_skipped}
 use Rattle.gx_sql.specs.Answering.{Answers}
 use Rattle.gx_sql.specs.Counts.{is_session}
 use Rattle.gx_sql.specs.Held.{HasRoom}
-use Rattle.gx_sql.specs.Progress.{Progress, start, giving, is_on, is_known, link_fault, place_of, count_of, counted, next_line, with_detector, with_table, with_link, with_line, with_session, with_line_syn}
+use Rattle.gx_sql.specs.Progress.{Progress, start, giving, is_on, is_known, same_way, same_fault, with_fault, link_fault, place_of, count_of, counted, next_line, with_detector, with_table, with_link, with_line, with_session, with_line_syn}
 use Rattle.gx_sql.specs.Script.{the_limits, Told, TokensSay, LineSays, Goes, Where, ReadsOn, script_of, ended}
 use Rattle.gx_store.specs.Language.{table_name, IsName, IsTable, IsLine, lines_in, AreLinesNumbered, BeginInOrder, IsFault, IsScript}
 use Rattle.gx_sql.proofs.Held.{length_snoc}
@@ -158,7 +160,7 @@ head_fits d n line ts (inr (inr (inr q))) = session_fits d n line ts q
 -- WHAT LINES KEEP
 abbrev KeepsFaults : Option ℕ → List LinkFault → Type 0
 KeepsFaults None fs = fs ≡ []
-KeepsFaults (Some n) fs = (1 ≤ n) × (n ≤ 16) × All (IsFault n) fs
+KeepsFaults (Some n) fs = (1 ≤ n) × (n ≤ 16) × All (IsFault n) fs × AreDistinct fs
 
 -- what lines before this number said keeps the rules
 record Keeps (number : ℕ) (p : Progress) : Type 0 where
@@ -189,15 +191,50 @@ detector_keeps number p s q k e = pick (is_some p.detector) refl
         let same : q ≡ record p { detector = Some (is_on s) } = cc in
         subst (Keeps number) (sym same) (record { tables = k.tables; table_names = k.table_names; few_tables = k.few_tables; sessions = k.sessions; session_names = k.session_names; few_sessions = k.few_sessions; lines = k.lines; few_lines = k.few_lines; numbers = k.numbers; order = k.order; counts = k.counts; faults = k.faults })
 
-faults_snoc : (o : Option ℕ) (n : ℕ) (fs : List LinkFault) (f : LinkFault) → o ≡ Some n → IsFault n f → KeepsFaults o fs → KeepsFaults o (fs ++ f ∷ [])
+way_is : (b : Bool) → same_way b b ≡ true
+way_is true = refl
+way_is false = refl
+
+number_is : (n : ℕ) → (n == n) ≡ true
+number_is n = eq-eqb n n refl
+
+all_is : (a b c d : Bool) → a ≡ true → b ≡ true → c ≡ true → d ≡ true → (a && (b && (c && d))) ≡ true
+all_is a b c d e f g h = cc
+
+fault_is : (f : LinkFault) → same_fault f f ≡ true
+fault_is f =
+    all_is (same_way f.to_segment f.to_segment) (f.segment.0 == f.segment.0) (f.number == f.number) (same_way f.repeat f.repeat)
+    (way_is f.to_segment) (number_is f.segment.0) (number_is f.number) (way_is f.repeat)
+
+fault_apart : (f : LinkFault) (fs : List LinkFault) → list_any (same_fault f) fs ≡ false → ¬ (IsOneOf f fs)
+fault_apart f [] e h = h
+fault_apart f (g ∷ gs) e (inl s) =
+    let same : same_fault f g ≡ true = subst (λ (g : LinkFault). same_fault f g ≡ true) s (fault_is f) in
+    absurd (grind (arith, same, e))
+fault_apart f (g ∷ gs) e (inr h) = fault_apart f gs (right (same_fault f g) (list_any (same_fault f) gs) e) h
+  where
+    right : (a b : Bool) → (a || b) ≡ false → b ≡ false
+    right true b e = absurd cc
+    right false b e = e
+
+fault_kept : (n : ℕ) (fs : List LinkFault) (f : LinkFault) → IsFault n f → All (IsFault n) fs → AreDistinct fs
+    → All (IsFault n) (with_fault f fs) × AreDistinct (with_fault f fs)
+fault_kept n fs f is all once = pick (list_any (same_fault f) fs) refl
+  where
+    pick : (b : Bool) → list_any (same_fault f) fs ≡ b → All (IsFault n) (if b then fs else fs ++ f ∷ []) × AreDistinct (if b then fs else fs ++ f ∷ [])
+    pick true e = (all, once)
+    pick false e = (All-push (IsFault n) fs f all is, distinct_snoc fs f once (fault_apart f fs e))
+
+faults_snoc : (o : Option ℕ) (n : ℕ) (fs : List LinkFault) (f : LinkFault) → o ≡ Some n → IsFault n f → KeepsFaults o fs → KeepsFaults o (with_fault f fs)
 faults_snoc None n fs f e h k = absurd cc
 faults_snoc (Some m) n fs f e h k =
     let same : n ≡ m = cc in
-    (k.0, k.1, All-push (IsFault m) fs f k.2 (subst (λ (n : ℕ). IsFault n f) same h))
+    let kept = fault_kept m fs f (subst (λ (n : ℕ). IsFault n f) same h) k.2 k.3 in
+    (k.0, k.1, kept.0, kept.1)
 
 link_keeps : (number n : ℕ) (p : Progress) (l : LinkSyn) (q : Progress) → p.segments ≡ Some n → Fits the_limits n (line_syn.Link l) → Keeps number p → with_link p l ≡ Ok q → Keeps number q
 link_keeps number n p l q s f k e =
-    let same : q ≡ record p { faults = p.faults ++ link_fault l ∷ [] } = cc in
+    let same : q ≡ record p { faults = with_fault (link_fault l) p.faults } = cc in
     subst (Keeps number) (sym same) (record { tables = k.tables; table_names = k.table_names; few_tables = k.few_tables; sessions = k.sessions; session_names = k.session_names; few_sessions = k.few_sessions; lines = k.lines; few_lines = k.few_lines; numbers = k.numbers; order = k.order; counts = k.counts; faults = faults_snoc p.segments n p.faults (link_fault l) s f k.faults })
 
 given : {A : Type 0} (f : A → Progress) (answer : Answer A) (q : Progress) → giving f answer ≡ Ok q → (a : A) × (answer ≡ Ok a) × (q ≡ f a)
@@ -328,7 +365,8 @@ tokens_keep : (number : ℕ) (o : Option ℕ) (p : Progress) (ts : List Token) (
 tokens_keep number None p ts q o k (inl (n, r, e)) =
     let same : q ≡ record p { segments = Some n.0 } = cc in
     let both = told_both the_limits n ts r in
-    subst (Keeps (number + 1)) (sym same) (keeps_more number (record p { segments = Some n.0 }) (record { tables = k.tables; table_names = k.table_names; few_tables = k.few_tables; sessions = k.sessions; session_names = k.session_names; few_sessions = k.few_sessions; lines = k.lines; few_lines = k.few_lines; numbers = k.numbers; order = k.order; counts = k.counts; faults = (both.0, both.1, subst (All (IsFault n.0)) (sym (no_faults p.segments p.faults o k.faults)) (All-nil (IsFault n.0))) }))
+    let none = no_faults p.segments p.faults o k.faults in
+    subst (Keeps (number + 1)) (sym same) (keeps_more number (record p { segments = Some n.0 }) (record { tables = k.tables; table_names = k.table_names; few_tables = k.few_tables; sessions = k.sessions; session_names = k.session_names; few_sessions = k.few_sessions; lines = k.lines; few_lines = k.few_lines; numbers = k.numbers; order = k.order; counts = k.counts; faults = (both.0, both.1, subst (All (IsFault n.0)) (sym none) (All-nil (IsFault n.0)), subst AreDistinct (sym none) tt) }))
 tokens_keep number None p ts q o k (inr (f, v, e)) = absurd cc
 tokens_keep number (Some n) p ts q o k h = told_keeps number n p p.lines ts q o k h
 
@@ -353,6 +391,7 @@ ended_keeps number (Some n) p s o l k e =
       numbers = k.numbers;
       order = subst (BeginInOrder 0 p.lines) (sym (length_names p.sessions)) k.order;
       faults = faults.2;
+      faults_once = faults.3;
     })
 
 goes_keep : (number : ℕ) (go : Progress → Type 0) (q : Result Progress LineFault) (s : Script) → ((p : Progress) → q ≡ Ok p → go p → IsScript s) → Goes number go q (Ok s) → IsScript s

@@ -22,7 +22,7 @@ use Rattle.gx_sql.specs.Script.{the_limits, Follows, Counts, Told, TokensSay, Li
 module _ {X : Type 0} (rule : Limits → X → List Token → Type 0) (go : X → Result Progress LineFault) (ts : List Token) where
   -- a fault of the tokens
   pub stands_fault : (e : ReadError) (err : LineError) (p : Progress) → IsOfTokens e err → Judged rule the_limits ts (Err e) → Stands (Follows rule go ts) (Err err) p
-  stands_fault (read.Fault f) err p h v = subst (λ (err : LineError). Stands (Follows rule go ts) (Err err) p) (sym h) (inr (f, v, refl))
+  stands_fault (read.Fault f left) err p h v = subst (λ (err : LineError). Stands (Follows rule go ts) (Err err) p) (sym h) (inr (f, v, refl))
   stands_fault read.OutOfMemory err p h v = subst (λ (err : LineError). Stands (Follows rule go ts) (Err err) p) (sym h) tt
 
   -- what the tokens mean

@@ -33,7 +33,7 @@ use Rattle.gx_sql.specs.declared.refusal.Refusal.{Refusal}
 use Rattle.gx_sql.specs.declared.refusal.Refusal.TheVariants as refusal
 use Rattle.gx_sql.specs.Lines.{lines_of, is_skipped}
 use Rattle.gx_sql.specs.Answering.{Answers, Is as IsAnswer}
-use Rattle.gx_sql.specs.Progress.{Progress, start, giving, is_on, is_known, link_fault, with_detector, with_line, with_segments, with_line_syn}
+use Rattle.gx_sql.specs.Progress.{Progress, start, giving, is_on, is_known, link_fault, with_detector, with_fault, with_line, with_segments, with_line_syn}
 use Rattle.gx_sql.specs.Counts.{passes_sessions, passes_tables, begun_table, PassesColumns, PassesInHead, PassesInLine}
 use Rattle.gx_sql.specs.Script.{the_limits, fault_of_tokens, Follows, Counts, Told, TokensSay, LineSays, Goes, Where, ReadsOn, Reads}
 use Rattle.gx_sql.proofs.Room.{behind_name}
@@ -181,7 +181,7 @@ detector_keeps p s q e = pick (is_some p.detector) refl
 syn_keeps : (p : Progress) (l : LineSyn) (q : Progress) → with_line_syn p l ≡ Ok q → q.segments ≡ p.segments
 syn_keeps p (line_syn.Detector s) q e = detector_keeps p s q e
 syn_keeps p (line_syn.Table t) q e = giving_keeps p (λ (schema : Schema). record p { tables = p.tables ++ schema ∷ [] }) (table_from (is_known t.name p.tables) t) q (λ schema. refl) e
-syn_keeps p (line_syn.Link l) q e = let same : q ≡ record p { faults = p.faults ++ link_fault l ∷ [] } = cc in ap (λ (q : Progress). q.segments) same
+syn_keeps p (line_syn.Link l) q e = let same : q ≡ record p { faults = with_fault (link_fault l) p.faults } = cc in ap (λ (q : Progress). q.segments) same
 syn_keeps p (line_syn.Session n s) q e = giving_keeps p (with_line p n) (stmt_of p.tables s) q (λ stmt. refl) e
 
 follows_keeps : (rule : Limits → LineSyn → List Token → Type 0) (p : Progress) (ts : List Token) (q : Progress) → Follows rule (with_line_syn p) ts (Ok q) → q.segments ≡ p.segments

@@ -14,5 +14,5 @@ IsOfNames (resolve.Fault f) e = e ≡ error.Fault (fault_of f)
 IsOfNames resolve.OutOfMemory e = e ≡ error.OutOfMemory
 
 abbrev pub IsOfTokens : ReadError → LineError → Type 0
-IsOfTokens (read.Fault f) e = e ≡ error.Fault (fault_of_tokens f)
+IsOfTokens (read.Fault f left) e = e ≡ error.Fault (fault_of_tokens f)
 IsOfTokens read.OutOfMemory e = e ≡ error.OutOfMemory

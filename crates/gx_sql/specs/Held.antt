@@ -23,7 +23,7 @@ schemas entries = map (λ e. e.1) entries
 
 -- what the lines have said
 abbrev pub progress_of : Progress → said.Progress
-progress_of p = record { segments = p.segments; detector = p.detector; tables = schemas p.tables.entries; sessions = named p.sessions.entries; lines = p.lines.items; faults = p.faults.items }
+progress_of p = record { segments = p.segments; detector = p.detector; tables = schemas p.tables.entries; sessions = named p.sessions.entries; lines = p.lines.items; faults = p.faults.keys }
 
 -- each table stands at its own name, and isn't too wide for places of columns
 abbrev pub AreTables : List (Vec ℕ Global × Schema) → Type 0

@@ -1,6 +1,7 @@
 -- What the lines of a script have said so far, and what a further one adds.
-use Rattle.std.specs.Prelude.{ℕ, ◌+◌, nat_eq, Bool, true, false, if◌then◌else◌, List, [], ◌∷◌, ◌++◌, Option, Some, None, Result, Ok, Err, is_some}
+use Rattle.std.specs.Prelude.{ℕ, ◌+◌, ◌==◌, nat_eq, Bool, true, false, not, if◌then◌else◌, ◌&&◌, List, [], ◌∷◌, ◌++◌, Option, Some, None, Result, Ok, Err, is_some}
 use Rattle.std.specs.Cmp.Lexicographic.{pointwise}
+use Rattle.std.specs.List.{list_any}
 use Rattle.gx_tree.specs.declared.schema.Schema.{Schema}
 use Rattle.gx_tree.specs.declared.stmt.Stmt.{Stmt}
 use Rattle.gx_script.specs.declared.Line.{Line}
@@ -72,8 +73,19 @@ is_repeat fate.Repeat = true
 abbrev pub link_fault : LinkSyn → LinkFault
 link_fault l = record { to_segment = is_to l.way; segment = record { 0 = l.segment }; number = l.number; repeat = is_repeat l.fate }
 
+abbrev pub same_way : Bool → Bool → Bool
+same_way true b = b
+same_way false b = not b
+
+abbrev pub same_fault : LinkFault → LinkFault → Bool
+same_fault a b = same_way a.to_segment b.to_segment && ((a.segment.0 == b.segment.0) && ((a.number == b.number) && same_way a.repeat b.repeat))
+
+-- a fault that was told already isn't told again
+abbrev pub with_fault : LinkFault → List LinkFault → List LinkFault
+with_fault fault faults = if list_any (same_fault fault) faults then faults else faults ++ fault ∷ []
+
 abbrev pub with_link : Progress → LinkSyn → Result Progress LineFault
-with_link p l = Ok (record p { faults = p.faults ++ link_fault l ∷ [] })
+with_link p l = Ok (record p { faults = with_fault (link_fault l) p.faults })
 
 -- the place of a name, or the next one
 abbrev pub place_of : List ℕ → List (List ℕ × ℕ) → ℕ

@@ -66,7 +66,7 @@ fn begun_table(
     if rest.is_empty() {
         Ok((name, columns))
     } else {
-        Err(ReadError::Fault(Fault::Syntax))
+        Err(ReadError::Fault(Fault::Syntax, rest.len()))
     }
 }
 
@@ -85,7 +85,7 @@ fn is_full(alloc: Global, limits: Limits, tokens: &[Token]) -> Mem<bool>
 {
     match begun_table(alloc, limits, tokens) {
         Ok((_name, columns)) => Ok(columns.len() == COLUMNS),
-        Err(ReadError::Fault(_)) => Ok(false),
+        Err(ReadError::Fault(_, _)) => Ok(false),
         Err(ReadError::OutOfMemory) => Err(OutOfMemory),
     }
 }

@@ -5,8 +5,9 @@ mod count;
 pub mod progress;
 pub mod refusal;
 pub mod script;
-mod split;
+pub mod split;
 mod told;
 
 pub use refusal::{Limit, Refusal};
 pub use script::parse_script;
+pub use split::{first_line, is_skipped};

@@ -14,7 +14,7 @@ use gx_lines::{Fate, LineSyn, LinkSyn, StmtSyn, Switch, TableSyn, Way};
 use gx_resolve::{ResolveError, named_table, resolve_stmt, resolve_table};
 use gx_script::{Line, LinkFault};
 use gx_tree::{Schema, Stmt};
-use indexmap::IndexMap;
+use indexmap::{IndexMap, IndexSet};
 use std::alloc::Global;
 
 /// What the lines of a script have said so far.
@@ -25,7 +25,7 @@ pub struct Progress {
     pub tables: IndexMap<Vec<u8>, Schema>,
     pub sessions: IndexMap<Vec<u8>, u32>,
     pub lines: Vec<Line>,
-    pub faults: Vec<LinkFault>,
+    pub faults: IndexSet<LinkFault>,
 }
 
 fn link_fault(link: LinkSyn) -> LinkFault
@@ -54,7 +54,7 @@ fn find_named<'a>(tables: &'a IndexMap<Vec<u8>, Schema>, name: &[u8]) -> Option<
 }
 
 /// The table that the statement names, with its place.
-fn find_table<'a>(
+pub fn find_table<'a>(
     tables: &'a IndexMap<Vec<u8>, Schema>,
     stmt: &StmtSyn,
 ) -> Option<(Table, &'a Schema)>
@@ -234,7 +234,7 @@ impl Progress {
             tables: IndexMap::new(alloc),
             sessions: IndexMap::new(alloc),
             lines: Vec::new(alloc),
-            faults: Vec::new(alloc),
+            faults: IndexSet::new(alloc),
         }
     }
 
@@ -258,7 +258,7 @@ impl Progress {
         ensures held { IsHeld self.new }
         ensures lines { vec_len self.new.lines ≤ vec_len self.old.lines + 1 }
     {
-        self.faults.push(link_fault(link))?;
+        self.faults.insert(link_fault(link))?;
         Ok(())
     }
 

@@ -102,7 +102,7 @@ impl From<ReadError> for LineError {
 
     fn from(error: ReadError) -> LineError {
         match error {
-            ReadError::Fault(fault) => LineError::Fault(fault_of_tokens(fault)),
+            ReadError::Fault(fault, _left) => LineError::Fault(fault_of_tokens(fault)),
             ReadError::OutOfMemory => LineError::OutOfMemory,
         }
     }

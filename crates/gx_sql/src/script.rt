@@ -14,9 +14,9 @@ use crate::refusal::{Limit, LineError, LineFault, Refusal};
 use crate::split::{first_line, is_skipped};
 use gx_ids::{Mem, OutOfMemory, Seq};
 use gx_lex::Token;
-use gx_script::Script;
+use gx_script::{LinkFault, Script};
 use gx_tree::{Schema, Txt};
-use indexmap::IndexMap;
+use indexmap::{IndexMap, IndexSet};
 use std::alloc::Global;
 
 const LINES: u32 = 100_000;
@@ -80,6 +80,12 @@ fn all_sessions(alloc: Global, sessions: IndexMap<Vec<u8>, u32>) -> Mem<Seq<Txt>
     Ok(Seq::from_vec(names.collect(alloc)?))
 }
 
+fn all_faults(alloc: Global, faults: IndexSet<LinkFault>) -> Mem<Seq<LinkFault>>
+    ensures { IfOk result (λ s. s ≡ faults.keys) }
+{
+    Ok(Seq::from_vec(faults.into_iter().collect(alloc)?))
+}
+
 /// The script of all lines.
 fn into_script(alloc: Global, segments: u64, progress: Progress) -> Mem<Script>
     requires { segments ≤ 16 }
@@ -99,7 +105,7 @@ fn into_script(alloc: Global, segments: u64, progress: Progress) -> Mem<Script>
         tables: all_tables(alloc, tables)?,
         sessions: all_sessions(alloc, sessions)?,
         lines: Seq::from_vec(lines),
-        faults: Seq::from_vec(faults),
+        faults: all_faults(alloc, faults)?,
     })
 }
 

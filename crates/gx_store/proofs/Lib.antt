@@ -9,6 +9,9 @@ mod ReleasedEarly
 pub mod Exclusive
 mod RefusedParts
 mod RefusedHistories
+mod RefusedLate
 mod RefusedCommits
+mod RefusedCauses
 mod RefusedLocks
+mod RefusedAsking
 mod Kept

@@ -30,7 +30,7 @@ some-same a b q = cc
 
 module _ (script : Script) (query : Query) (table : Table) (tuple : List Expr) (row : List Value) where
   abbrev Writes : List Mark → Stmt → Type 0
-  Writes marks s = IsLateWriteOf marks first_txn second_cid s the_segment table (record { gxid = first_txn; cid = second_cid; ordinal = 1 })
+  Writes marks s = IsLateWriteOf (block_of_insert script query table tuple) marks first_txn second_cid s the_segment table (record { gxid = first_txn; cid = second_cid; ordinal = 1 }) (Some row)
 
   -- the only line that writes is the session's third
   third : (marks : List Mark) (session : SessionId) (n : ℕ) (s : Stmt) → stmt_of session n (block_of_insert script query table tuple).lines ≡ Some s → Writes marks s → n ≡ 3

@@ -66,7 +66,7 @@ no-late {script = script} {point = point} table row w ended nowhere = by_write w
     no-node : (o : Option Node) (n : Node) → o ≡ None → o ≡ Some n → ⊥
     no-node o n e f = cc
 
-    late : (stmt : Stmt) → IsLateWriteOf (before point) first_txn first_cid stmt the_segment table (row_of second_txn) → ⊥
+    late : (stmt : Stmt) → IsLateWriteOf script (before point) first_txn first_cid stmt the_segment table (row_of second_txn) (Some row) → ⊥
     late (stmt.Insert t tuples) w = two-one second_txn.0 refl (ap (λ (g : Gxid). g.0) w.1.own.0)
     late (stmt.Update t assigns cond) w = no-node _ the_segment nowhere w.1
     late (stmt.Delete t cond) w = no-node _ the_segment nowhere w.1

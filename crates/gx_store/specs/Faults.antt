@@ -1,5 +1,5 @@
 -- What it means that an evaluation of a command faulted on a row.
-use Rattle.std.specs.Prelude.{◌≡◌, ◌⊎◌, ℕ, ◌-◌, ◌<◌, ◌≤◌, true, List, slice_get, Some, None, Ok, Err}
+use Rattle.std.specs.Prelude.{◌≡◌, ◌⊎◌, ℕ, ◌-◌, ◌<◌, ◌≤◌, Bool, true, false, List, slice_get, Some, None, Ok, Err}
 use Rattle.std.specs.declared.option.Option.{Option}
 use Rattle.gx_ids.specs.declared.ids.Gxid.{Gxid}
 use Rattle.gx_ids.specs.declared.ids.Cid.{Cid}
@@ -20,7 +20,7 @@ use Rattle.gx_meaning.specs.Constants.{values_of}
 use Rattle.gx_script.specs.declared.Script.{Script}
 use Rattle.gx_store.specs.declared.mark.Mark.{Mark}
 use Rattle.gx_store.specs.Commands.{IsUnderWay, Sees, condition_on}
-use Rattle.gx_store.specs.Lines.{is_on_rows}
+use Rattle.gx_store.specs.Marks.{is_sent}
 use Rattle.gx_store.specs.Points.{Point, before}
 use Rattle.gx_store.specs.Rows.{row_at}
 use Rattle.gx_store.specs.Writes.{IsCurrentFor, IsLate, IsSelectedAndFree, set_row}
@@ -53,8 +53,9 @@ pub record FaultsInSet (marks : List Mark) (level : Level) (g : Gxid) (c : Cid) 
   pub meant : image ≡ Some old
   pub faults : set_row assigns old ≡ Err fault
 
--- the first constant of an INSERT that faults is one of the row that was to have this identity
-pub record FaultsInConstants (g : Gxid) (c : Cid) (tuples : List (List Expr)) (rid : Rid) (image : Option (List Value)) (fault : ArithFault) : Type 0 where
+-- The constants of an INSERT are evaluated before anything of it is sent; the first that faults is one of the row that was to have
+-- this identity.
+pub record FaultsInConstants (marks : List Mark) (g : Gxid) (c : Cid) (tuples : List (List Expr)) (rid : Rid) (image : Option (List Value)) (fault : ArithFault) : Type 0 where
   pub own : (rid.gxid ≡ g) × (rid.cid ≡ c)
   pub counted : 1 ≤ rid.ordinal
   pub tuple : List Expr
@@ -62,10 +63,11 @@ pub record FaultsInConstants (g : Gxid) (c : Cid) (tuples : List (List Expr)) (r
   pub faults : values_of tuple ≡ Err fault
   pub first : (k : ℕ) (earlier : List Expr) → k < rid.ordinal - 1 → slice_get tuples k ≡ Some earlier → (values : List Value) × (values_of earlier ≡ Ok values)
   pub meant : image ≡ None
+  pub unsent : is_sent marks g c ≡ false
 
 abbrev pub IsFaultOf : List Mark → Level → Gxid → Cid → Stmt → Rid → Option (List Value) → ArithFault → Type 0
 IsFaultOf marks level g c (Select query) rid image fault = FaultsOnSeen marks level g c query.table query.cond rid image fault
-IsFaultOf marks level g c (Insert table tuples) rid image fault = FaultsInConstants g c tuples rid image fault
+IsFaultOf marks level g c (Insert table tuples) rid image fault = FaultsInConstants marks g c tuples rid image fault
 IsFaultOf marks level g c (Update table assigns cond) rid image fault =
     FaultsOnSeen marks level g c table cond rid image fault ⊎ FaultsOnCurrent marks level g c table cond rid image fault ⊎ FaultsInSet marks level g c table assigns cond rid image fault
 IsFaultOf marks level g c (Delete table cond) rid image fault =
@@ -81,11 +83,18 @@ pub record IsLiveFault (script : Script) (point : Point) (g : Gxid) (c : Cid) (r
   pub runs : IsUnderWay script point session stmt level g c
   pub faults : IsFaultOf (before point) level g c stmt rid image fault
 
--- a command on rows faults late
+-- a segment evaluates something of the statement: SELECT, UPDATE and DELETE
+abbrev pub may_fault_late : Stmt → Bool
+may_fault_late (Select query) = true
+may_fault_late (Update table assigns cond) = true
+may_fault_late (Delete table cond) = true
+may_fault_late _ = false
+
+-- such a command faults late
 pub record IsLateFault (script : Script) (point : Point) (g : Gxid) (c : Cid) : Type 0 where
   pub stmt : Stmt
   pub late : IsLate script point g c stmt
-  pub kind : is_on_rows stmt ≡ true
+  pub kind : may_fault_late stmt ≡ true
 
 abbrev pub LegalFault : Script → Point → Gxid → Cid → Rid → Option (List Value) → Type 0
 LegalFault script point g c rid image = IsLiveFault script point g c rid image ⊎ IsLateFault script point g c

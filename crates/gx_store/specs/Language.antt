@@ -55,3 +55,4 @@ pub record IsScript (script : Script) : Type 0 where
   pub numbers : AreLinesNumbered [] script.lines
   pub order : BeginInOrder 0 script.lines (length script.sessions)
   pub faults : All (IsFault script.segments) script.faults
+  pub faults_once : AreDistinct script.faults

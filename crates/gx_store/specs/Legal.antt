@@ -23,7 +23,7 @@ use Rattle.gx_store.specs.declared.run.Step.{Step}
 use Rattle.gx_store.specs.Answers.{IsAnswer}
 use Rattle.gx_store.specs.Commands.{IsUnderWay, RunsLine, has_own_snapshot, state_at}
 use Rattle.gx_store.specs.Faults.{LegalFault}
-use Rattle.gx_store.specs.Lines.{BlockState, Outside, InBlock, is_command, is_on_rows, next_stmt, state_of, transaction_of}
+use Rattle.gx_store.specs.Lines.{BlockState, Outside, InBlock, is_command, is_on_rows, may_commit, next_stmt, state_of, transaction_of}
 use Rattle.gx_store.specs.Marks.{answer_count, is_aborted, is_answered, is_begun, is_committed, is_ended, session_of, start_count, started_after}
 use Rattle.gx_store.specs.Points.{Point, before, ends_in, marks_in, starts_in}
 use Rattle.gx_store.specs.Writes.{LegalSkip, LegalWrite}
@@ -54,12 +54,6 @@ pub record LegalSnap (script : Script) (point : Point) (g : Gxid) (c : Cid) (sna
   pub once : has_own_snapshot level (before point) g c ≡ false
   pub committed : (h : Gxid) → is_committed (before point) h ≡ true → sees snapshot h ≡ true
   pub ended : (h : Gxid) → 1 ≤ h.0 → sees snapshot h ≡ true → is_ended (before point) h ≡ true
-
--- a line with which a transaction may commit: COMMIT in its block, or its one command
-abbrev pub may_commit : BlockState → Stmt → Bool
-may_commit Outside line = is_on_rows line
-may_commit (InBlock level commands) stmt.Commit = true
-may_commit _ line = false
 
 pub record LegalCommit (script : Script) (point : Point) (g : Gxid) : Type 0 where
   pub session : SessionId
@@ -136,17 +130,19 @@ abbrev pub is_in_block : BlockState → Bool
 is_in_block Outside = false
 is_in_block _ = true
 
-pub record LegalEnd (script : Script) (steps : List Step) (session : SessionId) : Type 0 where
+-- a session ends that has no line left; unless its block has failed, the transaction aborts among the marks of that step
+pub record LegalEnd (script : Script) (steps : List Step) (session : SessionId) (marks : List Mark) : Type 0 where
   pub idle : IsIdle session steps
   pub over : next_stmt session script (marks_in steps) ≡ None
   pub block : is_in_block (state_of script session (marks_in steps)) ≡ true
   pub once : ends_in session steps ≡ 0
+  pub rolled_back : (g : Gxid) → transaction_of (state_of script session (marks_in steps)) session (marks_in steps) ≡ Some g → is_aborted marks g ≡ true
 
 -- a session starts a line once the line before is answered, and is ended once none is left
-abbrev pub LegalEvent : Script → List Step → Event → Type 0
-LegalEvent script steps (event.Start session) = IsIdle session steps × IsSome (next_stmt session script (marks_in steps))
-LegalEvent script steps (event.End session) = LegalEnd script steps session
-LegalEvent script steps _ = Unit {0}
+abbrev pub LegalEvent : Script → List Step → Event → List Mark → Type 0
+LegalEvent script steps (event.Start session) marks = IsIdle session steps × IsSome (next_stmt session script (marks_in steps))
+LegalEvent script steps (event.End session) marks = LegalEnd script steps session marks
+LegalEvent script steps _ marks = Unit {0}
 
 -- each of these marks of a step may stand behind the earlier ones and before the later ones
 abbrev pub AreLegalMarks : Script → List Step → Event → List Mark → List Mark → List Mark → Type 0
@@ -161,7 +157,7 @@ IsDrawn script steps (event.Start session) marks =
 IsDrawn script steps _ marks = Unit {0}
 
 pub record IsLegalStep (script : Script) (steps : List Step) (step : Step) : Type 0 where
-  pub event : LegalEvent script steps step.event
+  pub event : LegalEvent script steps step.event step.marks
   pub drawn : IsDrawn script steps step.event step.marks
   pub marks : AreLegalMarks script steps step.event [] step.marks []
 

@@ -13,8 +13,10 @@ pub mod Answers
 pub mod Legal
 pub mod Runs
 pub mod Locks
+pub mod Asking
 pub mod Journals
 pub mod Protocol
+pub mod Skipped
 pub mod Ordered
 pub mod Rounds
 pub mod Schedule
@@ -22,8 +24,11 @@ pub mod Language
 pub mod Whole
 pub mod RefusedParts
 pub mod RefusedHistories
+pub mod RefusedLate
 pub mod RefusedCommits
+pub mod RefusedCauses
 pub mod RefusedWaits
+pub mod RefusedAsking
 pub mod RefusedRounds
 pub mod Cancelled
 pub mod Told

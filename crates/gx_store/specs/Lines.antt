@@ -56,6 +56,12 @@ is_command (InBlock level commands) (Lock table mode) = true
 is_command (InBlock level commands) stmt = is_on_rows stmt
 is_command Failed stmt = false
 
+-- a line with which a transaction may commit: COMMIT in its block, or its one command
+abbrev pub may_commit : BlockState → Stmt → Bool
+may_commit Outside stmt = is_on_rows stmt
+may_commit (InBlock level commands) Commit = true
+may_commit _ stmt = false
+
 -- where the session stands once the line has this answer
 abbrev pub state_after : BlockState → Stmt → StmtAnswer → BlockState
 state_after Outside (Begin level) reply = InBlock level 0

@@ -5,9 +5,12 @@ use Rattle.gx_ids.specs.declared.ids.Gxid.{Gxid}
 use Rattle.gx_ids.specs.declared.ids.Cid.{Cid}
 use Rattle.gx_ids.specs.declared.ids.Node.{Node}
 use Rattle.gx_ids.specs.declared.ids.SessionId.{SessionId}
+use Rattle.gx_ids.specs.declared.ids.Table.{Table}
 use Rattle.gx_ids.specs.declared.rid.Rid.{Rid}
+use Rattle.gx_msg.specs.declared.message.Message.{Message}
+use Rattle.gx_msg.specs.declared.message.Message.TheVariants.{Exec}
 use Rattle.gx_store.specs.declared.mark.Mark.{Mark}
-use Rattle.gx_store.specs.declared.mark.Mark.TheVariants.{Start, Snap, Write, Skip, Commit, Abort, Answer}
+use Rattle.gx_store.specs.declared.mark.Mark.TheVariants.{Start, Snap, Write, Skip, Commit, Abort, Answer, Sent}
 
 abbrev pub is_same_session : SessionId → SessionId → Bool
 is_same_session s t = s.0 == t.0
@@ -78,6 +81,17 @@ has_snapshot [] g = false
 has_snapshot (Snap h d s ∷ ms) g = is_same_gxid h g || has_snapshot ms g
 has_snapshot (_ ∷ ms) g = has_snapshot ms g
 
+-- the message is an order to carry out the command
+abbrev pub is_order_of : Gxid → Cid → Message → Bool
+is_order_of g c (Exec h d level snapshot horizon slice) = is_command_of g c h d
+is_order_of g c _ = false
+
+-- the command was sent to some segment
+abbrev pub is_sent : List Mark → Gxid → Cid → Bool
+is_sent [] g c = false
+is_sent (Sent to number told ∷ ms) g c = is_order_of g c told || is_sent ms g c
+is_sent (_ ∷ ms) g c = is_sent ms g c
+
 -- the row was written
 abbrev pub is_written : List Mark → Rid → Bool
 is_written [] rid = false
@@ -102,6 +116,12 @@ abbrev pub node_of : List Mark → Rid → Option Node
 node_of [] rid = None
 node_of (Write g c node t r image ∷ ms) rid = if is_same_rid r rid then Some node else node_of ms rid
 node_of (_ ∷ ms) rid = node_of ms rid
+
+-- the table of the row's first write
+abbrev pub row_table : List Mark → Rid → Option Table
+row_table [] rid = None
+row_table (Write g c node t r image ∷ ms) rid = if is_same_rid r rid then Some t else row_table ms rid
+row_table (_ ∷ ms) rid = row_table ms rid
 
 -- ANSWERS
 -- how many lines of the session were answered

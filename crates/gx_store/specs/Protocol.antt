@@ -1,5 +1,5 @@
 -- How transactions commit and abort over several segments (Lyu et al., SIGMOD 2021: one- and two-phase commit).
-use Rattle.std.specs.Prelude.{◌≡◌, ◌⊎◌, ℕ, ◌+◌, Bool, true, false, if◌then◌else◌, ◌&&◌, ◌||◌, List, [], ◌∷◌, ◌++◌, slice_get, take, filter, Some, Contains}
+use Rattle.std.specs.Prelude.{◌≡◌, ◌⊎◌, ℕ, ◌+◌, Bool, true, false, if◌then◌else◌, ◌&&◌, ◌||◌, List, [], ◌∷◌, ◌++◌, slice_get, take, filter, None, Some, Contains}
 use Rattle.gx_ids.specs.declared.ids.Cid.{Cid}
 use Rattle.gx_ids.specs.declared.ids.Gxid.{Gxid}
 use Rattle.gx_ids.specs.declared.ids.Node.{Node}
@@ -8,6 +8,7 @@ use Rattle.gx_tree.specs.declared.part.Part.{Part}
 use Rattle.gx_tree.specs.declared.slice.Slice.{Slice}
 use Rattle.gx_tree.specs.declared.stmt.Level.{Level}
 use Rattle.gx_tree.specs.declared.stmt.Stmt.{Stmt}
+use Rattle.gx_tree.specs.declared.value.Value.{Value}
 use Rattle.gx_dsnap.specs.declared.snapshot.Snapshot.{Snapshot}
 use Rattle.gx_msg.specs.declared.message.Message.{Message}
 use Rattle.gx_msg.specs.declared.message.Message.TheVariants as message
@@ -20,8 +21,9 @@ use Rattle.gx_store.specs.declared.answer.StmtAnswer.TheVariants.{Refused}
 use Rattle.gx_store.specs.declared.mark.Mark.{Mark}
 use Rattle.gx_store.specs.declared.mark.Mark.TheVariants as mark
 use Rattle.gx_store.specs.declared.run.Step.{Step}
-use Rattle.gx_store.specs.Commands.{RunsCommand}
+use Rattle.gx_store.specs.Commands.{RunsCommand, RunsLine, state_at}
 use Rattle.gx_store.specs.Journals.{is_same_node}
+use Rattle.gx_store.specs.Lines.{may_commit, transaction_of}
 use Rattle.gx_store.specs.Marks.{is_committed, is_ended, is_same_gxid}
 use Rattle.gx_store.specs.Messages.{HasReceived, IsSent, Receives}
 use Rattle.gx_store.specs.Points.{Point, before}
@@ -127,11 +129,43 @@ pub record IsExecuted (point : Point) (g : Gxid) (c : Cid) (node : Node) : Type 
   pub slice : Slice
   pub received : HasReceived point the_coordinator node (message.Exec g c level snapshot horizon slice)
 
--- a segment writes for a command that it has received, of a transaction that it has neither promised nor committed
+-- a segment writes for a command that it has received, of a transaction that it hasn't promised, that isn't decided, and that no segment
+-- has committed
 pub record WritesThere (point : Point) (node : Node) (g : Gxid) (c : Cid) : Type 0 where
   pub executed : IsExecuted point g c node
   pub unpromised : prepared_count (before point) node g ≡ 0
-  pub uncommitted : local_count (before point) node g ≡ 0
+  pub undecided : decided_count (before point) g ≡ 0
+  pub uncommitted : (segment : Node) → local_count (before point) segment g ≡ 0
+
+-- a fault is noted at a segment that has received the command; that of an INSERT's constants at the coordinator, of a row that isn't there
+abbrev pub FaultsThere : Point → Node → Gxid → Cid → Option (List Value) → Type 0
+FaultsThere point node g c image = ((node ≡ the_coordinator) × (image ≡ None)) ⊎ IsExecuted point g c node
+
+-- A journal fails in the place of what it was to take: the coordinator's of a decision, a segment's of a promise or of a commit.
+abbrev pub FailsThere : Script → Point → Node → Gxid → Type 0
+FailsThere script point node g = ((node ≡ the_coordinator) × Decides script (before point) g) ⊎ Promises point node g ⊎ CommitsThere point node g
+
+-- ORDERS
+-- PREPARE goes to a writer of a transaction that hasn't ended, that isn't decided, and that no segment has committed
+pub record IsToPrepare (marks : List Mark) (node : Node) (g : Gxid) : Type 0 where
+  pub running : is_ended marks g ≡ false
+  pub writer : is_writer marks g node ≡ true
+  pub undecided : decided_count marks g ≡ 0
+  pub uncommitted : (segment : Node) → local_count marks segment g ≡ 0
+
+-- COMMIT goes to the only writer of a transaction that hasn't ended, and that nobody has promised
+pub record IsToCommit (marks : List Mark) (node : Node) (g : Gxid) : Type 0 where
+  pub running : is_ended marks g ≡ false
+  pub only : (segment : Node) → is_writer marks g segment ≡ is_same_node segment node
+  pub unpromised : (segment : Node) → prepared_count marks segment g ≡ 0
+  pub undecided : decided_count marks g ≡ 0
+
+-- COMMIT PREPARED goes to a writer that has promised, behind the decision, as long as the transaction hasn't ended
+pub record IsToFinish (marks : List Mark) (node : Node) (g : Gxid) : Type 0 where
+  pub running : is_ended marks g ≡ false
+  pub writer : is_writer marks g node ≡ true
+  pub promised : prepared_count marks node g ≡ 1
+  pub decided : decided_count marks g ≡ 1
 
 -- the coordinator has sent it the message in an earlier step, or the point's own step sends it, before the point or behind it
 abbrev pub IsSentBy : Point → Node → ℕ → Message → Type 0
@@ -153,15 +187,30 @@ pub record IsReturned (point : Point) (g : Gxid) (c : Cid) (node : Node) : Type 
   pub part : Part
   pub received : HasReceived point node the_coordinator (message.Answer g (reply.Done c wrote count part))
 
--- a command that succeeds is answered once every segment that it was sent to is done
-abbrev pub IsComplete : Script → Point → SessionId → StmtAnswer → Type 0
-IsComplete script point session (Refused reason) = Unit {0}
-IsComplete script point session answer =
+-- if the session's line is a command, every segment that it was sent to is done
+abbrev pub IsDone : Script → Point → SessionId → Type 0
+IsDone script point session =
     (line : Stmt) (level : Level) (g : Gxid) (c : Cid) (node : Node) → RunsCommand script point session line level g c → IsDispatched point g c node → IsReturned point g c node
 
--- What each mark of a transaction's end stands behind: of promises, decisions, commits and aborts at the nodes and as a whole; that
--- a segment writes for a command that it has received, and before it promises or commits, a command is answered once it is complete,
--- and a failing journal's word comes behind its mark, for 'again' in the same step.
+-- a command that succeeds is answered once it is done
+abbrev pub IsComplete : Script → Point → SessionId → StmtAnswer → Type 0
+IsComplete script point session (Refused reason) = Unit {0}
+IsComplete script point session answer = IsDone script point session
+
+-- the transaction is on its way to a commit: its line under way is COMMIT, or its one command, which is done
+pub record IsCommitting (script : Script) (point : Point) (g : Gxid) : Type 0 where
+  pub session : SessionId
+  pub line : Stmt
+  pub runs : RunsLine script point session line
+  pub transaction : transaction_of (state_at script session point) session (before point) ≡ Some g
+  pub committing : may_commit (state_at script session point) line ≡ true
+  pub done : IsDone script point session
+
+-- What each mark of a transaction's end stands behind: of promises, decisions, commits and aborts at the nodes and as a whole, and of a
+-- journal's failure in the place of one; that a segment writes, skips, faults and says so for a command that it has received, and writes
+-- before anybody commits; that a command is answered once it is complete; to whom orders go, and when; that it is said that a transaction
+-- was aborted or forgotten in the step that receives the order; and that a failing journal's word comes behind its mark, for 'again' in
+-- the same step.
 abbrev pub FollowsAt : Script → Node → Point → Mark → Type 0
 FollowsAt script node point (mark.Commit g) = CommitsBy (writers_of script (before point) g) (before point) g
 FollowsAt script node point (mark.Decided g) = Decides script (before point) g
@@ -169,9 +218,19 @@ FollowsAt script _ point (mark.LocalCommit node g) = CommitsThere point node g
 FollowsAt script _ point (mark.Prepared node g) = Promises point node g
 FollowsAt script node point (mark.Abort g) = (decided_count (before point) g ≡ 0) × ((segment : Node) → local_count (before point) segment g ≡ 0)
 FollowsAt script _ point (mark.Write g c node table rid image) = WritesThere point node g c
+FollowsAt script node point (mark.Skip g c rid) = IsExecuted point g c node
+FollowsAt script node point (mark.Fault g c rid image) = FaultsThere point node g c image
+FollowsAt script _ point (mark.JournalFailed node g) = FailsThere script point node g
 FollowsAt script node point (mark.Answer session number answer) = IsComplete script point session answer
 FollowsAt script node point (mark.Sent to number (message.Answer g reply.Jfault)) = Contains (before point) (mark.JournalFailed node g)
 FollowsAt script node point (mark.Sent to number (message.Answer g reply.Again)) = Contains point.earlier (mark.JournalFailed node g)
+FollowsAt script node point (mark.Sent to number (message.Answer g (reply.Done c wrote count part))) = IsExecuted point g c node
+FollowsAt script node point (mark.Sent to number (message.Answer g (reply.Failed c reason))) = IsExecuted point g c node
+FollowsAt script node point (mark.Sent to number (message.Answer g reply.Aborted)) = Receives point.steps point.event the_coordinator node (message.Abort g)
+FollowsAt script node point (mark.Sent to number (message.Answer g reply.Forgotten)) = Receives point.steps point.event the_coordinator node (message.Forget g)
+FollowsAt script node point (mark.Sent to number (message.Prepare g)) = IsToPrepare (before point) to g × IsCommitting script point g
+FollowsAt script node point (mark.Sent to number (message.Commit g)) = IsToCommit (before point) to g × IsCommitting script point g
+FollowsAt script node point (mark.Sent to number (message.CommitPrepared g)) = IsToFinish (before point) to g
 FollowsAt script node point _ = Unit {0}
 
 abbrev pub DoMarksFollow : Script → List Step → Step → List Mark → List Mark → Type 0

@@ -1,5 +1,5 @@
 -- Which rows a command may write, and how (PostgreSQL manual 13.2.1, 13.2.2).
-use Rattle.std.specs.Prelude.{◌≡◌, ◌⊎◌, ℕ, ◌+◌, ◌-◌, ◌≤◌, Bool, true, false, not, if◌then◌else◌, ◌&&◌, ◌||◌, List, [], ◌∷◌, length, take, slice_get, slice_set, zero, suc, Some, None, Ok, Result}
+use Rattle.std.specs.Prelude.{◌≡◌, ◌⊎◌, ℕ, ◌+◌, ◌-◌, ◌≤◌, Bool, true, false, not, if◌then◌else◌, ◌&&◌, ◌||◌, List, [], ◌∷◌, take, slice_get, slice_set, zero, suc, Some, None, Ok, Result}
 use Rattle.std.specs.declared.option.Option.{Option}
 use Rattle.gx_ids.specs.declared.ids.Gxid.{Gxid}
 use Rattle.gx_ids.specs.declared.ids.Cid.{Cid}
@@ -27,7 +27,7 @@ use Rattle.gx_script.specs.declared.Script.{Script}
 use Rattle.gx_store.specs.declared.mark.Mark.{Mark}
 use Rattle.gx_store.specs.declared.mark.Mark.TheVariants.{Write}
 use Rattle.gx_store.specs.Commands.{IsSnapshotAt, IsUnderWay, condition_on, has_own_snapshot}
-use Rattle.gx_store.specs.Marks.{is_aborted, is_committed, is_processed, is_same_gxid, is_same_rid, is_written, node_of}
+use Rattle.gx_store.specs.Marks.{is_aborted, is_committed, is_processed, is_same_gxid, is_same_rid, is_written, node_of, row_table}
 use Rattle.gx_store.specs.Points.{IsNoLater, Point, before}
 use Rattle.gx_store.specs.Rows.{row_at}
 use Rattle.gx_store.specs.View.{IsView, is_shown_to}
@@ -156,23 +156,13 @@ pub record IsLate (script : Script) (point : Point) (g : Gxid) (c : Cid) (stmt :
   pub level : Level
   pub ran : IsUnderWay script early session stmt level g c
 
--- the node of the row's first write, or of this one where it is the first
-abbrev pub IsAtHome : Option Node → Node → Type 0
-IsAtHome None node = Unit {0}
-IsAtHome (Some first) node = node ≡ first
-
--- the row is one that the command is to insert, from one of so many tuples
-pub record IsOwnRow (g : Gxid) (c : Cid) (tuples : List (List Expr)) (rid : Rid) : Type 0 where
-  pub own : (rid.gxid ≡ g) × (rid.cid ≡ c)
-  pub counted : 1 ≤ rid.ordinal
-  pub among : rid.ordinal ≤ length tuples
-
--- a late write is of the statement's own table: an INSERT's of a row of its own, another's of a row that was written, where it stands
-abbrev pub IsLateWriteOf : List Mark → Gxid → Cid → Stmt → Node → Table → Rid → Type 0
-IsLateWriteOf marks g c (Insert table tuples) node t rid = (t ≡ table) × IsOwnRow g c tuples rid × IsAtHome (node_of marks rid) node
-IsLateWriteOf marks g c (Update table assigns cond) node t rid = (t ≡ table) × (node_of marks rid ≡ Some node)
-IsLateWriteOf marks g c (Delete table cond) node t rid = (t ≡ table) × (node_of marks rid ≡ Some node)
-IsLateWriteOf marks g c _ node t rid = ⊥
+-- The image of a late UPDATE or DELETE isn't judged. It is of a row of the statement's table, where that stands. A late INSERT
+-- writes as one in time does.
+abbrev pub IsLateWriteOf : Script → List Mark → Gxid → Cid → Stmt → Node → Table → Rid → Option (List Value) → Type 0
+IsLateWriteOf script marks g c (Insert table tuples) node t rid image = (t ≡ table) × IsInserted script marks g c table tuples node rid image
+IsLateWriteOf script marks g c (Update table assigns cond) node t rid image = (t ≡ table) × (node_of marks rid ≡ Some node) × (row_table marks rid ≡ Some table)
+IsLateWriteOf script marks g c (Delete table cond) node t rid image = (t ≡ table) × (node_of marks rid ≡ Some node) × (row_table marks rid ≡ Some table)
+IsLateWriteOf script marks g c _ node t rid image = ⊥
 
 -- a command under way, which has its snapshot, writes
 pub record IsLiveWrite (script : Script) (point : Point) (g : Gxid) (c : Cid) (node : Node) (table : Table) (rid : Rid) (image : Option (List Value)) : Type 0 where
@@ -183,10 +173,10 @@ pub record IsLiveWrite (script : Script) (point : Point) (g : Gxid) (c : Cid) (n
   pub snapped : has_own_snapshot level (before point) g c ≡ true
   pub writes : IsWriteOf script (before point) level g c stmt node table rid image
 
-pub record IsLateWrite (script : Script) (point : Point) (g : Gxid) (c : Cid) (node : Node) (table : Table) (rid : Rid) : Type 0 where
+pub record IsLateWrite (script : Script) (point : Point) (g : Gxid) (c : Cid) (node : Node) (table : Table) (rid : Rid) (image : Option (List Value)) : Type 0 where
   pub stmt : Stmt
   pub late : IsLate script point g c stmt
-  pub writes : IsLateWriteOf (before point) g c stmt node table rid
+  pub writes : IsLateWriteOf script (before point) g c stmt node table rid image
 
 pub record IsLiveSkip (script : Script) (point : Point) (g : Gxid) (c : Cid) (rid : Rid) : Type 0 where
   pub session : SessionId
@@ -207,7 +197,7 @@ pub record IsLateSkip (script : Script) (point : Point) (g : Gxid) (c : Cid) : T
   pub kind : may_skip stmt ≡ true
 
 abbrev pub LegalWrite : Script → Point → Gxid → Cid → Node → Table → Rid → Option (List Value) → Type 0
-LegalWrite script point g c node table rid image = IsLiveWrite script point g c node table rid image ⊎ IsLateWrite script point g c node table rid
+LegalWrite script point g c node table rid image = IsLiveWrite script point g c node table rid image ⊎ IsLateWrite script point g c node table rid image
 
 abbrev pub LegalSkip : Script → Point → Gxid → Cid → Rid → Type 0
 LegalSkip script point g c rid = IsLiveSkip script point g c rid ⊎ IsLateSkip script point g c

@@ -7,6 +7,8 @@ pub mod attempt;
 pub mod event;
 pub mod mark;
 pub mod node;
+pub mod refused_asking;
+pub mod refused_causes;
 pub mod refused_commits;
 pub mod refused_histories;
 pub mod refused_rounds;

@@ -1,12 +1,17 @@
 //! Runs that are no histories: in each of them all but one thing is right.
-ghost use Rattle.std.specs.Prelude.{List};
+ghost use Rattle.std.specs.Prelude.{List, Some, None};
+ghost use Rattle.std.specs.declared.option.Option.{Option as OneOption};
 ghost use Rattle.gx_dsnap.specs.declared.snapshot.Snapshot.{Snapshot as OneSnapshot};
 ghost use Rattle.gx_ids.specs.declared.ids.Table.{Table as OneTable};
 ghost use Rattle.gx_script.specs.declared.Script.{Script as OneScript};
 ghost use Rattle.gx_store.specs.RefusedHistories.{IsNoHistory, block_of_insert, block_of_select, commit_is_cancelled, insert_and_select, inserted_nothing, never_started, one_insert, over_two, select_all, select_for_journal, sent_to_nobody, told_another, told_by_another, two_inserts, undrawn, untold, written_elsewhere};
-ghost use Rattle.gx_store.specs.RefusedParts.{empty_block};
+ghost use Rattle.gx_store.specs.RefusedLate.{dealt_out, faulted_late, faulted_when_sent, insert_and_update, inserted_late, left_open, only_begin, updated_elsewhere};
+ghost use Rattle.gx_store.specs.RefusedParts.{empty_block, other_segment, the_segment};
+ghost use Rattle.gx_tree.specs.declared.cond.Cond.{Cond as OneCond};
 ghost use Rattle.gx_tree.specs.declared.expr.Expr.{Expr as OneExpr};
 ghost use Rattle.gx_tree.specs.declared.query.Query.{Query as OneQuery};
+ghost use Rattle.gx_tree.specs.declared.slice.Slice.{Slice as OneSlice};
+ghost use Rattle.gx_tree.specs.declared.stmt.Assign.{Assign as OneAssign};
 ghost use Rattle.gx_tree.specs.declared.value.Value.{Value as OneValue};
 ghost use Rattle.gx_waits.specs.declared.graph.LocalGraph.{LocalGraph as OneGraph};
 
@@ -44,4 +49,27 @@ pub fn lines_start()
     ensures undrawn { (script : OneScript) → IsNoHistory (empty_block script) undrawn }
     ensures never { (script : OneScript) (query : OneQuery) (table : OneTable) (tuple : List OneExpr) (row : List OneValue)
         → IsNoHistory (block_of_insert script query table tuple) (never_started table row) }
+{}
+
+/// An INSERT's constants don't fault once it was sent, nor behind the abort of its transaction.
+pub fn constants_fault_before_anything_is_sent()
+    ensures sent { (script : OneScript) (table : OneTable) (tuple : List OneExpr) (snapshot : OneSnapshot) (slice : OneSlice) → IsNoHistory (one_insert script table tuple) (faulted_when_sent snapshot slice) }
+    ensures late { (script : OneScript) (table : OneTable) (tuple : List OneExpr) (graph : OneGraph) (snapshot : OneSnapshot) (slice : OneSlice)
+        → IsNoHistory (one_insert script table tuple) (faulted_late graph snapshot slice) }
+{}
+
+/// A late INSERT doesn't write at another segment than its row's, nor that the row is gone; a late UPDATE doesn't write a row of another
+/// table.
+pub fn late_writes_are_at_their_place()
+    ensures place { (script : OneScript) (table : OneTable) (tuple : List OneExpr) (graph : OneGraph) (snapshot : OneSnapshot) (slice : OneSlice) (row : List OneValue)
+        → IsNoHistory (dealt_out script table tuple) (inserted_late table graph snapshot slice other_segment (Some row)) }
+    ensures image { (script : OneScript) (table : OneTable) (tuple : List OneExpr) (graph : OneGraph) (snapshot : OneSnapshot) (slice : OneSlice)
+        → IsNoHistory (dealt_out script table tuple) (inserted_late table graph snapshot slice the_segment None) }
+    ensures table { (script : OneScript) (tuple : List OneExpr) (assigns : List OneAssign) (cond : OneOption OneCond) (graph : OneGraph) (s t : OneSnapshot) (old new : List OneValue)
+        → IsNoHistory (insert_and_update script tuple assigns cond) (updated_elsewhere graph s t old new) }
+{}
+
+/// A session whose block is open doesn't end without its transaction's abort.
+pub fn ended_blocks_are_rolled_back()
+    ensures { (script : OneScript) → IsNoHistory (only_begin script) left_open }
 {}

@@ -3,3 +3,4 @@ pub mod Digits
 pub mod Found
 pub mod Words
 pub mod Work
+pub mod Asked

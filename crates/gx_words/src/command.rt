@@ -62,7 +62,8 @@ fn command<'a>(alloc: Global) -> Result<Command<'a>, AllocError>
 }
 
 fn of_error(error: Error) -> WordsFault
-    ensures { result ≡ words_fault.Usage → kind_of error ≢ kind.OutOfMemory }
+    ensures usage { result ≡ words_fault.Usage → kind_of error ≢ kind.OutOfMemory }
+    ensures memory { result ≡ words_fault.OutOfMemory → kind_of error ≡ kind.OutOfMemory }
 {
     match error.kind() {
         ErrorKind::OutOfMemory => WordsFault::OutOfMemory,

@@ -1,8 +1,9 @@
 //! The words of the command line, and the work that they may ask for: a script of transfers between accounts, drawn from a
-//! number.
+//! number; and the bytes of the script that they ask for.
 #![tactic(auto)]
 
 mod batches;
+mod bytes;
 mod command;
 mod draws;
 mod head;
@@ -13,6 +14,7 @@ mod transfer;
 mod words;
 mod work;
 
+pub use bytes::{NoBytes, script_bytes};
 pub use command::WordsFault;
 pub use options::Options;
 pub use transfer::Transfer;

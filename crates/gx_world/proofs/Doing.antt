@@ -6,7 +6,6 @@ use Rattle.gx_ids.specs.declared.ids.Node.{Node}
 use Rattle.gx_outside.specs.Shelves.{Shelf}
 use Rattle.gx_script.specs.declared.Script.{Script}
 use Rattle.gx_store.specs.Language.{IsScript}
-use Rattle.gx_outside.specs.Causes.{Rose}
 use Rattle.gx_store.specs.Journals.{is_same_node}
 use Rattle.gx_store.specs.declared.event.Event.{Event}
 use Rattle.gx_store.specs.declared.node.NodeEvent.{NodeEvent}
@@ -89,10 +88,10 @@ module _ (script : Script) (steps : List Step) (some : 1 ≤ script.segments) (i
 
 -- a failure is told only where the count rose
 rose : (script : Script) (steps : List Step) → 1 ≤ script.segments → IsReached script steps → (event : Event) (fails : Bool) (step : Step) (node : Node) (b a : Shelf) → (happens script (world_behind script steps) event fails).steps ≡ steps ++ step ∷ []
-    → HasTaken script (world_behind script steps) event fails node b a → 0 < failures_in node step.marks → Rose b.faults a.faults
+    → HasTaken script (world_behind script steps) event fails node b a → 0 < failures_in node step.marks → b.faults < a.faults
 rose script steps some reached event fails step node b a leads taken told = by (is_same_node (node_of event) node) fails refl refl (behind-few script steps event fails step node some reached leads)
   where
-    by : (x y : Bool) → is_same_node (node_of event) node ≡ x → fails ≡ y → failures_in node step.marks ≤ cond (x && y) 1 0 → Rose b.faults a.faults
+    by : (x y : Bool) → is_same_node (node_of event) node ≡ x → fails ≡ y → failures_in node step.marks ≤ cond (x && y) 1 0 → b.faults < a.faults
     by true true same f bound = taken.caused same f
     by true false same f bound = absurd (omega (arith, told, bound))
     by false y same f bound = absurd (omega (arith, told, bound))

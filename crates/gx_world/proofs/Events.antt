@@ -1,5 +1,5 @@
 -- An event that may happen, at its node.
-use Rattle.std.proofs.Common.{◌≡◌, ◌≤◌, ◌⊎◌, inl, inr, ℕ, List, [], ◌∷◌, ◌++◌, Option, Some, None, Bool, true, false, refl, sym, subst, ap, ◌∙◌, if◌then◌else◌, arith, length, append-nil}
+use Rattle.std.proofs.Common.{◌≡◌, ◌<◌, ◌≤◌, ◌⊎◌, inl, inr, ℕ, List, [], ◌∷◌, ◌++◌, Option, Some, None, Bool, true, false, refl, sym, subst, ap, ◌∙◌, if◌then◌else◌, arith, length, append-nil}
 use Rattle.std.proofs.lemmas.Bool.Decides.{nat_tests}
 use Rattle.std.proofs.lemmas.List.{append_assoc}
 use Rattle.std.specs.Prelude.{map, slice_get}
@@ -8,7 +8,6 @@ use Rattle.gx_ids.specs.declared.ids.Node.{Node}
 use Rattle.gx_msg.specs.ItemBytes.{bytes_of_item}
 use Rattle.gx_msg.specs.declared.item.JournalItem.{JournalItem}
 use Rattle.gx_msg.specs.declared.message.Envelope.{Envelope}
-use Rattle.gx_outside.specs.Causes.{Rose}
 use Rattle.gx_outside.specs.Shelves.{Shelf}
 use Rattle.gx_script.specs.declared.Script.{Script}
 use Rattle.gx_store.specs.declared.event.Event.{Event}
@@ -96,13 +95,15 @@ module _ (script : Script) (w : machine.World) (e : Event) (here : NodeEvent) (t
           record {
             items = ap (λ (x : Shelf). x.items) h.1 ∙ m.took.items ∙ ap (λ (x : Shelf). x.items ++ map bytes_of_item (kept_item m.fails (item_at script w (node_of e) m.fails (Some here)))) (sym (own h.0))
                 ∙ ap (λ xs. b.items ++ map bytes_of_item xs) (sym (takes-here m.fails n true (test-at (node_of e) n h.0)));
-            caused = λ same f. subst (λ (x : Shelf). Rose x.faults a.faults) (sym (own h.0)) (subst (λ (x : Shelf). Rose m.was.faults x.faults) (sym h.1) (m.took.caused f));
+            caused = λ same f. subst (λ (x : Shelf). x.faults < a.faults) (sym (own h.0)) (subst (λ (x : Shelf). m.was.faults < x.faults) (sym h.1) (m.took.caused f));
+            calm = λ f. ap (λ (x : Shelf). x.faults) h.1 ∙ m.took.calm f ∙ ap (λ (x : Shelf). x.faults) (sym (own h.0));
             faults = λ apart. absurd (not-both (test-at (node_of e) n h.0) apart);
           }
       by_place (inr h) =
           record {
             items = ap (λ (x : Shelf). x.items) (kept h.1) ∙ sym (append-nil b.items) ∙ ap (λ xs. b.items ++ map bytes_of_item xs) (sym (takes-here m.fails n false (test-apart (node_of e) n h.0)));
             caused = λ same f. absurd (not-both same (test-apart (node_of e) n h.0));
+            calm = λ f. ap (λ (x : Shelf). x.faults) (kept h.1);
             faults = λ apart. ap (λ (x : Shelf). x.faults) (kept h.1);
           }
         where

@@ -58,9 +58,9 @@ later-set shelves k was now there h = record { count = length-set shelves k now;
   where
     by_place : (i : ℕ) (b a : Shelf) → slice_get shelves i ≡ Some b → ((i ≡ k) × (a ≡ now)) ⊎ ((i ≡ k → ⊥) × (slice_get shelves i ≡ Some a)) → IsLater b a
     by_place i b a old (inl e) =
-        subst (λ (x : Shelf). b.faults ≤ x.faults) (sym e.1)
-        (subst (λ (x : Shelf). x.faults ≤ now.faults) (some-same was b (sym there ∙ subst (λ j. slice_get shelves j ≡ Some b) e.0 old)) h)
-    by_place i b a old (inr e) = subst (λ (x : Shelf). b.faults ≤ x.faults) (some-same b a (sym old ∙ e.1)) (omega arith)
+        subst (λ (x : Shelf). IsLater b x) (sym e.1)
+        (subst (λ (x : Shelf). IsLater x now) (some-same was b (sym there ∙ subst (λ j. slice_get shelves j ≡ Some b) e.0 old)) h)
+    by_place i b a old (inr e) = subst (λ (x : Shelf). IsLater b x) (some-same b a (sym old ∙ e.1)) (record { faults = omega arith; items = inl refl })
 
 pub later-at : {A : Type 0} (f : A → Shelf) (js : List A) (d now : A) (k : ℕ) → k < length js → IsLater (f (get_or js k d)) (f now) → AreLater (map f js) (map f (slice_set js k now))
 later-at f js d now k inside h =

@@ -2,7 +2,6 @@
 use Rattle.std.specs.Prelude.{◌≡◌, ◌<◌, ℕ, ◌++◌, ◌∷◌, [], Bool, true, false, List, length, map, slice_get, Some}
 use Rattle.gx_ids.specs.declared.ids.Node.{Node}
 use Rattle.gx_msg.specs.ItemBytes.{bytes_of_item}
-use Rattle.gx_outside.specs.Causes.{Rose}
 use Rattle.gx_outside.specs.Shelves.{Shelf, IsLater}
 use Rattle.gx_script.specs.declared.Script.{Script}
 use Rattle.gx_store.specs.declared.event.Event.{Event}
@@ -21,14 +20,15 @@ pub record WorldState : Type 0 where
   pub run : Run
   pub spent : Bool
 
--- what an event made of a node's journal: it holds the items that the event adds there, and where an append failed at the
--- event's node, its count rose
+-- what an event made of a node's journal: it holds the items that the event adds there; where an append failed at the
+-- event's node, its count rose, and else it is as before
 pub record HasTaken (script : Script) (w : machine.World) (event : Event) (fails : Bool) (node : Node) (before after : Shelf) : Type 0 where
   pub items : after.items ≡ before.items ++ map bytes_of_item (takes script w event fails node)
-  pub caused : is_same_node (node_of event) node ≡ true → fails ≡ true → Rose before.faults after.faults
+  pub caused : is_same_node (node_of event) node ≡ true → fails ≡ true → before.faults < after.faults
+  pub calm : fails ≡ false → after.faults ≡ before.faults
   pub faults : is_same_node (node_of event) node ≡ false → after.faults ≡ before.faults
 
--- no journal's count of failures has fallen
+-- no journal's count of failures has fallen, and none has more than one item more
 pub record AreLater (before after : List Shelf) : Type 0 where
   pub count : length after ≡ length before
   pub each : (k : ℕ) (b a : Shelf) → slice_get before k ≡ Some b → slice_get after k ≡ Some a → IsLater b a
@@ -43,4 +43,4 @@ pub record HasStepped (script : Script) (old new : List Step) (event : Event) (b
   pub by_rule : new ≡ (happens script (world_behind script old) event fails).steps
   pub count : length after ≡ length before
   pub journals : (node : Node) (b a : Shelf) → slice_get before node.0 ≡ Some b → slice_get after node.0 ≡ Some a → HasTaken script (world_behind script old) event fails node b a
-  pub failed : (node : Node) (b a : Shelf) → slice_get before node.0 ≡ Some b → slice_get after node.0 ≡ Some a → 0 < failures_in node step.marks → Rose b.faults a.faults
+  pub failed : (node : Node) (b a : Shelf) → slice_get before node.0 ≡ Some b → slice_get after node.0 ≡ Some a → 0 < failures_in node step.marks → b.faults < a.faults

@@ -1,5 +1,5 @@
 // What is admitted.
-ghost use Rattle.std.specs.Prelude.{◌≡◌, ◌≤◌, ◌-◌, true, false, Some, if◌then◌else◌, IfOk, length, slice_get};
+ghost use Rattle.std.specs.Prelude.{◌≡◌, ◌≤◌, ◌-◌, true, false, Some, if◌then◌else◌, length, slice_get};
 ghost use Rattle.gx_coord.specs.Steps.{IsCoord};
 ghost use Rattle.gx_world.specs.Links.{link_in};
 ghost use Rattle.gx_law_runs.specs.Replays.{coordinator_after, is_admitted};
@@ -17,18 +17,18 @@ ghost use Rattle.gx_world.specs.Networks.{IsNetwork};
 
 use crate::Letters;
 use crate::network::Network;
-use gx_ids::{Gxid, Mem, Node};
+use gx_ids::{Gxid, Node};
 use gx_script::Script;
 use gx_store::{Event, NodeEvent};
 
 // Whether the event may be done now.
-pub(crate) fn can(network: &Network, event: Event) -> Mem<bool>
+pub(crate) fn can(network: &Network, event: Event) -> bool
     requires is { IsNetwork network.now }
     requires usable { network.now.spent ≡ false }
-    ensures { IfOk result (λ can. can ≡ is_admitted network.now.script.value network.now.run.steps event) }
+    ensures { result ≡ is_admitted network.now.script.value network.now.run.steps event }
 {
     match event {
-        Event::Receive { from, to, number } => Ok(can_receive(network, from, to, number)),
+        Event::Receive { from, to, number } => can_receive(network, from, to, number),
         Event::Start(session) => can_begin(network, NodeEvent::Start(session)),
         Event::End(session) => can_begin(network, NodeEvent::End(session)),
         Event::Resend { segment, gxid } => { can_begin(network, NodeEvent::Resend(segment, gxid)) }
@@ -38,17 +38,17 @@ pub(crate) fn can(network: &Network, event: Event) -> Mem<bool>
 }
 
 // Who waits at a node resumes there once its wait is ready.
-fn can_resume(network: &Network, node: Node, gxid: Gxid) -> Mem<bool>
+fn can_resume(network: &Network, node: Node, gxid: Gxid) -> bool
     requires is { IsNetwork network.now }
     requires usable { network.now.spent ≡ false }
-    ensures { IfOk result (λ can. can ≡ is_admitted network.now.script.value network.now.run.steps (Resume node gxid)) }
+    ensures { result ≡ is_admitted network.now.script.value network.now.run.steps (Resume node gxid) }
 {
     if node.0 == 0 {
         can_begin(network, NodeEvent::Resume(gxid))
     } else if node.0 <= network.script.segments {
-        Ok(is_ready_there(network, node, gxid))
+        is_ready_there(network, node, gxid)
     } else {
-        Ok(false)
+        false
     }
 }
 
@@ -62,18 +62,19 @@ fn is_ready_there(network: &Network, node: Node, gxid: Gxid) -> bool
     network.segments[usize::from(node.0) - 1].can_resume(gxid)
 }
 
-fn can_begin(network: &Network, there: NodeEvent) -> Mem<bool>
+fn can_begin(network: &Network, there: NodeEvent) -> bool
     requires is { IsNetwork network.now }
     requires usable { network.now.spent ≡ false }
-    ensures { IfOk result (λ can. can ≡ coord_can network.now.script.value (coordinator_after network.now.script.value network.now.run.steps) there) }
+    ensures { result ≡ coord_can network.now.script.value (coordinator_after network.now.script.value network.now.run.steps) there }
 {
     can_at_coordinator(network, there)
 }
 
-fn can_at_coordinator(network: &Network, there: NodeEvent) -> Mem<bool>
+fn can_at_coordinator(network: &Network, there: NodeEvent) -> bool
     ghost c: { RuleCoord }
+    requires usable { network.now.coord.spent ≡ false }
     requires is { IsCoord network.now.coord c }
-    ensures { IfOk result (λ can. can ≡ coord_can network.now.coord.script.value c there) }
+    ensures { result ≡ coord_can network.now.coord.script.value c there }
 {
     network.coord.can(&there)
 }

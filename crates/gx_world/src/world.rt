@@ -15,6 +15,7 @@ ghost use Rattle.gx_store.specs.Language.{IsScript};
 ghost use Rattle.gx_store.specs.Ordered.{AreOrdered, sent_in};
 ghost use Rattle.gx_store.specs.Points.{marks_in, marks_of};
 ghost use Rattle.gx_store.specs.Protocol.{DoStepsFollow};
+ghost use Rattle.gx_store.specs.Skipped.{DoSkippedStand};
 ghost use Rattle.gx_store.specs.Refusals.{the_coordinator};
 ghost use Rattle.gx_store.specs.Runs.{IsLegalHistory};
 ghost use Rattle.gx_store.specs.Schedule.{is_any_wait, resumptions, segments_of, sent_message};
@@ -132,19 +133,16 @@ impl World {
         !self.network.spent && any_wait(&self.network)
     }
 
-    /// Whether an event may be done now.
-    pub fn can(&self, event: &Event) -> Mem<bool>
-        ensures value { IfOk result (λ can. can ≡ is_admitted self.now.script self.now.run.steps event.now) }
-        ensures spent { self.now.spent ≡ true → IsErr result }
+    /// Whether an event may be done now. Once the world is spent none may.
+    pub fn can(&self, event: &Event) -> bool
+        ensures value { self.now.spent ≡ false → result ≡ is_admitted self.now.script self.now.run.steps event.now }
+        ensures spent { self.now.spent ≡ true → result ≡ false }
     {
-        if self.network.spent {
-            return Err(OutOfMemory);
-        }
-        can(&self.network, *event)
+        !self.network.spent && can(&self.network, *event)
     }
 
     /// Does one event that may be done, at its node, with the journal of that node. After want of memory the run is as it was,
-    /// and the world is spent.
+    /// and the world is spent; a journal may then hold one item more than the run tells of.
     pub fn step<J: Journal, G: Gate>(
         &mut self,
         event: Event,
@@ -159,6 +157,7 @@ impl World {
         ensures legal { OnOk result (AreInsertsWhole self.old.script.tables self.old.script.lines → IsLegalHistory self.old.script self.new.run) }
         ensures protocol { OnOk result (DoStepsFollow self.old.script [] self.new.run.steps) }
         ensures tells { OnOk result (DoStepsTell [] self.new.run.steps) }
+        ensures skipped { OnOk result (DoSkippedStand [] self.new.run.steps) }
         ensures locks { OnOk result (AreLocksLegal self.old.script self.new.run.steps) }
         ensures blocked { OnOk result (DoStayBlocked (marks_in self.new.run.steps)) }
         ensures rounds { OnOk result (AreRoundsLegal self.old.script self.new.run.steps) }

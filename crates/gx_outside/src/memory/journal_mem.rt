@@ -18,11 +18,14 @@ pub struct JournalMem {
 }
 
 impl Model for JournalMem {
+    ghost use Rattle.std.specs.Prelude.{◌≤◌};
     ghost use Rattle.gx_outside.specs.Memory.{JournalState};
 
     ghost Value = { JournalState };
 
     ghost view = { λ j. record { items = j.items.items; fail = j.fail.items; calls = j.calls; faults = j.faults } };
+
+    ghost invariant = { λ j. j.faults ≤ j.calls };
 }
 
 impl JournalMem {
@@ -59,7 +62,7 @@ impl Journal for JournalMem {
         self.calls = self.calls.saturating_add(1);
         if is_failing {
             drop(item);
-            self.faults = self.faults.saturating_add(1);
+            self.faults += 1;
             return Err(AppendFault::Failed);
         }
         match self.items.push(Seq::from_vec(item)) {

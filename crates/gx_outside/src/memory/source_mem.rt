@@ -1,4 +1,4 @@
-ghost use Rattle.std.specs.Prelude.{◌≡◌, ◌<◌, ◌↔◌, min, length, take, IfOk, IsErr, Some};
+ghost use Rattle.std.specs.Prelude.{◌≡◌, ◌<◌, ◌↔◌, min, length, take, IfOk, IsErr, OnOk, Some};
 ghost use Rattle.std.specs.Io.{ReadsAtMost};
 ghost use Rattle.std.specs.Io.KnownBytes.{ReadConsumes};
 ghost use Rattle.gx_outside.specs.Causes.{HasCause};
@@ -58,6 +58,7 @@ impl Source for SourceMem {
         ensures bound { ReadsAtMost result buf.new }
         ensures bytes { ReadConsumes (Some self.old.left) (Some self.new.left) result buf.new }
         ensures cause { HasCause self.old.faults self.new.faults result }
+        ensures calm { OnOk result (self.new.faults ≡ self.old.faults) }
         ensures fails { IsErr result ↔ IsFailingNext self.old.calls self.old.fail }
         ensures moves { IfOk result (λ count. count ≡ min self.old.at_most (min (length buf.old) (length self.old.left))) }
         ensures counted { IsCounted self.old.calls self.new.calls self.old.faults self.new.faults result }

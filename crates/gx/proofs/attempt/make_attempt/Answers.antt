@@ -14,7 +14,7 @@ returns-in-Err-Usage-clause-kept g c = none-kept (map g.J.Journal.shelf c.args.j
 pub returns-in-Ok-script_bytes-clause-is : goal.returns-in-Ok-script_bytes-clause-is
 returns-in-Ok-script_bytes-clause-is g c =
     let has = c.in-Ok-script_bytes.ensures.has in
-    attempt _ _ _ _ _ c.in-Ok.options c.in-Ok.ensures.read _ has.0 has.1 c.run_bytes.result
+    attempt _ _ _ _ _ c.in-Ok.options c.in-Ok.ensures.read _ has.0 has.1 has.2 c.run_bytes.result
     (subst (λ (bytes : List ℕ). IsOfBytes bytes c.in-Ok.options c.run_bytes.result) c.as_slice.ensures.value c.run_bytes.ensures.is)
 
 pub returns-in-Ok-script_bytes-clause-unread : goal.returns-in-Ok-script_bytes-clause-unread

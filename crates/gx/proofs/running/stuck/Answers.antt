@@ -5,7 +5,8 @@ use Rattle.gx_drive.specs.Ends.{IsEnd}
 use Rattle.gx_drive.specs.declared.end.End.TheVariants.{Stuck}
 use Rattle.gx_report.specs.Stops.{stuck_lines}
 use Rattle.gx.specs.Top.{IsStoppedText}
-use Rattle.gx.proofs.Runs.{no-detector, run-in}
+use Rattle.gx_drive.proofs.Undetected.{no-detector}
+use Rattle.gx.proofs.Runs.{run-in}
 use Rattle.gx.proofs.running.stuck.Goals as goal
 
 pub returns-in-Ok-clause-ran : goal.returns-in-Ok-clause-ran
@@ -13,7 +14,7 @@ returns-in-Ok-clause-ran c =
     let same = sym c.into_run.ensures.value in
     let cause = c.requires.ended.stuck.0 (c.args.graphs, refl) in
     record {
-      is = run-in c.args.world.script c.args.options.seed c.args.world c.into_run.result refl c.into_run.ensures.value c.requires.language c.requires.inserts c.into_run.ensures.reached c.requires.driven;
+      is = run-in c.args.world.script c.args.options c.args.world c.into_run.result refl c.into_run.ensures.value c.requires.language c.requires.inserts c.into_run.ensures.reached c.requires.driven c.requires.ended.within;
       off = no-detector c.args.world.script c.args.world.run.steps c.requires.language c.requires.inserts c.into_run.ensures.reached cause.unfinished cause.nothing;
       graphs = c.args.graphs;
       ended = subst (λ (r : Run). IsEnd c.args.world.script r.steps c.args.options.turns (Stuck c.args.graphs)) same c.requires.ended;
@@ -23,4 +24,4 @@ returns-in-Ok-clause-ran c =
 
 pub returns-clause-ran : goal.returns-clause-ran
 returns-clause-ran c =
-    inr (run-in c.args.world.script c.args.options.seed c.args.world c.into_run-in-Err.result refl c.into_run-in-Err.ensures.value c.requires.language c.requires.inserts c.into_run-in-Err.ensures.reached c.requires.driven)
+    inr (run-in c.args.world.script c.args.options c.args.world c.into_run-in-Err.result refl c.into_run-in-Err.ensures.value c.requires.language c.requires.inserts c.into_run-in-Err.ensures.reached c.requires.driven c.requires.ended.within)

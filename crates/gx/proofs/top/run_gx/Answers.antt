@@ -1,5 +1,5 @@
 use Rattle.gx.proofs.Reading.{keeps_language}
-use Rattle.gx.proofs.Reports.{at_status, cut_short, failures, held, known, memory}
+use Rattle.gx.proofs.Reports.{at_status, cut_short, failures, held, known, memory, so_far, unfailed}
 use Rattle.gx.proofs.top.run_gx.Goals as goal
 
 pub returns : goal.returns
@@ -15,6 +15,7 @@ returns g c =
       refused = λ e. at_status _ _ _ _ _ _ _ _ _ _ 3 a of is e (λ q. cc) (λ q. cc);
       read_fault = λ e. at_status _ _ _ _ _ _ _ _ _ _ 4 a of is e (λ q. cc) (λ q. cc);
       write_fault = cut_short _ _ _ _ _ _ _ _ _ _ a of is;
+      unfailed = unfailed _ _ _ _ _ _ _ _ _ _ a of is;
       memory = memory _ _ _ _ _ _ _ _ _ _ a of is;
       stopped = λ e. at_status _ _ _ _ _ _ _ _ _ _ 7 a of is e (λ q. cc) (λ q. cc);
       stuck = λ e. at_status _ _ _ _ _ _ _ _ _ _ 8 a of is e (λ q. cc) (λ q. cc);
@@ -23,5 +24,6 @@ returns g c =
       language = λ script read. keeps_language _ _ script read;
       count = c.make_attempt-attempt.ensures.count;
       held = held _ _ _ _ _ _ _ a is kept;
+      so_far = so_far _ _ _ _ _ _ _ a is kept;
       failures = failures _ _ _ _ _ _ _ a is kept;
     }

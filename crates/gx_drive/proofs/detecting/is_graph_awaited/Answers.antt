@@ -1,8 +1,6 @@
-use Rattle.gx_drive.proofs.Answers.{if_ok}
 use Rattle.gx_drive.proofs.Running.{awaited-as-admitted}
 use Rattle.gx_drive.proofs.detecting.is_graph_awaited.Goals as goal
 
 pub returns-then-running : goal.returns-then-running
 returns-then-running c =
-    if_ok c.has_no_graph.result _ _ c.has_no_graph.ensures
-    (λ awaited e. awaited-as-admitted c.args.world.now.script c.args.world.now.run.steps c.requires.language.some_segments c.requires.reached awaited c.args.segment c.requires.there e)
+    awaited-as-admitted c.args.world.now.script c.args.world.now.run.steps c.requires.language.some_segments c.requires.reached c.has_no_graph.result c.args.segment c.requires.there c.has_no_graph.ensures

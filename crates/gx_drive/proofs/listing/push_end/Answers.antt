@@ -11,11 +11,11 @@ returns-in_ok-push c =
     ∙ ap (λ (e : Event). c.args.events.now.items ++ e ∷ []) c.end_of-event.ensures
     ∙ sym (ap (λ (b : Bool). c.args.events.now.items ++ (if b then End (record { 0 = c.args.place }) ∷ [] else []))
     (end-admitted c.args.world.now.script c.requires.language.some_segments c.args.world.now.run.steps c.requires.reached (record { 0 = c.args.place })
-    ∙ ap (is_admitted c.args.world.now.script c.args.world.now.run.steps) (sym c.end_of-event.ensures) ∙ sym c.in_ok-can.ensures.value ∙ c.if-branch.true))
+    ∙ ap (is_admitted c.args.world.now.script c.args.world.now.run.steps) (sym c.end_of-event.ensures) ∙ sym (c.can.ensures.value c.requires.usable) ∙ c.if-can.true))
 
-pub returns-else-branch : goal.returns-else-branch
-returns-else-branch c =
+pub returns-else-can : goal.returns-else-can
+returns-else-can c =
     sym (append-nil c.args.events.now.items)
     ∙ sym (ap (λ (b : Bool). c.args.events.now.items ++ (if b then End (record { 0 = c.args.place }) ∷ [] else []))
     (end-admitted c.args.world.now.script c.requires.language.some_segments c.args.world.now.run.steps c.requires.reached (record { 0 = c.args.place })
-    ∙ ap (is_admitted c.args.world.now.script c.args.world.now.run.steps) (sym c.end_of-event.ensures) ∙ sym c.in_ok-can.ensures.value ∙ c.if-branch.false))
+    ∙ ap (is_admitted c.args.world.now.script c.args.world.now.run.steps) (sym c.end_of-event.ensures) ∙ sym (c.can.ensures.value c.requires.usable) ∙ c.if-can.false))

@@ -1,9 +1,9 @@
-use Rattle.std.proofs.Common.{◌≡◌, rules, subst, sym}
+use Rattle.std.proofs.Common.{◌≡◌, arith, rules, subst, sym}
 use Rattle.std.specs.Prelude.{map}
 use Rattle.gx_script.specs.declared.Script.{Script}
 use Rattle.gx_store.specs.Language.{IsScript}
 use Rattle.gx_drive.specs.Seeded.{IsDrawn, behind, seeded}
-use Rattle.gx_drive.proofs.Driving.{no-more, none-done, under-way}
+use Rattle.gx_drive.proofs.Driving.{no-more, no-more-within, none-done, under-way}
 use Rattle.gx_drive.proofs.Journals.{as-many}
 use Rattle.gx_drive.proofs.Words.{behind-next, behind-none, word-draws}
 use Rattle.gx_drive.proofs.seeded.run_drawn.Goals as goal
@@ -23,6 +23,10 @@ returns-in_err-turn-clause-drawn g c =
     (search rules) c.in-Some.is c.in_ok-event.ensures.drawn))
     c.turn.ensures.done
 
+pub returns-in_err-turn-clause-within : goal.returns-in_err-turn-clause-within
+returns-in_err-turn-clause-within g c =
+    no-more-within c.loop-turn.world.run.steps c.turn.new.world.run.steps c.in-Some.event c.args.turns (omega (arith, c.loop-turn.invariant.0.count, c.loop-turn.auto._turn-end)) c.turn.ensures.done
+
 pub loop-turn-preserved : goal.loop-turn-preserved
 loop-turn-preserved g c = (
   under-way (IsDrawn c.args.world.now.script c.args.seed) c.args.world.now.script c.loop-turn._turn c.loop-turn.world _ c.loop-turn.agenda _ c.in-Some.event _ _ _ c.loop-turn.invariant.0
@@ -35,6 +39,9 @@ loop-turn-preserved g c = (
 
 pub drawn_event-requires-clause-language : goal.drawn_event-requires-clause-language
 drawn_event-requires-clause-language g c = subst (λ (s : Script). IsScript s) (sym c.loop-turn.invariant.0.same) c.requires.language
+
+pub stuck-requires-clause-language : goal.stuck-requires-clause-language
+stuck-requires-clause-language g c = subst (λ (s : Script). IsScript s) (sym c.loop-turn.invariant.0.same) c.requires.language
 
 pub turn-requires-clause-language : goal.turn-requires-clause-language
 turn-requires-clause-language g c = subst (λ (s : Script). IsScript s) (sym c.loop-turn.invariant.0.same) c.requires.language

@@ -1,4 +1,4 @@
-use Rattle.std.proofs.Common.{◌≤◌, length}
+use Rattle.std.proofs.Common.{◌≡◌, ◌≤◌, length}
 use Rattle.std.specs.Io.KnownBytes.{Consumes}
 use Rattle.gx_outside.proofs.whole.read_up_to.Given as goal
 
@@ -7,5 +7,5 @@ invariant-loop-turn g l = record {
   bytes : Consumes (g.S.Source.left l.fn.source) (g.S.Source.left l.source) l.bytes.items;
   turns : l._turn ≤ length l.bytes.items;
   limit : length l.bytes.items ≤ l.limit;
-  later : g.S.Source.fault_count l.fn.source ≤ g.S.Source.fault_count l.source;
+  calm : g.S.Source.fault_count l.source ≡ g.S.Source.fault_count l.fn.source;
 }

@@ -2,6 +2,7 @@ use Rattle.gx_rules.specs.Changes.{looked_at}
 use Rattle.gx_slices.specs.Changing.{change_in}
 use Rattle.gx_slices.proofs.RowSteps.{Came-left}
 use Rattle.gx_slices.proofs.AfterSweep.{IsAt-stored, IsStored-swept}
+use Rattle.gx_slices.proofs.SweptTwice.{swept-twice}
 use Rattle.gx_slices.proofs.changing_row.does_row.Goals as goal
 
 pub look_at-requires : goal.look_at-requires
@@ -11,7 +12,7 @@ look_at-requires g c =
     let at = c.requires.1.0 in
     let e = c.sweep.ensures in (
       c.requires.0,
-      (IsAt-stored g.stage w.gxid held c.args.entry.now c.args.marks.now.items at c.sweep.new.self (IsStored-swept held.store c.sweep.new.self g.stage.moved.seg at.apart.stored w.table c.args.rid e.swept e.rows e.tables e.writers e.horizon), c.requires.1.1),
+      (IsAt-stored g.stage w.gxid held c.args.entry.now c.args.marks.now.items at c.sweep.new.self (IsStored-swept held.store c.sweep.new.self g.stage.moved.seg at.apart.stored w.table c.args.rid e.swept e.rows e.tables e.writers e.horizon), (c.requires.1.1, swept-twice held.store c.sweep.new.self w.table c.args.rid e.swept e.horizon)),
     )
 
 pub returns : goal.returns

@@ -11,7 +11,7 @@ pub come_to-requires : goal.come_to-requires
 come_to-requires g c =
     let w = c.args.change.now.writer in
     let is = one-current g.stage w.gxid c.args.held.now c.args.entry.now c.args.marks.now.items c.requires.1.0 w.table c.args.rid c.in_ok-newest.field-0 c.in-Some.newest (version w.gxid w.cid w.table c.args.rid None) c.in_ok-newest.ensures c.in-Some.is in
-    (c.requires.0, (c.requires.1.0, (c.requires.1.1, (is.newest, is.current))))
+    (c.requires.0, (c.requires.1.0, (c.requires.1.1.0, (is.newest, is.current))))
 
 pub returns-in-Some : goal.returns-in-Some
 returns-in-Some g c =
@@ -31,4 +31,4 @@ returns-in-None g c =
     let none = no-current g.stage w.gxid held entry marks c.requires.1.0 w.table c.args.rid c.in_ok-newest.field-0 c.in_ok-newest.ensures c.in-None.is in
     subst (λ (o : Option Version). IfOk c.skip.result (λ end. Came g.stage w.gxid held entry c.skip.new.marks.items (at_current g.stage.moved w.gxid (change_in k) c.args.rid o) end))
     (sym none)
-    (IfOk-weaker c.skip.result _ _ (λ end is. Came-skips g.stage w.gxid held entry marks c.requires.1.0 c.requires.1.1 (change_in k) c.args.rid c.skip.new.marks.items end is.0 is.1) c.skip.ensures)
+    (IfOk-weaker c.skip.result _ _ (λ end is. Came-skips g.stage w.gxid held entry marks c.requires.1.0 c.requires.1.1.0 (change_in k) c.args.rid c.skip.new.marks.items end is.0 is.1) c.skip.ensures)

@@ -8,4 +8,4 @@ pub returns-in-Ok-clause-found : goal.returns-in-Ok-clause-found
 returns-in-Ok-clause-found c = found-at _ _ _ c.requires c.in-Ok.ensures.matches
 
 pub returns-in-Err-clause-refused : goal.returns-in-Err-clause-refused
-returns-in-Err-clause-refused c = refused-at _ _ c.in-Err.error _ c.requires c.in-Err.ensures.kinds c.of_error.ensures
+returns-in-Err-clause-refused c = refused-at _ _ c.in-Err.error _ c.requires c.in-Err.ensures.kinds c.of_error.ensures.usage

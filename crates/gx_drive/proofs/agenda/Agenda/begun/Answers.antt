@@ -1,5 +1,4 @@
 use Rattle.std.proofs.Common.{[], ◌∙◌}
-use Rattle.gx_drive.proofs.Answers.{if_ok}
 use Rattle.gx_drive.proofs.Enabled.{past-starts, start-first}
 use Rattle.gx_drive.proofs.agenda.Agenda.begun.Goals as goal
 
@@ -8,5 +7,4 @@ returns-in-Some-clause-first c = start-first _ [] [] _ _ _ (c.in-Some.ensures c.
 
 pub returns-in-None-clause-first : goal.returns-in-None-clause-first
 returns-in-None-clause-first c =
-    if_ok c.last.result _ _ c.last.ensures.first
-    (λ event e. e ∙ past-starts _ _ _ (c.in-None.ensures c.args.world.now.script c.args.world.now.run.steps c.requires.agreed.queue))
+    c.last.ensures.first ∙ past-starts _ _ _ (c.in-None.ensures c.args.world.now.script c.args.world.now.run.steps c.requires.agreed.queue)

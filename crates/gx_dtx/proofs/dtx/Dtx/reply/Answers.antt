@@ -5,6 +5,7 @@ use Rattle.gx_dtx.specs.declared.outcome.DtxOut.{DtxOut}
 use Rattle.gx_dtx.specs.Rules.{reply_found, on_reply, is_refused, is_deciding, awaits, turns}
 use Rattle.gx_dtx.specs.Laws.{HasCause}
 use Rattle.gx_dtx.proofs.Fitting.{Fits-reply}
+use Rattle.gx_dtx.proofs.Calm.{calm-cause}
 use Rattle.gx_dtx.proofs.Causes.{has-cause}
 use Rattle.gx_dtx.proofs.Made.{IsWhole-taken, turns-taken, reply-unawaited}
 use Rattle.gx_dtx.proofs.dtx.Dtx.reply.Goals as goal
@@ -40,3 +41,10 @@ returns-clause-unawaited g c = λ isnt.
     turns-taken d c.args.gxid (reply_found c.args.gxid c.args.node c.args.answer r (find_txn d c.args.gxid)) c.in_ok-out.out c.latest_after-self-inside.result c.reply.new.self c.in_ok-out.ensures.txns c.in_ok-out.ensures.out c.latest_after-self-inside.ensures
     ∙ ap (λ (x : Change). (turns d c.args.gxid x).table) (reply-unawaited c.args.gxid c.args.node c.args.answer r (find_txn d c.args.gxid) (ap (λ (d : Table). awaits d c.args.gxid c.args.node c.args.answer) c.self.view_is ∙ isnt))
     ∙ c.self.view_is
+
+pub returns-clause-calm : goal.returns-clause-calm
+returns-clause-calm g c = λ other.
+    let d : Table = record { next = c.self.inside.next; latest_ended = c.self.inside.latest_ended; txns = c.self.inside.txns } in
+    let r = is_refused c.in_ok-out.out.outcome in
+    let cause = subst (λ (o : DtxOut). HasCause d c.args.gxid c.args.node c.args.answer r o.outcome) (sym c.in_ok-out.ensures.out) (has-cause d c.args.gxid c.args.node c.args.answer r c.self.invariant) in
+    c.in_ok-out.ensures.decided.calm (calm-cause d c.args.gxid c.args.node c.args.answer r c.in_ok-out.out.outcome cause.reason other)

@@ -1,10 +1,11 @@
 // The bytes of the script that the words ask for.
 ghost use Rattle.std.specs.Prelude.{◌≡◌, None};
-ghost use Rattle.gx.specs.Top.{HasBytes};
+ghost use Rattle.gx_words.specs.Asked.{HasBytes};
 
+use crate::options::Options;
+use crate::work::generate;
 use gx_ids::OutOfMemory;
 use gx_outside::{ReadFault, Source, read_up_to};
-use gx_words::{Options, generate};
 use std::alloc::Global;
 
 // The most bytes of a script.

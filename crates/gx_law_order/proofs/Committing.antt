@@ -1,0 +1,404 @@
+-- PREPARE and COMMIT are of a transaction whose line under way is COMMIT, or its one command, which is done.
+use Rattle.std.proofs.Common.{◌≡◌, ◌⊎◌, inl, inr, ℕ, zero, suc, ◌+◌, List, [], ◌∷◌, ◌++◌, Option, Some, None, Bool, true, false, refl, sym, subst, ap, ◌∙◌, arith, append-nil}
+use Rattle.std.proofs.lemmas.List.{append_assoc}
+use Rattle.std.specs.Prelude.{length, nat_le, slice_get, take}
+use Rattle.gx_lemmas.proofs.Options.{some-same}
+use Rattle.gx_ids.specs.declared.ids.Cid.{Cid}
+use Rattle.gx_ids.specs.declared.ids.Gxid.{Gxid}
+use Rattle.gx_ids.specs.declared.ids.Node.{Node}
+use Rattle.gx_ids.specs.declared.ids.SessionId.{SessionId}
+use Rattle.gx_tree.specs.declared.stmt.Level.{Level}
+use Rattle.gx_tree.specs.declared.stmt.Stmt.{Stmt}
+use Rattle.gx_tree.specs.declared.stmt.Stmt.TheVariants as stmt
+use Rattle.gx_dtx.specs.Nodes.{has}
+use Rattle.gx_dtx.specs.Rules.{abort_found, aborts}
+use Rattle.gx_dtx.specs.Table.{find_txn}
+use Rattle.gx_dtx.specs.declared.phase.Phase.{Phase as Status}
+use Rattle.gx_dtx.specs.declared.phase.Phase.TheVariants as status
+use Rattle.gx_dtx.specs.declared.txn.Txn.{Txn}
+use Rattle.gx_msg.specs.declared.message.Message.{Message}
+use Rattle.gx_msg.specs.declared.message.Message.TheVariants as message
+use Rattle.gx_msg.specs.declared.message.Out.{Out}
+use Rattle.gx_msg.specs.declared.reply.Reply.TheVariants as reply
+use Rattle.gx_script.specs.declared.Script.{Script}
+use Rattle.gx_script.specs.declared.state.Block.{Block}
+use Rattle.gx_script.specs.declared.state.Block.TheVariants as block
+use Rattle.gx_script.specs.declared.state.Pending.{Pending}
+use Rattle.gx_script.specs.declared.state.Pending.TheVariants as pending
+use Rattle.gx_store.specs.declared.event.Event.{Event}
+use Rattle.gx_store.specs.declared.mark.Mark.{Mark}
+use Rattle.gx_store.specs.declared.mark.Mark.TheVariants as mark
+use Rattle.gx_store.specs.declared.node.NodeEvent.{NodeEvent}
+use Rattle.gx_store.specs.declared.node.NodeEvent.TheVariants as here
+use Rattle.gx_store.specs.declared.run.Step.{Step}
+use Rattle.gx_store.specs.Commands.{RunsCommand, state_at}
+use Rattle.gx_store.specs.Lines.{BlockState, may_commit, stmt_of, transaction_of}
+use Rattle.gx_store.specs.Marks.{answer_count, is_begun, started_after}
+use Rattle.gx_store.specs.Lines.{state_of}
+use Rattle.gx_store.specs.Messages.{Receives}
+use Rattle.gx_store.specs.Points.{Point, before, marks_in, starts_by, starts_in}
+use Rattle.gx_store.specs.Protocol.{IsCommitting, IsDispatched, IsReturned, IsSentBy}
+use Rattle.gx_store.specs.Refusals.{the_coordinator}
+use Rattle.gx_rules.specs.AtCoordinator.{cancel_turn, cancels, coord_turn, on_event}
+use Rattle.gx_rules.specs.AtSegment as segment
+use Rattle.gx_rules.specs.AtSegment.{seg_rule}
+use Rattle.gx_rules.specs.Coordinators.{Command, CoordTurn, Session, Work, session_of, work_of}
+use Rattle.gx_rules.specs.Machine.{World, and_cancelled, coord_did, seg_did}
+use Rattle.gx_rules.specs.Segments.{SegTurn}
+use Rattle.gx_rules.specs.Sending.{clock_after, counted, numbered}
+use Rattle.gx_rules.proofs.Rounds.{cancel-ways}
+use Rattle.gx_law_order.proofs.Always.{HeardAt, by-heard}
+use Rattle.gx_law_order.proofs.AtLine.{AtLine, runs-line, transaction-is}
+use Rattle.gx_law_order.proofs.Calls.{for-all, to-nodes}
+use Rattle.gx_law_order.proofs.Commits.{take-kept}
+use Rattle.gx_law_order.proofs.Complete.{Came, IsBack, Replied, SentBack, StepBack, each-get, each-parts, starts-last}
+use Rattle.gx_law_order.proofs.Counts.{NoSent}
+use Rattle.gx_law_order.proofs.Everywhere.{Holds, does-it, fol-no-sent, follows-no-sent, parts_in, resumed-does}
+use Rattle.gx_law_order.proofs.Handled.{Follows, Tells}
+use Rattle.gx_law_order.proofs.Later.{commit-more, each-contained, no-orders}
+use Rattle.gx_law_order.proofs.Lists.{Each, each_append, each_weaker}
+use Rattle.gx_law_order.proofs.Lowered.{NoExec, abort-none}
+use Rattle.gx_law_order.proofs.More.{marks-last}
+use Rattle.gx_law_order.proofs.Moves.{HasNamed}
+use Rattle.gx_law_order.proofs.Replying.{take-length}
+use Rattle.gx_law_order.proofs.Said.{CalmFor, Said, said-calm}
+use Rattle.gx_law_order.proofs.Sessions.{Tied, is_closing_in, stage_of}
+use Rattle.gx_law_order.proofs.Statuses.{Stage, stage, stage_in}
+use Rattle.gx_law_order.proofs.Statuses.Stage.{Closing, Live as LiveStage}
+use Rattle.gx_law_order.proofs.Ways.{AsksFor, Led, SaidOut, stands_for}
+use Rattle.gx_law_order.proofs.World.{Knows}
+use Rattle.gx_law_order.specs.Followed.{CommitsAt, DoMarksCommit, DoStepsCommit}
+use Rattle.gx_law_order.specs.Said.{gxid_in}
+use Rattle.gx_law_order.specs.Standing.{AreSessions, IsLineOf, IsStanding, Stands, is_alone, state_in, waits}
+use Rattle.gx_law_order.specs.Standings.{Known, Part, Standing, at, gx, is_closing, known_at, standing, standing_in, waits_in}
+use Rattle.gx_law_order.specs.Standings.Standing.{Over, Preparing}
+
+-- who is on the way to a commit
+closing-stage : (b : Bool) (o : Option Txn) (i : ℕ) → is_closing (standing b o i) ≡ true → stage o ≡ Closing
+closing-stage true None i e = absurd (cc)
+closing-stage false None i e = absurd (cc)
+closing-stage b (Some t) i e = by_phase t.phase e
+  where
+    by_phase : (p : Status) → is_closing (standing_in p i) ≡ true → stage_in p ≡ Closing
+    by_phase status.Active e = absurd (cc)
+    by_phase (status.Preparing xs aw) e = refl
+    by_phase (status.CommittingOne w) e = refl
+    by_phase (status.CommittingTwo aw) e = refl
+    by_phase (status.Ended aw) e = absurd (cc)
+    by_phase (status.Aborting aw) e = absurd (cc)
+
+not-live : (a : Stage) → a ≡ Closing → a ≡ LiveStage → ⊥
+not-live a x y = grind arith
+
+not-over : (a : Standing) → is_closing a ≡ true → a ≡ Over → ⊥
+not-over a e x = grind arith
+
+get-split : (xs : List Step) (x y : Step) (k : ℕ) → slice_get (xs ++ x ∷ []) k ≡ Some y → (slice_get xs k ≡ Some y) ⊎ ((k ≡ length xs) × (y ≡ x))
+get-split [] x y zero e = inr (refl, sym (some-same x y e))
+get-split [] x y (suc k) e = absurd (cc)
+get-split (z ∷ xs) x y zero e = inl e
+get-split (z ∷ xs) x y (suc k) e = by_part (get-split xs x y k e)
+  where
+    by_part : (slice_get xs k ≡ Some y) ⊎ ((k ≡ length xs) × (y ≡ x)) → (slice_get xs k ≡ Some y) ⊎ ((suc k ≡ suc (length xs)) × (y ≡ x))
+    by_part (inl q) = inl q
+    by_part (inr q) = inr (ap suc q.0, q.1)
+
+-- AT A SENDING of the coordinator's last step
+module _ (script : Script) (v : World) (k : Knows script v) (h : Holds script v) (r : Replied script v) (s : AreSessions script v) (steps : List Step) (step : Step) (own : step.stamp.node ≡ the_coordinator) (all : v.steps ≡ steps ++ step ∷ []) where
+  module _ (earlier later : List Mark) (m : Mark) (marks : step.marks ≡ earlier ++ m ∷ later) (calm : (j : SessionId) → Each (CalmFor j) (m ∷ later)) where
+    abbrev point : Point
+    point = record { steps = steps; event = step.event; earlier = earlier; later = later }
+
+    abbrev ms : List Mark
+    ms = marks_in steps ++ earlier
+
+    whole : marks_in v.steps ≡ ms ++ m ∷ later
+    whole = ap marks_in all ∙ marks-last steps step ∙ ap (λ x. marks_in steps ++ x) marks ∙ sym (append_assoc (marks_in steps) earlier (m ∷ later))
+
+    -- what its marks say of a session in the end, they say there
+    said-there : (j : SessionId) (n : ℕ) (b : BlockState) (u : Bool) (g : Option Gxid) → Said script j (marks_in v.steps) n b u g → Said script j ms n b u g
+    said-there j n b u g f =
+        let now = said-calm script j ms (m ∷ later) (answer_count j ms) (state_of script j ms) (is_begun j ms) (started_after j None ms) (record { answered = refl; state = refl; begun = refl; started = refl }) (calm j) in
+        record {
+          answered = sym now.answered ∙ ap (λ x. answer_count j x) (sym whole) ∙ f.answered;
+          state = sym now.state ∙ ap (λ x. state_of script j x) (sym whole) ∙ f.state;
+          begun = sym now.begun ∙ ap (λ x. is_begun j x) (sym whole) ∙ f.begun;
+          started = sym now.started ∙ ap (λ x. started_after j None x) (sym whole) ∙ f.started;
+        }
+
+    -- WHAT WAS SENT
+    came-there : (i g n : ℕ) → Came v.steps i g n → IsReturned point (gx g) (record { 0 = n }) (at i)
+    came-there i g n c = by_place (get-split steps step c.step c.place (subst (λ (q : List Step). slice_get q c.place ≡ Some c.step) all c.there))
+      where
+        told : Message
+        told = message.Answer (gx g) (reply.Done (record { 0 = n }) c.wrote c.count c.part)
+
+        got : Receives (take c.place (steps ++ step ∷ [])) c.step.event (at i) the_coordinator told
+        got = subst (λ (q : List Step). Receives (take c.place q) c.step.event (at i) the_coordinator told) all c.received
+
+        by_place : (slice_get steps c.place ≡ Some c.step) ⊎ ((c.place ≡ length steps) × (c.step ≡ step)) → IsReturned point (gx g) (record { 0 = n }) (at i)
+        by_place (inl q) =
+            record { wrote = c.wrote; count = c.count; part = c.part; received = (c.place, inl (c.step, q, subst (λ (x : List Step). Receives x c.step.event (at i) the_coordinator told) (take-kept steps (step ∷ []) c.place c.step q) got)) }
+        by_place (inr q) =
+            record {
+              wrote = c.wrote;
+              count = c.count;
+              part = c.part;
+              received = (
+                length steps,
+                inr (
+                  refl,
+                  subst (λ (x : List Step). Receives x step.event (at i) the_coordinator told) (take-length steps (step ∷ []))
+                      (subst (λ (n : ℕ). Receives (take n (steps ++ step ∷ [])) step.event (at i) the_coordinator told) q.0
+                      (subst (λ (x : Step). Receives (take c.place (steps ++ step ∷ [])) x.event (at i) the_coordinator told) q.1 got)),
+                ),
+              );
+            }
+
+    steps-back : Each (StepBack v.coord v.steps) steps × Each (StepBack v.coord v.steps) (step ∷ [])
+    steps-back = each-parts (StepBack v.coord v.steps) steps (step ∷ []) (subst (λ (q : List Step). Each (StepBack v.coord v.steps) q) all r.back)
+
+    step-back : Each (SentBack v.coord v.steps step.stamp.node) (earlier ++ later)
+    step-back =
+        let parts = each-parts (SentBack v.coord v.steps step.stamp.node) earlier (m ∷ later) (subst (λ (q : List Mark). Each (SentBack v.coord v.steps step.stamp.node) q) marks steps-back.1.0) in
+        each_append (SentBack v.coord v.steps step.stamp.node) earlier later parts.0 parts.1.1
+
+    back-there : (g : Gxid) (c : Cid) (node : Node) → IsDispatched point g c node → IsBack v.coord v.steps node.0 g.0 c.0
+    back-there g c node d = by_sent d.sent
+      where
+        told : Message
+        told = message.Exec g c d.level d.snapshot d.horizon d.slice
+
+        by_sent : IsSentBy point node d.number told → IsBack v.coord v.steps node.0 g.0 c.0
+        by_sent (inl z) = each-get (SentBack v.coord v.steps z.sending.sender.stamp.node) z.sending.sender.marks z.mark _ (each-get (StepBack v.coord v.steps) steps z.step z.sending.sender steps-back.0 z.sending.at) z.sending.sent z.sending.node
+        by_sent (inr z) = each-contained (SentBack v.coord v.steps step.stamp.node) (earlier ++ later) (mark.Sent node d.number told) step-back z own
+
+    module _ (g : Gxid) (i : ℕ) (closes : is_closing (stands_for v.coord i g) ≡ true) where
+      abbrev w : Work
+      w = v.coord.works g.0
+
+      abbrev j : SessionId
+      j = w.session
+
+      abbrev session : Session
+      session = session_of v.coord j
+
+      closing : stage_of v.coord g.0 ≡ Closing
+      closing = closing-stage (nat_le v.coord.table.next.0 g.0) (find_txn v.coord.table g) i closes
+
+      tied : Tied (stage_of v.coord g.0) g.0 w session
+      tied = k.kept.tied g.0
+
+      -- none of its answers is awaited
+      none-waits : (o : Option Command) (n : ℕ) → w.command ≡ o → waits_in o n ≡ true → ⊥
+      none-waits None n e q = absurd (cc)
+      none-waits (Some c) n e q = not-live (stage_of v.coord g.0) closing (tied.awaits c e (λ z. differ (sym (ap (has (at n)) z) ∙ q))).0
+        where
+          differ : has (at n) [] ≡ true → ⊥
+          differ z = cc
+
+      returns : (c : Cid) (node : Node) → IsBack v.coord v.steps node.0 g.0 c.0 → IsReturned point g c node
+      returns c node (inl z) = absurd (none-waits w.command node.0 refl z.0)
+      returns c node (inr (inl z)) = came-there node.0 g.0 c.0 z
+      returns c node (inr (inr z)) = absurd (not-over (stands_for v.coord i g) closes ((h.stands.pairs i g.0).aborts z))
+
+      done : transaction_of (state_at script j point) j ms ≡ Some g → (line : Stmt) (level : Level) (g2 : Gxid) (c : Cid) (node : Node) → RunsCommand script point j line level g2 c → IsDispatched point g2 c node → IsReturned point g2 c node
+      done is line level g2 c node runs sent =
+          let same : g ≡ g2 = some-same g g2 (sym is ∙ runs.transaction) in
+          subst (λ (x : Gxid). IsReturned point x c node) same (returns c node (subst (λ (x : Gxid). IsBack v.coord v.steps node.0 x.0 c.0) (sym same) (back-there g2 c node sent)))
+
+      -- its line
+      commits-with : (line : Stmt) (n : ℕ) (b : BlockState) (u : Bool) → (a : AtLine script steps step.event j line n b u (Some g) earlier) → Rattle.gx_law_order.proofs.AtLine.has_txn b u ≡ true → may_commit b line ≡ true → IsCommitting script point g
+      commits-with line n b u a has may =
+          let is = transaction-is script steps step.event j line n b u (Some g) earlier a later g has refl in
+          record {
+            session = j;
+            line = line;
+            runs = runs-line script steps step.event j line n b u (Some g) earlier a later;
+            transaction = is;
+            committing = subst (λ q. may_commit q line ≡ true) (sym a.said.state) may;
+            done = done is;
+          }
+
+      same-txn : session.transaction ≡ g
+      same-txn = ap (λ n. gx n) (tied.closing closing).0
+
+      abbrev marks-now : List Mark
+      marks-now = marks_in v.steps
+
+      lines-are : session.lines ≡ starts_in j steps + starts_by j step.event
+      lines-are = sym (s j).starts ∙ ap (λ x. starts_in j x) all ∙ starts-last j steps step
+
+      by_place : (b : Block) (p : Pending) → is_closing_in b p ≡ true → Stands script j marks-now v.coord.table.next.0 b p session.lines g w → IsCommitting script point g
+      by_place (block.Open level) pending.Commit q st =
+          let o = st.owns refl in
+          commits-with stmt.Commit (answer_count j marks-now) (state_in (block.Open level) st.commands) (is_alone (block.Open level) pending.Commit)
+          (record {
+            said = said-there j (answer_count j marks-now) (state_in (block.Open level) st.commands) (is_alone (block.Open level) pending.Commit) (Some g) (record { answered = refl; state = st.state; begun = st.begun; started = o.0.started });
+            starts = sym lines-are ∙ sym st.answered;
+            is_line = ap (λ y. stmt_of j y script.lines) st.answered ∙ o.1.1;
+          }) refl refl
+      by_place block.Outside pending.Command q st = by_out (st.owns refl).1
+        where
+          by_out : IsLineOf script j session.lines block.Outside st.commands w pending.Command → IsCommitting script point g
+          by_out (inl out) =
+              commits-with out.0.stmt (answer_count j marks-now) (state_in block.Outside st.commands) (is_alone block.Outside pending.Command)
+              (record {
+                said = said-there j (answer_count j marks-now) (state_in block.Outside st.commands) (is_alone block.Outside pending.Command) (Some g) (record { answered = refl; state = st.state; begun = st.begun; started = (st.owns refl).0.started });
+                starts = sym lines-are ∙ sym st.answered;
+                is_line = ap (λ y. stmt_of j y script.lines) st.answered ∙ out.2;
+              }) refl out.3
+          by_out (inr held) = absurd (not-live (stage_of v.coord g.0) closing (tied.waits held.0 held.1).0)
+      by_place b p q st = absurd (cc)
+
+      by_standing : IsStanding script j marks-now v.coord.table.next.0 session.state.block session.state.pending session.lines session.transaction (work_of v.coord session.transaction) (Rattle.gx_store.specs.Points.ends_in j v.steps) → IsCommitting script point g
+      by_standing (inl z) =
+          by_place session.state.block session.state.pending (tied.closing closing).1
+          (subst (λ (x : Gxid). Stands script j marks-now v.coord.table.next.0 session.state.block session.state.pending session.lines x (work_of v.coord x)) same-txn z.1)
+      by_standing (inr z) = absurd (idle session.state.block session.state.pending z.1.idle (tied.closing closing).1)
+        where
+          idle : (b : Block) (p : Pending) → p ≡ pending.Nothing → is_closing_in b p ≡ true → ⊥
+          idle b p x y = grind arith
+
+      pub is-committing : IsCommitting script point g
+      is-committing = by_standing (s j).stands
+
+  -- ALL OF THEM
+  calm-sents : (j : SessionId) (f : ℕ → ℕ) (outs : List Out) → Each (CalmFor j) (numbered f outs)
+  calm-sents j f [] = tt
+  calm-sents j f (o ∷ outs) = (tt, calm-sents j (counted f o) outs)
+
+  one-commits : (earlier later : List Mark) (to : Node) (number : ℕ) (m : Message) → step.marks ≡ earlier ++ mark.Sent to number m ∷ later → ((j : SessionId) → Each (CalmFor j) later) → AsksFor v.coord to.0 m → CommitsAt script (record { steps = steps; event = step.event; earlier = earlier; later = later }) (mark.Sent to number m)
+  one-commits earlier later to number (message.Prepare g) q calm a = is-committing earlier later (mark.Sent to number (message.Prepare g)) q (λ j. (tt, calm j)) g to.0 (ap is_closing a)
+  one-commits earlier later to number (message.Commit g) q calm a = is-committing earlier later (mark.Sent to number (message.Commit g)) q (λ j. (tt, calm j)) g to.0 (ap is_closing a)
+  one-commits earlier later to number (message.CommitPrepared g) q calm a = tt
+  one-commits earlier later to number (message.Abort g) q calm a = tt
+  one-commits earlier later to number (message.Forget g) q calm a = tt
+  one-commits earlier later to number (message.Exec g c level x y z) q calm a = tt
+  one-commits earlier later to number (message.Answer g x) q calm a = tt
+  one-commits earlier later to number (message.Collect round) q calm a = tt
+  one-commits earlier later to number (message.Graph round graph) q calm a = tt
+
+  sents-commit : (earlier : List Mark) (f : ℕ → ℕ) (outs : List Out) → step.marks ≡ earlier ++ numbered f outs → Each (λ (o : Out). AsksFor v.coord o.node.0 o.message) outs → DoMarksCommit script steps step earlier (numbered f outs)
+  sents-commit earlier f [] q a = tt
+  sents-commit earlier f (o ∷ outs) q a =
+      let sent : Mark = mark.Sent o.node (f o.node.0 + 1) o.message in (
+        one-commits earlier (numbered (counted f o) outs) o.node (f o.node.0 + 1) o.message q (λ j. calm-sents j (counted f o) outs) a.0,
+        sents-commit (earlier ++ sent ∷ []) (counted f o) outs (q ∙ sym (append_assoc earlier (sent ∷ []) (numbered (counted f o) outs))) a.1,
+      )
+
+  pub marks-commit : (earlier ns : List Mark) (f : ℕ → ℕ) (outs : List Out) → step.marks ≡ earlier ++ (ns ++ numbered f outs) → Each NoSent ns → Each (λ (o : Out). AsksFor v.coord o.node.0 o.message) outs → DoMarksCommit script steps step earlier (ns ++ numbered f outs)
+  marks-commit earlier [] f outs q n a = sents-commit earlier f outs q a
+  marks-commit earlier (x ∷ ns) f outs q n a = (plain-one (record { steps = steps; event = step.event; earlier = earlier; later = ns ++ numbered f outs }) x n.0, marks-commit (earlier ++ x ∷ []) ns f outs (q ∙ sym (append_assoc earlier (x ∷ []) (ns ++ numbered f outs))) n.1 a)
+    where
+      plain-one : (point : Point) (x : Mark) → NoSent x → CommitsAt script point x
+      plain-one point (mark.Sent to number m) n = absurd n
+      plain-one point x n = tt
+
+-- NOBODY IS ASKED
+abbrev pub AsksNobody : Message → Type 0
+AsksNobody (message.Prepare g) = ⊥
+AsksNobody (message.Commit g) = ⊥
+AsksNobody _ = Unit {0}
+
+module _ (script : Script) (steps : List Step) (step : Step) where
+  quiet-sent : (point : Point) (to : Node) (number : ℕ) (m : Message) → AsksNobody m → CommitsAt script point (mark.Sent to number m)
+  quiet-sent point to number (message.Prepare g) a = absurd a
+  quiet-sent point to number (message.Commit g) a = absurd a
+  quiet-sent point to number (message.CommitPrepared g) a = tt
+  quiet-sent point to number (message.Abort g) a = tt
+  quiet-sent point to number (message.Forget g) a = tt
+  quiet-sent point to number (message.Exec g c level x y z) a = tt
+  quiet-sent point to number (message.Answer g x) a = tt
+  quiet-sent point to number (message.Collect round) a = tt
+  quiet-sent point to number (message.Graph round graph) a = tt
+
+  quiet-one : (point : Point) (x : Mark) → NoSent x → CommitsAt script point x
+  quiet-one point (mark.Sent to number m) n = absurd n
+  quiet-one point x n = tt
+
+  pub quiet-commits : (earlier ns : List Mark) (f : ℕ → ℕ) (outs : List Out) → Each NoSent ns → Each (λ (o : Out). AsksNobody o.message) outs → DoMarksCommit script steps step earlier (ns ++ numbered f outs)
+  quiet-commits earlier [] f [] n a = tt
+  quiet-commits earlier [] f (o ∷ outs) n a = (quiet-sent _ o.node (f o.node.0 + 1) o.message a.0, quiet-commits (earlier ++ mark.Sent o.node (f o.node.0 + 1) o.message ∷ []) [] (counted f o) outs tt a.1)
+  quiet-commits earlier (x ∷ ns) f outs n a = (quiet-one _ x n.0, quiet-commits (earlier ++ x ∷ []) ns f outs n.1 a)
+
+-- ONE STEP MORE
+commit-push : (script : Script) (before ss : List Step) (s : Step) → DoStepsCommit script before ss → DoMarksCommit script (before ++ ss) s [] s.marks → DoStepsCommit script before (ss ++ s ∷ [])
+commit-push script before [] s e h = (subst (λ x. DoMarksCommit script x s [] s.marks) (append-nil before) h, tt)
+commit-push script before (x ∷ ss) s e h = (e.0, commit-push script (before ++ x ∷ []) ss s e.1 (subst (λ y. DoMarksCommit script y s [] s.marks) (sym (append_assoc before (x ∷ []) ss)) h))
+
+-- by an event of the coordinator
+pub turn-commits : (script : Script) (w : World) → Knows script w → Holds script w → (e : Event) (x : NodeEvent) (fails : Bool) → DoStepsCommit script [] w.steps
+    → Knows script (coord_did w e (coord_turn script w.coord x fails)) → Holds script (coord_did w e (coord_turn script w.coord x fails)) → Replied script (coord_did w e (coord_turn script w.coord x fails)) → AreSessions script (coord_did w e (coord_turn script w.coord x fails))
+    → Led script (parts_in w) w.coord (marks_in w.steps) (on_event script w.coord x fails) → DoStepsCommit script [] (coord_did w e (coord_turn script w.coord x fails)).steps
+turn-commits script w n v e x fails p n2 v2 r2 s2 f =
+    commit-push script [] w.steps step p
+    (marks-commit script next n2 v2 r2 s2 w.steps step refl refl [] turn.marks turn.coord.sent turn.outs refl (fol-no-sent script (marks_in w.steps) turn.marks f.way.fol)
+    (each_weaker (SaidOut script (parts_in w) turn.coord (marks_in w.steps ++ turn.marks)) (λ (o : Out). AsksFor next.coord o.node.0 o.message) (λ o q. asks o.node.0 o.message q.2) turn.outs f.outs))
+  where
+    turn : CoordTurn
+    turn = on_event script w.coord x fails
+
+    next : World
+    next = coord_did w e (coord_turn script w.coord x fails)
+
+    step : Step
+    step = record { stamp = record { clock = clock_after w.coord.clock x; node = the_coordinator }; event = e; marks = turn.marks ++ numbered turn.coord.sent turn.outs }
+
+    asks : (i : ℕ) (m : Message) → AsksFor turn.coord i m → AsksFor next.coord i m
+    asks i (message.Exec g c level y h z) a = a
+    asks i (message.Prepare g) a = a
+    asks i (message.Commit g) a = a
+    asks i (message.CommitPrepared g) a = a
+    asks i (message.Abort g) a = tt
+    asks i (message.Forget g) a = tt
+    asks i (message.Collect round) a = tt
+    asks i (message.Answer g q) a = tt
+    asks i (message.Graph round graph) a = tt
+
+-- by a victim's turn
+abort-asks : (g : Gxid) (t : Option Txn) → Each (λ (o : Out). AsksNobody o.message) (abort_found g t).out.outs
+abort-asks g None = tt
+abort-asks g (Some t) = by_parts t.participants
+  where
+    by_parts : (nodes : List Node) → Each (λ (o : Out). AsksNobody o.message) (aborts g nodes).out.outs
+    by_parts [] = tt
+    by_parts (i ∷ is) = to-nodes (λ (o : Out). AsksNobody o.message) (message.Abort g) (i ∷ is) (for-all _ (λ y. tt) (i ∷ is))
+
+pub victim-commits : (script : Script) (w : World) → Knows script w → Holds script w → (g : Gxid) → HasNamed w.steps w.coord.clock w.coord.rounds g → DoStepsCommit script [] w.steps → DoStepsCommit script [] (and_cancelled w g).steps
+victim-commits script w n v g h p =
+    commit-more script h.step (cancel_turn w.coord g).marks w.steps h.before h.is
+    (no-orders turn.marks turn.coord.sent turn.outs silent (cancel-ways (λ t. Each (λ (o : Out). NoExec o.message) t.outs) w.coord g tt (λ live busy. abort-none g (find_txn w.coord.table g)))) p
+    (quiet-commits script h.before h.step h.step.marks turn.marks turn.coord.sent turn.outs silent (cancel-ways (λ t. Each (λ (o : Out). AsksNobody o.message) t.outs) w.coord g tt (λ live busy. abort-asks g (find_txn w.coord.table g))))
+  where
+    turn : CoordTurn
+    turn = cancels w.coord g
+
+    silent : Each NoSent turn.marks
+    silent =
+        fol-no-sent script (marks_in w.steps) turn.marks
+        (Rattle.gx_law_order.proofs.Events.cancel-led script (parts_in w) w.coord (marks_in w.steps) v.stands n.kept n.past (λ i. (n.well.coordinator.works i).writers) g).way.fol
+
+-- by a step of a segment, which asks nobody
+answers-ask : (k : Known) (q : Part) (i g : ℕ) (marks : List Mark) (m : Message) → Tells k q i g marks m → AsksNobody m
+answers-ask k q i g marks (message.Prepare h) e = e
+answers-ask k q i g marks (message.Commit h) e = e
+answers-ask k q i g marks m e = tt
+
+pub heard-commits : (script : Script) (w : World) (n : Knows script w) (v : Holds script w) (e : Event) (x : NodeEvent) (fails : Bool) (i : ℕ) → DoStepsCommit script [] w.steps → HeardAt script w e i x → DoStepsCommit script [] (seg_did w (at i) e (seg_rule script (w.segs i) x fails)).steps
+heard-commits script w n v e x fails i p h =
+    by-heard script w e i (λ y. DoStepsCommit script [] (seg_did w (at i) e (seg_rule script (w.segs i) y fails)).steps)
+    (λ from envelope d. let does = does-it script w n v e fails i from envelope d.received d.said in
+    pushed (here.Deliver from envelope) envelope.message (known_at w.coord (marks_in w.steps) i (gxid_in envelope.message)) _ (gxid_in envelope.message) _ does.marks does.outs)
+    (λ g ok. let o = resumed-does script w n v e i g fails ok in
+    pushed (here.Resume g) (message.Exec g o.slice.cid o.slice.level o.slice.snapshot o.waits.horizon o.slice.slice) (known_at w.coord (marks_in w.steps) i g.0) _ g.0 _ o.does.marks o.does.outs)
+    x h
+  where
+    pushed : (y : NodeEvent) (told : Message) (k : Known) (q : Part) (g : ℕ) (ms : List Mark) → Each (Follows told k i g) (segment.on_event script (w.segs i) y fails).marks
+        → Each (λ (o : Out). Tells k q i g ms o.message) (segment.on_event script (w.segs i) y fails).outs → DoStepsCommit script [] (seg_did w (at i) e (seg_rule script (w.segs i) y fails)).steps
+    pushed y told k q g ms f t =
+        let turn : SegTurn = segment.on_event script (w.segs i) y fails in
+        let step : Step = record { stamp = record { clock = clock_after (w.segs i).clock y; node = at i }; event = e; marks = turn.marks ++ numbered (λ node. turn.seg.sent) turn.outs } in
+        commit-push script [] w.steps step p
+        (quiet-commits script w.steps step [] turn.marks (λ node. turn.seg.sent) turn.outs (follows-no-sent told k i g turn.marks f)
+        (each_weaker (λ (o : Out). Tells k q i g ms o.message) (λ (o : Out). AsksNobody o.message) (λ o z. answers-ask k q i g ms o.message z) turn.outs t))

@@ -1,0 +1,207 @@
+-- Why nothing comes without its cause.
+use Rattle.std.proofs.Common.{◌≡◌, ◌⊎◌, inl, inr, ℕ, zero, suc, ◌+◌, List, [], ◌∷◌, None, Some, Option, Bool, true, false, if◌then◌else◌, refl, sym, subst, ap, arith}
+use Rattle.std.proofs.lemmas.Bool.{eqb-true}
+use Rattle.std.specs.Prelude.{slice_get, take}
+use Rattle.gx_ids.specs.declared.ids.Cid.{Cid}
+use Rattle.gx_ids.specs.declared.ids.Gxid.{Gxid}
+use Rattle.gx_ids.specs.declared.ids.Node.{Node}
+use Rattle.gx_ids.specs.declared.ids.SessionId.{SessionId}
+use Rattle.gx_ids.specs.declared.ids.Table.{Table}
+use Rattle.gx_ids.specs.declared.rid.Rid.{Rid}
+use Rattle.gx_tree.specs.declared.cond.Cond.{Cond}
+use Rattle.gx_tree.specs.declared.expr.Expr.{Expr}
+use Rattle.gx_tree.specs.declared.slice.Slice.TheVariants as slice
+use Rattle.gx_tree.specs.declared.stmt.Assign.{Assign}
+use Rattle.gx_tree.specs.declared.stmt.Level.TheVariants.{ReadCommitted}
+use Rattle.gx_tree.specs.declared.value.Value.{Value}
+use Rattle.gx_dsnap.specs.declared.snapshot.Snapshot.{Snapshot}
+use Rattle.gx_msg.specs.declared.message.Message.{Message}
+use Rattle.gx_msg.specs.declared.message.Message.TheVariants as message
+use Rattle.gx_msg.specs.declared.reply.Reply.TheVariants as reply
+use Rattle.gx_script.specs.declared.Script.{Script}
+use Rattle.gx_store.specs.declared.event.Event.{Event}
+use Rattle.gx_store.specs.declared.event.Event.TheVariants as event
+use Rattle.gx_store.specs.declared.mark.Mark.TheVariants as mark
+use Rattle.gx_store.specs.declared.run.Step.{Step}
+use Rattle.gx_store.specs.Messages.{HasReceived, Receives, ReceivesAt}
+use Rattle.gx_store.specs.Points.{Point, before}
+use Rattle.gx_store.specs.Protocol.{CommitsAlone, CommitsAsPromised, CommitsThere, Decides, FailsThere, FaultsThere, IsDone, IsExecuted, IsReturned, Promises}
+use Rattle.gx_store.specs.RefusedCauses.{alone, asked_before_commit, asked_unwritten, at_three, done_unexecuted, failed_unasked, failed_undecided, marked_unexecuted, one_update, one_writer, SkipsElsewhere, said_unasked, skipped_elsewhere, told_at_once, told_early, told_undone, two_rows, written_behind_commit, written_behind_decision}
+use Rattle.gx_store.specs.RefusedCommits.{BreaksProtocol, two_writers}
+use Rattle.gx_store.specs.Marks.{is_same_session}
+use Rattle.gx_store.specs.RefusedParts.{anna, empty_block, first_cid, first_txn, nth_row, other_segment, the_segment}
+use Rattle.gx_store.specs.Refusals.{the_coordinator}
+use Rattle.gx_store.proofs.RefusedParts.{clash, no-more}
+
+one-zero : {n : ℕ} → n ≡ 0 → n ≡ 1 → ⊥
+one-zero e f = omega arith
+
+-- BEHIND THE END
+pub causes-behind-commit : (script : Script) (table : Table) (tuple : List Expr) (s : Snapshot) (row late : List Value) → BreaksProtocol (one_writer script table tuple) (written_behind_commit table s row late)
+causes-behind-commit script table tuple s row late h = one-zero (h.1.1.1.1.1.1.1.0.0.uncommitted the_segment) refl
+
+pub causes-behind-decision : (script : Script) (table : Table) (one other : List Expr) (s : Snapshot) (row more late : List Value) → BreaksProtocol (at_three (two_writers script table one other)) (written_behind_decision table s row more late)
+causes-behind-decision script table one other s row more late h = one-zero h.1.1.1.1.1.1.1.1.1.1.1.0.0.undecided refl
+
+-- WITHOUT THE COMMAND
+abbrev NoReceipt : Event → Type 0
+NoReceipt (event.Receive from to number) = ⊥
+NoReceipt _ = Unit {0}
+
+nothing-comes : (steps : List Step) (e : Event) (from to : Node) (m : Message) → NoReceipt e → Receives steps e from to m → ⊥
+nothing-comes steps e from to m n r = subst NoReceipt r.is n
+
+abbrev AreNoReceipts : List Step → Type 0
+AreNoReceipts [] = Unit {0}
+AreNoReceipts (s ∷ ss) = NoReceipt s.event × AreNoReceipts ss
+
+none-there : (steps : List Step) (k : ℕ) (step : Step) → AreNoReceipts steps → slice_get steps k ≡ Some step → NoReceipt step.event
+none-there [] k step n e = absurd (no-more k step e)
+none-there (s ∷ ss) zero step n e = subst (λ (x : Step). NoReceipt x.event) (same s step e) n.0
+  where
+    same : (a b : Step) → Some a ≡ Some b → a ≡ b
+    same a b q = cc
+none-there (s ∷ ss) (suc k) step n e = none-there ss k step n.1 e
+
+none-came : (point : Point) (from to : Node) (m : Message) → AreNoReceipts point.steps → NoReceipt point.event → HasReceived point from to m → ⊥
+none-came point from to m n e r = by_place r.1
+  where
+    by_place : ReceivesAt point r.0 from to m → ⊥
+    by_place (inl x) = nothing-comes (take r.0 point.steps) x.0.event from to m (none-there point.steps r.0 x.0 n x.1) x.2
+    by_place (inr x) = nothing-comes point.steps point.event from to m e x.1
+
+unexecuted : {point : Point} (g : Gxid) (c : Cid) (node : Node) → AreNoReceipts point.steps → NoReceipt point.event → IsExecuted point g c node → ⊥
+unexecuted {point = point} g c node n e x = none-came point the_coordinator node (message.Exec g c x.level x.snapshot x.horizon x.slice) n e x.received
+
+pub causes-done : (script : Script) (table : Table) (assigns : List Assign) (cond : Option Cond) (s : Snapshot) → BreaksProtocol (one_update script table assigns cond) (done_unexecuted table assigns cond s)
+causes-done script table assigns cond s h = unexecuted first_txn first_cid the_segment (tt, tt) tt h.1.0.0
+
+pub causes-skipped : (script : Script) (table : Table) (assigns : List Assign) (cond : Option Cond) (s : Snapshot) (rid : Rid) → BreaksProtocol (one_update script table assigns cond) (marked_unexecuted table assigns cond s (mark.Skip first_txn first_cid rid))
+causes-skipped script table assigns cond s rid h = unexecuted first_txn first_cid the_segment (tt, tt) tt h.1.0.0
+
+not-own : (P : Type 0) → (the_segment ≡ the_coordinator) × P → ⊥
+not-own P e = one-zero (ap (λ (n : Node). n.0) e.0) refl
+
+faulted-there : {point : Point} (rid : Rid) (image : Option (List Value)) → AreNoReceipts point.steps → NoReceipt point.event → FaultsThere point the_segment first_txn first_cid image → ⊥
+faulted-there rid image n e (inl own) = not-own _ own
+faulted-there rid image n e (inr x) = unexecuted first_txn first_cid the_segment n e x
+
+pub causes-faulted : (script : Script) (table : Table) (assigns : List Assign) (cond : Option Cond) (s : Snapshot) (rid : Rid) (image : Option (List Value)) → BreaksProtocol (one_update script table assigns cond) (marked_unexecuted table assigns cond s (mark.Fault first_txn first_cid rid image))
+causes-faulted script table assigns cond s rid image h = faulted-there rid image (tt, tt) tt h.1.0.0
+
+-- WHERE ROWS STAND
+abbrev number_in : Option Node → ℕ
+number_in None = 0
+number_in (Some node) = node.0
+
+same-two : {n : ℕ} → n ≡ 1 → n ≡ 2 → ⊥
+same-two e f = omega arith
+
+two-apart : Some the_segment ≡ Some other_segment → ⊥
+two-apart e = same-two refl (ap number_in e)
+
+pub causes-elsewhere : (table : Table) (assigns : List Assign) (cond : Option Cond) (before snapshot : Snapshot) (row : List Value) → SkipsElsewhere (skipped_elsewhere table assigns cond before snapshot row)
+causes-elsewhere table assigns cond before snapshot row h = two-apart (h.1.1.1.1.1.1.0.0 refl)
+
+-- JOURNALS
+no-promise : {point : Point} (node : Node) (g : Gxid) → NoReceipt point.event → Promises point node g → ⊥
+no-promise {point = point} node g e p = nothing-comes point.steps point.event the_coordinator node (message.Prepare g) e p.told
+
+no-commit : {point : Point} (node : Node) (g : Gxid) → NoReceipt point.event → CommitsThere point node g → ⊥
+no-commit {point = point} node g e c = by_how c.by
+  where
+    by_how : CommitsAlone point node g ⊎ CommitsAsPromised point node g → ⊥
+    by_how (inl a) = nothing-comes point.steps point.event the_coordinator node (message.Commit g) e a.told
+    by_how (inr a) = nothing-comes point.steps point.event the_coordinator node (message.CommitPrepared g) e a.told
+
+failed-there : {script : Script} {point : Point} (node : Node) (g : Gxid) → NoReceipt point.event → ((node ≡ the_coordinator) × Decides script (before point) g → ⊥) → FailsThere script point node g → ⊥
+failed-there node g e own (inl x) = own x
+failed-there node g e own (inr (inl x)) = no-promise node g e x
+failed-there node g e own (inr (inr x)) = no-commit node g e x
+
+pub causes-unasked : (script : Script) → BreaksProtocol (empty_block script) failed_unasked
+causes-unasked script h = failed-there the_segment first_txn tt (not-own _) h.1.0.0
+
+pub causes-undecided : (script : Script) → BreaksProtocol (empty_block script) failed_undecided
+causes-undecided script h = failed-there the_coordinator first_txn tt (λ x. x.1.several) h.1.0.0
+
+-- ORDERS
+pub causes-asked : (script : Script) → BreaksProtocol (empty_block script) asked_unwritten
+causes-asked script h = clash false h.1.0.0.0.writer refl
+
+pub causes-at-once : (script : Script) (table : Table) (one other : List Expr) (s : Snapshot) (row more : List Value) → BreaksProtocol (two_writers script table one other) (told_at_once table s row more)
+causes-at-once script table one other s row more h = clash true refl (h.1.1.1.1.1.1.0.0.0.only other_segment)
+
+-- no session has its line under way: of whom the lines are, or of another
+none-under-way : (b : Bool) → ((if b then 1 else 0) + ((if b then 1 else 0) + (0 + (0 + (0 + 0))))) + 0 ≡ (if b then (if b then 0 + 1 else 0) + 1 else (if b then 0 + 1 else 0)) + 1 → ⊥
+none-under-way true e = cc
+none-under-way false e = cc
+
+pub causes-before-commit : (script : Script) (table : Table) (one other : List Expr) (s : Snapshot) (row more : List Value) → BreaksProtocol (two_writers script table one other) (asked_before_commit table s row more)
+causes-before-commit script table one other s row more h = let c = h.1.1.1.1.1.0.1.0.1 in none-under-way (is_same_session anna c.session) c.runs.started
+
+-- the line is of its session
+its-session : (b : Bool) → ((if b then 1 else 0) + (0 + 0)) + 0 ≡ 0 + 1 → b ≡ true
+its-session true e = refl
+its-session false e = absurd (cc)
+
+-- nothing has come from the other segment
+abbrev IsFromElse : Event → Type 0
+IsFromElse (event.Receive from to number) = from.0 ≡ 2 → ⊥
+IsFromElse _ = Unit {0}
+
+not-from : (steps : List Step) (e : Event) (m : Message) → IsFromElse e → Receives steps e other_segment the_coordinator m → ⊥
+not-from steps e m n r = (subst IsFromElse r.is n) refl
+
+abbrev AreFromElse : List Step → Type 0
+AreFromElse [] = Unit {0}
+AreFromElse (s ∷ ss) = IsFromElse s.event × AreFromElse ss
+
+else-there : (steps : List Step) (k : ℕ) (step : Step) → AreFromElse steps → slice_get steps k ≡ Some step → IsFromElse step.event
+else-there [] k step n e = absurd (no-more k step e)
+else-there (s ∷ ss) zero step n e = subst (λ (x : Step). IsFromElse x.event) (same s step e) n.0
+  where
+    same : (a b : Step) → Some a ≡ Some b → a ≡ b
+    same a b q = cc
+else-there (s ∷ ss) (suc k) step n e = else-there ss k step n.1 e
+
+unreturned : {point : Point} (g : Gxid) (c : Cid) → AreFromElse point.steps → IsFromElse point.event → IsReturned point g c other_segment → ⊥
+unreturned {point = point} g c n e back = by_place back.received.0 back.received.1
+  where
+    by_place : (k : ℕ) → ReceivesAt point k other_segment the_coordinator (message.Answer g (reply.Done c back.wrote back.count back.part)) → ⊥
+    by_place k (inl x) = not-from (take k point.steps) x.0.event (message.Answer g (reply.Done c back.wrote back.count back.part)) (else-there point.steps k x.0 n x.1) x.2
+    by_place k (inr x) = not-from point.steps point.event (message.Answer g (reply.Done c back.wrote back.count back.part)) e x.1
+
+zero-two : {n : ℕ} → n ≡ 0 → n ≡ 2 → ⊥
+zero-two e f = omega arith
+
+one-two : {n : ℕ} → n ≡ 1 → n ≡ 2 → ⊥
+one-two e f = omega arith
+
+pub causes-before-done : (script : Script) (table : Table) (one other : List Expr) (s : Snapshot) (row more : List Value) → BreaksProtocol (alone script table one other) (told_undone table s row more)
+causes-before-done script table one other s row more h =
+    let c = h.1.1.0.0.1 in
+    let same : c.session ≡ anna = ap (λ n. session_at n) (sym (eqb-true anna.0 c.session.0 (its-session (is_same_session anna c.session) c.runs.started))) in
+    let done = subst (λ (x : SessionId). IsDone (alone script table one other) _ x) same c.done in
+    unreturned first_txn first_cid (tt, (λ e. zero-two refl e, tt)) (λ e. one-two refl e)
+    (done (two_rows table one other) ReadCommitted first_txn first_cid other_segment (record { line = record { started = refl; line = refl }; command = refl; transaction = refl; number = refl; isolation = refl })
+    (record {
+      number = 1;
+      level = ReadCommitted;
+      snapshot = Some s;
+      horizon = first_txn;
+      slice = slice.Insert table (record { rid = nth_row first_txn 2; row = more } ∷ []);
+      sent = inl (record { step = 0; mark = 3; sending = record { sender = _; at = refl; node = refl; sent = refl } });
+    }))
+  where
+    session_at : ℕ → SessionId
+    session_at n = record { 0 = n }
+
+pub causes-early : (script : Script) (table : Table) (one other : List Expr) (s : Snapshot) (row more : List Value) → BreaksProtocol (two_writers script table one other) (told_early table s row more)
+causes-early script table one other s row more h = one-zero refl h.1.1.1.1.1.1.1.1.1.1.0.0.decided
+
+pub causes-aborted : (script : Script) → BreaksProtocol (empty_block script) (said_unasked reply.Aborted)
+causes-aborted script h = nothing-comes _ (event.Resume the_segment first_txn) the_coordinator the_segment (message.Abort first_txn) tt h.1.0.0
+
+pub causes-forgotten : (script : Script) → BreaksProtocol (empty_block script) (said_unasked reply.Forgotten)
+causes-forgotten script h = nothing-comes _ (event.Resume the_segment first_txn) the_coordinator the_segment (message.Forget first_txn) tt h.1.0.0

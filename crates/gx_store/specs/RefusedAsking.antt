@@ -1,0 +1,96 @@
+-- Small runs in which a lock is waited for or granted that nobody has asked for.
+use Rattle.std.specs.Prelude.{false, List, [], ◌∷◌, None, Some}
+use Rattle.std.specs.declared.option.Option.{Option}
+use Rattle.gx_ids.specs.declared.ids.Gxid.{Gxid}
+use Rattle.gx_modes.specs.declared.modes.Mode.TheVariants.{AccessExclusive, AccessShare, Exclusive, RowExclusive, RowShare}
+use Rattle.gx_tree.specs.declared.cond.Cond.{Cond}
+use Rattle.gx_tree.specs.declared.part.Part.TheVariants.{Rows}
+use Rattle.gx_tree.specs.declared.query.Query.{Query}
+use Rattle.gx_tree.specs.declared.slice.Slice.{Slice}
+use Rattle.gx_tree.specs.declared.slice.Slice.TheVariants as slice
+use Rattle.gx_tree.specs.declared.stmt.Assign.{Assign}
+use Rattle.gx_tree.specs.declared.stmt.Level.TheVariants.{ReadCommitted}
+use Rattle.gx_tree.specs.declared.stmt.Stmt.TheVariants as stmt
+use Rattle.gx_dsnap.specs.declared.snapshot.Snapshot.{Snapshot}
+use Rattle.gx_msg.specs.declared.message.Message.{Message}
+use Rattle.gx_msg.specs.declared.message.Message.TheVariants as message
+use Rattle.gx_msg.specs.declared.reply.Reply.TheVariants as reply
+use Rattle.gx_script.specs.declared.Script.{Script}
+use Rattle.gx_waits.specs.declared.object.Object.{Object}
+use Rattle.gx_waits.specs.declared.object.Object.TheVariants.{Relation}
+use Rattle.gx_store.specs.declared.answer.StmtAnswer.TheVariants as answer
+use Rattle.gx_store.specs.declared.event.Event.TheVariants as event
+use Rattle.gx_store.specs.declared.mark.Mark.{Mark}
+use Rattle.gx_store.specs.declared.mark.Mark.TheVariants as mark
+use Rattle.gx_store.specs.declared.run.Step.{Step}
+use Rattle.gx_store.specs.RefusedParts.{anna, bert, block_begins, first_cid, first_txn, line_of, other_segment, second_txn, step_at, the_segment, with_lines, with_two}
+use Rattle.gx_store.specs.RefusedWaits.{first_table, on_first}
+use Rattle.gx_store.specs.Refusals.{the_coordinator}
+
+abbrev pub the_table : Object
+the_table = Relation first_table
+
+abbrev pub order_of : Gxid → Option Snapshot → Slice → Message
+order_of g snapshot x = message.Exec g first_cid ReadCommitted snapshot first_txn x
+
+abbrev pub is_done : Gxid → Message
+is_done g = message.Answer g (reply.Done first_cid false 0 (Rows []))
+
+-- A WAIT OF WHO IS IDLE
+abbrev pub two_locks : Script → Script
+two_locks script =
+    with_lines script
+    (line_of anna 1 (stmt.Begin ReadCommitted) ∷ line_of anna 2 (stmt.Lock first_table RowShare)
+    ∷ line_of bert 1 (stmt.Begin ReadCommitted) ∷ line_of bert 2 (stmt.Lock first_table RowShare) ∷ [])
+
+-- Two transactions hold the table in ROW SHARE, and both their sessions are idle. When the first one's EXEC comes once more, the segment
+-- notes that both wait for the table in ACCESS EXCLUSIVE: a round would find them stuck.
+abbrev pub idle_wait : List Step
+idle_wait =
+    block_begins
+    ∷ step_at the_coordinator 2 (event.Start bert) (mark.Start second_txn bert ∷ mark.Answer bert 1 answer.Begin ∷ [])
+    ∷ step_at the_coordinator 3 (event.Start anna) (mark.Hold the_coordinator first_txn the_table RowShare ∷ mark.Sent the_segment 1 (order_of first_txn None (slice.Lock first_table RowShare)) ∷ [])
+    ∷ step_at the_coordinator 4 (event.Start bert) (mark.Hold the_coordinator second_txn the_table RowShare ∷ mark.Sent the_segment 2 (order_of second_txn None (slice.Lock first_table RowShare)) ∷ [])
+    ∷ step_at the_segment 4 (event.Receive the_coordinator the_segment 1) (mark.Hold the_segment first_txn the_table RowShare ∷ mark.Sent the_coordinator 1 (is_done first_txn) ∷ [])
+    ∷ step_at the_segment 5 (event.Receive the_coordinator the_segment 2) (mark.Hold the_segment second_txn the_table RowShare ∷ mark.Sent the_coordinator 2 (is_done second_txn) ∷ [])
+    ∷ step_at the_coordinator 5 (event.Receive the_segment the_coordinator 1) (mark.Answer anna 2 answer.Locked ∷ [])
+    ∷ step_at the_coordinator 6 (event.Receive the_segment the_coordinator 2) (mark.Answer bert 2 answer.Locked ∷ [])
+    ∷ step_at the_segment 6 (event.Receive the_coordinator the_segment 1)
+    (mark.Wait the_segment first_txn the_table AccessExclusive ∷ mark.Wait the_segment second_txn the_table AccessExclusive ∷ []) ∷ []
+
+-- A WAIT FOR MORE
+-- a SELECT starts, and goes out to a segment
+abbrev pub query_starts : Query → Snapshot → List Mark → Step
+query_starts query snapshot sent =
+    step_at the_coordinator 1 (event.Start anna)
+    (mark.Start first_txn anna ∷ mark.Hold the_coordinator first_txn the_table AccessShare ∷ mark.Snap first_txn first_cid snapshot
+    ∷ mark.Sent the_segment 1 (order_of first_txn (Some snapshot) (slice.Select (on_first query))) ∷ sent)
+
+-- there it waits for its table in ACCESS EXCLUSIVE
+abbrev pub waits_for_more : Query → Snapshot → List Step
+waits_for_more query snapshot =
+    query_starts query snapshot []
+    ∷ step_at the_segment 2 (event.Receive the_coordinator the_segment 1) (mark.Wait the_segment first_txn the_table AccessExclusive ∷ []) ∷ []
+
+-- A WAIT BEHIND DONE
+abbrev pub two_queried : Script → Query → Script
+two_queried script query = with_two script (line_of anna 1 (stmt.Select (on_first query)) ∷ [])
+
+-- Another segment has still to answer. When the EXEC comes once more to the one that has said that it is done, the query waits there.
+abbrev pub waits_when_done : Query → Snapshot → List Step
+waits_when_done query snapshot =
+    query_starts query snapshot (mark.Sent other_segment 1 (order_of first_txn (Some snapshot) (slice.Select (on_first query))) ∷ [])
+    ∷ step_at the_segment 2 (event.Receive the_coordinator the_segment 1) (mark.Hold the_segment first_txn the_table AccessShare ∷ mark.Sent the_coordinator 1 (is_done first_txn) ∷ [])
+    ∷ step_at the_segment 3 (event.Receive the_coordinator the_segment 1) (mark.Wait the_segment first_txn the_table AccessShare ∷ []) ∷ []
+
+-- A LOCK THAT IS TOO WEAK
+abbrev pub one_change : Script → List Assign → Option Cond → Script
+one_change script assigns cond = with_lines (record script { detector = false }) (line_of anna 1 (stmt.Update first_table assigns cond) ∷ [])
+
+-- without a detector a segment grants an UPDATE its table in ROW EXCLUSIVE
+abbrev pub locks_too_little : List Assign → Option Cond → Snapshot → List Step
+locks_too_little assigns cond snapshot =
+    step_at the_coordinator 1 (event.Start anna)
+    (mark.Start first_txn anna ∷ mark.Hold the_coordinator first_txn the_table Exclusive ∷ mark.Snap first_txn first_cid snapshot
+    ∷ mark.Sent the_segment 1 (order_of first_txn (Some snapshot) (slice.Update first_table assigns cond)) ∷ [])
+    ∷ step_at the_segment 2 (event.Receive the_coordinator the_segment 1) (mark.Hold the_segment first_txn the_table RowExclusive ∷ []) ∷ []

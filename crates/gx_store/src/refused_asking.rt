@@ -1,0 +1,31 @@
+//! Runs in which a lock is waited for or granted that nobody has asked for.
+ghost use Rattle.gx_dsnap.specs.declared.snapshot.Snapshot.{Snapshot};
+ghost use Rattle.gx_script.specs.declared.Script.{Script};
+ghost use Rattle.gx_store.specs.Asking.{AreAsked};
+ghost use Rattle.gx_store.specs.RefusedAsking.{idle_wait, locks_too_little, one_change, two_locks, two_queried, waits_for_more, waits_when_done};
+ghost use Rattle.gx_store.specs.RefusedWaits.{one_query};
+ghost use Rattle.gx_tree.specs.declared.cond.Cond.{Cond as OneCond};
+ghost use Rattle.gx_tree.specs.declared.query.Query.{Query as OneQuery};
+ghost use Rattle.gx_tree.specs.declared.stmt.Assign.{Assign as OneAssign};
+ghost use Rattle.std.specs.Prelude.{List, []};
+ghost use Rattle.std.specs.declared.option.Option.{Option as Perhaps};
+
+/// A transaction whose session is idle waits for nothing.
+pub fn waited_for_while_idle()
+    ensures { (script : Script) → AreAsked (two_locks script) [] idle_wait → ⊥ }
+{}
+
+/// A SELECT doesn't wait for its table in a mode that isn't its own.
+pub fn waited_for_in_another_mode()
+    ensures { (script : Script) (query : OneQuery) (snapshot : Snapshot) → AreAsked (one_query script query) [] (waits_for_more query snapshot) → ⊥ }
+{}
+
+/// A segment that has said that a command is done there has it wait for nothing more.
+pub fn waited_for_behind_done()
+    ensures { (script : Script) (query : OneQuery) (snapshot : Snapshot) → AreAsked (two_queried script query) [] (waits_when_done query snapshot) → ⊥ }
+{}
+
+/// Without a detector an UPDATE isn't granted its table in ROW EXCLUSIVE.
+pub fn granted_in_too_weak_a_mode()
+    ensures { (script : Script) (assigns : List OneAssign) (cond : Perhaps OneCond) (snapshot : Snapshot) → AreAsked (one_change script assigns cond) [] (locks_too_little assigns cond snapshot) → ⊥ }
+{}
