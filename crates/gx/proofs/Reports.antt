@@ -18,7 +18,7 @@ pick false A B = B
 module _ (written shown : Option (List ℕ)) (faults more : ℕ) (report : Report) where
   -- an end has its text, and want of memory has none
   told : (a : Attempt) → IsToldOf a written shown faults more report → (is_over a ≡ true × IsTold (status_in a) (run_in a) (text_in a) written shown faults more report)
-      ⊎ ((is_over a ≡ false) × (report.status ≡ 6) × (report.run ≡ run_in a) × (shown ≡ written))
+      ⊎ ((is_over a ≡ false) × (report.status ≡ 6) × (report.run ≡ run_in a) × (shown ≡ written) × (more ≡ faults))
   told (Done run text) is = inl (refl, is)
   told (Stopped run text) is = inl (refl, is)
   told (Stuck run text) is = inl (refl, is)
@@ -26,7 +26,7 @@ module _ (written shown : Option (List ℕ)) (faults more : ℕ) (report : Repor
   told (Refused text) is = inl (refl, is)
   told ReadFault is = inl (refl, is)
   told TooLarge is = inl (refl, is)
-  told (OutOfMemory run) is = inr (refl, is.0, is.1, is.2)
+  told (OutOfMemory run) is = inr (refl, is.0, is.1, is.2, is.3)
 
   status : (a : Attempt) → IsStatus (status_in a)
   status (Done run text) = inl (inl (inl (inl (inl (inl (inl (inl refl)))))))
@@ -173,11 +173,11 @@ module _ (words : List (String Global)) (left after : Option (List ℕ)) (before
     | inr out ↦ (out.3, subst (λ (r : Run). IsPartRun words left after r) (sym out.2) (part a of out.0))
   ]
 
-  pub unfailed : (a : Attempt) → IsAttempt words left after before now a → IsToldOf a written shown faults more report → report.status ≡ 6 → now ≡ before
+  pub unfailed : (a : Attempt) → IsAttempt words left after before now a → IsToldOf a written shown faults more report → report.status ≡ 6 → (now ≡ before) × (more ≡ faults)
   unfailed a of is here = elim (told written shown faults more report a is) [
     | inl end ↦ elim end.1.ended [
       | inl whole ↦ absurd ((ended written shown faults more report a end.0).1 (sym whole.0 ∙ here))
       | inr cut ↦ absurd (omega (arith, cut.0, here))
     ]
-    | inr out ↦ calm a of out.0
+    | inr out ↦ (calm a of out.0, out.4)
   ]

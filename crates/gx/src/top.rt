@@ -42,8 +42,8 @@ pub fn run_gx<S: Source, K: Sink, J: Journal, G: Gate>(
     ensures write_fault { result.status ≡ 5 → IsCutShort (IsDue words.now (S.left source.old) (S.left source.new) (S.fault_count source.old) (S.fault_count source.new) result.run)
         (K.written sink.old) (K.written sink.new) (K.fault_count sink.old) (K.fault_count sink.new) }
 
-    // Nothing was written, the source has counted no fault, and what was run is a part of a legal history of the script, within its turns.
-    ensures unfailed { result.status ≡ 6 → S.fault_count source.new ≡ S.fault_count source.old }
+    // Nothing was written, source and sink have counted no fault, and what was run is a part of a legal history of the script, within its turns.
+    ensures unfailed { result.status ≡ 6 → (S.fault_count source.new ≡ S.fault_count source.old) × (K.fault_count sink.new ≡ K.fault_count sink.old) }
     ensures memory { result.status ≡ 6 → (K.written sink.new ≡ K.written sink.old) × IsPartRun words.now (S.left source.old) (S.left source.new) result.run }
 
     // The run has as many steps as turns were asked for and a session is unfinished; the text of the answers so far was written, or the line on

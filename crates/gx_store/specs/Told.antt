@@ -55,7 +55,7 @@ pub record IsTold (status : ℕ) (run : Run) (text : List ℕ) (written after : 
   pub same : report.run ≡ run
   pub ended : ((report.status ≡ status) × Appends written after text) ⊎ ((report.status ≡ 5) × (Rose before now × WritesPrefix written after text))
 
--- what the work came to was told: by its text, or by its status alone where memory ran out
+-- what the work came to was told: by its text, or by its status alone where memory ran out, and then nothing was written and no write failed
 abbrev pub IsToldOf : Attempt → Option (List ℕ) → Option (List ℕ) → ℕ → ℕ → Report → Type 0
-IsToldOf (OutOfMemory run) written after before now report = (report.status ≡ 6) × (report.run ≡ run) × (after ≡ written)
+IsToldOf (OutOfMemory run) written after before now report = (report.status ≡ 6) × (report.run ≡ run) × (after ≡ written) × (now ≡ before)
 IsToldOf attempt written after before now report = IsTold (status_in attempt) (run_in attempt) (text_in attempt) written after before now report
