@@ -5,6 +5,7 @@ use Rattle.std.proofs.lemmas.List.Elements.{recursion_from_All}
 use Rattle.std.specs.List.{AllByRecursion}
 use Rattle.std.specs.Prelude.{map, slice_get}
 use Rattle.gx_outside.specs.Shelves.{Shelf, AreEmpty}
+use Rattle.gx_store.specs.Refusals.{the_coordinator}
 use Rattle.gx_drive.specs.Ordered.{AreFailuresFew, AreHeld, AreHeldSoFar}
 
 same-some : (a b : Shelf) → Some a ≡ Some b → a ≡ b
@@ -20,7 +21,8 @@ pub none-held : (shelves : List Shelf) → AreEmpty shelves → AreHeld [] shelv
 none-held shelves all node s there = empty-there shelves node.0 s (recursion_from_All (λ (shelf : Shelf). shelf.items ≡ []) shelves all) there
 
 pub none-held-so-far : (shelves : List Shelf) → AreEmpty shelves → AreHeldSoFar [] shelves
-none-held-so-far shelves all node s there = inl (none-held shelves all node s there)
+none-held-so-far shelves all =
+    record { last = the_coordinator; own = λ s there. inl (none-held shelves all the_coordinator s there); others = λ node s apart there. none-held shelves all node s there }
 
 -- and none has failed
 pub none-failed : (shelves : List Shelf) → AreFailuresFew [] shelves shelves

@@ -1,7 +1,10 @@
 -- A turn that was done.
-use Rattle.std.proofs.Common.{◌≡◌, ◌<◌, ◌≤◌, inl, ℕ, zero, suc, ◌+◌, List, [], ◌∷◌, ◌++◌, Some, Bool, true, false, if◌then◌else◌, ◌&&◌, refl, sym, ap, ◌∙◌, subst, arith, length, append-nil}
+use Rattle.std.proofs.Common.{◌≡◌, ◌⊎◌, ◌<◌, ◌≤◌, inl, inr, eqb, ℕ, zero, suc, ◌+◌, List, [], ◌∷◌, ◌++◌, Some, Bool, true, false, if◌then◌else◌, ◌&&◌, refl, sym, ap, ◌∙◌, subst, arith, length, append-nil}
+use Rattle.std.proofs.lemmas.Bool.{eqb-true}
 use Rattle.std.proofs.lemmas.List.{append_assoc}
 use Rattle.std.specs.Prelude.{map, slice_get}
+use Rattle.gx_lemmas.proofs.Numbers.{eqb-self}
+use Rattle.gx_lemmas.proofs.Tests.{true-false}
 use Rattle.gx_ids.specs.declared.ids.Node.{Node}
 use Rattle.gx_msg.specs.ItemBytes.{bytes_of_item}
 use Rattle.gx_msg.specs.declared.item.JournalItem.{JournalItem}
@@ -13,6 +16,7 @@ use Rattle.gx_store.specs.declared.mark.Mark.TheVariants.{JournalFailed}
 use Rattle.gx_store.specs.declared.run.Step.{Step}
 use Rattle.gx_store.specs.Journals.{is_same_node, items_of}
 use Rattle.gx_store.specs.Points.{marks_in}
+use Rattle.gx_store.specs.Refusals.{the_coordinator}
 use Rattle.gx_rules.specs.Machine.{node_of}
 use Rattle.gx_law_order.specs.Journals.{takes}
 use Rattle.gx_world.specs.Worlds.{AreLater, HasStepped}
@@ -38,6 +42,24 @@ there-too [] (z ∷ ys) k y e h = absurd (omega (arith, e))
 there-too (x ∷ xs) [] k y e h = absurd (cc)
 there-too (x ∷ xs) (z ∷ ys) zero y e h = (x, refl)
 there-too (x ∷ xs) (z ∷ ys) (suc k) y e h = there-too xs ys k y (omega (arith, e)) h
+
+-- no count has fallen
+risen : (at : Node) (before after : List Shelf) → AreLater at before after → (node : Node) (b a : Shelf) → slice_get before node.0 ≡ Some b → slice_get after node.0 ≡ Some a → b.faults ≤ a.faults
+risen at before after later node b a was now = by_place (same-or-not node.0 at.0)
+  where
+    same-or-not : (i k : ℕ) → (i ≡ k) ⊎ (i ≡ k → ⊥)
+    same-or-not i k = by_test (eqb i k) refl
+      where
+        by_test : (t : Bool) → eqb i k ≡ t → (i ≡ k) ⊎ (i ≡ k → ⊥)
+        by_test true e = inl (eqb-true i k e)
+        by_test false e = inr (λ same. true-false (eqb i k) (subst (λ j. eqb i j ≡ true) same (eqb-self i)) e)
+
+    least : (n : ℕ) → n ≤ n
+    least n = omega arith
+
+    by_place : (node.0 ≡ at.0) ⊎ (node.0 ≡ at.0 → ⊥) → b.faults ≤ a.faults
+    by_place (inl e) = (later.own b a (subst (λ k. slice_get before k ≡ Some b) e was) (subst (λ k. slice_get after k ≡ Some a) e now)).faults
+    by_place (inr apart) = subst (λ (x : Shelf). b.faults ≤ x.faults) (sym (later.others node.0 b a apart was now)) (least b.faults)
 
 failures-append : (node : Node) (xs ys : List Mark) → failures_in node (xs ++ ys) ≡ failures_in node xs + failures_in node ys
 failures-append node [] ys = omega arith
@@ -65,7 +87,7 @@ module _ (script : Script) (some : 1 ≤ script.segments) (old new : List Step) 
       map-append (x ∷ xs) ys = ap (λ zs. bytes_of_item x ∷ zs) (map-append xs ys)
 
   -- no more failures are told than counts rose
-  pub stepped-few : AreLater before after → (start : List Shelf) → AreFailuresFew old start before → AreFailuresFew new start after
+  pub stepped-few : AreLater (node_of event) before after → (start : List Shelf) → AreFailuresFew old start before → AreFailuresFew new start after
   stepped-few later start few node b a was now =
       subst (λ (n : ℕ). n + b.faults ≤ a.faults) (sym counted)
       (by (is_same_node (node_of event) node) h.fails refl refl (behind-few script old event h.fails h.step node some is (sym h.by_rule ∙ h.is)))
@@ -84,24 +106,27 @@ module _ (script : Script) (some : 1 ≤ script.segments) (old new : List Step) 
 
       by : (x y : Bool) → is_same_node (node_of event) node ≡ x → h.fails ≡ y → failures_in node h.step.marks ≤ (if x && y then 1 else 0) → failures_in node (marks_in old) + failures_in node h.step.marks + b.faults ≤ a.faults
       by true true same fails bound = one _ b.faults mid.0.faults a.faults _ (few node b mid.0 was mid.1) ((h.journals node mid.0 a mid.1 now).caused same fails) bound
-      by true false same fails bound = none _ b.faults mid.0.faults a.faults _ (few node b mid.0 was mid.1) (later.each node.0 mid.0 a mid.1 now).faults bound
-      by false y same fails bound = none _ b.faults mid.0.faults a.faults _ (few node b mid.0 was mid.1) (later.each node.0 mid.0 a mid.1 now).faults bound
+      by true false same fails bound = none _ b.faults mid.0.faults a.faults _ (few node b mid.0 was mid.1) (risen (node_of event) before after later node mid.0 a mid.1 now) bound
+      by false y same fails bound = none _ b.faults mid.0.faults a.faults _ (few node b mid.0 was mid.1) (risen (node_of event) before after later node mid.0 a mid.1 now) bound
 
 -- what is held so far
 pub held-so-far : (steps : List Step) (shelves : List Shelf) → AreHeld steps shelves → AreHeldSoFar steps shelves
-held-so-far steps shelves held node s there = inl (held node s there)
+held-so-far steps shelves held = record { last = the_coordinator; own = λ s there. inl (held the_coordinator s there); others = λ node s apart there. held node s there }
 
 -- where nothing was done
-module _ (steps : List Step) (before after : List Shelf) (later : AreLater before after) where
+module _ (steps : List Step) (at : Node) (before after : List Shelf) (later : AreLater at before after) where
   pub undone-few : (start : List Shelf) → AreFailuresFew steps start before → AreFailuresFew steps start after
   undone-few start few node b a was now =
       let mid = there-too before after node.0 a (sym later.count) now in
-      on (failures_in node (marks_in steps) + b.faults) mid.0.faults a.faults (few node b mid.0 was mid.1) (later.each node.0 mid.0 a mid.1 now).faults
+      on (failures_in node (marks_in steps) + b.faults) mid.0.faults a.faults (few node b mid.0 was mid.1) (risen at before after later node mid.0 a mid.1 now)
     where
       on : (x m n : ℕ) → x ≤ m → m ≤ n → x ≤ n
       on x m n h k = omega (arith, h, k)
 
   pub undone-held : AreHeld steps before → AreHeldSoFar steps after
-  undone-held held node a now =
-      let mid = there-too before after node.0 a (sym later.count) now in
-      subst (λ xs. IsAtMostOneMore xs a.items) (held node mid.0 mid.1) (later.each node.0 mid.0 a mid.1 now).items
+  undone-held held =
+      record {
+        last = at;
+        own = λ a now. let mid = there-too before after at.0 a (sym later.count) now in subst (λ xs. IsAtMostOneMore xs a.items) (held at mid.0 mid.1) (later.own mid.0 a mid.1 now).items;
+        others = λ node a apart now. let mid = there-too before after node.0 a (sym later.count) now in ap (λ (x : Shelf). x.items) (later.others node.0 mid.0 a apart mid.1 now) ∙ held node mid.0 mid.1;
+      }

@@ -53,15 +53,20 @@ module _ {A : Type 0} (f : A → Shelf) (js : List A) (script : Script) (w : mac
   moved-first same inside h =
       moved-at 0 same inside (subst (λ n. HasTurned script w event n here new (f (get_or js 0 d)) (f now)) (sym (at-zero at same)) h)
 
-later-set : (shelves : List Shelf) (k : ℕ) (was now : Shelf) → slice_get shelves k ≡ Some was → IsLater was now → AreLater shelves (slice_set shelves k now)
-later-set shelves k was now there h = record { count = length-set shelves k now; each = λ i b a old new. by_place i b a old (get-set shelves k i now a new) }
+later-set : (shelves : List Shelf) (node : Node) (was now : Shelf) → slice_get shelves node.0 ≡ Some was → IsLater was now → AreLater node shelves (slice_set shelves node.0 now)
+later-set shelves node was now there h =
+    record { count = length-set shelves node.0 now; own = λ b a old new. at-place b a old (get-set shelves node.0 node.0 now a new); others = λ i b a apart old new. elsewhere i b a apart old (get-set shelves node.0 i now a new) }
   where
-    by_place : (i : ℕ) (b a : Shelf) → slice_get shelves i ≡ Some b → ((i ≡ k) × (a ≡ now)) ⊎ ((i ≡ k → ⊥) × (slice_get shelves i ≡ Some a)) → IsLater b a
-    by_place i b a old (inl e) =
-        subst (λ (x : Shelf). IsLater b x) (sym e.1)
-        (subst (λ (x : Shelf). IsLater x now) (some-same was b (sym there ∙ subst (λ j. slice_get shelves j ≡ Some b) e.0 old)) h)
-    by_place i b a old (inr e) = subst (λ (x : Shelf). IsLater b x) (some-same b a (sym old ∙ e.1)) (record { faults = omega arith; items = inl refl })
+    at-place : (b a : Shelf) → slice_get shelves node.0 ≡ Some b → ((node.0 ≡ node.0) × (a ≡ now)) ⊎ ((node.0 ≡ node.0 → ⊥) × (slice_get shelves node.0 ≡ Some a)) → IsLater b a
+    at-place b a old (inl e) = subst (λ (x : Shelf). IsLater b x) (sym e.1) (subst (λ (x : Shelf). IsLater x now) (some-same was b (sym there ∙ old)) h)
+    at-place b a old (inr e) = absurd (e.0 refl)
 
-pub later-at : {A : Type 0} (f : A → Shelf) (js : List A) (d now : A) (k : ℕ) → k < length js → IsLater (f (get_or js k d)) (f now) → AreLater (map f js) (map f (slice_set js k now))
-later-at f js d now k inside h =
-    subst (λ xs. AreLater (map f js) xs) (sym (map-set f js k now)) (later-set (map f js) k (f (get_or js k d)) (f now) (get-map f js k (get_or js k d) (read-at js k d inside)) h)
+    elsewhere : (i : ℕ) (b a : Shelf) → (i ≡ node.0 → ⊥) → slice_get shelves i ≡ Some b → ((i ≡ node.0) × (a ≡ now)) ⊎ ((i ≡ node.0 → ⊥) × (slice_get shelves i ≡ Some a)) → a ≡ b
+    elsewhere i b a apart old (inl e) = absurd (apart e.0)
+    elsewhere i b a apart old (inr e) = sym (some-same b a (sym old ∙ e.1))
+
+pub later-at : {A : Type 0} (f : A → Shelf) (js : List A) (d now : A) (node : Node) (k : ℕ) → node.0 ≡ k → k < length js → IsLater (f (get_or js k d)) (f now) → AreLater node (map f js) (map f (slice_set js k now))
+later-at f js d now node k same inside h =
+    subst (λ i. AreLater node (map f js) (map f (slice_set js i now))) same
+    (subst (λ xs. AreLater node (map f js) xs) (sym (map-set f js node.0 now))
+    (later-set (map f js) node (f (get_or js k d)) (f now) (subst (λ i. slice_get (map f js) i ≡ Some (f (get_or js k d))) (sym same) (get-map f js k (get_or js k d) (read-at js k d inside))) h))

@@ -28,10 +28,11 @@ pub record HasTaken (script : Script) (w : machine.World) (event : Event) (fails
   pub calm : fails ≡ false → after.faults ≡ before.faults
   pub faults : is_same_node (node_of event) node ≡ false → after.faults ≡ before.faults
 
--- no journal's count of failures has fallen, and none has more than one item more
-pub record AreLater (before after : List Shelf) : Type 0 where
+-- One node's journal alone may have changed: its count of failures hasn't fallen, and it has at most one item more.
+pub record AreLater (node : Node) (before after : List Shelf) : Type 0 where
   pub count : length after ≡ length before
-  pub each : (k : ℕ) (b a : Shelf) → slice_get before k ≡ Some b → slice_get after k ≡ Some a → IsLater b a
+  pub own : (b a : Shelf) → slice_get before node.0 ≡ Some b → slice_get after node.0 ≡ Some a → IsLater b a
+  pub others : (k : ℕ) (b a : Shelf) → (k ≡ node.0 → ⊥) → slice_get before k ≡ Some b → slice_get after k ≡ Some a → a ≡ b
 
 -- one more step was done, with this event, by the rule of its node, for an append that fails or not; the journals took what it adds, and the step
 -- has a JournalFailed mark of a node only where the count of that journal rose

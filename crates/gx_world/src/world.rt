@@ -9,6 +9,7 @@ ghost use Rattle.gx_law_locks.specs.Legal.{AreRoundsLegal};
 ghost use Rattle.gx_rules.specs.AtCoordinator.{is_unfinished_there};
 ghost use Rattle.gx_ids.specs.declared.ids.SessionId.{SessionId as Id};
 ghost use Rattle.gx_law_runs.specs.Replays.{coordinator_after, is_admitted};
+ghost use Rattle.gx_rules.specs.Machine.{node_of};
 ghost use Rattle.gx_rules.specs.System.{IsSystemRun};
 ghost use Rattle.gx_store.specs.Cancelled.{wait_graph};
 ghost use Rattle.gx_store.specs.Language.{IsScript};
@@ -142,7 +143,7 @@ impl World {
     }
 
     /// Does one event that may be done, at its node, with the journal of that node. After want of memory the run is as it was,
-    /// and the world is spent; a journal may then hold one item more than the run tells of.
+    /// and the world is spent; the journal of the event's node may then hold one item more than the run tells of.
     pub fn step<J: Journal, G: Gate>(
         &mut self,
         event: Event,
@@ -164,10 +165,10 @@ impl World {
         ensures ordered { OnOk result (AreOrdered self.old.script [] self.new.run.steps) }
         ensures system { OnOk result (IsSystemRun self.old.script self.new.run) }
         ensures unspent { OnOk result (self.new.spent ≡ false) }
-        ensures later { AreLater (map J.shelf journals.old) (map J.shelf journals.new) }
+        ensures later { AreLater (node_of event) (map J.shelf journals.old) (map J.shelf journals.new) }
         ensures script { self.new.script ≡ self.old.script }
         ensures err { OnErr result (self.new ≡ record self.old { spent = true }) }
-        ensures again { self.old.spent ≡ true → IsErr result }
+        ensures again { self.old.spent ≡ true → IsErr result × (journals.new ≡ journals.old) }
     {
         self.network.step(event, journals, gate)
     }

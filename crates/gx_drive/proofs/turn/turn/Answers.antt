@@ -1,6 +1,7 @@
 use Rattle.std.proofs.Common.{List, ap, subst, sym}
 use Rattle.std.specs.Prelude.{map}
 use Rattle.gx_script.specs.declared.Script.{Script}
+use Rattle.gx_rules.specs.Machine.{node_of}
 use Rattle.gx_store.specs.declared.run.Step.{Step}
 use Rattle.gx_law_runs.specs.Reached.{IsReached}
 use Rattle.gx_world.specs.Worlds.{WorldState}
@@ -18,12 +19,12 @@ note-requires-clause-reached g c =
 pub returns-in_err-step-clause-failures : goal.returns-in_err-step-clause-failures
 returns-in_err-step-clause-failures g c = λ start few.
     subst (λ (steps : List Step). AreFailuresFew steps start (map g.J.Journal.shelf c.step.new.journals)) (sym (ap (λ (w : WorldState). w.run.steps) c.in_err-step.ensures.err))
-    (undone-few c.args.world.now.run.steps (map g.J.Journal.shelf c.args.journals.now) (map g.J.Journal.shelf c.step.new.journals) c.step.ensures.later start few)
+    (undone-few c.args.world.now.run.steps (node_of c.args.event) (map g.J.Journal.shelf c.args.journals.now) (map g.J.Journal.shelf c.step.new.journals) c.step.ensures.later start few)
 
 pub returns-in_err-step-clause-held : goal.returns-in_err-step-clause-held
 returns-in_err-step-clause-held g c = λ held.
     subst (λ (steps : List Step). AreHeldSoFar steps (map g.J.Journal.shelf c.step.new.journals)) (sym (ap (λ (w : WorldState). w.run.steps) c.in_err-step.ensures.err))
-    (undone-held c.args.world.now.run.steps (map g.J.Journal.shelf c.args.journals.now) (map g.J.Journal.shelf c.step.new.journals) c.step.ensures.later held)
+    (undone-held c.args.world.now.run.steps (node_of c.args.event) (map g.J.Journal.shelf c.args.journals.now) (map g.J.Journal.shelf c.step.new.journals) c.step.ensures.later held)
 
 pub returns-clause-failures : goal.returns-clause-failures
 returns-clause-failures g c = λ start few.

@@ -35,9 +35,9 @@ returns-else-at-eq0-clause-moved g c =
 
 pub returns-then-at-eq0-clause-later : goal.returns-then-at-eq0-clause-later
 returns-then-at-eq0-clause-later g c =
-    later-at g.J.Journal.shelf c.args.journals.now c.index-journals-0.result c.coord_turn.new.journal 0 (omega (arith, c.requires.1.1.1.1.1.1.1.1.0)) c.coord_turn.ensures.later
+    later-at g.J.Journal.shelf c.args.journals.now c.index-journals-0.result c.coord_turn.new.journal c.args.at 0 c.if-at-eq0.true (omega (arith, c.requires.1.1.1.1.1.1.1.1.0)) c.coord_turn.ensures.later
 
 pub returns-else-at-eq0-clause-later : goal.returns-else-at-eq0-clause-later
 returns-else-at-eq0-clause-later g c =
-    later-at g.J.Journal.shelf c.args.journals.now c.index-journals-from.result c.seg_turn.new.journal c.from.result
+    later-at g.J.Journal.shelf c.args.journals.now c.index-journals-from.result c.seg_turn.new.journal c.args.at c.from.result (omega (arith, c.from.ensures))
     (omega (arith, c.from.ensures, c.requires.1.1.1.1.1.1.1.1.0, c.requires.1.1.1.1.0, c.requires.1.1.0.language.few_segments)) c.seg_turn.ensures.later
