@@ -53,7 +53,8 @@ pub fn lines_start()
 
 /// An INSERT's constants don't fault once it was sent, nor behind the abort of its transaction.
 pub fn constants_fault_before_anything_is_sent()
-    ensures sent { (script : OneScript) (table : OneTable) (tuple : List OneExpr) (snapshot : OneSnapshot) (slice : OneSlice) → IsNoHistory (one_insert script table tuple) (faulted_when_sent snapshot slice) }
+    ensures sent { (script : OneScript) (table : OneTable) (tuple : List OneExpr) (snapshot : OneSnapshot) (slice : OneSlice)
+        → IsNoHistory (one_insert script table tuple) (faulted_when_sent snapshot slice) }
     ensures late { (script : OneScript) (table : OneTable) (tuple : List OneExpr) (graph : OneGraph) (snapshot : OneSnapshot) (slice : OneSlice)
         → IsNoHistory (one_insert script table tuple) (faulted_late graph snapshot slice) }
 {}
