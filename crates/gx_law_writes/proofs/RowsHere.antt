@@ -15,6 +15,7 @@ use Rattle.gx_tree.specs.declared.row.KeyedRow.{KeyedRow}
 use Rattle.gx_tree.specs.declared.value.Value.{Value}
 use Rattle.gx_dsnap.specs.declared.snapshot.Snapshot.{Snapshot}
 use Rattle.gx_meaning.specs.Answer.{keeps}
+use Rattle.gx_meaning.specs.Order.{rid_order}
 use Rattle.gx_meaning.specs.declared.fault.ArithFault.{ArithFault}
 use Rattle.gx_meaning.specs.declared.fault.ArithFault.TheVariants as arith_fault
 use Rattle.gx_msg.specs.declared.item.Kept.{Kept}
@@ -31,7 +32,6 @@ use Rattle.gx_store.specs.Commands.{condition_on}
 use Rattle.gx_store.specs.Journals.{is_same_node, kept_with}
 use Rattle.gx_store.specs.Marks.{is_same_rid}
 use Rattle.gx_store.specs.Refusals.{the_coordinator}
-use Rattle.gx_meaning.specs.Order.{rid_order}
 use Rattle.gx_rules.specs.Changes.{Change, RowTurn, after_row, changes_rows, does_row, end_lock, gives_back_if_held, goes_through, selected, shown_to, suspended_at, suspends_at, tuple_lock, unless_fault, waits}
 use Rattle.gx_rules.specs.Locks.{hold_mark, release_mark, wait_mark, with_wait}
 use Rattle.gx_rules.specs.Segments.{Local, Phase, Seg, SegTurn, Suspended, Version, after_marks, local_of}
