@@ -11,7 +11,7 @@ use Rattle.gx_store.specs.declared.run.Run.{Run}
 use Rattle.gx_store.specs.declared.run.Step.{Step}
 use Rattle.gx_store.specs.Ordered.{AreOrdered}
 use Rattle.gx_store.specs.Protocol.{DoStepsFollow}
-use Rattle.gx_store.specs.Skipped.{DoSkippedStand}
+use Rattle.gx_store.specs.Stands.{DoRowsStand}
 use Rattle.gx_store.specs.Runs.{IsLegalHistory}
 use Rattle.gx_rules.specs.System.{IsSystemRun}
 use Rattle.gx_law_order.proofs.Follows.{world_follows}
@@ -26,7 +26,7 @@ use Rattle.gx_law_locks.specs.Blocked.{DoStayBlocked}
 use Rattle.gx_law_locks.proofs.Lawful.{run-stays-blocked}
 use Rattle.gx_law_writes.specs.Legal.{AreLocksLegal}
 use Rattle.gx_law_writes.proofs.LegalLocks.{locks-legal}
-use Rattle.gx_law_writes.proofs.Skipped.{world-skipped}
+use Rattle.gx_law_writes.proofs.Stands.{world-stands}
 use Rattle.gx_law_locks.proofs.Whole.{world-rounds}
 use Rattle.gx_law_locks.specs.Legal.{AreRoundsLegal}
 use Rattle.gx_law_locks.proofs.EachVictim.{world-cancels, world-legal}
@@ -49,7 +49,7 @@ run-of script options run language inserts is driven within =
       system = by-events script run.steps is (λ ss. IsSystemRun script (record { steps = ss })) (world_follows script language.some_segments);
       protocol = by-events script run.steps is (DoStepsFollow script []) (world-follows script language.some_segments);
       tells = by-events script run.steps is (DoStepsTell []) (λ es. (world-holds script language.some_segments es).tells);
-      skipped = by-events script run.steps is (DoSkippedStand []) (world-skipped script language.some_segments language.numbers);
+      standing = by-events script run.steps is (DoRowsStand []) (world-stands script language.some_segments language.numbers);
       locks = by-events script run.steps is (AreLocksLegal script) (locks-legal script language.some_segments language.numbers);
       blocked = by-events script run.steps is (λ ss. DoStayBlocked (marks_in ss)) (run-stays-blocked script language.some_segments);
       rounds = by-events script run.steps is (AreRoundsLegal script) (world-legal script language.some_segments (world-rounds script language.some_segments));

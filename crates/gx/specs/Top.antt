@@ -22,7 +22,7 @@ use Rattle.gx_store.specs.Ordered.{AreOrdered}
 use Rattle.gx_store.specs.Points.{marks_of}
 use Rattle.gx_store.specs.Protocol.{DoStepsFollow}
 use Rattle.gx_store.specs.Runs.{IsLegalHistory}
-use Rattle.gx_store.specs.Skipped.{DoSkippedStand}
+use Rattle.gx_store.specs.Stands.{DoRowsStand}
 use Rattle.gx_store.specs.View.{AreFinalFrom}
 use Rattle.gx_store.specs.Whole.{AreInsertsWhole}
 use Rattle.gx_rules.specs.System.{IsSystemRun}
@@ -54,7 +54,7 @@ AreDriven None script steps = AreFirst script [] steps
 AreDriven (Some seed) script steps = AreDrawn script seed [] steps
 
 -- The run is a legal history of one store without segments. Its nodes follow their rules and the commit protocol, its messages are
--- numbered, follow what they tell of, and arrive after they were sent, clocks rise, rows are skipped where they stand, its locks are legal, who is blocked stays blocked until
+-- numbered, follow what they tell of, and arrive after they were sent, clocks rise, rows stand where it tells of them, its locks are legal, who is blocked stays blocked until
 -- one of them aborts, and each event is the one that the driver takes. Its rounds of the deadlock detector ask, report and decide as they
 -- are defined; where one names somebody the waits that it found stuck still stand, and whoever it names is the youngest of those who
 -- can't go on. It has no more steps than turns were asked for.
@@ -64,7 +64,7 @@ pub record IsRunOf (script : Script) (options : Options) (run : Run) : Type 0 wh
   pub system : IsSystemRun script run
   pub protocol : DoStepsFollow script [] run.steps
   pub tells : DoStepsTell [] run.steps
-  pub skipped : DoSkippedStand [] run.steps
+  pub standing : DoRowsStand [] run.steps
   pub locks : AreLocksLegal script run.steps
   pub blocked : DoStayBlocked (marks_of run)
   pub rounds : AreRoundsLegal script run.steps

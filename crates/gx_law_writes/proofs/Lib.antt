@@ -73,7 +73,9 @@ pub mod Answering
 pub mod AnswersHold
 pub mod Shapes
 pub mod Reading
-pub mod Skipped
+mod RowsHere
+mod TurnsHere
+pub mod Stands
 mod AskedMarks
 mod AskedHere
 mod AskedSlices

@@ -59,7 +59,6 @@ use Rattle.gx_law_reads.proofs.Staying.{moved-views-stay}
 use Rattle.gx_law_locks.proofs.HoldsInRuns.{moves-locked}
 use Rattle.gx_law_writes.proofs.Steps.{CountsStay, Leads, cancel-leads, coord-leads}
 use Rattle.gx_law_writes.proofs.AtSegments.{at-row-all, at-row-says, changes-faults, exec-all, exec-says, message-goes, resumption-goes, seg-leads, table-all, table-says}
-use Rattle.gx_law_writes.proofs.Works.{Works}
 pub use Rattle.gx_law_writes.proofs.Steps.{Holds, locals_in, nexts_in}
 
 module _ (script : Script) (some : 1 ≤ script.segments) (numbered_lines : AreLinesNumbered [] script.lines) where
@@ -108,16 +107,6 @@ module _ (script : Script) (some : 1 ≤ script.segments) (numbered_lines : AreL
         (message-goes script some numbered_lines w b k hold facts locked h e quiet (here.Deliver from envelope) fails i place envelope.message r.number (its-order-is from (at i) r.number envelope d p.1) (its-run from (at i) r.number envelope d p.1)
         (its-back from (at i) r.number envelope d p.1) (its-sight from (at i) r.number envelope d) (segment.on_message script (w.segs i) fails envelope.message) (message-turns script (w.segs i) fails envelope.message))
         stay
-
-    -- what a turn of a segment does
-    delivers-works : (e : Event) (from : Node) (envelope : Envelope) (fails : Bool) (i : ℕ) → IsSegment script (at i) → IsThere script w e (at i) (here.Deliver from envelope)
-        → Works (marks_in w.steps) (at i) (w.segs i) (segment.on_event script (w.segs i) (here.Deliver from envelope) fails)
-    delivers-works e from envelope fails i place r =
-        let d = found_is IsPost from (at i) r.number w.sent envelope posts r.found in
-        let p = comes-there from (at i) r.number envelope d place.0 d.is.0.link in
-        let quiet : (t : SessionId) → starts_by t e ≡ 0 = λ t. ap (starts_by t) r.event in
-        (message-goes script some numbered_lines w b k hold facts locked h e quiet (here.Deliver from envelope) fails i place envelope.message r.number (its-order-is from (at i) r.number envelope d p.1) (its-run from (at i) r.number envelope d p.1)
-        (its-back from (at i) r.number envelope d p.1) (its-sight from (at i) r.number envelope d) (segment.on_message script (w.segs i) fails envelope.message) (message-turns script (w.segs i) fails envelope.message)).1
 
     -- AN UPDATE OR DELETE THAT COMES TO A SEGMENT, OR WHOSE WAIT ENDS THERE
     pub exec-true : (from to : Node) (number : ℕ) (envelope : Envelope) (fails : Bool) → IsSegment script to → found from to number w.sent ≡ Some envelope → (m : Message) → envelope.message ≡ m → (y : SegTurn) (z : Changed script (w.segs to.0) m y) → IsTrueTurn script w (event.Receive from to number) to z.g z.change y
@@ -197,19 +186,6 @@ module _ (script : Script) (some : 1 ≤ script.segments) (numbered_lines : AreL
         (resumption-goes script some numbered_lines w b k hold facts locked h e quiet (here.Resume g) fails i place g o (came-so i g o) (segment.on_event script (w.segs i) (here.Resume g) fails) (resumption-turns script w i g o))
         stay
 
-    goes-on-works : (e : Event) (fails : Bool) (i : ℕ) (g : Gxid) → IsSegment script (at i) → IsThere script w e (at i) (here.Resume g) → GoesOn script w i g → Works (marks_in w.steps) (at i) (w.segs i) (segment.on_event script (w.segs i) (here.Resume g) fails)
-    goes-on-works e fails i g place r o =
-        let quiet : (t : SessionId) → starts_by t e ≡ 0 = λ t. ap (starts_by t) r in
-        (resumption-goes script some numbered_lines w b k hold facts locked h e quiet (here.Resume g) fails i place g o (came-so i g o) (segment.on_event script (w.segs i) (here.Resume g) fails) (resumption-turns script w i g o)).1
-
-    pub serve-works : (e : Event) (x : NodeEvent) (fails : Bool) (i : ℕ) → IsSegment script (at i) → IsThere script w e (at i) x → seg_can script (w.segs i) x ≡ true → Works (marks_in w.steps) (at i) (w.segs i) (segment.on_event script (w.segs i) x fails)
-    serve-works e (here.Deliver from envelope) fails i place r ok = delivers-works e from envelope fails i place r
-    serve-works e (here.Resume g) fails i place r ok = goes-on-works e fails i g place r (going-on script w b.knows.well i g ok)
-    serve-works e (here.Start t) fails i place r ok = absurd (cc)
-    serve-works e (here.End t) fails i place r ok = absurd (cc)
-    serve-works e (here.Resend j g) fails i place r ok = absurd (cc)
-    serve-works e here.Round fails i place r ok = absurd (cc)
-
     serve-leads : (e : Event) (x : NodeEvent) (fails : Bool) (i : ℕ) → IsSegment script (at i) → IsThere script w e (at i) x → seg_can script (w.segs i) x ≡ true
         → let v : World = seg_did w (at i) e (seg_rule script (w.segs i) x fails) in DoViewsStay w v → Leads script w v
     serve-leads e (here.Deliver from envelope) fails i place r ok stay = delivers e from envelope fails i place r stay
@@ -260,11 +236,6 @@ module _ (script : Script) (some : 1 ≤ script.segments) (numbered_lines : AreL
 
   pub moves-holds : (ms : List Move) → Holds script (world_by script ms).segs (world_by script ms).steps
   moves-holds ms = (all-keep script (IsFrom new_world) (one-move new_world) ms new_world (itself [] new_world refl new-holds)).holds
-
-  -- what a segment's turn does behind these moves
-  pub moves-works : (done : List Move) (e : Event) (x : NodeEvent) (fails : Bool) (i : ℕ) → IsSegment script (at i) → IsThere script (world_by script done) e (at i) x → seg_can script ((world_by script done).segs i) x ≡ true
-      → Works (marks_in (world_by script done).steps) (at i) ((world_by script done).segs i) (segment.on_event script ((world_by script done).segs i) x fails)
-  moves-works done = serve-works (world_by script done) (moves-both script some done) (histories.moves-holds script some done) (moves-hold script some done) (moves-facts script some done) (moves-locked script some done) (moves-holds done)
 
   -- ALL EVENTS
   pub world-holds : (es : List (Event × Bool)) → Holds script (world_of script es).segs (world_of script es).steps

@@ -11,7 +11,7 @@ ghost use Rattle.gx_script.specs.declared.Script.{Script};
 ghost use Rattle.gx_store.specs.declared.event.Event.{Event as OneEvent};
 ghost use Rattle.gx_store.specs.Points.{marks_in};
 ghost use Rattle.gx_store.specs.Runs.{IsLegalHistory};
-ghost use Rattle.gx_store.specs.Skipped.{DoSkippedStand};
+ghost use Rattle.gx_store.specs.Stands.{DoRowsStand};
 ghost use Rattle.gx_tree.specs.declared.expr.Expr.{Expr as OneExpr};
 ghost use Rattle.gx_tree.specs.declared.row.KeyedRow.{KeyedRow as OneRow};
 ghost use Rattle.gx_law_writes.specs.Changes.{AreLaterTurnsTrue, AreNewTurnsTrue, DoCountsStay};
@@ -46,9 +46,10 @@ pub fn writes_are_legal()
     ensures { (script : Script) (events : List (OneEvent × Bool)) → 1 ≤ script.segments → AreLinesNumbered [] script.lines → AreWritesLegal script [] (steps_after script events) }
 {}
 
-/// A row that a command skips stands at the segment that skips it, unless its transaction has aborted.
-pub fn skipped_rows_stand_there()
-    ensures { (script : Script) (events : List (OneEvent × Bool)) → 1 ≤ script.segments → AreLinesNumbered [] script.lines → DoSkippedStand [] (steps_after script events) }
+/// A row that a command skips, on which it faults, or of which a segment says that it was overtaken, stands at that segment, also where
+/// it is said again. At the coordinator an INSERT's constants alone fault.
+pub fn rows_stand_where_they_are_told_of()
+    ensures { (script : Script) (events : List (OneEvent × Bool)) → 1 ≤ script.segments → AreLinesNumbered [] script.lines → DoRowsStand [] (steps_after script events) }
 {}
 
 /// When an UPDATE or DELETE comes to a segment where it is new, each fault that it notes there in its turn is legal at its point; and

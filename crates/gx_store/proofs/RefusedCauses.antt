@@ -26,10 +26,10 @@ use Rattle.gx_store.specs.declared.run.Step.{Step}
 use Rattle.gx_store.specs.Messages.{HasReceived, Receives, ReceivesAt}
 use Rattle.gx_store.specs.Points.{Point, before}
 use Rattle.gx_store.specs.Protocol.{CommitsAlone, CommitsAsPromised, CommitsThere, Decides, FailsThere, FaultsThere, IsDone, IsExecuted, IsReturned, Promises}
-use Rattle.gx_store.specs.RefusedCauses.{alone, asked_before_commit, asked_unwritten, at_three, done_unexecuted, failed_unasked, failed_undecided, marked_unexecuted, one_update, one_writer, SkipsElsewhere, said_unasked, skipped_elsewhere, told_at_once, told_early, told_undone, two_rows, written_behind_commit, written_behind_decision}
+use Rattle.gx_store.specs.RefusedCauses.{alone, asked_before_commit, asked_unwritten, at_three, done_unexecuted, failed_unasked, failed_undecided, marked_unexecuted, one_update, one_writer, TellsElsewhere, marked_elsewhere, overtaken_elsewhere, said_unasked, told_at_once, told_early, told_undone, two_rows, written_behind_commit, written_behind_decision}
 use Rattle.gx_store.specs.RefusedCommits.{BreaksProtocol, two_writers}
 use Rattle.gx_store.specs.Marks.{is_same_session}
-use Rattle.gx_store.specs.RefusedParts.{anna, empty_block, first_cid, first_txn, nth_row, other_segment, the_segment}
+use Rattle.gx_store.specs.RefusedParts.{anna, empty_block, first_cid, first_txn, nth_row, other_segment, second_txn, the_segment}
 use Rattle.gx_store.specs.Refusals.{the_coordinator}
 use Rattle.gx_store.proofs.RefusedParts.{clash, no-more}
 
@@ -100,8 +100,23 @@ same-two e f = omega arith
 two-apart : Some the_segment ≡ Some other_segment → ⊥
 two-apart e = same-two refl (ap number_in e)
 
-pub causes-elsewhere : (table : Table) (assigns : List Assign) (cond : Option Cond) (before snapshot : Snapshot) (row : List Value) → SkipsElsewhere (skipped_elsewhere table assigns cond before snapshot row)
-causes-elsewhere table assigns cond before snapshot row h = two-apart (h.1.1.1.1.1.1.0.0 refl)
+pub causes-skipped-elsewhere : (table : Table) (assigns : List Assign) (cond : Option Cond) (before snapshot : Snapshot) (row : List Value)
+    → TellsElsewhere (marked_elsewhere table assigns cond before snapshot row (mark.Skip second_txn first_cid (nth_row first_txn 1)))
+causes-skipped-elsewhere table assigns cond before snapshot row h = two-apart h.1.1.1.1.1.1.0.0
+
+pub causes-faulted-elsewhere : (table : Table) (assigns : List Assign) (cond : Option Cond) (before snapshot : Snapshot) (row : List Value) (image : Option (List Value))
+    → TellsElsewhere (marked_elsewhere table assigns cond before snapshot row (mark.Fault second_txn first_cid (nth_row first_txn 1) image))
+causes-faulted-elsewhere table assigns cond before snapshot row image h = by_place h.1.1.1.1.1.1.0.0
+  where
+    none-two : {n : ℕ} → n ≡ 2 → n ≡ 0 → ⊥
+    none-two e f = omega arith
+
+    by_place : ((other_segment ≡ the_coordinator) × (image ≡ None)) ⊎ (Some the_segment ≡ Some other_segment) → ⊥
+    by_place (inl own) = none-two refl (ap (λ (n : Node). n.0) own.0)
+    by_place (inr there) = two-apart there
+
+pub causes-overtaken-elsewhere : (table : Table) (assigns : List Assign) (cond other : Option Cond) (before snapshot later : Snapshot) (row : List Value) → TellsElsewhere (overtaken_elsewhere table assigns cond other before snapshot later row)
+causes-overtaken-elsewhere table assigns cond other before snapshot later row h = two-apart h.1.1.1.1.1.1.1.1.1.1.1.1.1.1.0.0
 
 -- JOURNALS
 no-promise : {point : Point} (node : Node) (g : Gxid) → NoReceipt point.event → Promises point node g → ⊥

@@ -16,7 +16,7 @@ pub mod Locks
 pub mod Asking
 pub mod Journals
 pub mod Protocol
-pub mod Skipped
+pub mod Stands
 pub mod Ordered
 pub mod Rounds
 pub mod Schedule

@@ -1,7 +1,8 @@
--- Small runs in which something comes without its cause: a write behind the end, a word without its command, a journal's failure with
--- nothing to take, an order to whom it isn't for.
-use Rattle.std.specs.Prelude.{ℕ, false, List, [], ◌∷◌, ◌++◌, Some}
+-- Small runs in which something comes without its cause: a write behind the end, a word without its command or of a row that stands
+-- elsewhere, a journal's failure with nothing to take, an order to whom it isn't for.
+use Rattle.std.specs.Prelude.{ℕ, true, false, List, [], ◌∷◌, ◌++◌, Some, None}
 use Rattle.std.specs.declared.option.Option.{Option}
+use Rattle.gx_ids.specs.declared.ids.Gxid.{Gxid}
 use Rattle.gx_ids.specs.declared.ids.Node.{Node}
 use Rattle.gx_ids.specs.declared.ids.Table.{Table}
 use Rattle.gx_tree.specs.declared.cond.Cond.{Cond}
@@ -9,13 +10,14 @@ use Rattle.gx_tree.specs.declared.expr.Expr.{Expr}
 use Rattle.gx_tree.specs.declared.part.Part.TheVariants.{Rows}
 use Rattle.gx_tree.specs.declared.slice.Slice.TheVariants as slice
 use Rattle.gx_tree.specs.declared.stmt.Assign.{Assign}
-use Rattle.gx_tree.specs.declared.stmt.Level.TheVariants.{ReadCommitted}
+use Rattle.gx_tree.specs.declared.stmt.Level.TheVariants.{ReadCommitted, RepeatableRead}
 use Rattle.gx_tree.specs.declared.stmt.Stmt.{Stmt}
 use Rattle.gx_tree.specs.declared.stmt.Stmt.TheVariants as stmt
 use Rattle.gx_tree.specs.declared.value.Value.{Value}
 use Rattle.gx_dsnap.specs.declared.snapshot.Snapshot.{Snapshot}
 use Rattle.gx_msg.specs.declared.message.Message.{Message}
 use Rattle.gx_msg.specs.declared.message.Message.TheVariants as message
+use Rattle.gx_msg.specs.declared.reply.Cause.TheVariants as cause
 use Rattle.gx_msg.specs.declared.reply.Reply.{Reply}
 use Rattle.gx_msg.specs.declared.reply.Reply.TheVariants as reply
 use Rattle.gx_script.specs.declared.Script.{Script}
@@ -26,9 +28,9 @@ use Rattle.gx_store.specs.declared.mark.Mark.{Mark}
 use Rattle.gx_store.specs.declared.mark.Mark.TheVariants as mark
 use Rattle.gx_store.specs.declared.run.Step.{Step}
 use Rattle.gx_store.specs.RefusedCommits.{both_promise, insert_of, second_cid, second_row, writes_there}
-use Rattle.gx_store.specs.RefusedParts.{anna, block_begins, first_cid, first_txn, line_of, nth_row, other_segment, second_txn, step_at, the_segment, with_two}
+use Rattle.gx_store.specs.RefusedParts.{anna, bert, block_begins, first_cid, first_txn, line_of, nth_row, other_segment, second_txn, step_at, the_segment, with_two}
 use Rattle.gx_store.specs.Refusals.{the_coordinator}
-use Rattle.gx_store.specs.Skipped.{DoSkippedStand}
+use Rattle.gx_store.specs.Stands.{DoRowsStand}
 
 -- BEHIND THE END
 -- one row is inserted in a block that commits
@@ -100,20 +102,47 @@ abbrev pub marked_unexecuted : Table → List Assign → Option Cond → Snapsho
 marked_unexecuted table assigns cond snapshot m = update_goes table assigns cond snapshot ∷ unasked the_segment 2 (m ∷ []) ∷ []
 
 -- WHERE ROWS STAND
-abbrev pub SkipsElsewhere : List Step → Type 0
-SkipsElsewhere steps = DoSkippedStand [] steps → ⊥
+abbrev pub TellsElsewhere : List Step → Type 0
+TellsElsewhere steps = DoRowsStand [] steps → ⊥
 
--- a row is inserted at one segment and committed, an UPDATE goes to both, and the other segment skips the row
-abbrev pub skipped_elsewhere : Table → List Assign → Option Cond → Snapshot → Snapshot → List Value → List Step
-skipped_elsewhere table assigns cond before snapshot row =
-    let told = message.Exec second_txn first_cid ReadCommitted (Some snapshot) first_txn (slice.Update table assigns cond) in
+-- a row is inserted at one segment and committed
+abbrev pub row_stands : Table → Snapshot → List Value → List Step
+row_stands table before row =
     step_at the_coordinator 1 (event.Start anna) (mark.Start first_txn anna ∷ mark.Snap first_txn first_cid before ∷ mark.Sent the_segment 1 (insert_of table before 1 row) ∷ [])
     ∷ writes_there table 2 the_segment 1 row
     ∷ step_at the_coordinator 3 (event.Receive the_segment the_coordinator 1) (mark.Sent the_segment 2 (message.Commit first_txn) ∷ [])
     ∷ step_at the_segment 4 (event.Receive the_coordinator the_segment 2) (mark.LocalCommit the_segment first_txn ∷ mark.Sent the_coordinator 2 (message.Answer first_txn reply.Committed) ∷ [])
-    ∷ step_at the_coordinator 5 (event.Receive the_segment the_coordinator 2) (mark.Commit first_txn ∷ mark.Answer anna 1 (answer.Inserted 1) ∷ [])
-    ∷ step_at the_coordinator 6 (event.Start anna) (mark.Start second_txn anna ∷ mark.Snap second_txn first_cid snapshot ∷ mark.Sent the_segment 3 told ∷ mark.Sent other_segment 1 told ∷ [])
-    ∷ step_at other_segment 7 (event.Receive the_coordinator other_segment 1) (mark.Skip second_txn first_cid (nth_row first_txn 1) ∷ []) ∷ []
+    ∷ step_at the_coordinator 5 (event.Receive the_segment the_coordinator 2) (mark.Commit first_txn ∷ mark.Answer anna 1 (answer.Inserted 1) ∷ []) ∷ []
+
+-- then an UPDATE goes to both, and the other segment makes this mark for it
+abbrev pub marked_elsewhere : Table → List Assign → Option Cond → Snapshot → Snapshot → List Value → Mark → List Step
+marked_elsewhere table assigns cond before snapshot row m =
+    let told = message.Exec second_txn first_cid ReadCommitted (Some snapshot) first_txn (slice.Update table assigns cond) in
+    row_stands table before row
+    ++ step_at the_coordinator 6 (event.Start anna) (mark.Start second_txn anna ∷ mark.Snap second_txn first_cid snapshot ∷ mark.Sent the_segment 3 told ∷ mark.Sent other_segment 1 told ∷ [])
+    ∷ step_at other_segment 7 (event.Receive the_coordinator other_segment 1) (m ∷ []) ∷ []
+
+abbrev pub third_txn : Gxid
+third_txn = record { 0 = 3 }
+
+-- or an UPDATE at repeatable read goes to both, the row is deleted meanwhile, and the other segment says that it was overtaken
+abbrev pub overtaken_elsewhere : Table → List Assign → Option Cond → Option Cond → Snapshot → Snapshot → Snapshot → List Value → List Step
+overtaken_elsewhere table assigns cond other before snapshot later row =
+    let told = message.Exec second_txn first_cid RepeatableRead (Some snapshot) first_txn (slice.Update table assigns cond) in
+    let deletes = message.Exec third_txn first_cid ReadCommitted (Some later) first_txn (slice.Delete table other) in
+    row_stands table before row
+    ++ step_at the_coordinator 6 (event.Start bert) (mark.Start second_txn bert ∷ mark.Answer bert 1 answer.Begin ∷ [])
+    ∷ step_at the_coordinator 7 (event.Start bert) (mark.Snap second_txn first_cid snapshot ∷ mark.Sent the_segment 3 told ∷ mark.Sent other_segment 1 told ∷ [])
+    ∷ step_at the_coordinator 8 (event.Start anna) (mark.Start third_txn anna ∷ mark.Snap third_txn first_cid later ∷ mark.Sent the_segment 4 deletes ∷ mark.Sent other_segment 2 deletes ∷ [])
+    ∷ step_at the_segment 9 (event.Receive the_coordinator the_segment 4)
+    (mark.Write third_txn first_cid the_segment table (nth_row first_txn 1) None ∷ mark.Sent the_coordinator 3 (message.Answer third_txn (reply.Done first_cid true 1 (Rows []))) ∷ [])
+    ∷ step_at other_segment 10 (event.Receive the_coordinator other_segment 2) (mark.Sent the_coordinator 1 (message.Answer third_txn (reply.Done first_cid false 0 (Rows []))) ∷ [])
+    ∷ step_at the_coordinator 11 (event.Receive the_segment the_coordinator 3) []
+    ∷ step_at the_coordinator 12 (event.Receive other_segment the_coordinator 1) (mark.Sent the_segment 5 (message.Commit third_txn) ∷ [])
+    ∷ step_at the_segment 13 (event.Receive the_coordinator the_segment 5) (mark.LocalCommit the_segment third_txn ∷ mark.Sent the_coordinator 4 (message.Answer third_txn reply.Committed) ∷ [])
+    ∷ step_at the_coordinator 14 (event.Receive the_segment the_coordinator 4) (mark.Commit third_txn ∷ mark.Answer anna 2 (answer.Deleted 1) ∷ [])
+    ∷ step_at other_segment 15 (event.Receive the_coordinator other_segment 1)
+    (mark.Sent the_coordinator 2 (message.Answer second_txn (reply.Failed first_cid (cause.Serialization (nth_row first_txn 1) third_txn))) ∷ []) ∷ []
 
 -- JOURNALS
 -- a segment's journal fails that was asked nothing

@@ -7,9 +7,9 @@ ghost use Rattle.gx_ids.specs.declared.rid.Rid.{Rid as OneRid};
 ghost use Rattle.gx_msg.specs.declared.reply.Reply.TheVariants as reply;
 ghost use Rattle.gx_script.specs.declared.Script.{Script as OneScript};
 ghost use Rattle.gx_store.specs.declared.mark.Mark.TheVariants as mark;
-ghost use Rattle.gx_store.specs.RefusedCauses.{alone, asked_before_commit, asked_unwritten, at_three, done_unexecuted, failed_unasked, failed_undecided, marked_unexecuted, one_update, one_writer, SkipsElsewhere, said_unasked, skipped_elsewhere, told_at_once, told_early, told_undone, written_behind_commit, written_behind_decision};
+ghost use Rattle.gx_store.specs.RefusedCauses.{alone, asked_before_commit, asked_unwritten, at_three, done_unexecuted, failed_unasked, failed_undecided, marked_elsewhere, marked_unexecuted, one_update, one_writer, overtaken_elsewhere, said_unasked, TellsElsewhere, told_at_once, told_early, told_undone, written_behind_commit, written_behind_decision};
 ghost use Rattle.gx_store.specs.RefusedCommits.{BreaksProtocol, two_writers};
-ghost use Rattle.gx_store.specs.RefusedParts.{empty_block, first_cid, first_txn};
+ghost use Rattle.gx_store.specs.RefusedParts.{empty_block, first_cid, first_txn, nth_row, second_txn};
 ghost use Rattle.gx_tree.specs.declared.cond.Cond.{Cond as OneCond};
 ghost use Rattle.gx_tree.specs.declared.expr.Expr.{Expr as OneExpr};
 ghost use Rattle.gx_tree.specs.declared.stmt.Assign.{Assign as OneAssign};
@@ -33,10 +33,15 @@ pub fn commands_are_received_first()
         → BreaksProtocol (one_update script table assigns cond) (marked_unexecuted table assigns cond snapshot (mark.Fault first_txn first_cid rid image)) }
 {}
 
-/// A row that stands at one segment isn't skipped at another.
-pub fn rows_are_skipped_where_they_stand()
-    ensures { (table : OneTable) (assigns : List OneAssign) (cond : Maybe OneCond) (before snapshot : OneSnapshot) (row : List OneValue)
-        → SkipsElsewhere (skipped_elsewhere table assigns cond before snapshot row) }
+/// Of a row that stands at one segment another one tells nothing: it doesn't skip it, faults on no image of it, and doesn't say that it
+/// was overtaken.
+pub fn rows_are_told_of_where_they_stand()
+    ensures skipped { (table : OneTable) (assigns : List OneAssign) (cond : Maybe OneCond) (before snapshot : OneSnapshot) (row : List OneValue)
+        → TellsElsewhere (marked_elsewhere table assigns cond before snapshot row (mark.Skip second_txn first_cid (nth_row first_txn 1))) }
+    ensures faulted { (table : OneTable) (assigns : List OneAssign) (cond : Maybe OneCond) (before snapshot : OneSnapshot) (row : List OneValue) (image : Maybe (List OneValue))
+        → TellsElsewhere (marked_elsewhere table assigns cond before snapshot row (mark.Fault second_txn first_cid (nth_row first_txn 1) image)) }
+    ensures overtaken { (table : OneTable) (assigns : List OneAssign) (cond other : Maybe OneCond) (before snapshot later : OneSnapshot) (row : List OneValue)
+        → TellsElsewhere (overtaken_elsewhere table assigns cond other before snapshot later row) }
 {}
 
 /// No journal fails that has nothing to take: a segment's that was asked for nothing, or the coordinator's with nothing to decide.

@@ -4,7 +4,7 @@ use Rattle.gx_script.specs.declared.Script.{Script}
 use Rattle.gx_store.specs.Language.{IsScript}
 use Rattle.gx_store.specs.Ordered.{AreOrdered}
 use Rattle.gx_store.specs.Protocol.{DoStepsFollow}
-use Rattle.gx_store.specs.Skipped.{DoSkippedStand}
+use Rattle.gx_store.specs.Stands.{DoRowsStand}
 use Rattle.gx_store.specs.Runs.{IsLegalHistory}
 use Rattle.gx_rules.specs.System.{IsSystemRun}
 use Rattle.gx_law_order.proofs.Follows.{world_follows}
@@ -18,7 +18,7 @@ use Rattle.gx_law_locks.specs.Blocked.{DoStayBlocked}
 use Rattle.gx_law_locks.proofs.Lawful.{run-stays-blocked}
 use Rattle.gx_law_writes.specs.Legal.{AreLocksLegal}
 use Rattle.gx_law_writes.proofs.LegalLocks.{locks-legal}
-use Rattle.gx_law_writes.proofs.Skipped.{world-skipped}
+use Rattle.gx_law_writes.proofs.Stands.{world-stands}
 use Rattle.gx_law_answers.proofs.Snaps.{snapshots-one}
 use Rattle.gx_law_answers.proofs.Whole.{filled, keyed}
 use Rattle.gx_law_runs.specs.Reached.{IsReached}
@@ -55,8 +55,8 @@ module _ (script : Script) (network : Network) (is : IsNetwork network) (of : ne
   pub run-tells : DoStepsTell [] network.run.steps
   run-tells = by-events script network.run.steps reached (DoStepsTell []) (λ es. (world-holds script language.some_segments es).tells)
 
-  pub run-skipped : DoSkippedStand [] network.run.steps
-  run-skipped = by-events script network.run.steps reached (DoSkippedStand []) (world-skipped script language.some_segments language.numbers)
+  pub run-standing : DoRowsStand [] network.run.steps
+  run-standing = by-events script network.run.steps reached (DoRowsStand []) (world-stands script language.some_segments language.numbers)
 
   pub run-locks : AreLocksLegal script network.run.steps
   run-locks = by-events script network.run.steps reached (AreLocksLegal script) (locks-legal script language.some_segments language.numbers)

@@ -16,7 +16,7 @@ ghost use Rattle.gx_store.specs.Language.{IsScript};
 ghost use Rattle.gx_store.specs.Ordered.{AreOrdered, sent_in};
 ghost use Rattle.gx_store.specs.Points.{marks_in, marks_of};
 ghost use Rattle.gx_store.specs.Protocol.{DoStepsFollow};
-ghost use Rattle.gx_store.specs.Skipped.{DoSkippedStand};
+ghost use Rattle.gx_store.specs.Stands.{DoRowsStand};
 ghost use Rattle.gx_store.specs.Refusals.{the_coordinator};
 ghost use Rattle.gx_store.specs.Runs.{IsLegalHistory};
 ghost use Rattle.gx_store.specs.Schedule.{is_any_wait, resumptions, segments_of, sent_message};
@@ -158,7 +158,7 @@ impl World {
         ensures legal { OnOk result (AreInsertsWhole self.old.script.tables self.old.script.lines → IsLegalHistory self.old.script self.new.run) }
         ensures protocol { OnOk result (DoStepsFollow self.old.script [] self.new.run.steps) }
         ensures tells { OnOk result (DoStepsTell [] self.new.run.steps) }
-        ensures skipped { OnOk result (DoSkippedStand [] self.new.run.steps) }
+        ensures standing { OnOk result (DoRowsStand [] self.new.run.steps) }
         ensures locks { OnOk result (AreLocksLegal self.old.script self.new.run.steps) }
         ensures blocked { OnOk result (DoStayBlocked (marks_in self.new.run.steps)) }
         ensures rounds { OnOk result (AreRoundsLegal self.old.script self.new.run.steps) }

@@ -1,6 +1,6 @@
 use Rattle.std.proofs.Common.{ap, ◌∙◌}
 use Rattle.gx_world.proofs.Answers.{always_ok}
-use Rattle.gx_world.proofs.Laws.{run-blocked, run-follows, run-legal, run-locks, run-ordered, run-rounds, run-skipped, run-system, run-tells}
+use Rattle.gx_world.proofs.Laws.{run-blocked, run-follows, run-legal, run-locks, run-ordered, run-rounds, run-standing, run-system, run-tells}
 use Rattle.gx_world.proofs.world.World.step.Goals as goal
 
 pub returns-clause-legal : goal.returns-clause-legal
@@ -12,8 +12,8 @@ returns-clause-protocol g c = always_ok c.step.result _ (run-follows _ c.step.ne
 pub returns-clause-tells : goal.returns-clause-tells
 returns-clause-tells g c = always_ok c.step.result _ (run-tells _ c.step.new.self c.step.ensures.is (ap (λ a. a.value) c.step.ensures.script ∙ ap (λ w. w.script) c.self.view_is))
 
-pub returns-clause-skipped : goal.returns-clause-skipped
-returns-clause-skipped g c = always_ok c.step.result _ (run-skipped _ c.step.new.self c.step.ensures.is (ap (λ a. a.value) c.step.ensures.script ∙ ap (λ w. w.script) c.self.view_is))
+pub returns-clause-standing : goal.returns-clause-standing
+returns-clause-standing g c = always_ok c.step.result _ (run-standing _ c.step.new.self c.step.ensures.is (ap (λ a. a.value) c.step.ensures.script ∙ ap (λ w. w.script) c.self.view_is))
 
 pub returns-clause-locks : goal.returns-clause-locks
 returns-clause-locks g c = always_ok c.step.result _ (run-locks _ c.step.new.self c.step.ensures.is (ap (λ a. a.value) c.step.ensures.script ∙ ap (λ w. w.script) c.self.view_is))
