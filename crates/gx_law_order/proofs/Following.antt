@@ -70,7 +70,7 @@ module _ (script : Script) (steps : List Step) (step : Step) where
   point earlier later = record { steps = steps; event = step.event; earlier = earlier; later = later }
 
   -- sendings that are no answers
-  sent-one : (earlier later : List Mark) (to : Node) (number : ℕ) (m : Message) → IsRightOrder (marks_in steps ++ earlier) to m → EndsAt script step.stamp.node (point earlier later) (mark.Sent to number m)
+  sent-one : (earlier later : List Mark) (to : Node) (number : ℕ) (m : Message) → IsRightOrder script (marks_in steps ++ earlier) to m → EndsAt script step.stamp.node (point earlier later) (mark.Sent to number m)
   sent-one earlier later to number (message.Answer g r) e = absurd e
   sent-one earlier later to number (message.Exec g c level x h y) e = tt
   sent-one earlier later to number (message.Prepare g) e = e
@@ -81,15 +81,15 @@ module _ (script : Script) (steps : List Step) (step : Step) where
   sent-one earlier later to number (message.Collect round) e = tt
   sent-one earlier later to number (message.Graph round graph) e = tt
 
-  sent-end : (earlier : List Mark) (f : ℕ → ℕ) (outs : List Out) → Each (λ (o : Out). IsRightOrder (marks_in steps ++ earlier) o.node o.message) outs → DoMarksEnd script steps step earlier (numbered f outs)
+  sent-end : (earlier : List Mark) (f : ℕ → ℕ) (outs : List Out) → Each (λ (o : Out). IsRightOrder script (marks_in steps ++ earlier) o.node o.message) outs → DoMarksEnd script steps step earlier (numbered f outs)
   sent-end earlier f [] e = tt
   sent-end earlier f (o ∷ outs) e =
       let sent : Mark = mark.Sent o.node (f o.node.0 + 1) o.message in (
         sent-one earlier (numbered (counted f o) outs) o.node (f o.node.0 + 1) o.message e.0,
         sent-end (earlier ++ sent ∷ []) (counted f o) outs
-            (subst (λ x. Each (λ (q : Out). IsRightOrder x q.node q.message) outs) (append_assoc (marks_in steps) earlier (sent ∷ []))
-            (each_weaker (λ (q : Out). IsRightOrder (marks_in steps ++ earlier) q.node q.message) (λ (q : Out). IsRightOrder ((marks_in steps ++ earlier) ++ sent ∷ []) q.node q.message)
-            (λ q h. order-on (marks_in steps ++ earlier) (sent ∷ []) q.node q.message (tt, tt) (tt, tt) h) outs e.1)),
+            (subst (λ x. Each (λ (q : Out). IsRightOrder script x q.node q.message) outs) (append_assoc (marks_in steps) earlier (sent ∷ []))
+            (each_weaker (λ (q : Out). IsRightOrder script (marks_in steps ++ earlier) q.node q.message) (λ (q : Out). IsRightOrder script ((marks_in steps ++ earlier) ++ sent ∷ []) q.node q.message)
+            (λ q h. order-on script (marks_in steps ++ earlier) (sent ∷ []) q.node q.message (tt, tt) (tt, tt) h) outs e.1)),
       )
 
   module _ (own : step.stamp.node ≡ the_coordinator) where
@@ -107,12 +107,12 @@ module _ (script : Script) (steps : List Step) (step : Step) where
     fol-one earlier later (mark.Answer s n a) e = tt
     fol-one earlier later m e = tt
 
-    pub coord-end : (earlier ns : List Mark) (f : ℕ → ℕ) (outs : List Out) → Fol script (marks_in steps ++ earlier) ns → Each (λ (o : Out). IsRightOrder ((marks_in steps ++ earlier) ++ ns) o.node o.message) outs → DoMarksEnd script steps step earlier (ns ++ numbered f outs)
-    coord-end earlier [] f outs e h = sent-end earlier f outs (subst (λ x. Each (λ (o : Out). IsRightOrder x o.node o.message) outs) (append-nil (marks_in steps ++ earlier)) h)
+    pub coord-end : (earlier ns : List Mark) (f : ℕ → ℕ) (outs : List Out) → Fol script (marks_in steps ++ earlier) ns → Each (λ (o : Out). IsRightOrder script ((marks_in steps ++ earlier) ++ ns) o.node o.message) outs → DoMarksEnd script steps step earlier (ns ++ numbered f outs)
+    coord-end earlier [] f outs e h = sent-end earlier f outs (subst (λ x. Each (λ (o : Out). IsRightOrder script x o.node o.message) outs) (append-nil (marks_in steps ++ earlier)) h)
     coord-end earlier (m ∷ ns) f outs e h = (
       fol-one earlier (ns ++ numbered f outs) m e.0,
       coord-end (earlier ++ m ∷ []) ns f outs (subst (λ x. Fol script x ns) (append_assoc (marks_in steps) earlier (m ∷ [])) e.1)
-          (subst (λ x. Each (λ (o : Out). IsRightOrder x o.node o.message) outs) (sym (append_assoc (marks_in steps ++ earlier) (m ∷ []) ns) ∙ ap (λ x. x ++ ns) (append_assoc (marks_in steps) earlier (m ∷ []))) h),
+          (subst (λ x. Each (λ (o : Out). IsRightOrder script x o.node o.message) outs) (sym (append_assoc (marks_in steps ++ earlier) (m ∷ []) ns) ∙ ap (λ x. x ++ ns) (append_assoc (marks_in steps) earlier (m ∷ []))) h),
     )
 
   -- A SEGMENT

@@ -11,7 +11,7 @@ use Rattle.gx_store.specs.Protocol.{FollowsAt, IsCommitting, IsComplete, IsToCom
 
 abbrev pub EndsAt : Script → Node → Point → Mark → Type 0
 EndsAt script node point (mark.Answer session number answer) = Unit {0}
-EndsAt script node point (mark.Sent to number (message.Prepare g)) = IsToPrepare (before point) to g
+EndsAt script node point (mark.Sent to number (message.Prepare g)) = IsToPrepare script (before point) to g
 EndsAt script node point (mark.Sent to number (message.Commit g)) = IsToCommit (before point) to g
 EndsAt script node point m = FollowsAt script node point m
 

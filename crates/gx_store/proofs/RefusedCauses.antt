@@ -26,7 +26,7 @@ use Rattle.gx_store.specs.declared.run.Step.{Step}
 use Rattle.gx_store.specs.Messages.{HasReceived, Receives, ReceivesAt}
 use Rattle.gx_store.specs.Points.{Point, before}
 use Rattle.gx_store.specs.Protocol.{CommitsAlone, CommitsAsPromised, CommitsThere, Decides, FailsThere, FaultsThere, IsDone, IsExecuted, IsReturned, Promises}
-use Rattle.gx_store.specs.RefusedCauses.{alone, asked_before_commit, asked_unwritten, at_three, done_unexecuted, failed_unasked, failed_undecided, marked_unexecuted, one_update, one_writer, SkipsElsewhere, said_unasked, skipped_elsewhere, told_at_once, told_early, told_undone, two_rows, written_behind_commit, written_behind_decision}
+use Rattle.gx_store.specs.RefusedCauses.{alone, asked_alone, asked_before_commit, asked_unwritten, at_three, done_unexecuted, failed_unasked, failed_undecided, marked_unexecuted, one_update, one_writer, SkipsElsewhere, said_unasked, skipped_elsewhere, told_at_once, told_early, told_undone, two_rows, written_behind_commit, written_behind_decision}
 use Rattle.gx_store.specs.RefusedCommits.{BreaksProtocol, two_writers}
 use Rattle.gx_store.specs.Marks.{is_same_session}
 use Rattle.gx_store.specs.RefusedParts.{anna, empty_block, first_cid, first_txn, nth_row, other_segment, the_segment}
@@ -128,6 +128,9 @@ causes-undecided script h = failed-there the_coordinator first_txn tt (λ x. x.1
 -- ORDERS
 pub causes-asked : (script : Script) → BreaksProtocol (empty_block script) asked_unwritten
 causes-asked script h = clash false h.1.0.0.0.writer refl
+
+pub causes-alone : (script : Script) (table : Table) (tuple : List Expr) (s : Snapshot) (row : List Value) → BreaksProtocol (one_writer script table tuple) (asked_alone table s row)
+causes-alone script table tuple s row h = h.1.1.1.1.0.0.0.several
 
 pub causes-at-once : (script : Script) (table : Table) (one other : List Expr) (s : Snapshot) (row more : List Value) → BreaksProtocol (two_writers script table one other) (told_at_once table s row more)
 causes-at-once script table one other s row more h = clash true refl (h.1.1.1.1.1.1.0.0.0.only other_segment)

@@ -146,10 +146,11 @@ abbrev pub FailsThere : Script → Point → Node → Gxid → Type 0
 FailsThere script point node g = ((node ≡ the_coordinator) × Decides script (before point) g) ⊎ Promises point node g ⊎ CommitsThere point node g
 
 -- ORDERS
--- PREPARE goes to a writer of a transaction that hasn't ended, that isn't decided, and that no segment has committed
-pub record IsToPrepare (marks : List Mark) (node : Node) (g : Gxid) : Type 0 where
+-- PREPARE goes to a writer, of several, of a transaction that hasn't ended, that isn't decided, and that no segment has committed
+pub record IsToPrepare (script : Script) (marks : List Mark) (node : Node) (g : Gxid) : Type 0 where
   pub running : is_ended marks g ≡ false
   pub writer : is_writer marks g node ≡ true
+  pub several : AreSeveral (writers_of script marks g)
   pub undecided : decided_count marks g ≡ 0
   pub uncommitted : (segment : Node) → local_count marks segment g ≡ 0
 
@@ -228,7 +229,7 @@ FollowsAt script node point (mark.Sent to number (message.Answer g (reply.Done c
 FollowsAt script node point (mark.Sent to number (message.Answer g (reply.Failed c reason))) = IsExecuted point g c node
 FollowsAt script node point (mark.Sent to number (message.Answer g reply.Aborted)) = Receives point.steps point.event the_coordinator node (message.Abort g)
 FollowsAt script node point (mark.Sent to number (message.Answer g reply.Forgotten)) = Receives point.steps point.event the_coordinator node (message.Forget g)
-FollowsAt script node point (mark.Sent to number (message.Prepare g)) = IsToPrepare (before point) to g × IsCommitting script point g
+FollowsAt script node point (mark.Sent to number (message.Prepare g)) = IsToPrepare script (before point) to g × IsCommitting script point g
 FollowsAt script node point (mark.Sent to number (message.Commit g)) = IsToCommit (before point) to g × IsCommitting script point g
 FollowsAt script node point (mark.Sent to number (message.CommitPrepared g)) = IsToFinish (before point) to g
 FollowsAt script node point _ = Unit {0}

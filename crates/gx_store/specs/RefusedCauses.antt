@@ -44,14 +44,19 @@ abbrev pub writes_late : Table → ℕ → Node → List Value → Step
 writes_late table clock node row =
     step_at node clock (event.Receive the_coordinator node 1) (mark.Write first_txn second_cid node table second_row (Some row) ∷ [])
 
--- the only writer commits, and then another segment is sent a command, and writes
-abbrev pub written_behind_commit : Table → Snapshot → List Value → List Value → List Step
-written_behind_commit table snapshot row late =
+-- it is written, and answered
+abbrev pub one_writes : Table → Snapshot → List Value → List Step
+one_writes table snapshot row =
     block_begins
     ∷ step_at the_coordinator 2 (event.Start anna) (mark.Snap first_txn first_cid snapshot ∷ mark.Sent the_segment 1 (insert_of table snapshot 1 row) ∷ [])
     ∷ writes_there table 3 the_segment 1 row
-    ∷ step_at the_coordinator 4 (event.Receive the_segment the_coordinator 1) (mark.Answer anna 2 (answer.Inserted 1) ∷ [])
-    ∷ step_at the_coordinator 5 (event.Start anna) (mark.Sent the_segment 2 (message.Commit first_txn) ∷ [])
+    ∷ step_at the_coordinator 4 (event.Receive the_segment the_coordinator 1) (mark.Answer anna 2 (answer.Inserted 1) ∷ []) ∷ []
+
+-- the only writer commits, and then another segment is sent a command, which is of no line under way, and writes
+abbrev pub written_behind_commit : Table → Snapshot → List Value → List Value → List Step
+written_behind_commit table snapshot row late =
+    one_writes table snapshot row
+    ++ step_at the_coordinator 5 (event.Start anna) (mark.Sent the_segment 2 (message.Commit first_txn) ∷ [])
     ∷ step_at the_segment 6 (event.Receive the_coordinator the_segment 2) (mark.LocalCommit the_segment first_txn ∷ mark.Sent the_coordinator 2 (message.Answer first_txn reply.Committed) ∷ [])
     ∷ step_at the_coordinator 7 (event.Receive the_segment the_coordinator 2) (mark.Sent other_segment 1 (late_insert table snapshot late) ∷ [])
     ∷ writes_late table 8 other_segment late ∷ []
@@ -62,7 +67,7 @@ third_segment = record { 0 = 3 }
 abbrev pub at_three : Script → Script
 at_three script = record script { segments = 3 }
 
--- two writers have promised and it is decided, and then a third segment is sent a command, and writes
+-- two writers have promised and it is decided, and then a third segment is sent a command, which is of no line under way, and writes
 abbrev pub written_behind_decision : Table → Snapshot → List Value → List Value → List Value → List Step
 written_behind_decision table snapshot one other late =
     both_promise table snapshot one other
@@ -128,9 +133,13 @@ failed_undecided =
     (mark.JournalFailed the_coordinator first_txn ∷ mark.Abort first_txn ∷ mark.Answer anna 2 (answer.Refused (refused.JournalFault the_coordinator)) ∷ []) ∷ []
 
 -- ORDERS
--- who hasn't written is asked to promise
+-- who hasn't written is asked to promise, where nobody has
 abbrev pub asked_unwritten : List Step
 asked_unwritten = block_begins ∷ step_at the_coordinator 2 (event.Start anna) (mark.Sent the_segment 1 (message.Prepare first_txn) ∷ []) ∷ []
+
+-- the only writer is asked to promise
+abbrev pub asked_alone : Table → Snapshot → List Value → List Step
+asked_alone table snapshot row = one_writes table snapshot row ++ step_at the_coordinator 5 (event.Start anna) (mark.Sent the_segment 2 (message.Prepare first_txn) ∷ []) ∷ []
 
 -- both segments have written, and one has been heard
 abbrev pub both_write : Table → Snapshot → List Value → List Value → List Step
