@@ -1,5 +1,6 @@
--- PREPARE and COMMIT are of a transaction whose line under way is COMMIT, or its one command, which is done.
-use Rattle.std.proofs.Common.{◌≡◌, ◌⊎◌, inl, inr, ℕ, zero, suc, ◌+◌, List, [], ◌∷◌, ◌++◌, Option, Some, None, Bool, true, false, refl, sym, subst, ap, ◌∙◌, arith, append-nil}
+-- PREPARE and COMMIT are of a transaction whose line under way is COMMIT, or its one command, which is done; EXEC is of a command under
+-- way of a transaction that nobody was asked to prepare or to commit.
+use Rattle.std.proofs.Common.{◌≡◌, ◌⊎◌, inl, inr, ℕ, zero, suc, ◌+◌, List, [], ◌∷◌, ◌++◌, Option, Some, None, Bool, true, false, refl, sym, subst, ap, ◌∙◌, ◌||◌, arith, append-nil}
 use Rattle.std.proofs.lemmas.List.{append_assoc}
 use Rattle.std.specs.Prelude.{length, nat_le, slice_get, take}
 use Rattle.gx_lemmas.proofs.Options.{some-same}
@@ -31,13 +32,13 @@ use Rattle.gx_store.specs.declared.mark.Mark.TheVariants as mark
 use Rattle.gx_store.specs.declared.node.NodeEvent.{NodeEvent}
 use Rattle.gx_store.specs.declared.node.NodeEvent.TheVariants as here
 use Rattle.gx_store.specs.declared.run.Step.{Step}
-use Rattle.gx_store.specs.Commands.{RunsCommand, state_at}
-use Rattle.gx_store.specs.Lines.{BlockState, may_commit, stmt_of, transaction_of}
-use Rattle.gx_store.specs.Marks.{answer_count, is_begun, started_after}
+use Rattle.gx_store.specs.Commands.{IsUnderWay, RunsCommand, state_at}
+use Rattle.gx_store.specs.Lines.{BlockState, level_of, may_commit, stmt_of, transaction_of}
+use Rattle.gx_store.specs.Marks.{answer_count, is_aborted, is_begun, is_committed, is_committing, is_ended, started_after}
 use Rattle.gx_store.specs.Lines.{state_of}
 use Rattle.gx_store.specs.Messages.{Receives}
 use Rattle.gx_store.specs.Points.{Point, before, marks_in, starts_by, starts_in}
-use Rattle.gx_store.specs.Protocol.{IsCommitting, IsDispatched, IsReturned, IsSentBy}
+use Rattle.gx_store.specs.Protocol.{IsCommitting, IsDispatched, IsReturned, IsSentBy, IsToExecute}
 use Rattle.gx_store.specs.Refusals.{the_coordinator}
 use Rattle.gx_rules.specs.AtCoordinator.{cancel_turn, cancels, coord_turn, on_event}
 use Rattle.gx_rules.specs.AtSegment as segment
@@ -48,30 +49,33 @@ use Rattle.gx_rules.specs.Segments.{SegTurn}
 use Rattle.gx_rules.specs.Sending.{clock_after, counted, numbered}
 use Rattle.gx_rules.proofs.Rounds.{cancel-ways}
 use Rattle.gx_law_order.proofs.Always.{HeardAt, by-heard}
-use Rattle.gx_law_order.proofs.AtLine.{AtLine, runs-line, transaction-is}
+use Rattle.gx_law_order.proofs.AtLine.{AtLine, has_txn, runs-line, transaction-is, under-way}
 use Rattle.gx_law_order.proofs.Calls.{for-all, to-nodes}
 use Rattle.gx_law_order.proofs.Commits.{take-kept}
 use Rattle.gx_law_order.proofs.Complete.{Came, IsBack, Replied, SentBack, StepBack, each-get, each-parts, starts-last}
 use Rattle.gx_law_order.proofs.Counts.{NoSent}
+use Rattle.gx_law_order.proofs.Events.{live-stage}
 use Rattle.gx_law_order.proofs.Everywhere.{Holds, does-it, fol-no-sent, follows-no-sent, parts_in, resumed-does}
 use Rattle.gx_law_order.proofs.Handled.{Follows, Tells}
 use Rattle.gx_law_order.proofs.Later.{commit-more, each-contained, no-orders}
 use Rattle.gx_law_order.proofs.Lists.{Each, each_append, each_weaker}
 use Rattle.gx_law_order.proofs.Lowered.{NoExec, abort-none}
 use Rattle.gx_law_order.proofs.More.{marks-last}
+use Rattle.gx_law_order.proofs.Past.{aborted-append, committed-append}
 use Rattle.gx_law_order.proofs.Moves.{HasNamed}
 use Rattle.gx_law_order.proofs.Replying.{take-length}
 use Rattle.gx_law_order.proofs.Said.{CalmFor, Said, said-calm}
-use Rattle.gx_law_order.proofs.Sessions.{Tied, is_closing_in, stage_of}
+use Rattle.gx_law_order.proofs.Sessions.{Tied, is_closing_in, is_live_in, is_working_in, stage_of}
 use Rattle.gx_law_order.proofs.Statuses.{Stage, stage, stage_in}
 use Rattle.gx_law_order.proofs.Statuses.Stage.{Closing, Live as LiveStage}
-use Rattle.gx_law_order.proofs.Ways.{AsksFor, Led, SaidOut, stands_for}
+use Rattle.gx_law_order.proofs.Unasked.{ArePosted, committing-append, live-unasked}
+use Rattle.gx_law_order.proofs.Ways.{AsksFor, CommandOf, Led, SaidOut, stands_for}
 use Rattle.gx_law_order.proofs.World.{Knows}
 use Rattle.gx_law_order.specs.Followed.{CommitsAt, DoMarksCommit, DoStepsCommit}
 use Rattle.gx_law_order.specs.Said.{gxid_in}
-use Rattle.gx_law_order.specs.Standing.{AreSessions, IsLineOf, IsStanding, Stands, is_alone, state_in, waits}
+use Rattle.gx_law_order.specs.Standing.{AreSessions, IsLineOf, IsStanding, Owns, Stands, is_alone, state_in, waits}
 use Rattle.gx_law_order.specs.Standings.{Known, Part, Standing, at, gx, is_closing, known_at, standing, standing_in, waits_in}
-use Rattle.gx_law_order.specs.Standings.Standing.{Over, Preparing}
+use Rattle.gx_law_order.specs.Standings.Standing.{Live, Over, Preparing}
 
 -- who is on the way to a commit
 closing-stage : (b : Bool) (o : Option Txn) (i : ℕ) → is_closing (standing b o i) ≡ true → stage o ≡ Closing
@@ -104,7 +108,7 @@ get-split (z ∷ xs) x y (suc k) e = by_part (get-split xs x y k e)
     by_part (inr q) = inr (ap suc q.0, q.1)
 
 -- AT A SENDING of the coordinator's last step
-module _ (script : Script) (v : World) (k : Knows script v) (h : Holds script v) (r : Replied script v) (s : AreSessions script v) (steps : List Step) (step : Step) (own : step.stamp.node ≡ the_coordinator) (all : v.steps ≡ steps ++ step ∷ []) where
+module _ (script : Script) (v : World) (k : Knows script v) (h : Holds script v) (r : Replied script v) (s : AreSessions script v) (posted : ArePosted v) (steps : List Step) (step : Step) (own : step.stamp.node ≡ the_coordinator) (all : v.steps ≡ steps ++ step ∷ []) where
   module _ (earlier later : List Mark) (m : Mark) (marks : step.marks ≡ earlier ++ m ∷ later) (calm : (j : SessionId) → Each (CalmFor j) (m ∷ later)) where
     abbrev point : Point
     point = record { steps = steps; event = step.event; earlier = earlier; later = later }
@@ -173,6 +177,110 @@ module _ (script : Script) (v : World) (k : Knows script v) (h : Holds script v)
         by_sent (inl z) = each-get (SentBack v.coord v.steps z.sending.sender.stamp.node) z.sending.sender.marks z.mark _ (each-get (StepBack v.coord v.steps) steps z.step z.sending.sender steps-back.0 z.sending.at) z.sending.sent z.sending.node
         by_sent (inr z) = each-contained (SentBack v.coord v.steps step.stamp.node) (earlier ++ later) (mark.Sent node d.number told) step-back z own
 
+    -- A COMMAND GOES OUT
+    module _ (g : Gxid) (c : Cid) (i : ℕ) (awaited : waits_in (v.coord.works g.0).command i ≡ true) (number : c.0 ≡ (v.coord.works g.0).last) where
+      abbrev work : Work
+      work = v.coord.works g.0
+
+      abbrev of : SessionId
+      of = work.session
+
+      abbrev its : Session
+      its = session_of v.coord of
+
+      abbrev now : List Mark
+      now = marks_in v.steps
+
+      tied-so : Tied (stage_of v.coord g.0) g.0 work its
+      tied-so = k.kept.tied g.0
+
+      -- its command is awaited
+      abbrev IsAwaitedOne : Type 0
+      IsAwaitedOne = (m : Command) × (work.command ≡ Some m) × (stage_of v.coord g.0 ≡ LiveStage) × (is_working_in its.state.pending ≡ true)
+
+      awaited-one : (o : Option Command) → work.command ≡ o → waits_in o i ≡ true → IsAwaitedOne
+      awaited-one None e q = absurd (cc)
+      awaited-one (Some m) e q = let a = tied-so.awaits m e (λ z. differ (sym (ap (has (at i)) z) ∙ q)) in (m, e, a.0, a.1)
+        where
+          differ : has (at i) [] ≡ true → ⊥
+          differ z = cc
+
+      one : IsAwaitedOne
+      one = awaited-one work.command refl awaited
+
+      its-number : c ≡ one.0.cid
+      its-number = ap (λ n. let x : Cid = record { 0 = n } in x) (number ∙ sym (subst (CommandOf g.0 work.last) one.1 (h.stands.works g.0).command).0)
+
+      live-everywhere : (n : ℕ) → (known_at v.coord now n g.0).at ≡ Live
+      live-everywhere n = let z = live-stage v.coord g.0 one.2 in ap (λ o. standing (nat_le v.coord.table.next.0 g.0) o n) z.found ∙ ap (λ q. standing_in q n) z.active
+
+      unasked-there : is_committing ms g ≡ false
+      unasked-there =
+          first-false (is_committing ms g) (is_committing (m ∷ later) g)
+          (sym (ap (λ x. is_committing x g) whole ∙ committing-append ms (m ∷ later) g) ∙ live-unasked script v h g live-everywhere posted)
+        where
+          first-false : (a b : Bool) → (a || b) ≡ false → a ≡ false
+          first-false a b e = grind arith
+
+      running-there : is_ended now g ≡ false → is_ended ms g ≡ false
+      running-there e =
+          both-false (is_committed ms g) (is_committed (m ∷ later) g) (is_aborted ms g) (is_aborted (m ∷ later) g)
+          (sym (ap (λ x. is_ended x g) whole ∙ ap (λ b. b || is_aborted (ms ++ m ∷ later) g) (committed-append ms (m ∷ later) g) ∙ ap (λ b. (is_committed ms g || is_committed (m ∷ later) g) || b) (aborted-append ms (m ∷ later) g)) ∙ e)
+        where
+          both-false : (a b x y : Bool) → ((a || b) || (x || y)) ≡ false → (a || x) ≡ false
+          both-false a b x y e = grind arith
+
+      lines-so : its.lines ≡ starts_in of steps + starts_by of step.event
+      lines-so = sym (s of).starts ∙ ap (λ x. starts_in of x) all ∙ starts-last of steps step
+
+      -- it is under way
+      goes-with : (b : Block) → has_txn (state_in b 0) (is_alone b pending.Command) ≡ true → (st : Stands script of now v.coord.table.next.0 b pending.Command its.lines g work) → Owns of st.commands now v.coord.table.next.0 b g work
+          → IsLineOf script of its.lines b st.commands work pending.Command → IsToExecute script point g c
+      goes-with b has st owns (inr held) = absurd (none (sym held.2 ∙ one.1))
+        where
+          none : None ≡ Some one.0 → ⊥
+          none e = cc
+      goes-with b has st owns (inl out) =
+          record {
+            session = of;
+            line = out.0.stmt;
+            level = level_of (state_in b st.commands);
+            runs = subst (λ (x : Cid). IsUnderWay script point of out.0.stmt (level_of (state_in b st.commands)) g x) (sym (its-number ∙ ap (λ (y : Command). y.cid) (some-same one.0 out.0 (sym one.1 ∙ out.1)) ∙ out.4))
+                (under-way script steps step.event of out.0.stmt (answer_count of now) (state_in b st.commands) (is_alone b pending.Command) (Some g) earlier
+                (record {
+                  said = said-there of (answer_count of now) (state_in b st.commands) (is_alone b pending.Command) (Some g) (record { answered = refl; state = st.state; begun = st.begun; started = owns.started });
+                  starts = sym lines-so ∙ sym st.answered;
+                  is_line = ap (λ y. stmt_of of y script.lines) st.answered ∙ out.2;
+                }) later g (has-there b st.commands has) refl out.3 (running-there owns.running));
+            unasked = unasked-there;
+          }
+        where
+          has-there : (b : Block) (n : ℕ) → has_txn (state_in b 0) (is_alone b pending.Command) ≡ true → has_txn (state_in b n) (is_alone b pending.Command) ≡ true
+          has-there block.Outside n e = e
+          has-there (block.Open level) n e = e
+          has-there block.Failed n e = e
+
+      same-gxid : its.transaction ≡ g
+      same-gxid = ap (λ n. gx n) (tied-so.live one.2).0
+
+      goes-by-place : (b : Block) (p : Pending) → is_working_in p ≡ true → is_live_in b p ≡ true → Stands script of now v.coord.table.next.0 b p its.lines g work → IsToExecute script point g c
+      goes-by-place block.Outside pending.Command x y st = goes-with block.Outside refl st (st.owns refl).0 (st.owns refl).1
+      goes-by-place (block.Open level) pending.Command x y st = goes-with (block.Open level) refl st (st.owns refl).0 (st.owns refl).1
+      goes-by-place b p x y st = absurd (cc)
+
+      goes-by-standing : IsStanding script of now v.coord.table.next.0 its.state.block its.state.pending its.lines its.transaction (work_of v.coord its.transaction) (Rattle.gx_store.specs.Points.ends_in of v.steps) → IsToExecute script point g c
+      goes-by-standing (inl z) =
+          goes-by-place its.state.block its.state.pending one.3 (tied-so.live one.2).1
+          (subst (λ (x : Gxid). Stands script of now v.coord.table.next.0 its.state.block its.state.pending its.lines x (work_of v.coord x)) same-gxid z.1)
+      goes-by-standing (inr z) = absurd (idle its.state.pending z.1.idle one.3)
+        where
+          idle : (p : Pending) → p ≡ pending.Nothing → is_working_in p ≡ true → ⊥
+          idle p x y = grind arith
+
+      pub to-execute : IsToExecute script point g c
+      to-execute = goes-by-standing (s of).stands
+
+    -- IT IS ON ITS WAY TO A COMMIT
     module _ (g : Gxid) (i : ℕ) (closes : is_closing (stands_for v.coord i g) ≡ true) where
       abbrev w : Work
       w = v.coord.works g.0
@@ -208,7 +316,7 @@ module _ (script : Script) (v : World) (k : Knows script v) (h : Holds script v)
           subst (λ (x : Gxid). IsReturned point x c node) same (returns c node (subst (λ (x : Gxid). IsBack v.coord v.steps node.0 x.0 c.0) (sym same) (back-there g2 c node sent)))
 
       -- its line
-      commits-with : (line : Stmt) (n : ℕ) (b : BlockState) (u : Bool) → (a : AtLine script steps step.event j line n b u (Some g) earlier) → Rattle.gx_law_order.proofs.AtLine.has_txn b u ≡ true → may_commit b line ≡ true → IsCommitting script point g
+      commits-with : (line : Stmt) (n : ℕ) (b : BlockState) (u : Bool) → (a : AtLine script steps step.event j line n b u (Some g) earlier) → has_txn b u ≡ true → may_commit b line ≡ true → IsCommitting script point g
       commits-with line n b u a has may =
           let is = transaction-is script steps step.event j line n b u (Some g) earlier a later g has refl in
           record {
@@ -274,7 +382,7 @@ module _ (script : Script) (v : World) (k : Knows script v) (h : Holds script v)
   one-commits earlier later to number (message.CommitPrepared g) q calm a = tt
   one-commits earlier later to number (message.Abort g) q calm a = tt
   one-commits earlier later to number (message.Forget g) q calm a = tt
-  one-commits earlier later to number (message.Exec g c level x y z) q calm a = tt
+  one-commits earlier later to number (message.Exec g c level x y z) q calm a = to-execute earlier later (mark.Sent to number (message.Exec g c level x y z)) q (λ j. (tt, calm j)) g c to.0 a.0 a.1
   one-commits earlier later to number (message.Answer g x) q calm a = tt
   one-commits earlier later to number (message.Collect round) q calm a = tt
   one-commits earlier later to number (message.Graph round graph) q calm a = tt
@@ -297,6 +405,7 @@ module _ (script : Script) (v : World) (k : Knows script v) (h : Holds script v)
 
 -- NOBODY IS ASKED
 abbrev pub AsksNobody : Message → Type 0
+AsksNobody (message.Exec g c level snapshot horizon slice) = ⊥
 AsksNobody (message.Prepare g) = ⊥
 AsksNobody (message.Commit g) = ⊥
 AsksNobody _ = Unit {0}
@@ -308,7 +417,7 @@ module _ (script : Script) (steps : List Step) (step : Step) where
   quiet-sent point to number (message.CommitPrepared g) a = tt
   quiet-sent point to number (message.Abort g) a = tt
   quiet-sent point to number (message.Forget g) a = tt
-  quiet-sent point to number (message.Exec g c level x y z) a = tt
+  quiet-sent point to number (message.Exec g c level x y z) a = absurd a
   quiet-sent point to number (message.Answer g x) a = tt
   quiet-sent point to number (message.Collect round) a = tt
   quiet-sent point to number (message.Graph round graph) a = tt
@@ -330,10 +439,10 @@ commit-push script before (x ∷ ss) s e h = (e.0, commit-push script (before ++
 -- by an event of the coordinator
 pub turn-commits : (script : Script) (w : World) → Knows script w → Holds script w → (e : Event) (x : NodeEvent) (fails : Bool) → DoStepsCommit script [] w.steps
     → Knows script (coord_did w e (coord_turn script w.coord x fails)) → Holds script (coord_did w e (coord_turn script w.coord x fails)) → Replied script (coord_did w e (coord_turn script w.coord x fails)) → AreSessions script (coord_did w e (coord_turn script w.coord x fails))
-    → Led script (parts_in w) w.coord (marks_in w.steps) (on_event script w.coord x fails) → DoStepsCommit script [] (coord_did w e (coord_turn script w.coord x fails)).steps
-turn-commits script w n v e x fails p n2 v2 r2 s2 f =
+    → ArePosted (coord_did w e (coord_turn script w.coord x fails)) → Led script (parts_in w) w.coord (marks_in w.steps) (on_event script w.coord x fails) → DoStepsCommit script [] (coord_did w e (coord_turn script w.coord x fails)).steps
+turn-commits script w n v e x fails p n2 v2 r2 s2 posted f =
     commit-push script [] w.steps step p
-    (marks-commit script next n2 v2 r2 s2 w.steps step refl refl [] turn.marks turn.coord.sent turn.outs refl (fol-no-sent script (marks_in w.steps) turn.marks f.way.fol)
+    (marks-commit script next n2 v2 r2 s2 posted w.steps step refl refl [] turn.marks turn.coord.sent turn.outs refl (fol-no-sent script (marks_in w.steps) turn.marks f.way.fol)
     (each_weaker (SaidOut script (parts_in w) turn.coord (marks_in w.steps ++ turn.marks)) (λ (o : Out). AsksFor next.coord o.node.0 o.message) (λ o q. asks o.node.0 o.message q.2) turn.outs f.outs))
   where
     turn : CoordTurn
@@ -381,6 +490,7 @@ victim-commits script w n v g h p =
 
 -- by a step of a segment, which asks nobody
 answers-ask : (k : Known) (q : Part) (i g : ℕ) (marks : List Mark) (m : Message) → Tells k q i g marks m → AsksNobody m
+answers-ask k q i g marks (message.Exec h c level x y z) e = e
 answers-ask k q i g marks (message.Prepare h) e = e
 answers-ask k q i g marks (message.Commit h) e = e
 answers-ask k q i g marks m e = tt

@@ -25,7 +25,7 @@ use Rattle.gx_store.specs.declared.mark.Mark.TheVariants as mark
 use Rattle.gx_store.specs.declared.run.Step.{Step}
 use Rattle.gx_store.specs.Commands.{RunsCommand}
 use Rattle.gx_store.specs.Points.{Point, marks_in}
-use Rattle.gx_store.specs.Protocol.{CommitsAlone, CommitsAsPromised, CommitsThere, FailsThere, FaultsThere, IsCommitting, IsComplete, IsDispatched, IsExecuted, IsReturned, IsSentBy, Promises}
+use Rattle.gx_store.specs.Protocol.{CommitsAlone, CommitsAsPromised, CommitsThere, FailsThere, FaultsThere, IsCommitting, IsComplete, IsDispatched, IsExecuted, IsReturned, IsSentBy, IsToExecute, Promises}
 use Rattle.gx_rules.specs.Machine.{with_more}
 use Rattle.gx_rules.specs.Sending.{counted, numbered}
 use Rattle.gx_rules.proofs.Turns.{with_more-last}
@@ -173,13 +173,24 @@ module _ (script : Script) (steps : List Step) (event : Event) (earlier later mo
         done = whole-later e.session e.done;
       }
 
+  executing-later : (g : Gxid) (c : Cid) → IsToExecute script first g c → IsToExecute script longer g c
+  executing-later g c e =
+      let r = e.runs.runs in
+      record {
+        session = e.session;
+        line = e.line;
+        level = e.level;
+        runs = record { runs = record { line = record { started = r.line.started; line = r.line.line }; command = r.command; transaction = r.transaction; number = r.number; isolation = r.isolation }; running = e.runs.running };
+        unasked = e.unasked;
+      }
+
   sent-commits-later : (to : Node) (number : ℕ) (m : Message) → CommitsAt script first (mark.Sent to number m) → CommitsAt script longer (mark.Sent to number m)
   sent-commits-later to number (message.Prepare g) f = committing-later g f
   sent-commits-later to number (message.Commit g) f = committing-later g f
   sent-commits-later to number (message.CommitPrepared g) f = tt
   sent-commits-later to number (message.Abort g) f = tt
   sent-commits-later to number (message.Forget g) f = tt
-  sent-commits-later to number (message.Exec g c level x h y) f = tt
+  sent-commits-later to number (message.Exec g c level x h y) f = executing-later g c f
   sent-commits-later to number (message.Answer g r) f = tt
   sent-commits-later to number (message.Collect round) f = tt
   sent-commits-later to number (message.Graph round graph) f = tt

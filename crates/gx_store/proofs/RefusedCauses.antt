@@ -26,7 +26,7 @@ use Rattle.gx_store.specs.declared.run.Step.{Step}
 use Rattle.gx_store.specs.Messages.{HasReceived, Receives, ReceivesAt}
 use Rattle.gx_store.specs.Points.{Point, before}
 use Rattle.gx_store.specs.Protocol.{CommitsAlone, CommitsAsPromised, CommitsThere, Decides, FailsThere, FaultsThere, IsDone, IsExecuted, IsReturned, Promises}
-use Rattle.gx_store.specs.RefusedCauses.{alone, asked_alone, asked_before_commit, asked_unwritten, at_three, done_unexecuted, failed_unasked, failed_undecided, marked_unexecuted, one_update, one_writer, SkipsElsewhere, said_unasked, skipped_elsewhere, told_at_once, told_early, told_undone, two_rows, written_behind_commit, written_behind_decision}
+use Rattle.gx_store.specs.RefusedCauses.{alone, asked_alone, asked_before_commit, asked_unwritten, at_three, done_unexecuted, failed_unasked, failed_undecided, marked_unexecuted, one_update, one_writer, SkipsElsewhere, said_unasked, sent_behind_answer, sent_behind_prepare, skipped_elsewhere, told_at_once, told_early, told_undone, two_rows, written_behind_commit, written_behind_decision}
 use Rattle.gx_store.specs.RefusedCommits.{BreaksProtocol, two_writers}
 use Rattle.gx_store.specs.Marks.{is_same_session}
 use Rattle.gx_store.specs.RefusedParts.{anna, empty_block, first_cid, first_txn, nth_row, other_segment, the_segment}
@@ -208,3 +208,10 @@ causes-aborted script h = nothing-comes _ (event.Resume the_segment first_txn) t
 
 pub causes-forgotten : (script : Script) → BreaksProtocol (empty_block script) (said_unasked reply.Forgotten)
 causes-forgotten script h = nothing-comes _ (event.Resume the_segment first_txn) the_coordinator the_segment (message.Forget first_txn) tt h.1.0.0
+
+-- A COMMAND IN ITS TIME
+pub causes-prepared : (script : Script) (table : Table) (one other : List Expr) (s : Snapshot) (row more : List Value) → BreaksProtocol (alone script table one other) (sent_behind_prepare table s row more)
+causes-prepared script table one other s row more h = clash true refl h.1.1.1.1.1.0.0.unasked
+
+pub causes-answered : (script : Script) (table : Table) (tuple : List Expr) (s : Snapshot) (row : List Value) → BreaksProtocol (one_writer script table tuple) (sent_behind_answer table s row)
+causes-answered script table tuple s row h = let c = h.1.1.1.1.0.0 in none-under-way (is_same_session anna c.session) c.runs.runs.line.started

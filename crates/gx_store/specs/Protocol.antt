@@ -21,10 +21,10 @@ use Rattle.gx_store.specs.declared.answer.StmtAnswer.TheVariants.{Refused}
 use Rattle.gx_store.specs.declared.mark.Mark.{Mark}
 use Rattle.gx_store.specs.declared.mark.Mark.TheVariants as mark
 use Rattle.gx_store.specs.declared.run.Step.{Step}
-use Rattle.gx_store.specs.Commands.{RunsCommand, RunsLine, state_at}
+use Rattle.gx_store.specs.Commands.{IsUnderWay, RunsCommand, RunsLine, state_at}
 use Rattle.gx_store.specs.Journals.{is_same_node}
 use Rattle.gx_store.specs.Lines.{may_commit, transaction_of}
-use Rattle.gx_store.specs.Marks.{is_committed, is_ended, is_same_gxid}
+use Rattle.gx_store.specs.Marks.{is_committed, is_committing, is_ended, is_same_gxid}
 use Rattle.gx_store.specs.Messages.{HasReceived, IsSent, Receives}
 use Rattle.gx_store.specs.Points.{Point, before}
 use Rattle.gx_store.specs.Refusals.{the_coordinator}
@@ -146,6 +146,14 @@ abbrev pub FailsThere : Script → Point → Node → Gxid → Type 0
 FailsThere script point node g = ((node ≡ the_coordinator) × Decides script (before point) g) ⊎ Promises point node g ⊎ CommitsThere point node g
 
 -- ORDERS
+-- EXEC is of a command under way, of a transaction that nobody was asked to prepare or to commit
+pub record IsToExecute (script : Script) (point : Point) (g : Gxid) (c : Cid) : Type 0 where
+  pub session : SessionId
+  pub line : Stmt
+  pub level : Level
+  pub runs : IsUnderWay script point session line level g c
+  pub unasked : is_committing (before point) g ≡ false
+
 -- PREPARE goes to a writer, of several, of a transaction that hasn't ended, that isn't decided, and that no segment has committed
 pub record IsToPrepare (script : Script) (marks : List Mark) (node : Node) (g : Gxid) : Type 0 where
   pub running : is_ended marks g ≡ false
@@ -229,6 +237,7 @@ FollowsAt script node point (mark.Sent to number (message.Answer g (reply.Done c
 FollowsAt script node point (mark.Sent to number (message.Answer g (reply.Failed c reason))) = IsExecuted point g c node
 FollowsAt script node point (mark.Sent to number (message.Answer g reply.Aborted)) = Receives point.steps point.event the_coordinator node (message.Abort g)
 FollowsAt script node point (mark.Sent to number (message.Answer g reply.Forgotten)) = Receives point.steps point.event the_coordinator node (message.Forget g)
+FollowsAt script node point (mark.Sent to number (message.Exec g c level snapshot horizon slice)) = IsToExecute script point g c
 FollowsAt script node point (mark.Sent to number (message.Prepare g)) = IsToPrepare script (before point) to g × IsCommitting script point g
 FollowsAt script node point (mark.Sent to number (message.Commit g)) = IsToCommit (before point) to g × IsCommitting script point g
 FollowsAt script node point (mark.Sent to number (message.CommitPrepared g)) = IsToFinish (before point) to g

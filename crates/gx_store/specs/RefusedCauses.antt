@@ -185,6 +185,28 @@ abbrev pub told_early : Table → Snapshot → List Value → List Value → Lis
 told_early table snapshot one other =
     both_promise table snapshot one other ++ step_at the_coordinator 9 (event.Receive other_segment the_coordinator 2) (mark.Sent the_segment 3 (message.CommitPrepared first_txn) ∷ []) ∷ []
 
+-- A COMMAND IN ITS TIME
+-- it stands outside a block, and both its segments have written
+abbrev pub alone_writes : Table → Snapshot → List Value → List Value → List Step
+alone_writes table snapshot one other =
+    step_at the_coordinator 1 (event.Start anna)
+    (mark.Start first_txn anna ∷ mark.Snap first_txn first_cid snapshot ∷ mark.Sent the_segment 1 (insert_of table snapshot 1 one) ∷ mark.Sent other_segment 1 (insert_of table snapshot 2 other) ∷ [])
+    ∷ writes_there table 2 the_segment 1 one
+    ∷ writes_there table 2 other_segment 2 other ∷ []
+
+-- behind PREPARE it is sent once more
+abbrev pub sent_behind_prepare : Table → Snapshot → List Value → List Value → List Step
+sent_behind_prepare table snapshot one other =
+    alone_writes table snapshot one other
+    ++ step_at the_coordinator 3 (event.Receive the_segment the_coordinator 1) []
+    ∷ step_at the_coordinator 4 (event.Receive other_segment the_coordinator 1) (mark.Sent the_segment 2 (message.Prepare first_txn) ∷ mark.Sent other_segment 2 (message.Prepare first_txn) ∷ [])
+    ∷ step_at the_coordinator 5 (event.Resend the_segment (Some first_txn)) (mark.Sent the_segment 3 (insert_of table snapshot 1 one) ∷ []) ∷ []
+
+-- one of a block is sent once more behind its answer
+abbrev pub sent_behind_answer : Table → Snapshot → List Value → List Step
+sent_behind_answer table snapshot row = one_writes table snapshot row ++ step_at the_coordinator 5 (event.Resend the_segment (Some first_txn)) (mark.Sent the_segment 2 (insert_of table snapshot 1 row) ∷ []) ∷ []
+
+-- WORDS
 -- a segment says so that was told nothing
 abbrev pub said_unasked : Reply → List Step
 said_unasked told = block_begins ∷ unasked the_segment 2 (says told) ∷ []

@@ -114,7 +114,7 @@ committed_early table snapshot one other =
     ++ step_at the_coordinator 9 (event.Receive other_segment the_coordinator 2) (mark.Sent the_segment 3 (message.CommitPrepared first_txn) ∷ [])
     ∷ step_at the_segment 10 (event.Receive the_coordinator the_segment 3) (mark.LocalCommit the_segment first_txn ∷ []) ∷ []
 
--- a segment that has promised is sent a further command, and writes a row
+-- a segment that has promised is sent a further command, which is of no line under way, and writes a row
 abbrev pub written_late : Table → Snapshot → List Value → List Value → List Value → List Step
 written_late table snapshot one other late =
     both_promise table snapshot one other

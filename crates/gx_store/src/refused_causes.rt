@@ -7,7 +7,7 @@ ghost use Rattle.gx_ids.specs.declared.rid.Rid.{Rid as OneRid};
 ghost use Rattle.gx_msg.specs.declared.reply.Reply.TheVariants as reply;
 ghost use Rattle.gx_script.specs.declared.Script.{Script as OneScript};
 ghost use Rattle.gx_store.specs.declared.mark.Mark.TheVariants as mark;
-ghost use Rattle.gx_store.specs.RefusedCauses.{alone, asked_alone, asked_before_commit, asked_unwritten, at_three, done_unexecuted, failed_unasked, failed_undecided, marked_unexecuted, one_update, one_writer, SkipsElsewhere, said_unasked, skipped_elsewhere, told_at_once, told_early, told_undone, written_behind_commit, written_behind_decision};
+ghost use Rattle.gx_store.specs.RefusedCauses.{alone, asked_alone, asked_before_commit, asked_unwritten, at_three, done_unexecuted, failed_unasked, failed_undecided, marked_unexecuted, one_update, one_writer, SkipsElsewhere, said_unasked, sent_behind_answer, sent_behind_prepare, skipped_elsewhere, told_at_once, told_early, told_undone, written_behind_commit, written_behind_decision};
 ghost use Rattle.gx_store.specs.RefusedCommits.{BreaksProtocol, two_writers};
 ghost use Rattle.gx_store.specs.RefusedParts.{empty_block, first_cid, first_txn};
 ghost use Rattle.gx_tree.specs.declared.cond.Cond.{Cond as OneCond};
@@ -63,6 +63,14 @@ pub fn orders_go_to_whom_they_are_for()
         → BreaksProtocol (two_writers script table one other) (told_early table snapshot row more) }
     ensures alone { (script : OneScript) (table : OneTable) (tuple : List OneExpr) (snapshot : OneSnapshot) (row : List OneValue)
         → BreaksProtocol (one_writer script table tuple) (asked_alone table snapshot row) }
+{}
+
+/// A command is sent, also again, as long as its line is under way and nobody was asked to prepare its transaction.
+pub fn commands_go_out_in_time()
+    ensures prepared { (script : OneScript) (table : OneTable) (one other : List OneExpr) (snapshot : OneSnapshot) (row more : List OneValue)
+        → BreaksProtocol (alone script table one other) (sent_behind_prepare table snapshot row more) }
+    ensures answered { (script : OneScript) (table : OneTable) (tuple : List OneExpr) (snapshot : OneSnapshot) (row : List OneValue)
+        → BreaksProtocol (one_writer script table tuple) (sent_behind_answer table snapshot row) }
 {}
 
 /// No segment says that it has aborted or forgotten what it wasn't told to.
