@@ -20,7 +20,6 @@ use Rattle.gx_dtx.specs.declared.txn.Txn.{Txn}
 use Rattle.gx_msg.specs.declared.message.Message.{Message}
 use Rattle.gx_msg.specs.declared.message.Message.TheVariants as message
 use Rattle.gx_msg.specs.declared.message.Out.{Out}
-use Rattle.gx_msg.specs.declared.reply.Reply.TheVariants as reply
 use Rattle.gx_script.specs.declared.Script.{Script}
 use Rattle.gx_script.specs.declared.state.Block.{Block}
 use Rattle.gx_script.specs.declared.state.Block.TheVariants as block
@@ -32,15 +31,15 @@ use Rattle.gx_store.specs.declared.mark.Mark.TheVariants as mark
 use Rattle.gx_store.specs.declared.node.NodeEvent.{NodeEvent}
 use Rattle.gx_store.specs.declared.node.NodeEvent.TheVariants as here
 use Rattle.gx_store.specs.declared.run.Step.{Step}
-use Rattle.gx_store.specs.Commands.{IsUnderWay, RunsCommand, state_at}
-use Rattle.gx_store.specs.Lines.{BlockState, level_of, may_commit, stmt_of, transaction_of}
+use Rattle.gx_store.specs.Commands.{IsUnderWay, RunsCommand, RunsLine, state_at}
+use Rattle.gx_store.specs.Lines.{BlockState, cid_of, is_command, level_of, may_commit, stmt_of, transaction_of}
 use Rattle.gx_store.specs.Marks.{answer_count, is_aborted, is_begun, is_committed, is_committing, is_ended, started_after}
 use Rattle.gx_store.specs.Lines.{state_of}
-use Rattle.gx_store.specs.Messages.{Receives}
+use Rattle.gx_store.specs.Messages.{HasReceived, Receives}
 use Rattle.gx_store.specs.Points.{Point, before, marks_in, starts_by, starts_in}
-use Rattle.gx_store.specs.Protocol.{IsCommitting, IsDispatched, IsReturned, IsSentBy, IsToExecute}
+use Rattle.gx_store.specs.Protocol.{GoesTo, IsCommitting, IsDispatched, IsReturned, IsSentBy, IsToExecute}
 use Rattle.gx_store.specs.Refusals.{the_coordinator}
-use Rattle.gx_rules.specs.AtCoordinator.{cancel_turn, cancels, coord_turn, on_event}
+use Rattle.gx_rules.specs.AtCoordinator.{cancel_turn, cancels, command_answer, coord_turn, on_event}
 use Rattle.gx_rules.specs.AtSegment as segment
 use Rattle.gx_rules.specs.AtSegment.{seg_rule}
 use Rattle.gx_rules.specs.Coordinators.{Command, CoordTurn, Session, Work, session_of, work_of}
@@ -56,6 +55,7 @@ use Rattle.gx_law_order.proofs.Complete.{Came, IsBack, Replied, SentBack, StepBa
 use Rattle.gx_law_order.proofs.Counts.{NoSent}
 use Rattle.gx_law_order.proofs.Events.{live-stage}
 use Rattle.gx_law_order.proofs.Everywhere.{Holds, does-it, fol-no-sent, follows-no-sent, parts_in, resumed-does}
+use Rattle.gx_law_order.proofs.Gathers.{GathersIn, HeardNow, gathered-back, gathered-is, gathers-weaker}
 use Rattle.gx_law_order.proofs.Handled.{Follows, Tells}
 use Rattle.gx_law_order.proofs.Later.{commit-more, each-contained, no-orders}
 use Rattle.gx_law_order.proofs.Lists.{Each, each_append, each_weaker}
@@ -71,6 +71,7 @@ use Rattle.gx_law_order.proofs.Statuses.Stage.{Closing, Live as LiveStage}
 use Rattle.gx_law_order.proofs.Unasked.{ArePosted, committing-append, live-unasked}
 use Rattle.gx_law_order.proofs.Ways.{AsksFor, CommandOf, Led, SaidOut, stands_for}
 use Rattle.gx_law_order.proofs.World.{Knows}
+use Rattle.gx_law_order.specs.Alive.{IsHeard}
 use Rattle.gx_law_order.specs.Followed.{CommitsAt, DoMarksCommit, DoStepsCommit}
 use Rattle.gx_law_order.specs.Said.{gxid_in}
 use Rattle.gx_law_order.specs.Standing.{AreSessions, IsLineOf, IsStanding, Owns, Stands, is_alone, state_in, waits}
@@ -107,8 +108,12 @@ get-split (z ∷ xs) x y (suc k) e = by_part (get-split xs x y k e)
     by_part (inl q) = inl q
     by_part (inr q) = inr (ap suc q.0, q.1)
 
+-- what commands have gathered so far was heard
+abbrev pub AreGathering : Script → World → Type 0
+AreGathering script w = (j : ℕ) → GathersIn script (IsHeard w.steps) (gx j) (w.coord.works j).command
+
 -- AT A SENDING of the coordinator's last step
-module _ (script : Script) (v : World) (k : Knows script v) (h : Holds script v) (r : Replied script v) (s : AreSessions script v) (posted : ArePosted v) (steps : List Step) (step : Step) (own : step.stamp.node ≡ the_coordinator) (all : v.steps ≡ steps ++ step ∷ []) where
+module _ (script : Script) (v : World) (k : Knows script v) (h : Holds script v) (r : Replied script v) (s : AreSessions script v) (posted : ArePosted v) (gathers : AreGathering script v) (steps : List Step) (step : Step) (own : step.stamp.node ≡ the_coordinator) (all : v.steps ≡ steps ++ step ∷ []) where
   module _ (earlier later : List Mark) (m : Mark) (marks : step.marks ≡ earlier ++ m ∷ later) (calm : (j : SessionId) → Each (CalmFor j) (m ∷ later)) where
     abbrev point : Point
     point = record { steps = steps; event = step.event; earlier = earlier; later = later }
@@ -131,33 +136,26 @@ module _ (script : Script) (v : World) (k : Knows script v) (h : Holds script v)
         }
 
     -- WHAT WAS SENT
-    came-there : (i g n : ℕ) → Came v.steps i g n → IsReturned point (gx g) (record { 0 = n }) (at i)
-    came-there i g n c = by_place (get-split steps step c.step c.place (subst (λ (q : List Step). slice_get q c.place ≡ Some c.step) all c.there))
+    heard-there : (from : Node) (told : Message) (place : ℕ) (there : Step) → slice_get v.steps place ≡ Some there → Receives (take place v.steps) there.event from the_coordinator told → HasReceived point from the_coordinator told
+    heard-there from told place there at received = by_place (get-split steps step there place (subst (λ (q : List Step). slice_get q place ≡ Some there) all at))
       where
-        told : Message
-        told = message.Answer (gx g) (reply.Done (record { 0 = n }) c.wrote c.count c.part)
+        got : Receives (take place (steps ++ step ∷ [])) there.event from the_coordinator told
+        got = subst (λ (q : List Step). Receives (take place q) there.event from the_coordinator told) all received
 
-        got : Receives (take c.place (steps ++ step ∷ [])) c.step.event (at i) the_coordinator told
-        got = subst (λ (q : List Step). Receives (take c.place q) c.step.event (at i) the_coordinator told) all c.received
+        by_place : (slice_get steps place ≡ Some there) ⊎ ((place ≡ length steps) × (there ≡ step)) → HasReceived point from the_coordinator told
+        by_place (inl q) = (place, inl (there, q, subst (λ (x : List Step). Receives x there.event from the_coordinator told) (take-kept steps (step ∷ []) place there q) got))
+        by_place (inr q) = (
+          length steps,
+          inr (
+            refl,
+            subst (λ (x : List Step). Receives x step.event from the_coordinator told) (take-length steps (step ∷ []))
+                (subst (λ (n : ℕ). Receives (take n (steps ++ step ∷ [])) step.event from the_coordinator told) q.0
+                (subst (λ (x : Step). Receives (take place (steps ++ step ∷ [])) x.event from the_coordinator told) q.1 got)),
+          ),
+        )
 
-        by_place : (slice_get steps c.place ≡ Some c.step) ⊎ ((c.place ≡ length steps) × (c.step ≡ step)) → IsReturned point (gx g) (record { 0 = n }) (at i)
-        by_place (inl q) =
-            record { wrote = c.wrote; count = c.count; part = c.part; received = (c.place, inl (c.step, q, subst (λ (x : List Step). Receives x c.step.event (at i) the_coordinator told) (take-kept steps (step ∷ []) c.place c.step q) got)) }
-        by_place (inr q) =
-            record {
-              wrote = c.wrote;
-              count = c.count;
-              part = c.part;
-              received = (
-                length steps,
-                inr (
-                  refl,
-                  subst (λ (x : List Step). Receives x step.event (at i) the_coordinator told) (take-length steps (step ∷ []))
-                      (subst (λ (n : ℕ). Receives (take n (steps ++ step ∷ [])) step.event (at i) the_coordinator told) q.0
-                      (subst (λ (x : Step). Receives (take c.place (steps ++ step ∷ [])) x.event (at i) the_coordinator told) q.1 got)),
-                ),
-              );
-            }
+    came-there : (i g n : ℕ) → Came v.steps i g n → IsReturned point (gx g) (record { 0 = n }) (at i)
+    came-there i g n c = record { wrote = c.wrote; count = c.count; part = c.part; received = heard-there (at i) _ c.place c.step c.there c.received }
 
     steps-back : Each (StepBack v.coord v.steps) steps × Each (StepBack v.coord v.steps) (step ∷ [])
     steps-back = each-parts (StepBack v.coord v.steps) steps (step ∷ []) (subst (λ (q : List Step). Each (StepBack v.coord v.steps) q) all r.back)
@@ -315,9 +313,31 @@ module _ (script : Script) (v : World) (k : Knows script v) (h : Holds script v)
           let same : g ≡ g2 = some-same g g2 (sym is ∙ runs.transaction) in
           subst (λ (x : Gxid). IsReturned point x c node) same (returns c node (subst (λ (x : Gxid). IsBack v.coord v.steps node.0 x.0 c.0) (sym same) (back-there g2 c node sent)))
 
+      -- what its command has gathered is all
+      none-left : (m : Command) → w.command ≡ Some m → m.awaited ≡ []
+      none-left m e = by_list m.awaited refl
+        where
+          by_list : (xs : List Node) → m.awaited ≡ xs → m.awaited ≡ []
+          by_list [] q = q
+          by_list (x ∷ xs) q = absurd (not-live (stage_of v.coord g.0) closing (tied.awaits m e (λ z. some-none (sym q ∙ z))).0)
+            where
+              some-none : (x ∷ xs) ≡ [] → ⊥
+              some-none z = cc
+
+      gathered-there : (m : Command) → w.command ≡ Some m → (node : Node) → GoesTo script g m.cid m.stmt node → IsReturned point g m.cid node
+      gathered-there m e =
+          gathered-back script point g m.cid m.stmt (command_answer m m.stmt)
+          (gathered-is script steps step.event earlier later g m
+          (gathers-weaker script (IsHeard v.steps) (HeardNow steps step.event) g (Some m) (λ from told x. heard-there from told x.place x.step x.at x.is) (subst (GathersIn script (IsHeard v.steps) g) e (gathers g.0))) (none-left m e))
+
+      -- the line is this one, and COMMIT is no command
+      is-line : (line other : Stmt) (level : Level) (g2 : Gxid) (c : Cid) → RunsLine script point j line → RunsCommand script point j other level g2 c → line ≡ other
+      is-line line other level g2 c x y = some-same line other (sym x.line ∙ y.line.line)
+
       -- its line
-      commits-with : (line : Stmt) (n : ℕ) (b : BlockState) (u : Bool) → (a : AtLine script steps step.event j line n b u (Some g) earlier) → has_txn b u ≡ true → may_commit b line ≡ true → IsCommitting script point g
-      commits-with line n b u a has may =
+      commits-with : (line : Stmt) (n : ℕ) (b : BlockState) (u : Bool) → (a : AtLine script steps step.event j line n b u (Some g) earlier) → has_txn b u ≡ true → may_commit b line ≡ true
+          → ((node : Node) → is_command b line ≡ true → GoesTo script g (cid_of b) line node → IsReturned point g (cid_of b) node) → IsCommitting script point g
+      commits-with line n b u a has may returned =
           let is = transaction-is script steps step.event j line n b u (Some g) earlier a later g has refl in
           record {
             session = j;
@@ -326,7 +346,19 @@ module _ (script : Script) (v : World) (k : Knows script v) (h : Holds script v)
             transaction = is;
             committing = subst (λ q. may_commit q line ≡ true) (sym a.said.state) may;
             done = done is;
+            planned = planned;
           }
+        where
+          planned : (other : Stmt) (level : Level) (g2 : Gxid) (c : Cid) (node : Node) → RunsCommand script point j other level g2 c → GoesTo script g2 c other node → IsReturned point g2 c node
+          planned other level g2 c node r goes =
+              let same-line : line ≡ other = is-line line other level g2 c (runs-line script steps step.event j line n b u (Some g) earlier a later) r in
+              let same-gxid : g ≡ g2 = some-same g g2 (sym (transaction-is script steps step.event j line n b u (Some g) earlier a later g has refl) ∙ r.transaction) in
+              let same-cid : c ≡ cid_of b = r.number ∙ ap cid_of a.said.state in
+              subst (λ (x : Cid). IsReturned point g2 x node) (sym same-cid)
+              (subst (λ (x : Gxid). IsReturned point x (cid_of b) node) same-gxid
+              (returned node (subst (λ (x : Stmt). is_command b x ≡ true) (sym same-line) (subst (λ q. is_command q other ≡ true) a.said.state r.command))
+              (subst (λ (x : Stmt). GoesTo script g (cid_of b) x node) (sym same-line)
+              (subst (λ (x : Gxid). GoesTo script x (cid_of b) other node) (sym same-gxid) (subst (λ (x : Cid). GoesTo script g2 x other node) same-cid goes)))))
 
       same-txn : session.transaction ≡ g
       same-txn = ap (λ n. gx n) (tied.closing closing).0
@@ -345,7 +377,7 @@ module _ (script : Script) (v : World) (k : Knows script v) (h : Holds script v)
             said = said-there j (answer_count j marks-now) (state_in (block.Open level) st.commands) (is_alone (block.Open level) pending.Commit) (Some g) (record { answered = refl; state = st.state; begun = st.begun; started = o.0.started });
             starts = sym lines-are ∙ sym st.answered;
             is_line = ap (λ y. stmt_of j y script.lines) st.answered ∙ o.1.1;
-          }) refl refl
+          }) refl refl (λ node q goes. absurd (cc))
       by_place block.Outside pending.Command q st = by_out (st.owns refl).1
         where
           by_out : IsLineOf script j session.lines block.Outside st.commands w pending.Command → IsCommitting script point g
@@ -356,6 +388,7 @@ module _ (script : Script) (v : World) (k : Knows script v) (h : Holds script v)
                 starts = sym lines-are ∙ sym st.answered;
                 is_line = ap (λ y. stmt_of j y script.lines) st.answered ∙ out.2;
               }) refl out.3
+              (λ node q goes. subst (λ (x : Cid). IsReturned point g x node) out.4 (gathered-there out.0 out.1 node (subst (λ (x : Cid). GoesTo script g x out.0.stmt node) (sym out.4) goes)))
           by_out (inr held) = absurd (not-live (stage_of v.coord g.0) closing (tied.waits held.0 held.1).0)
       by_place b p q st = absurd (cc)
 
@@ -439,10 +472,10 @@ commit-push script before (x ∷ ss) s e h = (e.0, commit-push script (before ++
 -- by an event of the coordinator
 pub turn-commits : (script : Script) (w : World) → Knows script w → Holds script w → (e : Event) (x : NodeEvent) (fails : Bool) → DoStepsCommit script [] w.steps
     → Knows script (coord_did w e (coord_turn script w.coord x fails)) → Holds script (coord_did w e (coord_turn script w.coord x fails)) → Replied script (coord_did w e (coord_turn script w.coord x fails)) → AreSessions script (coord_did w e (coord_turn script w.coord x fails))
-    → ArePosted (coord_did w e (coord_turn script w.coord x fails)) → Led script (parts_in w) w.coord (marks_in w.steps) (on_event script w.coord x fails) → DoStepsCommit script [] (coord_did w e (coord_turn script w.coord x fails)).steps
-turn-commits script w n v e x fails p n2 v2 r2 s2 posted f =
+    → ArePosted (coord_did w e (coord_turn script w.coord x fails)) → AreGathering script (coord_did w e (coord_turn script w.coord x fails)) → Led script (parts_in w) w.coord (marks_in w.steps) (on_event script w.coord x fails) → DoStepsCommit script [] (coord_did w e (coord_turn script w.coord x fails)).steps
+turn-commits script w n v e x fails p n2 v2 r2 s2 posted gathers f =
     commit-push script [] w.steps step p
-    (marks-commit script next n2 v2 r2 s2 posted w.steps step refl refl [] turn.marks turn.coord.sent turn.outs refl (fol-no-sent script (marks_in w.steps) turn.marks f.way.fol)
+    (marks-commit script next n2 v2 r2 s2 posted gathers w.steps step refl refl [] turn.marks turn.coord.sent turn.outs refl (fol-no-sent script (marks_in w.steps) turn.marks f.way.fol)
     (each_weaker (SaidOut script (parts_in w) turn.coord (marks_in w.steps ++ turn.marks)) (λ (o : Out). AsksFor next.coord o.node.0 o.message) (λ o q. asks o.node.0 o.message q.2) turn.outs f.outs))
   where
     turn : CoordTurn

@@ -135,17 +135,22 @@ module _ (script : Script) (steps : List Step) (event : Event) (earlier later mo
       by_part (inl x) = inr x
       by_part (inr x) = absurd (order (each-contained NoOrder more (mark.Sent node number m) quiet x))
 
+  runs-before : (s : SessionId) (line : Stmt) (level : Level) (g : Gxid) (c : Cid) → RunsCommand script longer s line level g c → RunsCommand script first s line level g c
+  runs-before s line level g c r = record { line = record { started = r.line.started; line = r.line.line }; command = r.command; transaction = r.transaction; number = r.number; isolation = r.isolation }
+
+  runs-behind : (s : SessionId) (line : Stmt) (level : Level) (g : Gxid) (c : Cid) → RunsCommand script first s line level g c → RunsCommand script longer s line level g c
+  runs-behind s line level g c r = record { line = record { started = r.line.started; line = r.line.line }; command = r.command; transaction = r.transaction; number = r.number; isolation = r.isolation }
+
+  returned-later : (g : Gxid) (c : Cid) (node : Node) → IsReturned first g c node → IsReturned longer g c node
+  returned-later g c node y = record { wrote = y.wrote; count = y.count; part = y.part; received = y.received }
+
   abbrev IsWhole : SessionId → Point → Type 0
   IsWhole s point = (line : Stmt) (level : Level) (g : Gxid) (c : Cid) (node : Node) → RunsCommand script point s line level g c → IsDispatched point g c node → IsReturned point g c node
 
   whole-later : (s : SessionId) → IsWhole s first → IsWhole s longer
-  whole-later s f line level g c node r d = back (f line level g c node runs (record { number = d.number; level = d.level; snapshot = d.snapshot; horizon = d.horizon; slice = d.slice; sent = sent-before node d.number (message.Exec g c d.level d.snapshot d.horizon d.slice) (λ z. z) d.sent }))
-    where
-      runs : RunsCommand script first s line level g c
-      runs = record { line = record { started = r.line.started; line = r.line.line }; command = r.command; transaction = r.transaction; number = r.number; isolation = r.isolation }
-
-      back : IsReturned first g c node → IsReturned longer g c node
-      back y = record { wrote = y.wrote; count = y.count; part = y.part; received = y.received }
+  whole-later s f line level g c node r d =
+      returned-later g c node
+      (f line level g c node (runs-before s line level g c r) (record { number = d.number; level = d.level; snapshot = d.snapshot; horizon = d.horizon; slice = d.slice; sent = sent-before node d.number (message.Exec g c d.level d.snapshot d.horizon d.slice) (λ z. z) d.sent }))
 
   complete-later : (s : SessionId) (a : StmtAnswer) → IsComplete script first s a → IsComplete script longer s a
   complete-later s (told.Refused reason) f = tt
@@ -171,18 +176,11 @@ module _ (script : Script) (steps : List Step) (event : Event) (earlier later mo
         transaction = e.transaction;
         committing = e.committing;
         done = whole-later e.session e.done;
+        planned = λ line level g2 c node r goes. returned-later g2 c node (e.planned line level g2 c node (runs-before e.session line level g2 c r) goes);
       }
 
   executing-later : (g : Gxid) (c : Cid) → IsToExecute script first g c → IsToExecute script longer g c
-  executing-later g c e =
-      let r = e.runs.runs in
-      record {
-        session = e.session;
-        line = e.line;
-        level = e.level;
-        runs = record { runs = record { line = record { started = r.line.started; line = r.line.line }; command = r.command; transaction = r.transaction; number = r.number; isolation = r.isolation }; running = e.runs.running };
-        unasked = e.unasked;
-      }
+  executing-later g c e = record { session = e.session; line = e.line; level = e.level; runs = record { runs = runs-behind e.session e.line e.level g c e.runs.runs; running = e.runs.running }; unasked = e.unasked }
 
   sent-commits-later : (to : Node) (number : ℕ) (m : Message) → CommitsAt script first (mark.Sent to number m) → CommitsAt script longer (mark.Sent to number m)
   sent-commits-later to number (message.Prepare g) f = committing-later g f

@@ -1,7 +1,7 @@
 -- Why nothing comes without its cause.
 use Rattle.std.proofs.Common.{◌≡◌, ◌⊎◌, inl, inr, ℕ, zero, suc, ◌+◌, List, [], ◌∷◌, None, Some, Option, Bool, true, false, if◌then◌else◌, refl, sym, subst, ap, arith}
 use Rattle.std.proofs.lemmas.Bool.{eqb-true}
-use Rattle.std.specs.Prelude.{slice_get, take}
+use Rattle.std.specs.Prelude.{Contains, map, slice_get, take}
 use Rattle.gx_ids.specs.declared.ids.Cid.{Cid}
 use Rattle.gx_ids.specs.declared.ids.Gxid.{Gxid}
 use Rattle.gx_ids.specs.declared.ids.Node.{Node}
@@ -10,14 +10,20 @@ use Rattle.gx_ids.specs.declared.ids.Table.{Table}
 use Rattle.gx_ids.specs.declared.rid.Rid.{Rid}
 use Rattle.gx_tree.specs.declared.cond.Cond.{Cond}
 use Rattle.gx_tree.specs.declared.expr.Expr.{Expr}
+use Rattle.gx_tree.specs.declared.schema.Dist.{Dist}
+use Rattle.gx_tree.specs.declared.schema.Dist.TheVariants.{By, Randomly}
 use Rattle.gx_tree.specs.declared.slice.Slice.TheVariants as slice
 use Rattle.gx_tree.specs.declared.stmt.Assign.{Assign}
 use Rattle.gx_tree.specs.declared.stmt.Level.TheVariants.{ReadCommitted}
+use Rattle.gx_tree.specs.declared.stmt.Stmt.TheVariants as stmt
 use Rattle.gx_tree.specs.declared.value.Value.{Value}
 use Rattle.gx_dsnap.specs.declared.snapshot.Snapshot.{Snapshot}
 use Rattle.gx_msg.specs.declared.message.Message.{Message}
 use Rattle.gx_msg.specs.declared.message.Message.TheVariants as message
 use Rattle.gx_msg.specs.declared.reply.Reply.TheVariants as reply
+use Rattle.gx_meaning.specs.Plan.{pieces}
+use Rattle.gx_meaning.specs.Target.{target_of}
+use Rattle.gx_meaning.specs.declared.piece.Piece.{Piece}
 use Rattle.gx_script.specs.declared.Script.{Script}
 use Rattle.gx_store.specs.declared.event.Event.{Event}
 use Rattle.gx_store.specs.declared.event.Event.TheVariants as event
@@ -25,12 +31,13 @@ use Rattle.gx_store.specs.declared.mark.Mark.TheVariants as mark
 use Rattle.gx_store.specs.declared.run.Step.{Step}
 use Rattle.gx_store.specs.Messages.{HasReceived, Receives, ReceivesAt}
 use Rattle.gx_store.specs.Points.{Point, before}
-use Rattle.gx_store.specs.Protocol.{CommitsAlone, CommitsAsPromised, CommitsThere, Decides, FailsThere, FaultsThere, IsDone, IsExecuted, IsReturned, Promises}
-use Rattle.gx_store.specs.RefusedCauses.{alone, asked_alone, asked_before_commit, asked_unwritten, at_three, done_unexecuted, failed_unasked, failed_undecided, marked_unexecuted, one_update, one_writer, SkipsElsewhere, said_unasked, sent_behind_answer, sent_behind_prepare, skipped_elsewhere, told_at_once, told_early, told_undone, two_rows, written_behind_commit, written_behind_decision}
+use Rattle.gx_store.specs.Protocol.{CommitsAlone, CommitsAsPromised, CommitsThere, Decides, FailsThere, FaultsThere, IsDone, IsDoneAsPlanned, IsExecuted, IsReturned, Promises}
+use Rattle.gx_store.specs.RefusedCauses.{alone, asked_alone, asked_before_commit, asked_unwritten, at_three, done_unexecuted, failed_unasked, failed_undecided, marked_unexecuted, one_update, one_writer, SkipsElsewhere, said_unasked, sent_behind_answer, sent_behind_prepare, skipped_elsewhere, told_at_once, told_early, told_half_sent, told_undone, two_rows, written_behind_commit, written_behind_decision}
 use Rattle.gx_store.specs.RefusedCommits.{BreaksProtocol, two_writers}
 use Rattle.gx_store.specs.Marks.{is_same_session}
 use Rattle.gx_store.specs.RefusedParts.{anna, empty_block, first_cid, first_txn, nth_row, other_segment, the_segment}
 use Rattle.gx_store.specs.Refusals.{the_coordinator}
+use Rattle.gx_store.specs.Writes.{dist_of}
 use Rattle.gx_store.proofs.RefusedParts.{clash, no-more}
 
 one-zero : {n : ℕ} → n ≡ 0 → n ≡ 1 → ⊥
@@ -181,11 +188,17 @@ zero-two e f = omega arith
 one-two : {n : ℕ} → n ≡ 1 → n ≡ 2 → ⊥
 one-two e f = omega arith
 
+-- whose transaction is on its way to a commit, where its line is that of anna
+abbrev session_at : ℕ → SessionId
+session_at n = record { 0 = n }
+
+is-anna : (session : SessionId) → ((if is_same_session anna session then 1 else 0) + (0 + 0)) + 0 ≡ 0 + 1 → session ≡ anna
+is-anna session e = ap session_at (sym (eqb-true anna.0 session.0 (its-session (is_same_session anna session) e)))
+
 pub causes-before-done : (script : Script) (table : Table) (one other : List Expr) (s : Snapshot) (row more : List Value) → BreaksProtocol (alone script table one other) (told_undone table s row more)
 causes-before-done script table one other s row more h =
     let c = h.1.1.0.0.1 in
-    let same : c.session ≡ anna = ap (λ n. session_at n) (sym (eqb-true anna.0 c.session.0 (its-session (is_same_session anna c.session) c.runs.started))) in
-    let done = subst (λ (x : SessionId). IsDone (alone script table one other) _ x) same c.done in
+    let done = subst (λ (x : SessionId). IsDone (alone script table one other) _ x) (is-anna c.session c.runs.started) c.done in
     unreturned first_txn first_cid (tt, (λ e. zero-two refl e, tt)) (λ e. one-two refl e)
     (done (two_rows table one other) ReadCommitted first_txn first_cid other_segment (record { line = record { started = refl; line = refl }; command = refl; transaction = refl; number = refl; isolation = refl })
     (record {
@@ -196,9 +209,19 @@ causes-before-done script table one other s row more h =
       slice = slice.Insert table (record { rid = nth_row first_txn 2; row = more } ∷ []);
       sent = inl (record { step = 0; mark = 3; sending = record { sender = _; at = refl; node = refl; sent = refl } });
     }))
-  where
-    session_at : ℕ → SessionId
-    session_at n = record { 0 = n }
+
+-- an UPDATE of all rows goes to the other segment too
+goes-second : (table : Table) (assigns : List Assign) (dist : Dist) → Contains (map (λ (p : Piece). p.node) (pieces 2 (target_of 2 dist None) (slice.Update table assigns None))) other_segment
+goes-second table assigns (By column) = (1, omega arith, refl)
+goes-second table assigns Randomly = (1, omega arith, refl)
+
+pub causes-half-sent : (script : Script) (table : Table) (assigns : List Assign) (s : Snapshot) (rid : Rid) (row : List Value) → BreaksProtocol (one_update script table assigns None) (told_half_sent table assigns s rid row)
+causes-half-sent script table assigns s rid row h =
+    let c = h.1.1.0.0.1 in
+    let planned = subst (λ (x : SessionId). IsDoneAsPlanned (one_update script table assigns None) _ x) (is-anna c.session c.runs.started) c.planned in
+    unreturned first_txn first_cid (tt, (λ e. zero-two refl e, tt)) (λ e. one-two refl e)
+    (planned (stmt.Update table assigns None) ReadCommitted first_txn first_cid other_segment (record { line = record { started = refl; line = refl }; command = refl; transaction = refl; number = refl; isolation = refl })
+    (record { table = table; of = refl; pieces = pieces 2 (target_of 2 (dist_of script.tables table.0) None) (slice.Update table assigns None); plan = refl; among = goes-second table assigns (dist_of script.tables table.0) }))
 
 pub causes-early : (script : Script) (table : Table) (one other : List Expr) (s : Snapshot) (row more : List Value) → BreaksProtocol (two_writers script table one other) (told_early table s row more)
 causes-early script table one other s row more h = one-zero refl h.1.1.1.1.1.1.1.1.1.1.0.0.decided

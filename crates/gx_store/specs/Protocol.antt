@@ -1,9 +1,10 @@
 -- How transactions commit and abort over several segments (Lyu et al., SIGMOD 2021: one- and two-phase commit).
-use Rattle.std.specs.Prelude.{◌≡◌, ◌⊎◌, ℕ, ◌+◌, Bool, true, false, if◌then◌else◌, ◌&&◌, ◌||◌, List, [], ◌∷◌, ◌++◌, slice_get, take, filter, None, Some, Contains}
+use Rattle.std.specs.Prelude.{◌≡◌, ◌⊎◌, ℕ, ◌+◌, Bool, true, false, if◌then◌else◌, ◌&&◌, ◌||◌, List, [], ◌∷◌, ◌++◌, slice_get, take, filter, map, None, Some, Ok, Contains}
 use Rattle.gx_ids.specs.declared.ids.Cid.{Cid}
 use Rattle.gx_ids.specs.declared.ids.Gxid.{Gxid}
 use Rattle.gx_ids.specs.declared.ids.Node.{Node}
 use Rattle.gx_ids.specs.declared.ids.SessionId.{SessionId}
+use Rattle.gx_ids.specs.declared.ids.Table.{Table}
 use Rattle.gx_tree.specs.declared.part.Part.{Part}
 use Rattle.gx_tree.specs.declared.slice.Slice.{Slice}
 use Rattle.gx_tree.specs.declared.stmt.Level.{Level}
@@ -13,7 +14,9 @@ use Rattle.gx_dsnap.specs.declared.snapshot.Snapshot.{Snapshot}
 use Rattle.gx_msg.specs.declared.message.Message.{Message}
 use Rattle.gx_msg.specs.declared.message.Message.TheVariants as message
 use Rattle.gx_msg.specs.declared.reply.Reply.TheVariants as reply
-use Rattle.gx_meaning.specs.Plan.{nodes_from}
+use Rattle.gx_meaning.specs.Plan.{nodes_from, plan_of}
+use Rattle.gx_meaning.specs.Statements.{table_of}
+use Rattle.gx_meaning.specs.declared.piece.Piece.{Piece}
 use Rattle.gx_script.specs.declared.Script.{Script}
 use Rattle.std.specs.declared.option.Option.{Option}
 use Rattle.gx_store.specs.declared.answer.StmtAnswer.{StmtAnswer}
@@ -28,6 +31,7 @@ use Rattle.gx_store.specs.Marks.{is_committed, is_committing, is_ended, is_same_
 use Rattle.gx_store.specs.Messages.{HasReceived, IsSent, Receives}
 use Rattle.gx_store.specs.Points.{Point, before}
 use Rattle.gx_store.specs.Refusals.{the_coordinator}
+use Rattle.gx_store.specs.Writes.{dist_of}
 
 -- the transaction has written at the node
 abbrev pub is_writer : List Mark → Gxid → Node → Bool
@@ -196,17 +200,30 @@ pub record IsReturned (point : Point) (g : Gxid) (c : Cid) (node : Node) : Type 
   pub part : Part
   pub received : HasReceived point node the_coordinator (message.Answer g (reply.Done c wrote count part))
 
+-- the command's plan has a piece for the node
+pub record GoesTo (script : Script) (g : Gxid) (c : Cid) (line : Stmt) (node : Node) : Type 0 where
+  pub table : Table
+  pub of : table_of line ≡ Some table
+  pub pieces : List Piece
+  pub plan : plan_of script.segments (dist_of script.tables table.0) g c line ≡ Ok pieces
+  pub among : Contains (map (λ piece. piece.node) pieces) node
+
 -- if the session's line is a command, every segment that it was sent to is done
 abbrev pub IsDone : Script → Point → SessionId → Type 0
 IsDone script point session =
     (line : Stmt) (level : Level) (g : Gxid) (c : Cid) (node : Node) → RunsCommand script point session line level g c → IsDispatched point g c node → IsReturned point g c node
+
+-- and so is every segment of its plan
+abbrev pub IsDoneAsPlanned : Script → Point → SessionId → Type 0
+IsDoneAsPlanned script point session =
+    (line : Stmt) (level : Level) (g : Gxid) (c : Cid) (node : Node) → RunsCommand script point session line level g c → GoesTo script g c line node → IsReturned point g c node
 
 -- a command that succeeds is answered once it is done
 abbrev pub IsComplete : Script → Point → SessionId → StmtAnswer → Type 0
 IsComplete script point session (Refused reason) = Unit {0}
 IsComplete script point session answer = IsDone script point session
 
--- the transaction is on its way to a commit: its line under way is COMMIT, or its one command, which is done
+-- the transaction is on its way to a commit: its line under way is COMMIT, or its one command, which is done at each segment of its plan
 pub record IsCommitting (script : Script) (point : Point) (g : Gxid) : Type 0 where
   pub session : SessionId
   pub line : Stmt
@@ -214,6 +231,7 @@ pub record IsCommitting (script : Script) (point : Point) (g : Gxid) : Type 0 wh
   pub transaction : transaction_of (state_at script session point) session (before point) ≡ Some g
   pub committing : may_commit (state_at script session point) line ≡ true
   pub done : IsDone script point session
+  pub planned : IsDoneAsPlanned script point session
 
 -- What each mark of a transaction's end stands behind: of promises, decisions, commits and aborts at the nodes and as a whole, and of a
 -- journal's failure in the place of one; that a segment writes, skips, faults and says so for a command that it has received, and writes

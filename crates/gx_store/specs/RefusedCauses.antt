@@ -1,9 +1,10 @@
 -- Small runs in which something comes without its cause: a write behind the end, a word without its command, a journal's failure with
 -- nothing to take, an order to whom it isn't for.
-use Rattle.std.specs.Prelude.{ℕ, false, List, [], ◌∷◌, ◌++◌, Some}
+use Rattle.std.specs.Prelude.{ℕ, true, false, List, [], ◌∷◌, ◌++◌, None, Some}
 use Rattle.std.specs.declared.option.Option.{Option}
 use Rattle.gx_ids.specs.declared.ids.Node.{Node}
 use Rattle.gx_ids.specs.declared.ids.Table.{Table}
+use Rattle.gx_ids.specs.declared.rid.Rid.{Rid}
 use Rattle.gx_tree.specs.declared.cond.Cond.{Cond}
 use Rattle.gx_tree.specs.declared.expr.Expr.{Expr}
 use Rattle.gx_tree.specs.declared.part.Part.TheVariants.{Rows}
@@ -178,6 +179,15 @@ told_undone table snapshot one other =
     step_at the_coordinator 1 (event.Start anna)
     (mark.Start first_txn anna ∷ mark.Snap first_txn first_cid snapshot ∷ mark.Sent the_segment 1 (insert_of table snapshot 1 one) ∷ mark.Sent other_segment 1 (insert_of table snapshot 2 other) ∷ [])
     ∷ writes_there table 2 the_segment 1 one
+    ∷ step_at the_coordinator 3 (event.Receive the_segment the_coordinator 1) (mark.Sent the_segment 2 (message.Commit first_txn) ∷ []) ∷ []
+
+-- of the two segments of its plan a command goes to one alone, which is told to commit once it is done
+abbrev pub told_half_sent : Table → List Assign → Snapshot → Rid → List Value → List Step
+told_half_sent table assigns snapshot rid row =
+    let told = message.Exec first_txn first_cid ReadCommitted (Some snapshot) first_txn (slice.Update table assigns None) in
+    step_at the_coordinator 1 (event.Start anna) (mark.Start first_txn anna ∷ mark.Snap first_txn first_cid snapshot ∷ mark.Sent the_segment 1 told ∷ [])
+    ∷ step_at the_segment 2 (event.Receive the_coordinator the_segment 1)
+    (mark.Write first_txn first_cid the_segment table rid (Some row) ∷ mark.Sent the_coordinator 1 (message.Answer first_txn (reply.Done first_cid true 1 (Rows []))) ∷ [])
     ∷ step_at the_coordinator 3 (event.Receive the_segment the_coordinator 1) (mark.Sent the_segment 2 (message.Commit first_txn) ∷ []) ∷ []
 
 -- a segment is told to commit as promised before it is decided

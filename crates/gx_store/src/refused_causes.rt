@@ -1,5 +1,5 @@
 //! Runs that don't follow the commit protocol since something comes without its cause: in each of them all but one thing is right.
-ghost use Rattle.std.specs.Prelude.{List};
+ghost use Rattle.std.specs.Prelude.{List, None};
 ghost use Rattle.std.specs.declared.option.Option.{Option as Maybe};
 ghost use Rattle.gx_dsnap.specs.declared.snapshot.Snapshot.{Snapshot as OneSnapshot};
 ghost use Rattle.gx_ids.specs.declared.ids.Table.{Table as OneTable};
@@ -7,7 +7,7 @@ ghost use Rattle.gx_ids.specs.declared.rid.Rid.{Rid as OneRid};
 ghost use Rattle.gx_msg.specs.declared.reply.Reply.TheVariants as reply;
 ghost use Rattle.gx_script.specs.declared.Script.{Script as OneScript};
 ghost use Rattle.gx_store.specs.declared.mark.Mark.TheVariants as mark;
-ghost use Rattle.gx_store.specs.RefusedCauses.{alone, asked_alone, asked_before_commit, asked_unwritten, at_three, done_unexecuted, failed_unasked, failed_undecided, marked_unexecuted, one_update, one_writer, SkipsElsewhere, said_unasked, sent_behind_answer, sent_behind_prepare, skipped_elsewhere, told_at_once, told_early, told_undone, written_behind_commit, written_behind_decision};
+ghost use Rattle.gx_store.specs.RefusedCauses.{alone, asked_alone, asked_before_commit, asked_unwritten, at_three, done_unexecuted, failed_unasked, failed_undecided, marked_unexecuted, one_update, one_writer, SkipsElsewhere, said_unasked, sent_behind_answer, sent_behind_prepare, skipped_elsewhere, told_at_once, told_early, told_half_sent, told_undone, written_behind_commit, written_behind_decision};
 ghost use Rattle.gx_store.specs.RefusedCommits.{BreaksProtocol, two_writers};
 ghost use Rattle.gx_store.specs.RefusedParts.{empty_block, first_cid, first_txn};
 ghost use Rattle.gx_tree.specs.declared.cond.Cond.{Cond as OneCond};
@@ -45,12 +45,14 @@ pub fn journals_fail_at_their_items()
     ensures undecided { (script : OneScript) → BreaksProtocol (empty_block script) failed_undecided }
 {}
 
-/// Nobody is asked to promise before COMMIT, nor told to commit before the one command is done.
+/// Nobody is asked to promise before COMMIT, nor told to commit before the one command is done at each segment of its plan.
 pub fn commits_have_their_line()
     ensures early { (script : OneScript) (table : OneTable) (one other : List OneExpr) (snapshot : OneSnapshot) (row more : List OneValue)
         → BreaksProtocol (two_writers script table one other) (asked_before_commit table snapshot row more) }
     ensures undone { (script : OneScript) (table : OneTable) (one other : List OneExpr) (snapshot : OneSnapshot) (row more : List OneValue)
         → BreaksProtocol (alone script table one other) (told_undone table snapshot row more) }
+    ensures unsent { (script : OneScript) (table : OneTable) (assigns : List OneAssign) (snapshot : OneSnapshot) (rid : OneRid) (row : List OneValue)
+        → BreaksProtocol (one_update script table assigns None) (told_half_sent table assigns snapshot rid row) }
 {}
 
 /// Nobody is asked to promise who hasn't written, of two writers none is told to commit at once, and none as promised before it is
