@@ -74,10 +74,10 @@ module _ (script : Script) (steps : List Step) (event : Event) (earlier later ne
   executed-later node g c e = record { level = e.level; snapshot = e.snapshot; horizon = e.horizon; slice = e.slice; received = e.received }
 
   promises-later : (n : Node) (g : Gxid) → Promises old n g → Promises now n g
-  promises-later n g e = record { told = e.told; writer = e.writer; first = e.first; uncommitted = e.uncommitted; uncommitted_there = e.uncommitted_there }
+  promises-later n g e = record { told = e.told; writer = e.writer; first = e.first; uncommitted = e.uncommitted; uncommitted_there = e.uncommitted_there; unfailed = e.unfailed }
 
   commits-later : (n : Node) (g : Gxid) → CommitsThere old n g → CommitsThere now n g
-  commits-later n g e = record { running = e.running; first = e.first; by = committed-by n g e.by }
+  commits-later n g e = record { running = e.running; first = e.first; unfailed = e.unfailed; by = committed-by n g e.by }
 
   faults-later : (node : Node) (g : Gxid) (c : Cid) (x : Option (List Value)) → FaultsThere old node g c x → FaultsThere now node g c x
   faults-later node g c x (inl e) = inl e

@@ -1,7 +1,7 @@
 -- Why nothing comes without its cause.
 use Rattle.std.proofs.Common.{◌≡◌, ◌⊎◌, inl, inr, ℕ, zero, suc, ◌+◌, List, [], ◌∷◌, None, Some, Option, Bool, true, false, if◌then◌else◌, refl, sym, subst, ap, arith}
 use Rattle.std.proofs.lemmas.Bool.{eqb-true}
-use Rattle.std.specs.Prelude.{Contains, map, slice_get, take}
+use Rattle.std.specs.Prelude.{Contains, map, slice_get}
 use Rattle.gx_ids.specs.declared.ids.Cid.{Cid}
 use Rattle.gx_ids.specs.declared.ids.Gxid.{Gxid}
 use Rattle.gx_ids.specs.declared.ids.Node.{Node}
@@ -32,9 +32,9 @@ use Rattle.gx_store.specs.declared.run.Step.{Step}
 use Rattle.gx_store.specs.Messages.{HasReceived, Receives, ReceivesAt}
 use Rattle.gx_store.specs.Points.{Point, before}
 use Rattle.gx_store.specs.Protocol.{CommitsAlone, CommitsAsPromised, CommitsThere, Decides, FailsThere, FaultsThere, IsDone, IsDoneAsPlanned, IsExecuted, IsReturned, Promises}
-use Rattle.gx_store.specs.RefusedCauses.{alone, asked_alone, asked_before_commit, asked_unwritten, at_three, done_unexecuted, failed_unasked, failed_undecided, marked_unexecuted, one_update, one_writer, SkipsElsewhere, said_unasked, sent_behind_answer, sent_behind_prepare, skipped_elsewhere, told_at_once, told_early, told_half_sent, told_undone, two_rows, written_behind_commit, written_behind_decision}
+use Rattle.gx_store.specs.RefusedCauses.{alone, asked_alone, asked_before_commit, asked_unwritten, at_three, committed_behind_failure, decided_behind_failure, done_unexecuted, failed_unasked, failed_undecided, faulted_behind_abort, marked_unexecuted, one_update, one_writer, SkipsElsewhere, said_unasked, sent_behind_answer, sent_behind_prepare, skipped_elsewhere, told_at_once, told_early, told_half_sent, told_undone, two_rows, written_behind_commit, written_behind_decision}
 use Rattle.gx_store.specs.RefusedCommits.{BreaksProtocol, two_writers}
-use Rattle.gx_store.specs.Marks.{is_same_session}
+use Rattle.gx_store.specs.Marks.{is_aborted, is_same_session}
 use Rattle.gx_store.specs.RefusedParts.{anna, empty_block, first_cid, first_txn, nth_row, other_segment, the_segment}
 use Rattle.gx_store.specs.Refusals.{the_coordinator}
 use Rattle.gx_store.specs.Writes.{dist_of}
@@ -58,27 +58,29 @@ NoReceipt _ = Unit {0}
 nothing-comes : (steps : List Step) (e : Event) (from to : Node) (m : Message) → NoReceipt e → Receives steps e from to m → ⊥
 nothing-comes steps e from to m n r = subst NoReceipt r.is n
 
-abbrev AreNoReceipts : List Step → Type 0
-AreNoReceipts [] = Unit {0}
-AreNoReceipts (s ∷ ss) = NoReceipt s.event × AreNoReceipts ss
+-- this is so of each event
+abbrev AreEvents : (Event → Type 0) → List Step → Type 0
+AreEvents P [] = Unit {0}
+AreEvents P (s ∷ ss) = P s.event × AreEvents P ss
 
-none-there : (steps : List Step) (k : ℕ) (step : Step) → AreNoReceipts steps → slice_get steps k ≡ Some step → NoReceipt step.event
-none-there [] k step n e = absurd (no-more k step e)
-none-there (s ∷ ss) zero step n e = subst (λ (x : Step). NoReceipt x.event) (same s step e) n.0
+event-there : (P : Event → Type 0) (steps : List Step) (k : ℕ) (step : Step) → AreEvents P steps → slice_get steps k ≡ Some step → P step.event
+event-there P [] k step n e = absurd (no-more k step e)
+event-there P (s ∷ ss) zero step n e = subst (λ (x : Step). P x.event) (same s step e) n.0
   where
     same : (a b : Step) → Some a ≡ Some b → a ≡ b
     same a b q = cc
-none-there (s ∷ ss) (suc k) step n e = none-there ss k step n.1 e
+event-there P (s ∷ ss) (suc k) step n e = event-there P ss k step n.1 e
 
-none-came : (point : Point) (from to : Node) (m : Message) → AreNoReceipts point.steps → NoReceipt point.event → HasReceived point from to m → ⊥
-none-came point from to m n e r = by_place r.1
+-- and so of no delivery of the message
+none-came : (P : Event → Type 0) (point : Point) (from to : Node) (m : Message) → AreEvents P point.steps → P point.event → ((number : ℕ) → P (event.Receive from to number) → ⊥) → HasReceived point from to m → ⊥
+none-came P point from to m n e none r = by_place r.1
   where
     by_place : ReceivesAt point r.0 from to m → ⊥
-    by_place (inl x) = nothing-comes (take r.0 point.steps) x.0.event from to m (none-there point.steps r.0 x.0 n x.1) x.2
-    by_place (inr x) = nothing-comes point.steps point.event from to m e x.1
+    by_place (inl x) = none x.2.number (subst P x.2.is (event-there P point.steps r.0 x.0 n x.1))
+    by_place (inr x) = none x.1.number (subst P x.1.is e)
 
-unexecuted : {point : Point} (g : Gxid) (c : Cid) (node : Node) → AreNoReceipts point.steps → NoReceipt point.event → IsExecuted point g c node → ⊥
-unexecuted {point = point} g c node n e x = none-came point the_coordinator node (message.Exec g c x.level x.snapshot x.horizon x.slice) n e x.received
+unexecuted : {point : Point} (g : Gxid) (c : Cid) (node : Node) → AreEvents NoReceipt point.steps → NoReceipt point.event → IsExecuted point g c node → ⊥
+unexecuted {point = point} g c node n e x = none-came NoReceipt point the_coordinator node (message.Exec g c x.level x.snapshot x.horizon x.slice) n e (λ number q. q) x.received
 
 pub causes-done : (script : Script) (table : Table) (assigns : List Assign) (cond : Option Cond) (s : Snapshot) → BreaksProtocol (one_update script table assigns cond) (done_unexecuted table assigns cond s)
 causes-done script table assigns cond s h = unexecuted first_txn first_cid the_segment (tt, tt) tt h.1.0.0
@@ -86,11 +88,11 @@ causes-done script table assigns cond s h = unexecuted first_txn first_cid the_s
 pub causes-skipped : (script : Script) (table : Table) (assigns : List Assign) (cond : Option Cond) (s : Snapshot) (rid : Rid) → BreaksProtocol (one_update script table assigns cond) (marked_unexecuted table assigns cond s (mark.Skip first_txn first_cid rid))
 causes-skipped script table assigns cond s rid h = unexecuted first_txn first_cid the_segment (tt, tt) tt h.1.0.0
 
-not-own : (P : Type 0) → (the_segment ≡ the_coordinator) × P → ⊥
-not-own P e = one-zero (ap (λ (n : Node). n.0) e.0) refl
+not-own : the_segment ≡ the_coordinator → ⊥
+not-own e = one-zero (ap (λ (n : Node). n.0) e) refl
 
-faulted-there : {point : Point} (rid : Rid) (image : Option (List Value)) → AreNoReceipts point.steps → NoReceipt point.event → FaultsThere point the_segment first_txn first_cid image → ⊥
-faulted-there rid image n e (inl own) = not-own _ own
+faulted-there : {point : Point} (rid : Rid) (image : Option (List Value)) → AreEvents NoReceipt point.steps → NoReceipt point.event → FaultsThere point the_segment first_txn first_cid image → ⊥
+faulted-there rid image n e (inl own) = not-own own.0
 faulted-there rid image n e (inr x) = unexecuted first_txn first_cid the_segment n e x
 
 pub causes-faulted : (script : Script) (table : Table) (assigns : List Assign) (cond : Option Cond) (s : Snapshot) (rid : Rid) (image : Option (List Value)) → BreaksProtocol (one_update script table assigns cond) (marked_unexecuted table assigns cond s (mark.Fault first_txn first_cid rid image))
@@ -127,7 +129,7 @@ failed-there node g e own (inr (inl x)) = no-promise node g e x
 failed-there node g e own (inr (inr x)) = no-commit node g e x
 
 pub causes-unasked : (script : Script) → BreaksProtocol (empty_block script) failed_unasked
-causes-unasked script h = failed-there the_segment first_txn tt (not-own _) h.1.0.0
+causes-unasked script h = failed-there the_segment first_txn tt (λ x. not-own x.0) h.1.0.0
 
 pub causes-undecided : (script : Script) → BreaksProtocol (empty_block script) failed_undecided
 causes-undecided script h = failed-there the_coordinator first_txn tt (λ x. x.1.several) h.1.0.0
@@ -160,27 +162,8 @@ abbrev IsFromElse : Event → Type 0
 IsFromElse (event.Receive from to number) = from.0 ≡ 2 → ⊥
 IsFromElse _ = Unit {0}
 
-not-from : (steps : List Step) (e : Event) (m : Message) → IsFromElse e → Receives steps e other_segment the_coordinator m → ⊥
-not-from steps e m n r = (subst IsFromElse r.is n) refl
-
-abbrev AreFromElse : List Step → Type 0
-AreFromElse [] = Unit {0}
-AreFromElse (s ∷ ss) = IsFromElse s.event × AreFromElse ss
-
-else-there : (steps : List Step) (k : ℕ) (step : Step) → AreFromElse steps → slice_get steps k ≡ Some step → IsFromElse step.event
-else-there [] k step n e = absurd (no-more k step e)
-else-there (s ∷ ss) zero step n e = subst (λ (x : Step). IsFromElse x.event) (same s step e) n.0
-  where
-    same : (a b : Step) → Some a ≡ Some b → a ≡ b
-    same a b q = cc
-else-there (s ∷ ss) (suc k) step n e = else-there ss k step n.1 e
-
-unreturned : {point : Point} (g : Gxid) (c : Cid) → AreFromElse point.steps → IsFromElse point.event → IsReturned point g c other_segment → ⊥
-unreturned {point = point} g c n e back = by_place back.received.0 back.received.1
-  where
-    by_place : (k : ℕ) → ReceivesAt point k other_segment the_coordinator (message.Answer g (reply.Done c back.wrote back.count back.part)) → ⊥
-    by_place k (inl x) = not-from (take k point.steps) x.0.event (message.Answer g (reply.Done c back.wrote back.count back.part)) (else-there point.steps k x.0 n x.1) x.2
-    by_place k (inr x) = not-from point.steps point.event (message.Answer g (reply.Done c back.wrote back.count back.part)) e x.1
+unreturned : {point : Point} (g : Gxid) (c : Cid) → AreEvents IsFromElse point.steps → IsFromElse point.event → IsReturned point g c other_segment → ⊥
+unreturned {point = point} g c n e back = none-came IsFromElse point other_segment the_coordinator (message.Answer g (reply.Done c back.wrote back.count back.part)) n e (λ number q. q refl) back.received
 
 zero-two : {n : ℕ} → n ≡ 0 → n ≡ 2 → ⊥
 zero-two e f = omega arith
@@ -238,3 +221,23 @@ causes-prepared script table one other s row more h = clash true refl h.1.1.1.1.
 
 pub causes-answered : (script : Script) (table : Table) (tuple : List Expr) (s : Snapshot) (row : List Value) → BreaksProtocol (one_writer script table tuple) (sent_behind_answer table s row)
 causes-answered script table tuple s row h = let c = h.1.1.1.1.0.0 in none-under-way (is_same_session anna c.session) c.runs.runs.line.started
+
+-- BEHIND A FAILURE
+pub causes-decided : (script : Script) (table : Table) (one other : List Expr) (s : Snapshot) (row more : List Value) → BreaksProtocol (two_writers script table one other) (decided_behind_failure table s row more)
+causes-decided script table one other s row more h = h.1.1.1.1.1.1.1.1.1.1.0.1.0.1 (0, omega arith, refl)
+
+pub causes-committed : (script : Script) (table : Table) (tuple : List Expr) (s : Snapshot) (row : List Value) → BreaksProtocol (one_writer script table tuple) (committed_behind_failure table s row)
+causes-committed script table tuple s row h = h.1.1.1.1.1.0.1.0.unfailed (0, omega arith, refl)
+
+-- A FAULT BEHIND THE ABORT
+abbrev IsNotOwn : Event → Type 0
+IsNotOwn (event.Receive from to number) = from.0 ≡ 0 → to.0 ≡ 0 → ⊥
+IsNotOwn _ = Unit {0}
+
+faulted-late : {point : Point} (image : Option (List Value)) → AreEvents IsNotOwn point.steps → IsNotOwn point.event → is_aborted (before point) first_txn ≡ true → FaultsThere point the_coordinator first_txn first_cid image → ⊥
+faulted-late image n e aborted (inl own) = clash _ aborted own.2
+faulted-late {point = point} image n e aborted (inr x) =
+    none-came IsNotOwn point the_coordinator the_coordinator (message.Exec first_txn first_cid x.level x.snapshot x.horizon x.slice) n e (λ number q. q refl refl) x.received
+
+pub causes-faulted-late : (script : Script) (table : Table) (assigns : List Assign) (cond : Option Cond) (s : Snapshot) (rid : Rid) (row : List Value) → BreaksProtocol (one_update script table assigns cond) (faulted_behind_abort table assigns cond s rid row)
+causes-faulted-late script table assigns cond s rid row h = faulted-late None (tt, (λ e f. one-zero f refl, tt)) (λ e f. one-zero e refl) refl h.1.1.0.1.1.0

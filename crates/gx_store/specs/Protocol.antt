@@ -27,7 +27,7 @@ use Rattle.gx_store.specs.declared.run.Step.{Step}
 use Rattle.gx_store.specs.Commands.{IsUnderWay, RunsCommand, RunsLine, state_at}
 use Rattle.gx_store.specs.Journals.{is_same_node}
 use Rattle.gx_store.specs.Lines.{may_commit, transaction_of}
-use Rattle.gx_store.specs.Marks.{is_committed, is_committing, is_ended, is_same_gxid}
+use Rattle.gx_store.specs.Marks.{is_aborted, is_committed, is_committing, is_ended, is_same_gxid}
 use Rattle.gx_store.specs.Messages.{HasReceived, IsSent, Receives}
 use Rattle.gx_store.specs.Points.{Point, before}
 use Rattle.gx_store.specs.Refusals.{the_coordinator}
@@ -90,13 +90,18 @@ AreSeveral [] = ⊥
 AreSeveral (node ∷ []) = ⊥
 AreSeveral (node ∷ other ∷ nodes) = Unit {0}
 
--- a segment promises, once: it has written, and the transaction has committed neither there nor as a whole
+-- the node's journal has failed in this step, in the place of what it was to take for the transaction
+abbrev pub HasFailed : Point → Node → Gxid → Type 0
+HasFailed point node g = Contains point.earlier (mark.JournalFailed node g)
+
+-- a segment promises, once: it has written, the transaction has committed neither there nor as a whole, and its journal hasn't failed
 pub record Promises (point : Point) (node : Node) (g : Gxid) : Type 0 where
   pub told : Receives point.steps point.event the_coordinator node (message.Prepare g)
   pub writer : is_writer (before point) g node ≡ true
   pub first : prepared_count (before point) node g ≡ 0
   pub uncommitted : is_committed (before point) g ≡ false
   pub uncommitted_there : local_count (before point) node g ≡ 0
+  pub unfailed : HasFailed point node g → ⊥
 
 -- it is decided, once, of a transaction that hasn't ended: there are several writers, each has promised, and none has committed
 pub record Decides (script : Script) (marks : List Mark) (g : Gxid) : Type 0 where
@@ -119,10 +124,11 @@ pub record CommitsAsPromised (point : Point) (node : Node) (g : Gxid) : Type 0 w
   pub promised : prepared_count (before point) node g ≡ 1
   pub decided : decided_count (before point) g ≡ 1
 
--- a segment commits, once, a transaction that hasn't ended
+-- a segment commits, once, a transaction that hasn't ended, where its journal hasn't failed
 pub record CommitsThere (point : Point) (node : Node) (g : Gxid) : Type 0 where
   pub running : is_ended (before point) g ≡ false
   pub first : local_count (before point) node g ≡ 0
+  pub unfailed : HasFailed point node g → ⊥
   pub by : CommitsAlone point node g ⊎ CommitsAsPromised point node g
 
 -- the segment has received the command, in an earlier step or in the point's own
@@ -141,9 +147,10 @@ pub record WritesThere (point : Point) (node : Node) (g : Gxid) (c : Cid) : Type
   pub undecided : decided_count (before point) g ≡ 0
   pub uncommitted : (segment : Node) → local_count (before point) segment g ≡ 0
 
--- a fault is noted at a segment that has received the command; that of an INSERT's constants at the coordinator, of a row that isn't there
+-- A fault is noted at a segment that has received the command; that of an INSERT's constants at the coordinator, of a row that isn't
+-- there, before the transaction aborts.
 abbrev pub FaultsThere : Point → Node → Gxid → Cid → Option (List Value) → Type 0
-FaultsThere point node g c image = ((node ≡ the_coordinator) × (image ≡ None)) ⊎ IsExecuted point g c node
+FaultsThere point node g c image = ((node ≡ the_coordinator) × (image ≡ None) × (is_aborted (before point) g ≡ false)) ⊎ IsExecuted point g c node
 
 -- A journal fails in the place of what it was to take: the coordinator's of a decision, a segment's of a promise or of a commit.
 abbrev pub FailsThere : Script → Point → Node → Gxid → Type 0
@@ -240,7 +247,7 @@ pub record IsCommitting (script : Script) (point : Point) (g : Gxid) : Type 0 wh
 -- the same step.
 abbrev pub FollowsAt : Script → Node → Point → Mark → Type 0
 FollowsAt script node point (mark.Commit g) = CommitsBy (writers_of script (before point) g) (before point) g
-FollowsAt script node point (mark.Decided g) = Decides script (before point) g
+FollowsAt script node point (mark.Decided g) = Decides script (before point) g × (HasFailed point the_coordinator g → ⊥)
 FollowsAt script _ point (mark.LocalCommit node g) = CommitsThere point node g
 FollowsAt script _ point (mark.Prepared node g) = Promises point node g
 FollowsAt script node point (mark.Abort g) = (decided_count (before point) g ≡ 0) × ((segment : Node) → local_count (before point) segment g ≡ 0)

@@ -17,6 +17,7 @@ use Rattle.gx_tree.specs.declared.value.Value.{Value}
 use Rattle.gx_dsnap.specs.declared.snapshot.Snapshot.{Snapshot}
 use Rattle.gx_msg.specs.declared.message.Message.{Message}
 use Rattle.gx_msg.specs.declared.message.Message.TheVariants as message
+use Rattle.gx_msg.specs.declared.reply.Cause.TheVariants as cause
 use Rattle.gx_msg.specs.declared.reply.Reply.{Reply}
 use Rattle.gx_msg.specs.declared.reply.Reply.TheVariants as reply
 use Rattle.gx_script.specs.declared.Script.{Script}
@@ -105,6 +106,14 @@ done_unexecuted table assigns cond snapshot =
 abbrev pub marked_unexecuted : Table → List Assign → Option Cond → Snapshot → Mark → List Step
 marked_unexecuted table assigns cond snapshot m = update_goes table assigns cond snapshot ∷ unasked the_segment 2 (m ∷ []) ∷ []
 
+-- a segment faults, it is refused, and behind that the coordinator notes a fault of its own
+abbrev pub faulted_behind_abort : Table → List Assign → Option Cond → Snapshot → Rid → List Value → List Step
+faulted_behind_abort table assigns cond snapshot rid row =
+    update_goes table assigns cond snapshot
+    ∷ step_at the_segment 2 (event.Receive the_coordinator the_segment 1) (mark.Fault first_txn first_cid rid (Some row) ∷ says (reply.Failed first_cid cause.Overflow))
+    ∷ step_at the_coordinator 3 (event.Receive the_segment the_coordinator 1)
+    (mark.Abort first_txn ∷ mark.Answer anna 1 (answer.Refused refused.Overflow) ∷ mark.Fault first_txn first_cid rid None ∷ []) ∷ []
+
 -- WHERE ROWS STAND
 abbrev pub SkipsElsewhere : List Step → Type 0
 SkipsElsewhere steps = DoSkippedStand [] steps → ⊥
@@ -132,6 +141,19 @@ failed_undecided =
     block_begins
     ∷ step_at the_coordinator 2 (event.Start anna)
     (mark.JournalFailed the_coordinator first_txn ∷ mark.Abort first_txn ∷ mark.Answer anna 2 (answer.Refused (refused.JournalFault the_coordinator)) ∷ []) ∷ []
+
+-- the coordinator's fails, and in the same step it decides
+abbrev pub decided_behind_failure : Table → Snapshot → List Value → List Value → List Step
+decided_behind_failure table snapshot one other =
+    both_promise table snapshot one other
+    ++ step_at the_coordinator 9 (event.Receive other_segment the_coordinator 2) (mark.JournalFailed the_coordinator first_txn ∷ mark.Decided first_txn ∷ []) ∷ []
+
+-- a segment's fails, and in the same step it commits
+abbrev pub committed_behind_failure : Table → Snapshot → List Value → List Step
+committed_behind_failure table snapshot row =
+    one_writes table snapshot row
+    ++ step_at the_coordinator 5 (event.Start anna) (mark.Sent the_segment 2 (message.Commit first_txn) ∷ [])
+    ∷ step_at the_segment 6 (event.Receive the_coordinator the_segment 2) (mark.JournalFailed the_segment first_txn ∷ mark.LocalCommit the_segment first_txn ∷ []) ∷ []
 
 -- ORDERS
 -- who hasn't written is asked to promise, where nobody has

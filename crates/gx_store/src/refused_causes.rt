@@ -7,7 +7,7 @@ ghost use Rattle.gx_ids.specs.declared.rid.Rid.{Rid as OneRid};
 ghost use Rattle.gx_msg.specs.declared.reply.Reply.TheVariants as reply;
 ghost use Rattle.gx_script.specs.declared.Script.{Script as OneScript};
 ghost use Rattle.gx_store.specs.declared.mark.Mark.TheVariants as mark;
-ghost use Rattle.gx_store.specs.RefusedCauses.{alone, asked_alone, asked_before_commit, asked_unwritten, at_three, done_unexecuted, failed_unasked, failed_undecided, marked_unexecuted, one_update, one_writer, SkipsElsewhere, said_unasked, sent_behind_answer, sent_behind_prepare, skipped_elsewhere, told_at_once, told_early, told_half_sent, told_undone, written_behind_commit, written_behind_decision};
+ghost use Rattle.gx_store.specs.RefusedCauses.{alone, asked_alone, asked_before_commit, asked_unwritten, at_three, committed_behind_failure, decided_behind_failure, done_unexecuted, failed_unasked, failed_undecided, faulted_behind_abort, marked_unexecuted, one_update, one_writer, SkipsElsewhere, said_unasked, sent_behind_answer, sent_behind_prepare, skipped_elsewhere, told_at_once, told_early, told_half_sent, told_undone, written_behind_commit, written_behind_decision};
 ghost use Rattle.gx_store.specs.RefusedCommits.{BreaksProtocol, two_writers};
 ghost use Rattle.gx_store.specs.RefusedParts.{empty_block, first_cid, first_txn};
 ghost use Rattle.gx_tree.specs.declared.cond.Cond.{Cond as OneCond};
@@ -43,6 +43,20 @@ pub fn rows_are_skipped_where_they_stand()
 pub fn journals_fail_at_their_items()
     ensures unasked { (script : OneScript) → BreaksProtocol (empty_block script) failed_unasked }
     ensures undecided { (script : OneScript) → BreaksProtocol (empty_block script) failed_undecided }
+{}
+
+/// A journal that has failed takes nothing for its transaction in the same step.
+pub fn failures_leave_nothing()
+    ensures decided { (script : OneScript) (table : OneTable) (one other : List OneExpr) (snapshot : OneSnapshot) (row more : List OneValue)
+        → BreaksProtocol (two_writers script table one other) (decided_behind_failure table snapshot row more) }
+    ensures committed { (script : OneScript) (table : OneTable) (tuple : List OneExpr) (snapshot : OneSnapshot) (row : List OneValue)
+        → BreaksProtocol (one_writer script table tuple) (committed_behind_failure table snapshot row) }
+{}
+
+/// The coordinator notes no fault of a transaction that has aborted.
+pub fn late_faults_are_of_segments()
+    ensures { (script : OneScript) (table : OneTable) (assigns : List OneAssign) (cond : Maybe OneCond) (snapshot : OneSnapshot) (rid : OneRid) (row : List OneValue)
+        → BreaksProtocol (one_update script table assigns cond) (faulted_behind_abort table assigns cond snapshot rid row) }
 {}
 
 /// Nobody is asked to promise before COMMIT, nor told to commit before the one command is done at each segment of its plan.
