@@ -54,7 +54,7 @@ one_writes table snapshot row =
     ∷ writes_there table 3 the_segment 1 row
     ∷ step_at the_coordinator 4 (event.Receive the_segment the_coordinator 1) (mark.Answer anna 2 (answer.Inserted 1) ∷ []) ∷ []
 
--- the only writer commits, and then another segment is sent a command, which is of no line under way, and writes
+-- the only writer commits, and then another segment is sent a command, and writes (`IsToExecute` refuses the EXEC, `WritesThere` the write)
 abbrev pub written_behind_commit : Table → Snapshot → List Value → List Value → List Step
 written_behind_commit table snapshot row late =
     one_writes table snapshot row
@@ -69,7 +69,7 @@ third_segment = record { 0 = 3 }
 abbrev pub at_three : Script → Script
 at_three script = record script { segments = 3 }
 
--- two writers have promised and it is decided, and then a third segment is sent a command, which is of no line under way, and writes
+-- two writers have promised and it is decided, and then a third segment is sent a command, and writes (as before, both are refused)
 abbrev pub written_behind_decision : Table → Snapshot → List Value → List Value → List Value → List Step
 written_behind_decision table snapshot one other late =
     both_promise table snapshot one other
@@ -156,7 +156,7 @@ committed_behind_failure table snapshot row =
     ∷ step_at the_segment 6 (event.Receive the_coordinator the_segment 2) (mark.JournalFailed the_segment first_txn ∷ mark.LocalCommit the_segment first_txn ∷ []) ∷ []
 
 -- ORDERS
--- who hasn't written is asked to promise, where nobody has
+-- who hasn't written is asked to promise (nor are there several who have)
 abbrev pub asked_unwritten : List Step
 asked_unwritten = block_begins ∷ step_at the_coordinator 2 (event.Start anna) (mark.Sent the_segment 1 (message.Prepare first_txn) ∷ []) ∷ []
 
