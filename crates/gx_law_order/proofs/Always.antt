@@ -184,7 +184,7 @@ module _ (script : Script) (some : 1 ≤ script.segments) where
   pub moves-holds : (ms : List Move) → Holds script (world_by script ms)
   moves-holds =
       at-moves script some (Knows script) (Holds script) (moves_knows script some) new-holds
-      (λ w k v e x fails t ok next. coord-holds script w k v e x fails ok (said-in script w k v x (said-to script w v e x t))) (λ w k v g h next. victim-holds script w k v g h)
+      (λ w k v e x fails t ok next. coord-holds script w k v e x fails ok (said-in script w k v x (said-to script w v e x t)) (λ g. (next.well.coordinator.works g).writers)) (λ w k v g h next. victim-holds script w k v g h (λ j. (next.well.coordinator.works j).writers))
       (λ w k v e x fails i place t ok next. heard-holds script w k v e x fails i (heard-at script w v e x i place.0 t ok))
 
   pub world-holds : (es : List (Event × Bool)) → Holds script (world_of script es)

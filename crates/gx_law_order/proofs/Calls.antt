@@ -65,7 +65,7 @@ Mute (mark.Prepared n g) = ⊥
 Mute (mark.LocalCommit n g) = ⊥
 Mute (mark.Sent to number told) = ⊥
 Mute (mark.Skip g c r) = ⊥
-Mute (mark.Fault g c r x) = x ≡ None
+Mute (mark.Fault g c r x) = ⊥
 Mute (mark.JournalFailed n g) = ⊥
 Mute _ = Unit {0}
 
@@ -78,7 +78,7 @@ mute-at script ms (mark.Prepared n g) e = e
 mute-at script ms (mark.LocalCommit n g) e = e
 mute-at script ms (mark.Sent to number told) e = e
 mute-at script ms (mark.Skip g c r) e = e
-mute-at script ms (mark.Fault g c r x) e = e
+mute-at script ms (mark.Fault g c r x) e = absurd e
 mute-at script ms (mark.JournalFailed n g) e = absurd e
 mute-at script ms m e = tt
 

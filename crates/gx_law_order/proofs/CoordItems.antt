@@ -325,3 +325,45 @@ event-stands script c before event.Round fails = dull-stands before fails (begin
 -- a victim's turn appends nothing
 pub cancel-dull : (c : Coord) (g : Gxid) → IsDull (cancels c g)
 cancel-dull c g = cancel-ways IsDull c g (rest-dull c) (λ live busy. refused-dull c g (on_abort c.table g) [] (Victim c.rounds) tt)
+
+-- WHO DECIDES DOES NOTHING ELSE
+-- its marks stand for no item, or are the decision alone
+abbrev pub DecidesAlone : List Mark → Type 0
+DecidesAlone marks = Each Dull marks ⊎ ((g : Gxid) × (marks ≡ mark.Decided g ∷ []))
+
+outcome-alone : (c : Coord) (g : Gxid) (turn : Turn) (o : Outcome) → DecidesAlone (follows c g turn o).marks
+outcome-alone c g turn outcome.Decided = inr (g, refl)
+outcome-alone c g turn outcome.Pending = inl tt
+outcome-alone c g turn outcome.Committed = inl (follow-dull c g turn outcome.Committed tt).marks
+outcome-alone c g turn (outcome.Refused i) = inl (follow-dull c g turn (outcome.Refused i) tt).marks
+outcome-alone c g turn outcome.Ended = inl tt
+
+answer-alone : (c : Coord) (g : Gxid) (i : Node) (fails : Bool) (r : Reply) → DecidesAlone (on_answer c g i fails r).marks
+answer-alone c g i fails (reply.Done cid wrote count part) = inl (done-dull c g i cid wrote count part _).marks
+answer-alone c g i fails (reply.Failed cid cause) = inl (failed-dull c g i cid cause _).marks
+answer-alone c g i fails reply.Prepared = outcome-alone c g (on_reply c.table g i reply.Prepared fails) (on_reply c.table g i reply.Prepared fails).out.outcome
+answer-alone c g i fails reply.Committed = outcome-alone c g (on_reply c.table g i reply.Committed fails) (on_reply c.table g i reply.Committed fails).out.outcome
+answer-alone c g i fails reply.Jfault = outcome-alone c g (on_reply c.table g i reply.Jfault fails) (on_reply c.table g i reply.Jfault fails).out.outcome
+answer-alone c g i fails reply.Again = outcome-alone c g (on_reply c.table g i reply.Again fails) (on_reply c.table g i reply.Again fails).out.outcome
+answer-alone c g i fails reply.Aborted = outcome-alone c g (on_reply c.table g i reply.Aborted fails) (on_reply c.table g i reply.Aborted fails).out.outcome
+answer-alone c g i fails reply.Forgotten = outcome-alone c g (on_reply c.table g i reply.Forgotten fails) (on_reply c.table g i reply.Forgotten fails).out.outcome
+
+message-alone : (c : Coord) (from : Node) (fails : Bool) (m : Message) → DecidesAlone (on_message c from fails m).marks
+message-alone c from fails (message.Answer g r) = answer-alone c g from fails r
+message-alone c from fails (message.Graph round graph) = inl (graph-dull c from round graph).marks
+message-alone c from fails (message.Exec g cid level x h y) = inl tt
+message-alone c from fails (message.Prepare g) = inl tt
+message-alone c from fails (message.Commit g) = inl tt
+message-alone c from fails (message.CommitPrepared g) = inl tt
+message-alone c from fails (message.Abort g) = inl tt
+message-alone c from fails (message.Forget g) = inl tt
+message-alone c from fails (message.Collect round) = inl tt
+
+pub event-alone : (script : Script) (c : Coord) (x : NodeEvent) (fails : Bool) → DecidesAlone (on_event script c x fails).marks
+event-alone script c (event.Deliver from envelope) fails = message-alone c from fails envelope.message
+event-alone script c (event.Start s) fails = inl (start-dull script c s (next_line script c s)).marks
+event-alone script c (event.End s) fails = inl (end-dull c s _).marks
+event-alone script c (event.Resend i (Some g)) fails = inl (again-dull c i (awaited c g i)).marks
+event-alone script c (event.Resend i None) fails = inl (again-dull c i (awaited_collect c i)).marks
+event-alone script c (event.Resume g) fails = inl (resume-dull script c g (wait_of c.locks g) (work_of c g).waiting).marks
+event-alone script c event.Round fails = inl tt

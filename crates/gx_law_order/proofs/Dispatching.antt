@@ -43,10 +43,11 @@ use Rattle.gx_law_order.proofs.Stages.{At, IsWhole, left_of, txn-at}
 use Rattle.gx_law_order.specs.Said.{IsDone, Said}
 use Rattle.gx_law_order.specs.Standings.{Known, Part, at, gx, is_undecided, known_at, known_of, standing, standing_in, waits_in}
 use Rattle.gx_law_order.specs.Standings.Standing.{Live}
-use Rattle.gx_law_order.proofs.Calls.{Mute, abort-led, becomes-calm, commits-ready, dropped-over, live-calm, live-can, live-there, mute-aborted, mute-committed, mute-decided, mute-ends, mute-fol, mute-parts, stands-as, back-mute}
+use Rattle.gx_law_order.proofs.Counts.{NoEnd}
+use Rattle.gx_law_order.proofs.Calls.{Mute, abort-led, becomes-calm, commits-ready, dropped-over, live-calm, live-can, live-there, mute-aborted, mute-committed, mute-decided, mute-fol, stands-as, unaborted, back-mute}
 use Rattle.gx_law_order.proofs.Nodes.{AreApart, apart-with, each-has, has-with, has-without}
 use Rattle.gx_law_order.proofs.Shifts.{Shift, is-sent, learn-shift, send-shift, sending, shift-same}
-use Rattle.gx_law_order.proofs.Ways.{Agrees, AgreesIn, CommandOf, IsOrderOf, Led, Same, SaidOut, Stands, Way, Working, at-one, rest-led, same-then, way-same, way-then}
+use Rattle.gx_law_order.proofs.Ways.{Agrees, AgreesIn, CommandOf, Fol, IsOrderOf, Led, Same, SaidOut, Stands, Way, Working, at-one, fol-no-part, rest-led, same-then, way-same, way-then}
 use Rattle.gx_locks.specs.Locks.{Locks, is_free, resumed, wait_of}
 use Rattle.gx_rules.specs.Locks.{release_marks, hold_mark, wait_mark, with_hold, with_wait}
 use Rattle.gx_waits.specs.declared.claim.Claim.{Claim}
@@ -66,15 +67,26 @@ pub each-unmap : {A B : Type 0} (P : B → Type 0) (f : A → B) (xs : List A) �
 each-unmap P f [] e = tt
 each-unmap P f (x ∷ xs) e = (e.0, each-unmap P f xs e.1)
 
-fault-mute : (g : Gxid) (cid : Cid) (line : Stmt) → Each Mute (fault_mark g cid line)
-fault-mute g cid (stmt.Insert t x) = (refl, tt)
-fault-mute g cid (stmt.Begin level) = tt
-fault-mute g cid stmt.Commit = tt
-fault-mute g cid stmt.Rollback = tt
-fault-mute g cid (stmt.Select q) = tt
-fault-mute g cid (stmt.Update t x y) = tt
-fault-mute g cid (stmt.Delete t x) = tt
-fault-mute g cid (stmt.Lock t m) = tt
+-- a constant's fault, of a transaction that hasn't aborted
+fault-fol : (script : Script) (ms : List Mark) (g : Gxid) (cid : Cid) (line : Stmt) → is_aborted ms g ≡ false → Fol script ms (fault_mark g cid line)
+fault-fol script ms g cid (stmt.Insert t x) e = ((refl, e), tt)
+fault-fol script ms g cid (stmt.Begin level) e = tt
+fault-fol script ms g cid stmt.Commit e = tt
+fault-fol script ms g cid stmt.Rollback e = tt
+fault-fol script ms g cid (stmt.Select q) e = tt
+fault-fol script ms g cid (stmt.Update t x y) e = tt
+fault-fol script ms g cid (stmt.Delete t x) e = tt
+fault-fol script ms g cid (stmt.Lock t m) e = tt
+
+fault-end : (g : Gxid) (cid : Cid) (line : Stmt) → Each NoEnd (fault_mark g cid line)
+fault-end g cid (stmt.Insert t x) = (tt, tt)
+fault-end g cid (stmt.Begin level) = tt
+fault-end g cid stmt.Commit = tt
+fault-end g cid stmt.Rollback = tt
+fault-end g cid (stmt.Select q) = tt
+fault-end g cid (stmt.Update t x y) = tt
+fault-end g cid (stmt.Delete t x) = tt
+fault-end g cid (stmt.Lock t m) = tt
 
 -- ENLISTING
 pub record Enlists (d u : Table) (g : ℕ) (t : Txn) : Type 0 where
@@ -135,11 +147,15 @@ module _ (script : Script) (P : ℕ → ℕ → Part) (c : Coord) (ms : List Mar
   no-decision : decided_count ms (gx g) ≡ 0
   no-decision = (s.pairs 0 g).undecided (ap is_undecided (live-at-all 0))
 
-  pub refusing-led : (why : List Mark) (reason : Refused) → Each Mute why → Led script P c ms (is_refused c (gx g) (on_abort c.table (gx g)) why reason)
-  refusing-led why reason e =
+  unaborted-so : is_aborted ms (gx g) ≡ false
+  unaborted-so = unaborted script P c ms s whole g live.txn live.found (k 0) (P 0 g) (s.pairs 0 g) ((live-can script P c ms s whole g live.txn live.found live.active).going 0)
+
+  pub refusing-led : (why : List Mark) (reason : Refused) → (is_aborted ms (gx g) ≡ false → Fol script ms why) → Each NoEnd why → Led script P c ms (is_refused c (gx g) (on_abort c.table (gx g)) why reason)
+  refusing-led why reason fol e =
+      let says : Fol script ms why = fol unaborted-so in
       subst (λ o. Led script P c ms (is_refused c (gx g) (turns c.table (gx g) (abort_found (gx g) o)) why reason)) (sym live.found)
       (abort-led script P c ms s whole g live.txn live.found (is_refused c (gx g) (turns c.table (gx g) (aborts (gx g) live.txn.participants)) why reason) (aborts (gx g) live.txn.participants) why
-      (answer_mark c (work_of c (gx g)).session (told.Refused reason) ∷ release_marks the_coordinator c.locks (gx g)) refl (mute-fol script ms why e) (mute-parts why e) (mute-ends why e) (tt, back-mute c.locks (gx g)) (live-can script P c ms s whole g live.txn live.found live.active) no-decision no-local-commit refl (λ h. refl)
+      (answer_mark c (work_of c (gx g)).session (told.Refused reason) ∷ release_marks the_coordinator c.locks (gx g)) refl says (fol-no-part script ms why says) e (tt, back-mute c.locks (gx g)) (live-can script P c ms s whole g live.txn live.found live.active) no-decision no-local-commit refl (λ h. refl)
       (dropped-over script P c ms s whole g live.txn live.found live.txn.participants) (abort-agrees _ live.txn.participants) live.txn.participants (abort-outs live.txn.participants))
 
   pub rolling-led : (marks : List Mark) → Each Mute marks → Led script P c ms (rolls_back c (gx g) marks (on_abort c.table (gx g)))
@@ -292,7 +308,7 @@ module _ (script : Script) (P : ℕ → ℕ → Part) (c : Coord) (ms : List Mar
       (out-led script P r.coord (ms ++ r.marks) f.way.stands f.whole_there g f.live_there (λ i. ap (λ q. waits_in q i) f.command ∙ idle i) cid line pieces r.snapshot r.marks (next ∙ ap (λ n. n + 1) (sym f.last))) refl (sym (append-nil r.marks)) refl
   goes-led cid line r (Err fault) next f =
       way-then script P c ms r.coord r.marks (is_refused r.coord (gx g) (on_abort r.coord.table (gx g)) (fault_mark (gx g) cid line) (refusal_of fault)) (goes (gx g) cid line r (Err fault)) f.way
-      (refusing-led script P r.coord (ms ++ r.marks) f.way.stands f.whole_there g f.live_there (fault_mark (gx g) cid line) (refusal_of fault) (fault-mute (gx g) cid line)) refl (append_assoc r.marks (fault_mark (gx g) cid line) _) refl
+      (refusing-led script P r.coord (ms ++ r.marks) f.way.stands f.whole_there g f.live_there (fault_mark (gx g) cid line) (refusal_of fault) (fault-fol script (ms ++ r.marks) (gx g) cid line) (fault-end (gx g) cid line)) refl (append_assoc r.marks (fault_mark (gx g) cid line) _) refl
 
   pub locked-led : (line : Stmt) → Led script P c ms (goes_on_locked script c (gx g) line)
   locked-led line =

@@ -151,7 +151,7 @@ module _ (script : Script) (P : ℕ → ℕ → Part) (c : Coord) (ms : List Mar
   on-failed-led g j cid cause (Some m) e = by_test (is_awaited m j cid) refl
     where
       by_test : (b : Bool) → is_awaited m j cid ≡ b → Leads (if b then is_refused c (gx g) (on_abort c.table (gx g)) [] (reason_of cause) else rests c)
-      by_test true f = refusing-led script P c ms st k.whole g (awaited-live g m e j (and_parts _ _ f).1) [] (reason_of cause) tt
+      by_test true f = refusing-led script P c ms st k.whole g (awaited-live g m e j (and_parts _ _ f).1) [] (reason_of cause) (λ e. tt) tt
       by_test false f = rest
 
   answer-led : (g : ℕ) (j : Node) → 1 ≤ j.0 → (fails : Bool) (r : Reply) → Answers (known_at c ms j.0 g) (P j.0 g) r → Leads (on_answer c (gx g) j fails r)
@@ -424,4 +424,4 @@ module _ (script : Script) (P : ℕ → ℕ → Part) (c : Coord) (ms : List Mar
 
   -- a victim
   pub cancel-led : (g : Gxid) → Leads (cancels c g)
-  cancel-led g = cancel-ways Leads c g rest (λ live busy. refusing-led script P c ms st k.whole g.0 (victim-live c g live) [] (Victim c.rounds) tt)
+  cancel-led g = cancel-ways Leads c g rest (λ live busy. refusing-led script P c ms st k.whole g.0 (victim-live c g live) [] (Victim c.rounds) (λ e. tt) tt)

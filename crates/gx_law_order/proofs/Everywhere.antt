@@ -50,10 +50,12 @@ use Rattle.gx_law_order.specs.Told.{AreTold, DoStepsTell, IsTold}
 use Rattle.gx_law_order.proofs.Telling.{coord-told, seg-told, step-told, tell-push}
 use Rattle.gx_law_order.proofs.Counts.{NoEnd, NoPart, NoSent, decided-append, local-append, no-aborted, no-committed, no-decided, no-local, no-prepared, no-writer, prepared-append, sent-no-end, sent-no-part, writer-append}
 use Rattle.gx_law_order.proofs.Events.{IsSaidIn, cancel-led, event-led}
-use Rattle.gx_law_order.proofs.Following.{HasReached, coord-end, end-push, has-left, has-right, seg-end}
+use Rattle.gx_law_order.proofs.CoordItems.{cancel-dull, event-alone}
+use Rattle.gx_law_order.proofs.Following.{AreUnfailed, HasReached, alone-unfailed, coord-end, dull-unfailed, end-push, has-left, has-right, seg-end}
 use Rattle.gx_law_order.proofs.Handled.{Does, Follows, HasMark, Tells, after_marks, handled, part-eq, went-on}
 use Rattle.gx_law_order.proofs.Later.{end-more, tell-more}
 use Rattle.gx_law_order.proofs.Parts.{said-grows}
+use Rattle.gx_law_order.proofs.Tables.{AreIn}
 use Rattle.gx_law_order.proofs.RightOrders.{IsRightOrder, live-of, one-of, right-order}
 use Rattle.gx_law_order.proofs.Unfinished.{IsUnfinished, aborted-unfinished}
 use Rattle.gx_law_order.proofs.Ways.{Agrees, Fol, FolAt, Led, SaidOut, Stands, agrees-append, known-eq}
@@ -140,15 +142,15 @@ module _ (script : Script) (w : World) (v : Holds script w) (turn : CoordTurn) (
       moved i g m q = subst (λ p. Said (known_at last (marks_in steps) i g) p m) (sym (same-part i g)) (subst (λ k. Said k (parts_in w i g) m) (sym (same-known i g)) q)
 
 -- what its marks follow and tell, in a step of its own or behind marks of the step
-module _ (script : Script) (P : ℕ → ℕ → Part) (c : Coord) (before : List Step) (step : Step) (earlier : List Mark) (turn : CoordTurn) (f : Led script P c (marks_in before ++ earlier) turn) where
+module _ (script : Script) (P : ℕ → ℕ → Part) (c : Coord) (before : List Step) (step : Step) (earlier : List Mark) (turn : CoordTurn) (ins : (g : ℕ) → AreIn script.segments (turn.coord.works g).writers) (f : Led script P c (marks_in before ++ earlier) turn) where
   abbrev so_far : List Mark
   so_far = marks_in before ++ earlier
 
-  pub turn-ends : step.stamp.node ≡ the_coordinator → DoMarksEnd script before step earlier (turn.marks ++ numbered turn.coord.sent turn.outs)
-  turn-ends own =
-      coord-end script before step own earlier turn.marks turn.coord.sent turn.outs f.way.fol
-      (each_weaker (SaidOut script P turn.coord (so_far ++ turn.marks)) (λ (o : Out). IsRightOrder (so_far ++ turn.marks) o.node o.message)
-      (λ o h. right-order script P turn.coord (so_far ++ turn.marks) f.way.stands o.node o.message h.0 h.2) turn.outs f.outs)
+  pub turn-ends : AreUnfailed earlier turn.marks → step.stamp.node ≡ the_coordinator → DoMarksEnd script before step earlier (turn.marks ++ numbered turn.coord.sent turn.outs)
+  turn-ends unfailed own =
+      coord-end script before step own earlier turn.marks turn.coord.sent turn.outs f.way.fol unfailed
+      (each_weaker (SaidOut script P turn.coord (so_far ++ turn.marks)) (λ (o : Out). IsRightOrder script (so_far ++ turn.marks) o.node o.message)
+      (λ o h. right-order script P turn.coord (so_far ++ turn.marks) f.way.stands ins o.node o.message h.0 h.2) turn.outs f.outs)
 
   pub turn-tells : AreTold the_coordinator so_far (turn.marks ++ numbered turn.coord.sent turn.outs)
   turn-tells =
@@ -158,11 +160,11 @@ module _ (script : Script) (P : ℕ → ℕ → Part) (c : Coord) (before : List
 
 module _ (script : Script) (w : World) (n : Knows script w) (v : Holds script w) where
   -- by an event
-  pub coord-holds : (e : Event) (x : NodeEvent) (fails : Bool) → coord_can script w.coord x ≡ true → IsSaidIn script (parts_in w) w.coord (marks_in w.steps) v.stands n.kept n.past (λ g. (n.well.coordinator.works g).writers) x → Holds script (coord_did w e (coord_turn script w.coord x fails))
-  coord-holds e x fails ok d =
+  pub coord-holds : (e : Event) (x : NodeEvent) (fails : Bool) → coord_can script w.coord x ≡ true → IsSaidIn script (parts_in w) w.coord (marks_in w.steps) v.stands n.kept n.past (λ g. (n.well.coordinator.works g).writers) x → ((g : ℕ) → AreIn script.segments ((on_event script w.coord x fails).coord.works g).writers) → Holds script (coord_did w e (coord_turn script w.coord x fails))
+  coord-holds e x fails ok d ins =
       turn-holds script w v turn (clock_after w.coord.clock x) (coord_did w e (coord_turn script w.coord x fails)).steps f (marks-by-event script w e x fails)
-      (end-push script [] w.steps step v.ends (turn-ends script (parts_in w) w.coord w.steps step [] turn (subst (λ q. Led script (parts_in w) w.coord q turn) (sym (append-nil (marks_in w.steps))) f) refl))
-      (tell-push [] w.steps step v.tells (subst (λ q. AreTold the_coordinator q step.marks) (append-nil (marks_in w.steps)) (turn-tells script (parts_in w) w.coord w.steps step [] turn (subst (λ q. Led script (parts_in w) w.coord q turn) (sym (append-nil (marks_in w.steps))) f))))
+      (end-push script [] w.steps step v.ends (turn-ends script (parts_in w) w.coord w.steps step [] turn ins (subst (λ q. Led script (parts_in w) w.coord q turn) (sym (append-nil (marks_in w.steps))) f) (alone-unfailed turn.marks (event-alone script w.coord x fails)) refl))
+      (tell-push [] w.steps step v.tells (subst (λ q. AreTold the_coordinator q step.marks) (append-nil (marks_in w.steps)) (turn-tells script (parts_in w) w.coord w.steps step [] turn ins (subst (λ q. Led script (parts_in w) w.coord q turn) (sym (append-nil (marks_in w.steps))) f))))
     where
       turn : CoordTurn
       turn = on_event script w.coord x fails
@@ -174,11 +176,11 @@ module _ (script : Script) (w : World) (n : Knows script w) (v : Holds script w)
       f = event-led script (parts_in w) w.coord (marks_in w.steps) v.stands n.kept n.past (λ g. (n.well.coordinator.works g).writers) (going-out script w n) x fails ok d
 
   -- by a victim, in the last step
-  pub victim-holds : (g : Gxid) → HasNamed w.steps w.coord.clock w.coord.rounds g → Holds script (and_cancelled w g)
-  victim-holds g h =
+  pub victim-holds : (g : Gxid) → HasNamed w.steps w.coord.clock w.coord.rounds g → ((j : ℕ) → AreIn script.segments ((cancels w.coord g).coord.works j).writers) → Holds script (and_cancelled w g)
+  victim-holds g h ins =
       turn-holds script w v turn w.coord.clock (and_cancelled w g).steps f (marks-by-victim w g h)
-      (end-more script h.step more w.steps h.before h.is v.ends (turn-ends script (parts_in w) w.coord h.before h.step h.step.marks turn there h.node))
-      (tell-more script h.step more w.steps h.before h.is v.tells (subst (λ n. AreTold n (marks_in h.before ++ h.step.marks) more) (sym h.node) (turn-tells script (parts_in w) w.coord h.before h.step h.step.marks turn there)))
+      (end-more script h.step more w.steps h.before h.is v.ends (turn-ends script (parts_in w) w.coord h.before h.step h.step.marks turn ins there (dull-unfailed h.step.marks turn.marks (cancel-dull w.coord g).marks) h.node))
+      (tell-more script h.step more w.steps h.before h.is v.tells (subst (λ n. AreTold n (marks_in h.before ++ h.step.marks) more) (sym h.node) (turn-tells script (parts_in w) w.coord h.before h.step h.step.marks turn ins there)))
     where
       turn : CoordTurn
       turn = cancels w.coord g

@@ -3,6 +3,7 @@ use Rattle.std.proofs.Common.{◌≡◌, ◌⊎◌, inl, inr, ℕ, suc, ◌+◌,
 use Rattle.std.proofs.lemmas.List.{append_assoc}
 use Rattle.std.specs.Prelude.{length, slice_get, take}
 use Rattle.std.specs.List.{Contains}
+use Rattle.gx_lemmas.proofs.Numbers.{lt-none}
 use Rattle.gx_ids.specs.declared.ids.Gxid.{Gxid}
 use Rattle.gx_ids.specs.declared.ids.Node.{Node}
 use Rattle.gx_msg.specs.declared.message.Message.{Message}
@@ -27,6 +28,8 @@ use Rattle.gx_law_order.specs.Followed.{DoMarksEnd, DoStepsEnd, EndsAt}
 use Rattle.gx_law_order.specs.Pairs.{Pair, bit}
 use Rattle.gx_law_order.specs.Standings.{Known, Part, at, gx, is_closing, is_decided}
 use Rattle.gx_law_order.specs.Standings.Standing.{Live, One, Two}
+use Rattle.gx_law_order.proofs.CoordItems.{DecidesAlone}
+use Rattle.gx_law_order.proofs.SegItems.{Dull}
 use Rattle.gx_law_order.proofs.Counts.{NoEnd, decided-append, local-append, no-aborted, no-committed, no-decided, prepared-append}
 use Rattle.gx_law_order.proofs.Ended.{IsExec}
 use Rattle.gx_law_order.proofs.Handled.{Follows, HasMark, IsExecOf, IsReplyTo, IsUnsettled, MayCommit, MayPromise, NoVote, Tells, Votes, no-vote-of-command, no-votes-local, no-votes-prepared}
@@ -64,13 +67,34 @@ pub record HasComeBefore (steps : List Step) (i : ℕ) (told : Message) : Type 0
 abbrev pub HasReached : List Step → Event → ℕ → Message → Type 0
 HasReached steps e i told = Receives steps e the_coordinator (at i) told ⊎ HasComeBefore steps i told
 
+-- before a decision the coordinator's journal hasn't failed in its place
+abbrev UnfailedAt : List Mark → Mark → Type 0
+UnfailedAt earlier (mark.Decided g) = Contains earlier (mark.JournalFailed the_coordinator g) → ⊥
+UnfailedAt earlier _ = Unit {0}
+
+abbrev pub AreUnfailed : List Mark → List Mark → Type 0
+AreUnfailed earlier [] = Unit {0}
+AreUnfailed earlier (m ∷ ms) = UnfailedAt earlier m × AreUnfailed (earlier ++ m ∷ []) ms
+
+unfailed-one : (earlier : List Mark) (m : Mark) → Dull m → UnfailedAt earlier m
+unfailed-one earlier (mark.Decided g) e = absurd e
+unfailed-one earlier m e = tt
+
+pub dull-unfailed : (earlier ms : List Mark) → Each Dull ms → AreUnfailed earlier ms
+dull-unfailed earlier [] e = tt
+dull-unfailed earlier (m ∷ ms) e = (unfailed-one earlier m e.0, dull-unfailed (earlier ++ m ∷ []) ms e.1)
+
+pub alone-unfailed : (ms : List Mark) → DecidesAlone ms → AreUnfailed [] ms
+alone-unfailed ms (inl e) = dull-unfailed [] ms e
+alone-unfailed ms (inr e) = subst (AreUnfailed []) (sym e.1) ((λ c. lt-none c.0 c.1), tt)
+
 -- THE COORDINATOR
 module _ (script : Script) (steps : List Step) (step : Step) where
   abbrev point : List Mark → List Mark → Point
   point earlier later = record { steps = steps; event = step.event; earlier = earlier; later = later }
 
   -- sendings that are no answers
-  sent-one : (earlier later : List Mark) (to : Node) (number : ℕ) (m : Message) → IsRightOrder (marks_in steps ++ earlier) to m → EndsAt script step.stamp.node (point earlier later) (mark.Sent to number m)
+  sent-one : (earlier later : List Mark) (to : Node) (number : ℕ) (m : Message) → IsRightOrder script (marks_in steps ++ earlier) to m → EndsAt script step.stamp.node (point earlier later) (mark.Sent to number m)
   sent-one earlier later to number (message.Answer g r) e = absurd e
   sent-one earlier later to number (message.Exec g c level x h y) e = tt
   sent-one earlier later to number (message.Prepare g) e = e
@@ -81,38 +105,38 @@ module _ (script : Script) (steps : List Step) (step : Step) where
   sent-one earlier later to number (message.Collect round) e = tt
   sent-one earlier later to number (message.Graph round graph) e = tt
 
-  sent-end : (earlier : List Mark) (f : ℕ → ℕ) (outs : List Out) → Each (λ (o : Out). IsRightOrder (marks_in steps ++ earlier) o.node o.message) outs → DoMarksEnd script steps step earlier (numbered f outs)
+  sent-end : (earlier : List Mark) (f : ℕ → ℕ) (outs : List Out) → Each (λ (o : Out). IsRightOrder script (marks_in steps ++ earlier) o.node o.message) outs → DoMarksEnd script steps step earlier (numbered f outs)
   sent-end earlier f [] e = tt
   sent-end earlier f (o ∷ outs) e =
       let sent : Mark = mark.Sent o.node (f o.node.0 + 1) o.message in (
         sent-one earlier (numbered (counted f o) outs) o.node (f o.node.0 + 1) o.message e.0,
         sent-end (earlier ++ sent ∷ []) (counted f o) outs
-            (subst (λ x. Each (λ (q : Out). IsRightOrder x q.node q.message) outs) (append_assoc (marks_in steps) earlier (sent ∷ []))
-            (each_weaker (λ (q : Out). IsRightOrder (marks_in steps ++ earlier) q.node q.message) (λ (q : Out). IsRightOrder ((marks_in steps ++ earlier) ++ sent ∷ []) q.node q.message)
-            (λ q h. order-on (marks_in steps ++ earlier) (sent ∷ []) q.node q.message (tt, tt) (tt, tt) h) outs e.1)),
+            (subst (λ x. Each (λ (q : Out). IsRightOrder script x q.node q.message) outs) (append_assoc (marks_in steps) earlier (sent ∷ []))
+            (each_weaker (λ (q : Out). IsRightOrder script (marks_in steps ++ earlier) q.node q.message) (λ (q : Out). IsRightOrder script ((marks_in steps ++ earlier) ++ sent ∷ []) q.node q.message)
+            (λ q h. order-on script (marks_in steps ++ earlier) (sent ∷ []) q.node q.message (tt, tt) (tt, tt) h) outs e.1)),
       )
 
   module _ (own : step.stamp.node ≡ the_coordinator) where
-    fol-one : (earlier later : List Mark) (m : Mark) → FolAt script (marks_in steps ++ earlier) m → EndsAt script step.stamp.node (point earlier later) m
-    fol-one earlier later (mark.Commit g) e = e
-    fol-one earlier later (mark.Decided g) e = e
-    fol-one earlier later (mark.Abort g) e = e
-    fol-one earlier later (mark.Write g c n t r x) e = absurd e
-    fol-one earlier later (mark.Skip g c r) e = absurd e
-    fol-one earlier later (mark.Fault g c r x) e = inl (own, e)
-    fol-one earlier later (mark.JournalFailed n g) e = inl e
-    fol-one earlier later (mark.Prepared n g) e = absurd e
-    fol-one earlier later (mark.LocalCommit n g) e = absurd e
-    fol-one earlier later (mark.Sent to number told) e = absurd e
-    fol-one earlier later (mark.Answer s n a) e = tt
-    fol-one earlier later m e = tt
+    fol-one : (earlier later : List Mark) (m : Mark) → FolAt script (marks_in steps ++ earlier) m → UnfailedAt earlier m → EndsAt script step.stamp.node (point earlier later) m
+    fol-one earlier later (mark.Commit g) e u = e
+    fol-one earlier later (mark.Decided g) e u = (e, u)
+    fol-one earlier later (mark.Abort g) e u = e
+    fol-one earlier later (mark.Write g c n t r x) e u = absurd e
+    fol-one earlier later (mark.Skip g c r) e u = absurd e
+    fol-one earlier later (mark.Fault g c r x) e u = inl (own, e.0, e.1)
+    fol-one earlier later (mark.JournalFailed n g) e u = inl e
+    fol-one earlier later (mark.Prepared n g) e u = absurd e
+    fol-one earlier later (mark.LocalCommit n g) e u = absurd e
+    fol-one earlier later (mark.Sent to number told) e u = absurd e
+    fol-one earlier later (mark.Answer s n a) e u = tt
+    fol-one earlier later m e u = tt
 
-    pub coord-end : (earlier ns : List Mark) (f : ℕ → ℕ) (outs : List Out) → Fol script (marks_in steps ++ earlier) ns → Each (λ (o : Out). IsRightOrder ((marks_in steps ++ earlier) ++ ns) o.node o.message) outs → DoMarksEnd script steps step earlier (ns ++ numbered f outs)
-    coord-end earlier [] f outs e h = sent-end earlier f outs (subst (λ x. Each (λ (o : Out). IsRightOrder x o.node o.message) outs) (append-nil (marks_in steps ++ earlier)) h)
-    coord-end earlier (m ∷ ns) f outs e h = (
-      fol-one earlier (ns ++ numbered f outs) m e.0,
-      coord-end (earlier ++ m ∷ []) ns f outs (subst (λ x. Fol script x ns) (append_assoc (marks_in steps) earlier (m ∷ [])) e.1)
-          (subst (λ x. Each (λ (o : Out). IsRightOrder x o.node o.message) outs) (sym (append_assoc (marks_in steps ++ earlier) (m ∷ []) ns) ∙ ap (λ x. x ++ ns) (append_assoc (marks_in steps) earlier (m ∷ []))) h),
+    pub coord-end : (earlier ns : List Mark) (f : ℕ → ℕ) (outs : List Out) → Fol script (marks_in steps ++ earlier) ns → AreUnfailed earlier ns → Each (λ (o : Out). IsRightOrder script ((marks_in steps ++ earlier) ++ ns) o.node o.message) outs → DoMarksEnd script steps step earlier (ns ++ numbered f outs)
+    coord-end earlier [] f outs e u h = sent-end earlier f outs (subst (λ x. Each (λ (o : Out). IsRightOrder script x o.node o.message) outs) (append-nil (marks_in steps ++ earlier)) h)
+    coord-end earlier (m ∷ ns) f outs e u h = (
+      fol-one earlier (ns ++ numbered f outs) m e.0 u.0,
+      coord-end (earlier ++ m ∷ []) ns f outs (subst (λ x. Fol script x ns) (append_assoc (marks_in steps) earlier (m ∷ [])) e.1) u.1
+          (subst (λ x. Each (λ (o : Out). IsRightOrder script x o.node o.message) outs) (sym (append_assoc (marks_in steps ++ earlier) (m ∷ []) ns) ∙ ap (λ x. x ++ ns) (append_assoc (marks_in steps) earlier (m ∷ []))) h),
     )
 
   -- A SEGMENT
@@ -229,6 +253,7 @@ module _ (script : Script) (steps : List Step) (step : Step) where
           first = ap (λ x. prepared_count x (at i) (gx g)) here-nil ∙ of.promises ∙ m.3;
           uncommitted = not-committed [] tt m.1;
           uncommitted_there = ap (λ x. local_count x (at i) (gx g)) here-nil ∙ of.commits ∙ m.4;
+          unfailed = λ x. lt-none x.0 x.1;
         }))
 
     commits-there : (later : List Mark) (n : Node) (h : Gxid) → h.0 ≡ g → n.0 ≡ i → MayCommit told k p g → CommitsThere (point [] later) n h
@@ -238,6 +263,7 @@ module _ (script : Script) (steps : List Step) (step : Step) where
         (record {
           running = or-false (is_committed (marks_in steps ++ []) (gx g)) (is_aborted (marks_in steps ++ []) (gx g)) (is_committed (marks_in steps ++ []) (gx g)) (not-committed [] tt m.1) (not-aborted [] tt m.0) refl;
           first = ap (λ x. local_count x (at i) (gx g)) here-nil ∙ of.commits ∙ m.2;
+          unfailed = λ x. lt-none x.0 x.1;
           by = commits-by later m.3;
         }))
 

@@ -30,10 +30,9 @@ use Rattle.gx_store.specs.declared.answer.StmtAnswer.{StmtAnswer}
 use Rattle.gx_store.specs.declared.event.Event.{Event}
 use Rattle.gx_store.specs.declared.mark.Mark.{Mark}
 use Rattle.gx_store.specs.declared.run.Step.{Step}
-use Rattle.gx_store.specs.Answers.{GoesTo}
 use Rattle.gx_store.specs.Messages.{HasReceived, Receives}
 use Rattle.gx_store.specs.Points.{Point}
-use Rattle.gx_store.specs.Protocol.{IsReturned}
+use Rattle.gx_store.specs.Protocol.{GoesTo, IsReturned}
 use Rattle.gx_store.specs.Refusals.{the_coordinator}
 use Rattle.gx_store.specs.Writes.{dist_of}
 use Rattle.gx_rules.specs.AtCoordinator.{command_answer, nodes_in, table_of, with_done}

@@ -25,7 +25,7 @@ use Rattle.gx_store.specs.declared.mark.Mark.TheVariants as mark
 use Rattle.gx_store.specs.declared.run.Step.{Step}
 use Rattle.gx_store.specs.Commands.{RunsCommand}
 use Rattle.gx_store.specs.Points.{Point, marks_in}
-use Rattle.gx_store.specs.Protocol.{CommitsAlone, CommitsAsPromised, CommitsThere, FailsThere, FaultsThere, IsCommitting, IsComplete, IsDispatched, IsExecuted, IsReturned, IsSentBy, Promises}
+use Rattle.gx_store.specs.Protocol.{CommitsAlone, CommitsAsPromised, CommitsThere, FailsThere, FaultsThere, IsCommitting, IsComplete, IsDispatched, IsExecuted, IsReturned, IsSentBy, IsToExecute, Promises}
 use Rattle.gx_rules.specs.Machine.{with_more}
 use Rattle.gx_rules.specs.Sending.{counted, numbered}
 use Rattle.gx_rules.proofs.Turns.{with_more-last}
@@ -74,10 +74,10 @@ module _ (script : Script) (steps : List Step) (event : Event) (earlier later ne
   executed-later node g c e = record { level = e.level; snapshot = e.snapshot; horizon = e.horizon; slice = e.slice; received = e.received }
 
   promises-later : (n : Node) (g : Gxid) → Promises old n g → Promises now n g
-  promises-later n g e = record { told = e.told; writer = e.writer; first = e.first; uncommitted = e.uncommitted; uncommitted_there = e.uncommitted_there }
+  promises-later n g e = record { told = e.told; writer = e.writer; first = e.first; uncommitted = e.uncommitted; uncommitted_there = e.uncommitted_there; unfailed = e.unfailed }
 
   commits-later : (n : Node) (g : Gxid) → CommitsThere old n g → CommitsThere now n g
-  commits-later n g e = record { running = e.running; first = e.first; by = committed-by n g e.by }
+  commits-later n g e = record { running = e.running; first = e.first; unfailed = e.unfailed; by = committed-by n g e.by }
 
   faults-later : (node : Node) (g : Gxid) (c : Cid) (x : Option (List Value)) → FaultsThere old node g c x → FaultsThere now node g c x
   faults-later node g c x (inl e) = inl e
@@ -135,17 +135,22 @@ module _ (script : Script) (steps : List Step) (event : Event) (earlier later mo
       by_part (inl x) = inr x
       by_part (inr x) = absurd (order (each-contained NoOrder more (mark.Sent node number m) quiet x))
 
+  runs-before : (s : SessionId) (line : Stmt) (level : Level) (g : Gxid) (c : Cid) → RunsCommand script longer s line level g c → RunsCommand script first s line level g c
+  runs-before s line level g c r = record { line = record { started = r.line.started; line = r.line.line }; command = r.command; transaction = r.transaction; number = r.number; isolation = r.isolation }
+
+  runs-behind : (s : SessionId) (line : Stmt) (level : Level) (g : Gxid) (c : Cid) → RunsCommand script first s line level g c → RunsCommand script longer s line level g c
+  runs-behind s line level g c r = record { line = record { started = r.line.started; line = r.line.line }; command = r.command; transaction = r.transaction; number = r.number; isolation = r.isolation }
+
+  returned-later : (g : Gxid) (c : Cid) (node : Node) → IsReturned first g c node → IsReturned longer g c node
+  returned-later g c node y = record { wrote = y.wrote; count = y.count; part = y.part; received = y.received }
+
   abbrev IsWhole : SessionId → Point → Type 0
   IsWhole s point = (line : Stmt) (level : Level) (g : Gxid) (c : Cid) (node : Node) → RunsCommand script point s line level g c → IsDispatched point g c node → IsReturned point g c node
 
   whole-later : (s : SessionId) → IsWhole s first → IsWhole s longer
-  whole-later s f line level g c node r d = back (f line level g c node runs (record { number = d.number; level = d.level; snapshot = d.snapshot; horizon = d.horizon; slice = d.slice; sent = sent-before node d.number (message.Exec g c d.level d.snapshot d.horizon d.slice) (λ z. z) d.sent }))
-    where
-      runs : RunsCommand script first s line level g c
-      runs = record { line = record { started = r.line.started; line = r.line.line }; command = r.command; transaction = r.transaction; number = r.number; isolation = r.isolation }
-
-      back : IsReturned first g c node → IsReturned longer g c node
-      back y = record { wrote = y.wrote; count = y.count; part = y.part; received = y.received }
+  whole-later s f line level g c node r d =
+      returned-later g c node
+      (f line level g c node (runs-before s line level g c r) (record { number = d.number; level = d.level; snapshot = d.snapshot; horizon = d.horizon; slice = d.slice; sent = sent-before node d.number (message.Exec g c d.level d.snapshot d.horizon d.slice) (λ z. z) d.sent }))
 
   complete-later : (s : SessionId) (a : StmtAnswer) → IsComplete script first s a → IsComplete script longer s a
   complete-later s (told.Refused reason) f = tt
@@ -171,7 +176,11 @@ module _ (script : Script) (steps : List Step) (event : Event) (earlier later mo
         transaction = e.transaction;
         committing = e.committing;
         done = whole-later e.session e.done;
+        planned = λ line level g2 c node r goes. returned-later g2 c node (e.planned line level g2 c node (runs-before e.session line level g2 c r) goes);
       }
+
+  executing-later : (g : Gxid) (c : Cid) → IsToExecute script first g c → IsToExecute script longer g c
+  executing-later g c e = record { session = e.session; line = e.line; level = e.level; runs = record { runs = runs-behind e.session e.line e.level g c e.runs.runs; running = e.runs.running }; unasked = e.unasked }
 
   sent-commits-later : (to : Node) (number : ℕ) (m : Message) → CommitsAt script first (mark.Sent to number m) → CommitsAt script longer (mark.Sent to number m)
   sent-commits-later to number (message.Prepare g) f = committing-later g f
@@ -179,7 +188,7 @@ module _ (script : Script) (steps : List Step) (event : Event) (earlier later mo
   sent-commits-later to number (message.CommitPrepared g) f = tt
   sent-commits-later to number (message.Abort g) f = tt
   sent-commits-later to number (message.Forget g) f = tt
-  sent-commits-later to number (message.Exec g c level x h y) f = tt
+  sent-commits-later to number (message.Exec g c level x h y) f = executing-later g c f
   sent-commits-later to number (message.Answer g r) f = tt
   sent-commits-later to number (message.Collect round) f = tt
   sent-commits-later to number (message.Graph round graph) f = tt

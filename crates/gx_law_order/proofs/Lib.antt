@@ -93,6 +93,7 @@ pub mod Later
 pub mod Everywhere
 pub mod Always
 pub mod Unsent
+pub mod Unasked
 pub mod Answering
 pub mod Completing
 pub mod Asked

@@ -52,6 +52,25 @@ as-bit : (b : Bool) → bit b ≡ (if b then 1 else 0)
 as-bit true = refl
 as-bit false = refl
 
+module _ (script : Script) (P : ℕ → ℕ → Part) (c : Coord) (ms : List Mark) (s : Stands script P c ms) (g : ℕ) (ins : AreIn script.segments (c.works g).writers) where
+  -- two of the writers
+  pub two-writers : ((i : ℕ) → is_writer ms (gx g) (at i) ≡ has (at i) (c.works g).writers) → AreSeveral (c.works g).writers → AtMostOne (writers_of script ms (gx g)) → ⊥
+  two-writers writes = by_list (c.works g).writers refl
+    where
+      first : (x : ℕ) (b : Bool) → (eqb x x || b) ≡ true
+      first x b = grind (arith, nat_tests)
+
+      second : (x y : ℕ) (b : Bool) → (eqb x y || (eqb y y || b)) ≡ true
+      second x y b = grind (arith, nat_tests)
+
+      by_list : (zs : List Node) → (c.works g).writers ≡ zs → AreSeveral (c.works g).writers → AtMostOne (writers_of script ms (gx g)) → ⊥
+      by_list [] q m = absurd (subst AreSeveral q m)
+      by_list (x ∷ []) q m = absurd (subst AreSeveral q m)
+      by_list (x ∷ y ∷ zs) q m =
+          let apart : AreApart (x ∷ y ∷ zs) = subst AreApart q (s.works g).apart in
+          let inside : AreIn script.segments (x ∷ y ∷ zs) = subst (AreIn script.segments) q ins in
+          filter-many (is_writer ms (gx g)) script.segments x.0 y.0 (writes x.0 ∙ ap (has x) q ∙ first x.0 _) (writes y.0 ∙ ap (has y) q ∙ second x.0 y.0 _) inside.0.0 inside.0.1 inside.1.0.0 inside.1.0.1 apart.0.0
+
 module _ (script : Script) (P : ℕ → ℕ → Part) (c : Coord) (ms : List Mark) (s : Stands script P c ms) (whole : IsWhole c.table) (g : ℕ) (ins : AreIn script.segments (c.works g).writers) where
   abbrev k : ℕ → Known
   k i = known_at c ms i g
@@ -70,24 +89,6 @@ module _ (script : Script) (P : ℕ → ℕ → Part) (c : Coord) (ms : List Mar
 
   writer-is : (i : ℕ) → is_closing (k i).at ≡ true → is_writer ms (gx g) (at i) ≡ has (at i) ws
   writer-is i e = (s.parts i g).wrote ∙ sym ((pair i).closing e)
-
-  -- two of the writers
-  two-writers : ((i : ℕ) → is_writer ms (gx g) (at i) ≡ has (at i) ws) → AreSeveral ws → AtMostOne (writers_of script ms (gx g)) → ⊥
-  two-writers writes = by_list ws refl
-    where
-      first : (x : ℕ) (b : Bool) → (eqb x x || b) ≡ true
-      first x b = grind (arith, nat_tests)
-
-      second : (x y : ℕ) (b : Bool) → (eqb x y || (eqb y y || b)) ≡ true
-      second x y b = grind (arith, nat_tests)
-
-      by_list : (zs : List Node) → ws ≡ zs → AreSeveral ws → AtMostOne (writers_of script ms (gx g)) → ⊥
-      by_list [] q m = absurd (subst AreSeveral q m)
-      by_list (x ∷ []) q m = absurd (subst AreSeveral q m)
-      by_list (x ∷ y ∷ zs) q m =
-          let apart : AreApart (x ∷ y ∷ zs) = subst AreApart q (s.works g).apart in
-          let inside : AreIn script.segments (x ∷ y ∷ zs) = subst (AreIn script.segments) q ins in
-          filter-many (is_writer ms (gx g)) script.segments x.0 y.0 (writes x.0 ∙ ap (has x) q ∙ first x.0 _) (writes y.0 ∙ ap (has y) q ∙ second x.0 y.0 _) inside.0.0 inside.0.1 inside.1.0.0 inside.1.0.1 apart.0.0
 
   module _ (t : Txn) (f : find_txn c.table (gx g) ≡ Some t) where
     abbrev Gives : Change → Type 0
@@ -185,7 +186,7 @@ module _ (script : Script) (P : ℕ → ℕ → Part) (c : Coord) (ms : List Mar
             record {
               running = or_from (is_committed ms (gx g)) (is_aborted ms (gx g)) (uncommitted script P c ms s whole g t f (k 0) (P 0 g) (pair 0) (not-over 0 (preparing-closing 0))) (unaborted script P c ms s whole g t f (k 0) (P 0 g) (pair 0) (not-over 0 (preparing-closing 0)));
               first = (pair 0).undecided (ap is_undecided (at-preparing 0));
-              several = several (writers_of script ms (gx g)) (two-writers (λ i. writer-is i (preparing-closing i)) (agrees-in (status.Preparing xs aw) e).1);
+              several = several (writers_of script ms (gx g)) (two-writers script P c ms s g ins (λ i. writer-is i (preparing-closing i)) (agrees-in (status.Preparing xs aw) e).1);
               promised = λ node. promised-is node.0 (has node ws) (all-promised none node.0) ∙ as-bit (has node ws) ∙ ap (λ b. if b then 1 else 0) (sym (writer-is node.0 (preparing-closing node.0)));
               uncommitted = λ node. local-is node.0 false (((pair node.0).asked (has node aw) (at-preparing node.0)).3);
             }
@@ -366,7 +367,7 @@ module _ (script : Script) (P : ℕ → ℕ → Part) (c : Coord) (ms : List Mar
           let d : Decision ms ws g = (agrees-in (status.CommittingTwo aw) e).1 in
           subst (Led script P c ms) (sym (ended-follows script P c ms s whole g t f t.participants))
           (committed-led script P c ms s whole g t f t.participants (two-can r) (λ i x y. never (k i).at (has (at i) aw) (at-two i) y) (λ i x. absurd (alive (k i).at (has (at i) aw) (at-two i) x))
-          (many (writers_of script ms (gx g)) ms g (two-writers writes (agrees-in (status.CommittingTwo aw) e).0)
+          (many (writers_of script ms (gx g)) ms g (two-writers script P c ms s g ins writes (agrees-in (status.CommittingTwo aw) e).0)
           (record {
             prepared = λ node. promised-is node.0 (has node ws) (((pair node.0).both (has node aw) (at-two node.0)).1) ∙ as-bit (has node ws) ∙ ap (λ b. if b then 1 else 0) (sym (writes node.0));
             decision = d.place;

@@ -1,7 +1,7 @@
 -- To whom orders go, and when, by the marks before them; and that whatever the coordinator sends goes so.
-use Rattle.std.proofs.Common.{◌≡◌, ℕ, ◌+◌, List, ◌++◌, Option, Some, None, Bool, true, false, refl, sym, ap, ◌∙◌, ◌||◌, eqb, arith}
+use Rattle.std.proofs.Common.{◌≡◌, ℕ, ◌+◌, List, [], ◌∷◌, ◌++◌, Option, Some, None, Bool, true, false, refl, sym, subst, ap, ◌∙◌, ◌||◌, cond, eqb, arith}
 use Rattle.std.proofs.lemmas.Bool.{eqb-true, false_from_ne_true, or_from}
-use Rattle.std.specs.Prelude.{nat_le}
+use Rattle.std.specs.Prelude.{filter, nat_le}
 use Rattle.gx_lemmas.proofs.Numbers.{eqb-swap, plus-none}
 use Rattle.gx_lemmas.proofs.Tests.{or-false}
 use Rattle.gx_ids.specs.declared.ids.Gxid.{Gxid}
@@ -12,27 +12,36 @@ use Rattle.gx_dtx.specs.declared.phase.Phase.TheVariants as status
 use Rattle.gx_dtx.specs.declared.txn.Txn.{Txn}
 use Rattle.gx_msg.specs.declared.message.Message.{Message}
 use Rattle.gx_msg.specs.declared.message.Message.TheVariants as message
+use Rattle.gx_meaning.specs.Plan.{nodes_from}
 use Rattle.gx_script.specs.declared.Script.{Script}
 use Rattle.gx_store.specs.declared.mark.Mark.{Mark}
 use Rattle.gx_store.specs.Marks.{is_aborted, is_committed, is_ended}
-use Rattle.gx_store.specs.Protocol.{IsToCommit, IsToFinish, IsToPrepare, decided_count, is_writer, local_count, prepared_count}
+use Rattle.gx_store.specs.Protocol.{AreSeveral, IsToCommit, IsToFinish, IsToPrepare, decided_count, is_writer, local_count, prepared_count, writers_of}
 use Rattle.gx_rules.specs.Coordinators.{Coord}
+use Rattle.gx_law_order.proofs.Commits.{several}
 use Rattle.gx_law_order.proofs.Counts.{NoEnd, NoPart, decided-append, local-append, no-aborted, no-committed, no-decided, no-local, no-prepared, no-writer, prepared-append, writer-append}
 use Rattle.gx_law_order.proofs.Lists.{Each}
 use Rattle.gx_law_order.proofs.Past.{aborted-append, committed-append}
-use Rattle.gx_law_order.proofs.Ways.{AsksFor, Stands}
+use Rattle.gx_law_order.proofs.Replying.{two-writers}
+use Rattle.gx_law_order.proofs.Tables.{AreIn}
+use Rattle.gx_law_order.proofs.Ways.{Agrees, AgreesIn, AsksFor, Stands}
 use Rattle.gx_law_order.specs.Pairs.{Pair, bit}
 use Rattle.gx_law_order.specs.Said.{is_answer}
 use Rattle.gx_law_order.specs.Standings.{Known, Part, Standing, at, is_closing, is_decided, is_undecided, known_at, standing, standing_in}
 use Rattle.gx_law_order.specs.Standings.Standing.{Live, One, Over, Preparing}
 
 -- behind these marks it may go there; an answer never does
-abbrev pub IsRightOrder : List Mark → Node → Message → Type 0
-IsRightOrder marks to (message.Answer g r) = ⊥
-IsRightOrder marks to (message.Prepare g) = IsToPrepare marks to g
-IsRightOrder marks to (message.Commit g) = IsToCommit marks to g
-IsRightOrder marks to (message.CommitPrepared g) = IsToFinish marks to g
-IsRightOrder marks to _ = Unit {0}
+abbrev pub IsRightOrder : Script → List Mark → Node → Message → Type 0
+IsRightOrder script marks to (message.Answer g r) = ⊥
+IsRightOrder script marks to (message.Prepare g) = IsToPrepare script marks to g
+IsRightOrder script marks to (message.Commit g) = IsToCommit marks to g
+IsRightOrder script marks to (message.CommitPrepared g) = IsToFinish marks to g
+IsRightOrder script marks to _ = Unit {0}
+
+-- two tests that are the same leave the same
+filter-as : (p q : Node → Bool) → ((n : Node) → q n ≡ p n) → (xs : List Node) → filter q xs ≡ filter p xs
+filter-as p q e [] = refl
+filter-as p q e (x ∷ xs) = ap (λ b. cond b (x ∷ filter q xs) (filter q xs)) (e x) ∙ ap (λ ys. cond (p x) (x ∷ ys) ys) (filter-as p q e xs)
 
 -- MARKS THAT TELL OF NOTHING
 module _ (ms ns : List Mark) (part : Each NoPart ns) (end : Each NoEnd ns) where
@@ -53,19 +62,22 @@ module _ (ms ns : List Mark) (part : Each NoPart ns) (end : Each NoEnd ns) where
   decided-on : (g : Gxid) → decided_count (ms ++ ns) g ≡ decided_count ms g
   decided-on g = decided-append ms ns g ∙ ap (λ x. decided_count ms g + x) (no-decided ns g end) ∙ plus-none (decided_count ms g)
 
-pub order-on : (ms ns : List Mark) (to : Node) (m : Message) → Each NoPart ns → Each NoEnd ns → IsRightOrder ms to m → IsRightOrder (ms ++ ns) to m
-order-on ms ns to (message.Prepare g) p e o =
-    record { running = ended-on ms ns p e g o.running; writer = writer-on ms ns p e g to ∙ o.writer; undecided = decided-on ms ns p e g ∙ o.undecided; uncommitted = λ n. local-on ms ns p e n g ∙ o.uncommitted n }
-order-on ms ns to (message.Commit g) p e o =
+  several-on : (script : Script) (g : Gxid) → AreSeveral (writers_of script ms g) → AreSeveral (writers_of script (ms ++ ns) g)
+  several-on script g e = subst AreSeveral (sym (filter-as (is_writer ms g) (is_writer (ms ++ ns) g) (writer-on g) (nodes_from 1 script.segments))) e
+
+pub order-on : (script : Script) (ms ns : List Mark) (to : Node) (m : Message) → Each NoPart ns → Each NoEnd ns → IsRightOrder script ms to m → IsRightOrder script (ms ++ ns) to m
+order-on script ms ns to (message.Prepare g) p e o =
+    record { running = ended-on ms ns p e g o.running; writer = writer-on ms ns p e g to ∙ o.writer; several = several-on ms ns p e script g o.several; undecided = decided-on ms ns p e g ∙ o.undecided; uncommitted = λ n. local-on ms ns p e n g ∙ o.uncommitted n }
+order-on script ms ns to (message.Commit g) p e o =
     record { running = ended-on ms ns p e g o.running; only = λ n. writer-on ms ns p e g n ∙ o.only n; unpromised = λ n. prepared-on ms ns p e n g ∙ o.unpromised n; undecided = decided-on ms ns p e g ∙ o.undecided }
-order-on ms ns to (message.CommitPrepared g) p e o =
+order-on script ms ns to (message.CommitPrepared g) p e o =
     record { running = ended-on ms ns p e g o.running; writer = writer-on ms ns p e g to ∙ o.writer; promised = prepared-on ms ns p e to g ∙ o.promised; decided = decided-on ms ns p e g ∙ o.decided }
-order-on ms ns to (message.Answer g r) p e o = o
-order-on ms ns to (message.Exec g c level x h y) p e o = tt
-order-on ms ns to (message.Abort g) p e o = tt
-order-on ms ns to (message.Forget g) p e o = tt
-order-on ms ns to (message.Collect round) p e o = tt
-order-on ms ns to (message.Graph round graph) p e o = tt
+order-on script ms ns to (message.Answer g r) p e o = o
+order-on script ms ns to (message.Exec g c level x h y) p e o = tt
+order-on script ms ns to (message.Abort g) p e o = tt
+order-on script ms ns to (message.Forget g) p e o = tt
+order-on script ms ns to (message.Collect round) p e o = tt
+order-on script ms ns to (message.Graph round graph) p e o = tt
 
 -- A STANDING AT EVERY SEGMENT
 -- where one writer alone is to commit, it stands so at every segment
@@ -117,7 +129,7 @@ live-of b (Some t) i j e = by_phase t.phase e
     by_phase (status.Aborting aw) e = absurd (cc)
 
 -- WHAT IS SENT
-module _ (script : Script) (P : ℕ → ℕ → Part) (d : Coord) (ms : List Mark) (s : Stands script P d ms) where
+module _ (script : Script) (P : ℕ → ℕ → Part) (d : Coord) (ms : List Mark) (s : Stands script P d ms) (ins : (g : ℕ) → AreIn script.segments (d.works g).writers) where
   abbrev known : ℕ → Gxid → Known
   known i g = known_at d ms i g.0
 
@@ -132,12 +144,29 @@ module _ (script : Script) (P : ℕ → ℕ → Part) (d : Coord) (ms : List Mar
   writes : (i : ℕ) (g : Gxid) → is_closing (known i g).at ≡ true → is_writer ms g (at i) ≡ (known i g).writes
   writes i g e = (s.parts i g.0).wrote ∙ sym ((s.pairs i g.0).closing e)
 
-  pub right-order : (to : Node) (m : Message) → is_answer m ≡ false → AsksFor d to.0 m → IsRightOrder ms to m
+  -- whose promises are awaited are several
+  preparing-several : (g : ℕ) (o : Option Txn) (b : Bool) (i : ℕ) → standing b o i ≡ Preparing true → Agrees ms g o (d.works g).writers → AreSeveral (d.works g).writers
+  preparing-several g None true i e q = absurd (cc)
+  preparing-several g None false i e q = absurd (cc)
+  preparing-several g (Some t) b i e q = by_phase t.phase e q
+    where
+      by_phase : (p : Status) → standing_in p i ≡ Preparing true → AgreesIn ms g p (d.works g).writers → AreSeveral (d.works g).writers
+      by_phase status.Active e q = absurd (cc)
+      by_phase (status.Preparing xs aw) e q = q.1
+      by_phase (status.CommittingOne w) e q = absurd (cc)
+      by_phase (status.CommittingTwo aw) e q = absurd (cc)
+      by_phase (status.Ended aw) e q = absurd (cc)
+      by_phase (status.Aborting aw) e q = absurd (cc)
+
+  pub right-order : (to : Node) (m : Message) → is_answer m ≡ false → AsksFor d to.0 m → IsRightOrder script ms to m
   right-order to (message.Prepare g) n a =
       let pair : Pair (known to.0 g) (P to.0 g.0) = s.pairs to.0 g.0 in
       record {
         running = not-ended to.0 g (ap is_closing a);
         writer = writes to.0 g (ap is_closing a) ∙ (pair.asked true a).0 refl;
+        several = several (writers_of script ms g)
+            (two-writers script P d ms s g.0 (ins g.0) (λ i. let b = preparing-of (nat_le d.table.next.0 g.0) (find_txn d.table g) to.0 i a in writes i g (ap is_closing b.1))
+            (preparing-several g.0 (find_txn d.table g) (nat_le d.table.next.0 g.0) to.0 a (s.agrees g.0)));
         undecided = pair.undecided (ap is_undecided a);
         uncommitted = λ n. let b = preparing-of (nat_le d.table.next.0 g.0) (find_txn d.table g) to.0 n.0 a in (s.parts n.0 g.0).commits ∙ (s.pairs n.0 g.0).committed ∙ ap bit ((s.pairs n.0 g.0).asked b.0 b.1).3;
       }

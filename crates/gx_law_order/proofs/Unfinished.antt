@@ -63,7 +63,7 @@ module _ (script : Script) (node : Node) (point : Point) (ms : List Mark) (g : G
   one-more (mark.Decided h) e = by_test (eqb h.0 g.0) refl
     where
       by_test : (b : Bool) → eqb h.0 g.0 ≡ b → IsClean (ms ++ mark.Decided h ∷ []) g
-      by_test true q = never ms (mark.Decided h ∷ []) g (subst (λ (x : Gxid). is_aborted ms x ≡ false) (same-gxid h g q) (subst (λ (x : List Mark). is_aborted x h ≡ false) all (unaborted _ _ e.running))) refl
+      by_test true q = never ms (mark.Decided h ∷ []) g (subst (λ (x : Gxid). is_aborted ms x ≡ false) (same-gxid h g q) (subst (λ (x : List Mark). is_aborted x h ≡ false) all (unaborted _ _ e.0.running))) refl
       by_test false q = calm ms (mark.Decided h ∷ []) g old refl (ap (λ b. if b then 0 + 1 else 0) q) (λ n. refl)
   one-more (mark.LocalCommit m h) e = by_test (eqb h.0 g.0) refl
     where

@@ -61,7 +61,7 @@ FolAt script ms (mark.Prepared n g) = ⊥
 FolAt script ms (mark.LocalCommit n g) = ⊥
 FolAt script ms (mark.Sent to number told) = ⊥
 FolAt script ms (mark.Skip g c r) = ⊥
-FolAt script ms (mark.Fault g c r x) = x ≡ None
+FolAt script ms (mark.Fault g c r x) = (x ≡ None) × (is_aborted ms g ≡ false)
 FolAt script ms (mark.JournalFailed n g) = (n ≡ the_coordinator) × Decides script ms g
 FolAt script ms _ = Unit {0}
 

@@ -47,9 +47,10 @@ use Rattle.gx_law_order.proofs.Always.{HeardAt, Sound, by-heard, heard-at, moves
 use Rattle.gx_law_order.proofs.Asked.{IsGot, counted as counted_by, event-told}
 use Rattle.gx_law_order.proofs.Complete.{Comes, GetsIn, IsBack, Refuses, Replied, StartsIn, StepBack, answer-push, away-back, back-all, came-append, coord-replied, none-answers, starts-last, victim-replied}
 use Rattle.gx_law_order.proofs.Completing.{GetsBy, calm-started}
-use Rattle.gx_law_order.proofs.Committing.{heard-commits, turn-commits, victim-commits}
+use Rattle.gx_law_order.proofs.Committing.{AreGathering, heard-commits, turn-commits, victim-commits}
 use Rattle.gx_law_order.proofs.Legality.{moves-holds as moves-stand}
 use Rattle.gx_law_order.proofs.Events.{event-led}
+use Rattle.gx_law_order.proofs.Unasked.{ArePosted, moves-posted}
 use Rattle.gx_law_order.proofs.Everywhere.{Holds, does-it, parts_in, resumed-does}
 use Rattle.gx_law_order.proofs.Handled.{Follows}
 
@@ -190,6 +191,8 @@ module _ (script : Script) (some : 1 ≤ script.segments) where
   record Full (w : World) : Type 0 where
     both : Both w
     sessions : AreSessions script w
+    posted : ArePosted w
+    gathers : AreGathering script w
 
   new-replied : Replied script new_world
   new-replied = record { lines = λ t. refl; last = λ t h e. absurd (cc); back = tt; answers = tt }
@@ -213,7 +216,7 @@ module _ (script : Script) (some : 1 ≤ script.segments) where
   follow-sent node point to number (message.CommitPrepared g) e c = e
   follow-sent node point to number (message.Abort g) e c = e
   follow-sent node point to number (message.Forget g) e c = e
-  follow-sent node point to number (message.Exec g k level x h y) e c = e
+  follow-sent node point to number (message.Exec g k level x h y) e c = c
   follow-sent node point to number (message.Answer g r) e c = e
   follow-sent node point to number (message.Collect round) e c = e
   follow-sent node point to number (message.Graph round graph) e c = e
@@ -233,9 +236,9 @@ module _ (script : Script) (some : 1 ≤ script.segments) where
 
   moves-commit : (ms : List Move) → DoStepsCommit script [] (world_by script ms).steps
   moves-commit =
-      at-moves script some Full (λ w. DoStepsCommit script [] w.steps) (λ ms. record { both = moves-both ms; sessions = (moves-stand script some ms).sessions }) tt
+      at-moves script some Full (λ w. DoStepsCommit script [] w.steps) (λ ms. let stand = moves-stand script some ms in record { both = moves-both ms; sessions = stand.sessions; gathers = stand.gathers; posted = moves-posted script some ms }) tt
       (λ w k p e x fails t ok next.
-      turn-commits script w k.both.knows k.both.holds e x fails p next.both.knows next.both.holds next.both.replied next.sessions
+      turn-commits script w k.both.knows k.both.holds e x fails p next.both.knows next.both.holds next.both.replied next.sessions next.posted next.gathers
       (event-led script (parts_in w) w.coord (marks_in w.steps) k.both.holds.stands k.both.knows.kept k.both.knows.past (λ g. (k.both.knows.well.coordinator.works g).writers) (going-out script w k.both.knows) x fails ok
       (said-in script w k.both.knows k.both.holds x (said-to script w k.both.holds e x t))))
       (λ w k p g h next. victim-commits script w k.both.knows k.both.holds g h p)

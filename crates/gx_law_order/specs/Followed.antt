@@ -7,11 +7,12 @@ use Rattle.gx_store.specs.declared.mark.Mark.{Mark}
 use Rattle.gx_store.specs.declared.mark.Mark.TheVariants as mark
 use Rattle.gx_store.specs.declared.run.Step.{Step}
 use Rattle.gx_store.specs.Points.{Point, before}
-use Rattle.gx_store.specs.Protocol.{FollowsAt, IsCommitting, IsComplete, IsToCommit, IsToPrepare}
+use Rattle.gx_store.specs.Protocol.{FollowsAt, IsCommitting, IsComplete, IsToCommit, IsToExecute, IsToPrepare}
 
 abbrev pub EndsAt : Script → Node → Point → Mark → Type 0
 EndsAt script node point (mark.Answer session number answer) = Unit {0}
-EndsAt script node point (mark.Sent to number (message.Prepare g)) = IsToPrepare (before point) to g
+EndsAt script node point (mark.Sent to number (message.Exec g c level snapshot horizon slice)) = Unit {0}
+EndsAt script node point (mark.Sent to number (message.Prepare g)) = IsToPrepare script (before point) to g
 EndsAt script node point (mark.Sent to number (message.Commit g)) = IsToCommit (before point) to g
 EndsAt script node point m = FollowsAt script node point m
 
@@ -39,8 +40,9 @@ abbrev pub DoStepsAnswer : Script → List Step → List Step → Type 0
 DoStepsAnswer script before [] = Unit {0}
 DoStepsAnswer script before (s ∷ ss) = DoMarksAnswer script before s [] s.marks × DoStepsAnswer script (before ++ s ∷ []) ss
 
--- PREPARE and COMMIT are of a transaction that is on its way to a commit
+-- PREPARE and COMMIT are of a transaction that is on its way to a commit, and EXEC of one that isn't
 abbrev pub CommitsAt : Script → Point → Mark → Type 0
+CommitsAt script point (mark.Sent to number (message.Exec g c level snapshot horizon slice)) = IsToExecute script point g c
 CommitsAt script point (mark.Sent to number (message.Prepare g)) = IsCommitting script point g
 CommitsAt script point (mark.Sent to number (message.Commit g)) = IsCommitting script point g
 CommitsAt script point _ = Unit {0}

@@ -1,7 +1,7 @@
 -- Why nothing comes without its cause.
 use Rattle.std.proofs.Common.{◌≡◌, ◌⊎◌, inl, inr, ℕ, zero, suc, ◌+◌, List, [], ◌∷◌, None, Some, Option, Bool, true, false, if◌then◌else◌, refl, sym, subst, ap, arith}
 use Rattle.std.proofs.lemmas.Bool.{eqb-true}
-use Rattle.std.specs.Prelude.{slice_get, take}
+use Rattle.std.specs.Prelude.{Contains, map, slice_get}
 use Rattle.gx_ids.specs.declared.ids.Cid.{Cid}
 use Rattle.gx_ids.specs.declared.ids.Gxid.{Gxid}
 use Rattle.gx_ids.specs.declared.ids.Node.{Node}
@@ -10,14 +10,20 @@ use Rattle.gx_ids.specs.declared.ids.Table.{Table}
 use Rattle.gx_ids.specs.declared.rid.Rid.{Rid}
 use Rattle.gx_tree.specs.declared.cond.Cond.{Cond}
 use Rattle.gx_tree.specs.declared.expr.Expr.{Expr}
+use Rattle.gx_tree.specs.declared.schema.Dist.{Dist}
+use Rattle.gx_tree.specs.declared.schema.Dist.TheVariants.{By, Randomly}
 use Rattle.gx_tree.specs.declared.slice.Slice.TheVariants as slice
 use Rattle.gx_tree.specs.declared.stmt.Assign.{Assign}
 use Rattle.gx_tree.specs.declared.stmt.Level.TheVariants.{ReadCommitted}
+use Rattle.gx_tree.specs.declared.stmt.Stmt.TheVariants as stmt
 use Rattle.gx_tree.specs.declared.value.Value.{Value}
 use Rattle.gx_dsnap.specs.declared.snapshot.Snapshot.{Snapshot}
 use Rattle.gx_msg.specs.declared.message.Message.{Message}
 use Rattle.gx_msg.specs.declared.message.Message.TheVariants as message
 use Rattle.gx_msg.specs.declared.reply.Reply.TheVariants as reply
+use Rattle.gx_meaning.specs.Plan.{pieces}
+use Rattle.gx_meaning.specs.Target.{target_of}
+use Rattle.gx_meaning.specs.declared.piece.Piece.{Piece}
 use Rattle.gx_script.specs.declared.Script.{Script}
 use Rattle.gx_store.specs.declared.event.Event.{Event}
 use Rattle.gx_store.specs.declared.event.Event.TheVariants as event
@@ -25,12 +31,13 @@ use Rattle.gx_store.specs.declared.mark.Mark.TheVariants as mark
 use Rattle.gx_store.specs.declared.run.Step.{Step}
 use Rattle.gx_store.specs.Messages.{HasReceived, Receives, ReceivesAt}
 use Rattle.gx_store.specs.Points.{Point, before}
-use Rattle.gx_store.specs.Protocol.{CommitsAlone, CommitsAsPromised, CommitsThere, Decides, FailsThere, FaultsThere, IsDone, IsExecuted, IsReturned, Promises}
-use Rattle.gx_store.specs.RefusedCauses.{alone, asked_before_commit, asked_unwritten, at_three, done_unexecuted, failed_unasked, failed_undecided, marked_unexecuted, one_update, one_writer, TellsElsewhere, marked_elsewhere, overtaken_elsewhere, said_unasked, told_at_once, told_early, told_undone, two_rows, written_behind_commit, written_behind_decision}
+use Rattle.gx_store.specs.Protocol.{CommitsAlone, CommitsAsPromised, CommitsThere, Decides, FailsThere, FaultsThere, IsDone, IsExecuted, IsReturned, Promises, IsDoneAsPlanned}
+use Rattle.gx_store.specs.RefusedCauses.{alone, asked_before_commit, asked_unwritten, at_three, done_unexecuted, failed_unasked, failed_undecided, marked_unexecuted, one_update, one_writer, TellsElsewhere, marked_elsewhere, overtaken_elsewhere, said_unasked, told_at_once, told_early, told_undone, two_rows, written_behind_commit, written_behind_decision, asked_alone, committed_behind_failure, decided_behind_failure, faulted_behind_abort, sent_behind_answer, sent_behind_prepare, told_half_sent}
 use Rattle.gx_store.specs.RefusedCommits.{BreaksProtocol, two_writers}
-use Rattle.gx_store.specs.Marks.{is_same_session}
+use Rattle.gx_store.specs.Marks.{is_same_session, is_aborted}
 use Rattle.gx_store.specs.RefusedParts.{anna, empty_block, first_cid, first_txn, nth_row, other_segment, second_txn, the_segment}
 use Rattle.gx_store.specs.Refusals.{the_coordinator}
+use Rattle.gx_store.specs.Writes.{dist_of}
 use Rattle.gx_store.proofs.RefusedParts.{clash, no-more}
 
 one-zero : {n : ℕ} → n ≡ 0 → n ≡ 1 → ⊥
@@ -51,27 +58,29 @@ NoReceipt _ = Unit {0}
 nothing-comes : (steps : List Step) (e : Event) (from to : Node) (m : Message) → NoReceipt e → Receives steps e from to m → ⊥
 nothing-comes steps e from to m n r = subst NoReceipt r.is n
 
-abbrev AreNoReceipts : List Step → Type 0
-AreNoReceipts [] = Unit {0}
-AreNoReceipts (s ∷ ss) = NoReceipt s.event × AreNoReceipts ss
+-- this is so of each event
+abbrev AreEvents : (Event → Type 0) → List Step → Type 0
+AreEvents P [] = Unit {0}
+AreEvents P (s ∷ ss) = P s.event × AreEvents P ss
 
-none-there : (steps : List Step) (k : ℕ) (step : Step) → AreNoReceipts steps → slice_get steps k ≡ Some step → NoReceipt step.event
-none-there [] k step n e = absurd (no-more k step e)
-none-there (s ∷ ss) zero step n e = subst (λ (x : Step). NoReceipt x.event) (same s step e) n.0
+event-there : (P : Event → Type 0) (steps : List Step) (k : ℕ) (step : Step) → AreEvents P steps → slice_get steps k ≡ Some step → P step.event
+event-there P [] k step n e = absurd (no-more k step e)
+event-there P (s ∷ ss) zero step n e = subst (λ (x : Step). P x.event) (same s step e) n.0
   where
     same : (a b : Step) → Some a ≡ Some b → a ≡ b
     same a b q = cc
-none-there (s ∷ ss) (suc k) step n e = none-there ss k step n.1 e
+event-there P (s ∷ ss) (suc k) step n e = event-there P ss k step n.1 e
 
-none-came : (point : Point) (from to : Node) (m : Message) → AreNoReceipts point.steps → NoReceipt point.event → HasReceived point from to m → ⊥
-none-came point from to m n e r = by_place r.1
+-- and so of no delivery of the message
+none-came : (P : Event → Type 0) (point : Point) (from to : Node) (m : Message) → AreEvents P point.steps → P point.event → ((number : ℕ) → P (event.Receive from to number) → ⊥) → HasReceived point from to m → ⊥
+none-came P point from to m n e none r = by_place r.1
   where
     by_place : ReceivesAt point r.0 from to m → ⊥
-    by_place (inl x) = nothing-comes (take r.0 point.steps) x.0.event from to m (none-there point.steps r.0 x.0 n x.1) x.2
-    by_place (inr x) = nothing-comes point.steps point.event from to m e x.1
+    by_place (inl x) = none x.2.number (subst P x.2.is (event-there P point.steps r.0 x.0 n x.1))
+    by_place (inr x) = none x.1.number (subst P x.1.is e)
 
-unexecuted : {point : Point} (g : Gxid) (c : Cid) (node : Node) → AreNoReceipts point.steps → NoReceipt point.event → IsExecuted point g c node → ⊥
-unexecuted {point = point} g c node n e x = none-came point the_coordinator node (message.Exec g c x.level x.snapshot x.horizon x.slice) n e x.received
+unexecuted : {point : Point} (g : Gxid) (c : Cid) (node : Node) → AreEvents NoReceipt point.steps → NoReceipt point.event → IsExecuted point g c node → ⊥
+unexecuted {point = point} g c node n e x = none-came NoReceipt point the_coordinator node (message.Exec g c x.level x.snapshot x.horizon x.slice) n e (λ number q. q) x.received
 
 pub causes-done : (script : Script) (table : Table) (assigns : List Assign) (cond : Option Cond) (s : Snapshot) → BreaksProtocol (one_update script table assigns cond) (done_unexecuted table assigns cond s)
 causes-done script table assigns cond s h = unexecuted first_txn first_cid the_segment (tt, tt) tt h.1.0.0
@@ -79,11 +88,11 @@ causes-done script table assigns cond s h = unexecuted first_txn first_cid the_s
 pub causes-skipped : (script : Script) (table : Table) (assigns : List Assign) (cond : Option Cond) (s : Snapshot) (rid : Rid) → BreaksProtocol (one_update script table assigns cond) (marked_unexecuted table assigns cond s (mark.Skip first_txn first_cid rid))
 causes-skipped script table assigns cond s rid h = unexecuted first_txn first_cid the_segment (tt, tt) tt h.1.0.0
 
-not-own : (P : Type 0) → (the_segment ≡ the_coordinator) × P → ⊥
-not-own P e = one-zero (ap (λ (n : Node). n.0) e.0) refl
+not-own : the_segment ≡ the_coordinator → ⊥
+not-own e = one-zero (ap (λ (n : Node). n.0) e) refl
 
-faulted-there : {point : Point} (rid : Rid) (image : Option (List Value)) → AreNoReceipts point.steps → NoReceipt point.event → FaultsThere point the_segment first_txn first_cid image → ⊥
-faulted-there rid image n e (inl own) = not-own _ own
+faulted-there : {point : Point} (rid : Rid) (image : Option (List Value)) → AreEvents NoReceipt point.steps → NoReceipt point.event → FaultsThere point the_segment first_txn first_cid image → ⊥
+faulted-there rid image n e (inl own) = not-own own.0
 faulted-there rid image n e (inr x) = unexecuted first_txn first_cid the_segment n e x
 
 pub causes-faulted : (script : Script) (table : Table) (assigns : List Assign) (cond : Option Cond) (s : Snapshot) (rid : Rid) (image : Option (List Value)) → BreaksProtocol (one_update script table assigns cond) (marked_unexecuted table assigns cond s (mark.Fault first_txn first_cid rid image))
@@ -135,7 +144,7 @@ failed-there node g e own (inr (inl x)) = no-promise node g e x
 failed-there node g e own (inr (inr x)) = no-commit node g e x
 
 pub causes-unasked : (script : Script) → BreaksProtocol (empty_block script) failed_unasked
-causes-unasked script h = failed-there the_segment first_txn tt (not-own _) h.1.0.0
+causes-unasked script h = failed-there the_segment first_txn tt (λ x. not-own x.0) h.1.0.0
 
 pub causes-undecided : (script : Script) → BreaksProtocol (empty_block script) failed_undecided
 causes-undecided script h = failed-there the_coordinator first_txn tt (λ x. x.1.several) h.1.0.0
@@ -143,6 +152,9 @@ causes-undecided script h = failed-there the_coordinator first_txn tt (λ x. x.1
 -- ORDERS
 pub causes-asked : (script : Script) → BreaksProtocol (empty_block script) asked_unwritten
 causes-asked script h = clash false h.1.0.0.0.writer refl
+
+pub causes-alone : (script : Script) (table : Table) (tuple : List Expr) (s : Snapshot) (row : List Value) → BreaksProtocol (one_writer script table tuple) (asked_alone table s row)
+causes-alone script table tuple s row h = h.1.1.1.1.0.0.0.several
 
 pub causes-at-once : (script : Script) (table : Table) (one other : List Expr) (s : Snapshot) (row more : List Value) → BreaksProtocol (two_writers script table one other) (told_at_once table s row more)
 causes-at-once script table one other s row more h = clash true refl (h.1.1.1.1.1.1.0.0.0.only other_segment)
@@ -165,27 +177,8 @@ abbrev IsFromElse : Event → Type 0
 IsFromElse (event.Receive from to number) = from.0 ≡ 2 → ⊥
 IsFromElse _ = Unit {0}
 
-not-from : (steps : List Step) (e : Event) (m : Message) → IsFromElse e → Receives steps e other_segment the_coordinator m → ⊥
-not-from steps e m n r = (subst IsFromElse r.is n) refl
-
-abbrev AreFromElse : List Step → Type 0
-AreFromElse [] = Unit {0}
-AreFromElse (s ∷ ss) = IsFromElse s.event × AreFromElse ss
-
-else-there : (steps : List Step) (k : ℕ) (step : Step) → AreFromElse steps → slice_get steps k ≡ Some step → IsFromElse step.event
-else-there [] k step n e = absurd (no-more k step e)
-else-there (s ∷ ss) zero step n e = subst (λ (x : Step). IsFromElse x.event) (same s step e) n.0
-  where
-    same : (a b : Step) → Some a ≡ Some b → a ≡ b
-    same a b q = cc
-else-there (s ∷ ss) (suc k) step n e = else-there ss k step n.1 e
-
-unreturned : {point : Point} (g : Gxid) (c : Cid) → AreFromElse point.steps → IsFromElse point.event → IsReturned point g c other_segment → ⊥
-unreturned {point = point} g c n e back = by_place back.received.0 back.received.1
-  where
-    by_place : (k : ℕ) → ReceivesAt point k other_segment the_coordinator (message.Answer g (reply.Done c back.wrote back.count back.part)) → ⊥
-    by_place k (inl x) = not-from (take k point.steps) x.0.event (message.Answer g (reply.Done c back.wrote back.count back.part)) (else-there point.steps k x.0 n x.1) x.2
-    by_place k (inr x) = not-from point.steps point.event (message.Answer g (reply.Done c back.wrote back.count back.part)) e x.1
+unreturned : {point : Point} (g : Gxid) (c : Cid) → AreEvents IsFromElse point.steps → IsFromElse point.event → IsReturned point g c other_segment → ⊥
+unreturned {point = point} g c n e back = none-came IsFromElse point other_segment the_coordinator (message.Answer g (reply.Done c back.wrote back.count back.part)) n e (λ number q. q refl) back.received
 
 zero-two : {n : ℕ} → n ≡ 0 → n ≡ 2 → ⊥
 zero-two e f = omega arith
@@ -193,11 +186,17 @@ zero-two e f = omega arith
 one-two : {n : ℕ} → n ≡ 1 → n ≡ 2 → ⊥
 one-two e f = omega arith
 
+-- whose transaction is on its way to a commit, where its line is that of anna
+abbrev session_at : ℕ → SessionId
+session_at n = record { 0 = n }
+
+is-anna : (session : SessionId) → ((if is_same_session anna session then 1 else 0) + (0 + 0)) + 0 ≡ 0 + 1 → session ≡ anna
+is-anna session e = ap session_at (sym (eqb-true anna.0 session.0 (its-session (is_same_session anna session) e)))
+
 pub causes-before-done : (script : Script) (table : Table) (one other : List Expr) (s : Snapshot) (row more : List Value) → BreaksProtocol (alone script table one other) (told_undone table s row more)
 causes-before-done script table one other s row more h =
     let c = h.1.1.0.0.1 in
-    let same : c.session ≡ anna = ap (λ n. session_at n) (sym (eqb-true anna.0 c.session.0 (its-session (is_same_session anna c.session) c.runs.started))) in
-    let done = subst (λ (x : SessionId). IsDone (alone script table one other) _ x) same c.done in
+    let done = subst (λ (x : SessionId). IsDone (alone script table one other) _ x) (is-anna c.session c.runs.started) c.done in
     unreturned first_txn first_cid (tt, (λ e. zero-two refl e, tt)) (λ e. one-two refl e)
     (done (two_rows table one other) ReadCommitted first_txn first_cid other_segment (record { line = record { started = refl; line = refl }; command = refl; transaction = refl; number = refl; isolation = refl })
     (record {
@@ -208,9 +207,19 @@ causes-before-done script table one other s row more h =
       slice = slice.Insert table (record { rid = nth_row first_txn 2; row = more } ∷ []);
       sent = inl (record { step = 0; mark = 3; sending = record { sender = _; at = refl; node = refl; sent = refl } });
     }))
-  where
-    session_at : ℕ → SessionId
-    session_at n = record { 0 = n }
+
+-- an UPDATE of all rows goes to the other segment too
+goes-second : (table : Table) (assigns : List Assign) (dist : Dist) → Contains (map (λ (p : Piece). p.node) (pieces 2 (target_of 2 dist None) (slice.Update table assigns None))) other_segment
+goes-second table assigns (By column) = (1, omega arith, refl)
+goes-second table assigns Randomly = (1, omega arith, refl)
+
+pub causes-half-sent : (script : Script) (table : Table) (assigns : List Assign) (s : Snapshot) (rid : Rid) (row : List Value) → BreaksProtocol (one_update script table assigns None) (told_half_sent table assigns s rid row)
+causes-half-sent script table assigns s rid row h =
+    let c = h.1.1.0.0.1 in
+    let planned = subst (λ (x : SessionId). IsDoneAsPlanned (one_update script table assigns None) _ x) (is-anna c.session c.runs.started) c.planned in
+    unreturned first_txn first_cid (tt, (λ e. zero-two refl e, tt)) (λ e. one-two refl e)
+    (planned (stmt.Update table assigns None) ReadCommitted first_txn first_cid other_segment (record { line = record { started = refl; line = refl }; command = refl; transaction = refl; number = refl; isolation = refl })
+    (record { table = table; of = refl; pieces = pieces 2 (target_of 2 (dist_of script.tables table.0) None) (slice.Update table assigns None); plan = refl; among = goes-second table assigns (dist_of script.tables table.0) }))
 
 pub causes-early : (script : Script) (table : Table) (one other : List Expr) (s : Snapshot) (row more : List Value) → BreaksProtocol (two_writers script table one other) (told_early table s row more)
 causes-early script table one other s row more h = one-zero refl h.1.1.1.1.1.1.1.1.1.1.0.0.decided
@@ -220,3 +229,30 @@ causes-aborted script h = nothing-comes _ (event.Resume the_segment first_txn) t
 
 pub causes-forgotten : (script : Script) → BreaksProtocol (empty_block script) (said_unasked reply.Forgotten)
 causes-forgotten script h = nothing-comes _ (event.Resume the_segment first_txn) the_coordinator the_segment (message.Forget first_txn) tt h.1.0.0
+
+-- A COMMAND IN ITS TIME
+pub causes-prepared : (script : Script) (table : Table) (one other : List Expr) (s : Snapshot) (row more : List Value) → BreaksProtocol (alone script table one other) (sent_behind_prepare table s row more)
+causes-prepared script table one other s row more h = clash true refl h.1.1.1.1.1.0.0.unasked
+
+pub causes-answered : (script : Script) (table : Table) (tuple : List Expr) (s : Snapshot) (row : List Value) → BreaksProtocol (one_writer script table tuple) (sent_behind_answer table s row)
+causes-answered script table tuple s row h = let c = h.1.1.1.1.0.0 in none-under-way (is_same_session anna c.session) c.runs.runs.line.started
+
+-- BEHIND A FAILURE
+pub causes-decided : (script : Script) (table : Table) (one other : List Expr) (s : Snapshot) (row more : List Value) → BreaksProtocol (two_writers script table one other) (decided_behind_failure table s row more)
+causes-decided script table one other s row more h = h.1.1.1.1.1.1.1.1.1.1.0.1.0.1 (0, omega arith, refl)
+
+pub causes-committed : (script : Script) (table : Table) (tuple : List Expr) (s : Snapshot) (row : List Value) → BreaksProtocol (one_writer script table tuple) (committed_behind_failure table s row)
+causes-committed script table tuple s row h = h.1.1.1.1.1.0.1.0.unfailed (0, omega arith, refl)
+
+-- A FAULT BEHIND THE ABORT
+abbrev IsNotOwn : Event → Type 0
+IsNotOwn (event.Receive from to number) = from.0 ≡ 0 → to.0 ≡ 0 → ⊥
+IsNotOwn _ = Unit {0}
+
+faulted-late : {point : Point} (image : Option (List Value)) → AreEvents IsNotOwn point.steps → IsNotOwn point.event → is_aborted (before point) first_txn ≡ true → FaultsThere point the_coordinator first_txn first_cid image → ⊥
+faulted-late image n e aborted (inl own) = clash _ aborted own.2
+faulted-late {point = point} image n e aborted (inr x) =
+    none-came IsNotOwn point the_coordinator the_coordinator (message.Exec first_txn first_cid x.level x.snapshot x.horizon x.slice) n e (λ number q. q refl refl) x.received
+
+pub causes-faulted-late : (script : Script) (table : Table) (assigns : List Assign) (cond : Option Cond) (s : Snapshot) (rid : Rid) (row : List Value) → BreaksProtocol (one_update script table assigns cond) (faulted_behind_abort table assigns cond s rid row)
+causes-faulted-late script table assigns cond s rid row h = faulted-late None (tt, (λ e f. one-zero f refl, tt)) (λ e f. one-zero e refl) refl h.1.1.0.1.1.0

@@ -25,16 +25,16 @@ one-zero : {n : ℕ} → n ≡ 0 → n ≡ 1 → ⊥
 one-zero e f = omega arith
 
 pub protocol-nobody : (script : Script) → BreaksProtocol (empty_block script) decided_of_nobody
-protocol-nobody script h = h.1.0.0.several
+protocol-nobody script h = h.1.0.0.0.several
 
 pub protocol-unwritten : (script : Script) → BreaksProtocol (empty_block script) promised_unwritten
 protocol-unwritten script h = clash false h.1.1.0.0.writer refl
 
 pub protocol-twice : (script : Script) (table : Table) (one other : List Expr) (s : Snapshot) (row more : List Value) → BreaksProtocol (two_writers script table one other) (decided_twice table s row more)
-protocol-twice script table one other s row more h = one-zero h.1.1.1.1.1.1.1.1.1.1.0.1.0.first refl
+protocol-twice script table one other s row more h = one-zero h.1.1.1.1.1.1.1.1.1.1.0.1.0.0.first refl
 
 pub protocol-late : (script : Script) (table : Table) (one other : List Expr) (s : Snapshot) (row more : List Value) → BreaksProtocol (two_writers script table one other) (decided_late table s row more)
-protocol-late script table one other s row more h = clash true refl h.1.1.1.1.1.1.1.1.1.1.1.0.0.running
+protocol-late script table one other s row more h = clash true refl h.1.1.1.1.1.1.1.1.1.1.1.0.0.0.running
 
 no-early : {point : Point} → CommitsThere point the_segment first_txn → is_writer (before point) first_txn other_segment ≡ true → decided_count (before point) first_txn ≡ 0 → ⊥
 no-early {point = point} c writes undecided = by_how c.by

@@ -1,5 +1,5 @@
 -- What the answer to a line says, by where its session stands.
-use Rattle.std.specs.Prelude.{◌≡◌, ℕ, ◌≤◌, Bool, true, false, List, length, map, Some, Ok, All, Contains}
+use Rattle.std.specs.Prelude.{◌≡◌, ℕ, ◌≤◌, Bool, true, false, List, length, Some, Ok, All}
 use Rattle.std.specs.declared.option.Option.{Option}
 use Rattle.gx_ids.specs.declared.ids.Gxid.{Gxid}
 use Rattle.gx_ids.specs.declared.ids.Cid.{Cid}
@@ -19,9 +19,6 @@ use Rattle.gx_tree.specs.declared.value.Value.{Value}
 use Rattle.gx_meaning.specs.Answer.{answer_of}
 use Rattle.gx_modes.specs.declared.modes.Mode.{Mode}
 use Rattle.gx_meaning.specs.Constants.{values_of}
-use Rattle.gx_meaning.specs.Plan.{plan_of}
-use Rattle.gx_meaning.specs.Statements.{table_of}
-use Rattle.gx_meaning.specs.declared.piece.Piece.{Piece}
 use Rattle.gx_script.specs.declared.Script.{Script}
 use Rattle.gx_waits.specs.declared.object.Object.TheVariants.{Relation}
 use Rattle.gx_store.specs.declared.answer.Refused.TheVariants.{InFailedBlock, NotInBlock}
@@ -33,10 +30,10 @@ use Rattle.gx_store.specs.Lines.{BlockState, Outside, InBlock, Failed, cid_of, i
 use Rattle.gx_store.specs.Marks.{is_aborted, is_begun, is_committed, is_ended, is_processed, write_count}
 use Rattle.gx_store.specs.Points.{Point, before}
 use Rattle.gx_store.specs.Protocol.{IsReturned}
+pub use Rattle.gx_store.specs.Protocol.{GoesTo}
 use Rattle.gx_store.specs.Refusals.{IsRefusal}
 use Rattle.gx_store.specs.Rows.{row_at}
 use Rattle.gx_store.specs.Waits.{is_held}
-use Rattle.gx_store.specs.Writes.{dist_of}
 
 -- the condition faults on none of the rows
 abbrev pub FaultsOnNone : Option Cond → List KeyedRow → Type 0
@@ -84,14 +81,6 @@ Tells script marks level g c _ _ = ⊥
 abbrev pub IsAtItsEnd : BlockState → Point → Gxid → Type 0
 IsAtItsEnd Outside point g = is_committed point.earlier g ≡ true
 IsAtItsEnd _ point g = is_ended (before point) g ≡ false
-
--- the command's plan has a piece for the node
-pub record GoesTo (script : Script) (g : Gxid) (c : Cid) (line : Stmt) (node : Node) : Type 0 where
-  pub table : Table
-  pub of : table_of line ≡ Some table
-  pub pieces : List Piece
-  pub plan : plan_of script.segments (dist_of script.tables table.0) g c line ≡ Ok pieces
-  pub among : Contains (map (λ piece. piece.node) pieces) node
 
 -- the line is a command, which succeeded: each node to which it goes has answered that it is done
 pub record IsDone (script : Script) (point : Point) (session : SessionId) (state : BlockState) (stmt : Stmt) (answer : StmtAnswer) : Type 0 where

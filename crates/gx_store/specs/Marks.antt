@@ -8,6 +8,7 @@ use Rattle.gx_ids.specs.declared.ids.SessionId.{SessionId}
 use Rattle.gx_ids.specs.declared.ids.Table.{Table}
 use Rattle.gx_ids.specs.declared.rid.Rid.{Rid}
 use Rattle.gx_msg.specs.declared.message.Message.{Message}
+use Rattle.gx_msg.specs.declared.message.Message.TheVariants as message
 use Rattle.gx_msg.specs.declared.message.Message.TheVariants.{Exec}
 use Rattle.gx_store.specs.declared.mark.Mark.{Mark}
 use Rattle.gx_store.specs.declared.mark.Mark.TheVariants.{Start, Snap, Write, Skip, Commit, Abort, Answer, Sent}
@@ -91,6 +92,13 @@ abbrev pub is_sent : List Mark → Gxid → Cid → Bool
 is_sent [] g c = false
 is_sent (Sent to number told ∷ ms) g c = is_order_of g c told || is_sent ms g c
 is_sent (_ ∷ ms) g c = is_sent ms g c
+
+-- some segment was asked to prepare the transaction, or to commit it at once
+abbrev pub is_committing : List Mark → Gxid → Bool
+is_committing [] g = false
+is_committing (Sent to number (message.Prepare h) ∷ ms) g = is_same_gxid h g || is_committing ms g
+is_committing (Sent to number (message.Commit h) ∷ ms) g = is_same_gxid h g || is_committing ms g
+is_committing (_ ∷ ms) g = is_committing ms g
 
 -- the row was written
 abbrev pub is_written : List Mark → Rid → Bool

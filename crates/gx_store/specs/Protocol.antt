@@ -1,9 +1,10 @@
 -- How transactions commit and abort over several segments (Lyu et al., SIGMOD 2021: one- and two-phase commit).
-use Rattle.std.specs.Prelude.{◌≡◌, ◌⊎◌, ℕ, ◌+◌, Bool, true, false, if◌then◌else◌, ◌&&◌, ◌||◌, List, [], ◌∷◌, ◌++◌, slice_get, take, filter, None, Some, Contains}
+use Rattle.std.specs.Prelude.{◌≡◌, ◌⊎◌, ℕ, ◌+◌, Bool, true, false, if◌then◌else◌, ◌&&◌, ◌||◌, List, [], ◌∷◌, ◌++◌, slice_get, take, filter, map, None, Some, Ok, Contains}
 use Rattle.gx_ids.specs.declared.ids.Cid.{Cid}
 use Rattle.gx_ids.specs.declared.ids.Gxid.{Gxid}
 use Rattle.gx_ids.specs.declared.ids.Node.{Node}
 use Rattle.gx_ids.specs.declared.ids.SessionId.{SessionId}
+use Rattle.gx_ids.specs.declared.ids.Table.{Table}
 use Rattle.gx_tree.specs.declared.part.Part.{Part}
 use Rattle.gx_tree.specs.declared.slice.Slice.{Slice}
 use Rattle.gx_tree.specs.declared.stmt.Level.{Level}
@@ -13,7 +14,9 @@ use Rattle.gx_dsnap.specs.declared.snapshot.Snapshot.{Snapshot}
 use Rattle.gx_msg.specs.declared.message.Message.{Message}
 use Rattle.gx_msg.specs.declared.message.Message.TheVariants as message
 use Rattle.gx_msg.specs.declared.reply.Reply.TheVariants as reply
-use Rattle.gx_meaning.specs.Plan.{nodes_from}
+use Rattle.gx_meaning.specs.Plan.{nodes_from, plan_of}
+use Rattle.gx_meaning.specs.Statements.{table_of}
+use Rattle.gx_meaning.specs.declared.piece.Piece.{Piece}
 use Rattle.gx_script.specs.declared.Script.{Script}
 use Rattle.std.specs.declared.option.Option.{Option}
 use Rattle.gx_store.specs.declared.answer.StmtAnswer.{StmtAnswer}
@@ -21,13 +24,14 @@ use Rattle.gx_store.specs.declared.answer.StmtAnswer.TheVariants.{Refused}
 use Rattle.gx_store.specs.declared.mark.Mark.{Mark}
 use Rattle.gx_store.specs.declared.mark.Mark.TheVariants as mark
 use Rattle.gx_store.specs.declared.run.Step.{Step}
-use Rattle.gx_store.specs.Commands.{RunsCommand, RunsLine, state_at}
+use Rattle.gx_store.specs.Commands.{IsUnderWay, RunsCommand, RunsLine, state_at}
 use Rattle.gx_store.specs.Journals.{is_same_node}
 use Rattle.gx_store.specs.Lines.{may_commit, transaction_of}
-use Rattle.gx_store.specs.Marks.{is_committed, is_ended, is_same_gxid}
+use Rattle.gx_store.specs.Marks.{is_aborted, is_committed, is_committing, is_ended, is_same_gxid}
 use Rattle.gx_store.specs.Messages.{HasReceived, IsSent, Receives}
 use Rattle.gx_store.specs.Points.{Point, before}
 use Rattle.gx_store.specs.Refusals.{the_coordinator}
+use Rattle.gx_store.specs.Writes.{dist_of}
 
 -- the transaction has written at the node
 abbrev pub is_writer : List Mark → Gxid → Node → Bool
@@ -86,13 +90,18 @@ AreSeveral [] = ⊥
 AreSeveral (node ∷ []) = ⊥
 AreSeveral (node ∷ other ∷ nodes) = Unit {0}
 
--- a segment promises, once: it has written, and the transaction has committed neither there nor as a whole
+-- the node's journal has failed in this step, in the place of what it was to take for the transaction
+abbrev pub HasFailed : Point → Node → Gxid → Type 0
+HasFailed point node g = Contains point.earlier (mark.JournalFailed node g)
+
+-- a segment promises, once: it has written, the transaction has committed neither there nor as a whole, and its journal hasn't failed
 pub record Promises (point : Point) (node : Node) (g : Gxid) : Type 0 where
   pub told : Receives point.steps point.event the_coordinator node (message.Prepare g)
   pub writer : is_writer (before point) g node ≡ true
   pub first : prepared_count (before point) node g ≡ 0
   pub uncommitted : is_committed (before point) g ≡ false
   pub uncommitted_there : local_count (before point) node g ≡ 0
+  pub unfailed : HasFailed point node g → ⊥
 
 -- it is decided, once, of a transaction that hasn't ended: there are several writers, each has promised, and none has committed
 pub record Decides (script : Script) (marks : List Mark) (g : Gxid) : Type 0 where
@@ -115,10 +124,11 @@ pub record CommitsAsPromised (point : Point) (node : Node) (g : Gxid) : Type 0 w
   pub promised : prepared_count (before point) node g ≡ 1
   pub decided : decided_count (before point) g ≡ 1
 
--- a segment commits, once, a transaction that hasn't ended
+-- a segment commits, once, a transaction that hasn't ended, where its journal hasn't failed
 pub record CommitsThere (point : Point) (node : Node) (g : Gxid) : Type 0 where
   pub running : is_ended (before point) g ≡ false
   pub first : local_count (before point) node g ≡ 0
+  pub unfailed : HasFailed point node g → ⊥
   pub by : CommitsAlone point node g ⊎ CommitsAsPromised point node g
 
 -- the segment has received the command, in an earlier step or in the point's own
@@ -137,19 +147,29 @@ pub record WritesThere (point : Point) (node : Node) (g : Gxid) (c : Cid) : Type
   pub undecided : decided_count (before point) g ≡ 0
   pub uncommitted : (segment : Node) → local_count (before point) segment g ≡ 0
 
--- a fault is noted at a segment that has received the command; that of an INSERT's constants at the coordinator, of a row that isn't there
+-- A fault is noted at a segment that has received the command; that of an INSERT's constants at the coordinator, of a row that isn't
+-- there, before the transaction aborts.
 abbrev pub FaultsThere : Point → Node → Gxid → Cid → Option (List Value) → Type 0
-FaultsThere point node g c image = ((node ≡ the_coordinator) × (image ≡ None)) ⊎ IsExecuted point g c node
+FaultsThere point node g c image = ((node ≡ the_coordinator) × (image ≡ None) × (is_aborted (before point) g ≡ false)) ⊎ IsExecuted point g c node
 
 -- A journal fails in the place of what it was to take: the coordinator's of a decision, a segment's of a promise or of a commit.
 abbrev pub FailsThere : Script → Point → Node → Gxid → Type 0
 FailsThere script point node g = ((node ≡ the_coordinator) × Decides script (before point) g) ⊎ Promises point node g ⊎ CommitsThere point node g
 
 -- ORDERS
--- PREPARE goes to a writer of a transaction that hasn't ended, that isn't decided, and that no segment has committed
-pub record IsToPrepare (marks : List Mark) (node : Node) (g : Gxid) : Type 0 where
+-- EXEC is of a command under way, of a transaction that nobody was asked to prepare or to commit
+pub record IsToExecute (script : Script) (point : Point) (g : Gxid) (c : Cid) : Type 0 where
+  pub session : SessionId
+  pub line : Stmt
+  pub level : Level
+  pub runs : IsUnderWay script point session line level g c
+  pub unasked : is_committing (before point) g ≡ false
+
+-- PREPARE goes to a writer, of several, of a transaction that hasn't ended, that isn't decided, and that no segment has committed
+pub record IsToPrepare (script : Script) (marks : List Mark) (node : Node) (g : Gxid) : Type 0 where
   pub running : is_ended marks g ≡ false
   pub writer : is_writer marks g node ≡ true
+  pub several : AreSeveral (writers_of script marks g)
   pub undecided : decided_count marks g ≡ 0
   pub uncommitted : (segment : Node) → local_count marks segment g ≡ 0
 
@@ -187,17 +207,30 @@ pub record IsReturned (point : Point) (g : Gxid) (c : Cid) (node : Node) : Type 
   pub part : Part
   pub received : HasReceived point node the_coordinator (message.Answer g (reply.Done c wrote count part))
 
+-- the command's plan has a piece for the node
+pub record GoesTo (script : Script) (g : Gxid) (c : Cid) (line : Stmt) (node : Node) : Type 0 where
+  pub table : Table
+  pub of : table_of line ≡ Some table
+  pub pieces : List Piece
+  pub plan : plan_of script.segments (dist_of script.tables table.0) g c line ≡ Ok pieces
+  pub among : Contains (map (λ piece. piece.node) pieces) node
+
 -- if the session's line is a command, every segment that it was sent to is done
 abbrev pub IsDone : Script → Point → SessionId → Type 0
 IsDone script point session =
     (line : Stmt) (level : Level) (g : Gxid) (c : Cid) (node : Node) → RunsCommand script point session line level g c → IsDispatched point g c node → IsReturned point g c node
+
+-- and so is every segment of its plan
+abbrev pub IsDoneAsPlanned : Script → Point → SessionId → Type 0
+IsDoneAsPlanned script point session =
+    (line : Stmt) (level : Level) (g : Gxid) (c : Cid) (node : Node) → RunsCommand script point session line level g c → GoesTo script g c line node → IsReturned point g c node
 
 -- a command that succeeds is answered once it is done
 abbrev pub IsComplete : Script → Point → SessionId → StmtAnswer → Type 0
 IsComplete script point session (Refused reason) = Unit {0}
 IsComplete script point session answer = IsDone script point session
 
--- the transaction is on its way to a commit: its line under way is COMMIT, or its one command, which is done
+-- the transaction is on its way to a commit: its line under way is COMMIT, or its one command, which is done at each segment of its plan
 pub record IsCommitting (script : Script) (point : Point) (g : Gxid) : Type 0 where
   pub session : SessionId
   pub line : Stmt
@@ -205,6 +238,7 @@ pub record IsCommitting (script : Script) (point : Point) (g : Gxid) : Type 0 wh
   pub transaction : transaction_of (state_at script session point) session (before point) ≡ Some g
   pub committing : may_commit (state_at script session point) line ≡ true
   pub done : IsDone script point session
+  pub planned : IsDoneAsPlanned script point session
 
 -- What each mark of a transaction's end stands behind: of promises, decisions, commits and aborts at the nodes and as a whole, and of a
 -- journal's failure in the place of one; that a segment writes, skips, faults and says so for a command that it has received, and writes
@@ -213,7 +247,7 @@ pub record IsCommitting (script : Script) (point : Point) (g : Gxid) : Type 0 wh
 -- the same step.
 abbrev pub FollowsAt : Script → Node → Point → Mark → Type 0
 FollowsAt script node point (mark.Commit g) = CommitsBy (writers_of script (before point) g) (before point) g
-FollowsAt script node point (mark.Decided g) = Decides script (before point) g
+FollowsAt script node point (mark.Decided g) = Decides script (before point) g × (HasFailed point the_coordinator g → ⊥)
 FollowsAt script _ point (mark.LocalCommit node g) = CommitsThere point node g
 FollowsAt script _ point (mark.Prepared node g) = Promises point node g
 FollowsAt script node point (mark.Abort g) = (decided_count (before point) g ≡ 0) × ((segment : Node) → local_count (before point) segment g ≡ 0)
@@ -228,7 +262,8 @@ FollowsAt script node point (mark.Sent to number (message.Answer g (reply.Done c
 FollowsAt script node point (mark.Sent to number (message.Answer g (reply.Failed c reason))) = IsExecuted point g c node
 FollowsAt script node point (mark.Sent to number (message.Answer g reply.Aborted)) = Receives point.steps point.event the_coordinator node (message.Abort g)
 FollowsAt script node point (mark.Sent to number (message.Answer g reply.Forgotten)) = Receives point.steps point.event the_coordinator node (message.Forget g)
-FollowsAt script node point (mark.Sent to number (message.Prepare g)) = IsToPrepare (before point) to g × IsCommitting script point g
+FollowsAt script node point (mark.Sent to number (message.Exec g c level snapshot horizon slice)) = IsToExecute script point g c
+FollowsAt script node point (mark.Sent to number (message.Prepare g)) = IsToPrepare script (before point) to g × IsCommitting script point g
 FollowsAt script node point (mark.Sent to number (message.Commit g)) = IsToCommit (before point) to g × IsCommitting script point g
 FollowsAt script node point (mark.Sent to number (message.CommitPrepared g)) = IsToFinish (before point) to g
 FollowsAt script node point _ = Unit {0}

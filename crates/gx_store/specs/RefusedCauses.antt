@@ -5,6 +5,7 @@ use Rattle.std.specs.declared.option.Option.{Option}
 use Rattle.gx_ids.specs.declared.ids.Gxid.{Gxid}
 use Rattle.gx_ids.specs.declared.ids.Node.{Node}
 use Rattle.gx_ids.specs.declared.ids.Table.{Table}
+use Rattle.gx_ids.specs.declared.rid.Rid.{Rid}
 use Rattle.gx_tree.specs.declared.cond.Cond.{Cond}
 use Rattle.gx_tree.specs.declared.expr.Expr.{Expr}
 use Rattle.gx_tree.specs.declared.part.Part.TheVariants.{Rows}
@@ -46,14 +47,19 @@ abbrev pub writes_late : Table → ℕ → Node → List Value → Step
 writes_late table clock node row =
     step_at node clock (event.Receive the_coordinator node 1) (mark.Write first_txn second_cid node table second_row (Some row) ∷ [])
 
--- the only writer commits, and then another segment is sent a command, and writes
-abbrev pub written_behind_commit : Table → Snapshot → List Value → List Value → List Step
-written_behind_commit table snapshot row late =
+-- it is written, and answered
+abbrev pub one_writes : Table → Snapshot → List Value → List Step
+one_writes table snapshot row =
     block_begins
     ∷ step_at the_coordinator 2 (event.Start anna) (mark.Snap first_txn first_cid snapshot ∷ mark.Sent the_segment 1 (insert_of table snapshot 1 row) ∷ [])
     ∷ writes_there table 3 the_segment 1 row
-    ∷ step_at the_coordinator 4 (event.Receive the_segment the_coordinator 1) (mark.Answer anna 2 (answer.Inserted 1) ∷ [])
-    ∷ step_at the_coordinator 5 (event.Start anna) (mark.Sent the_segment 2 (message.Commit first_txn) ∷ [])
+    ∷ step_at the_coordinator 4 (event.Receive the_segment the_coordinator 1) (mark.Answer anna 2 (answer.Inserted 1) ∷ []) ∷ []
+
+-- the only writer commits, and then another segment is sent a command, and writes (`IsToExecute` refuses the EXEC, `WritesThere` the write)
+abbrev pub written_behind_commit : Table → Snapshot → List Value → List Value → List Step
+written_behind_commit table snapshot row late =
+    one_writes table snapshot row
+    ++ step_at the_coordinator 5 (event.Start anna) (mark.Sent the_segment 2 (message.Commit first_txn) ∷ [])
     ∷ step_at the_segment 6 (event.Receive the_coordinator the_segment 2) (mark.LocalCommit the_segment first_txn ∷ mark.Sent the_coordinator 2 (message.Answer first_txn reply.Committed) ∷ [])
     ∷ step_at the_coordinator 7 (event.Receive the_segment the_coordinator 2) (mark.Sent other_segment 1 (late_insert table snapshot late) ∷ [])
     ∷ writes_late table 8 other_segment late ∷ []
@@ -64,7 +70,7 @@ third_segment = record { 0 = 3 }
 abbrev pub at_three : Script → Script
 at_three script = record script { segments = 3 }
 
--- two writers have promised and it is decided, and then a third segment is sent a command, and writes
+-- two writers have promised and it is decided, and then a third segment is sent a command, and writes (as before, both are refused)
 abbrev pub written_behind_decision : Table → Snapshot → List Value → List Value → List Value → List Step
 written_behind_decision table snapshot one other late =
     both_promise table snapshot one other
@@ -100,6 +106,14 @@ done_unexecuted table assigns cond snapshot =
 -- a segment that hasn't received it makes this mark for it
 abbrev pub marked_unexecuted : Table → List Assign → Option Cond → Snapshot → Mark → List Step
 marked_unexecuted table assigns cond snapshot m = update_goes table assigns cond snapshot ∷ unasked the_segment 2 (m ∷ []) ∷ []
+
+-- a segment faults, it is refused, and behind that the coordinator notes a fault of its own
+abbrev pub faulted_behind_abort : Table → List Assign → Option Cond → Snapshot → Rid → List Value → List Step
+faulted_behind_abort table assigns cond snapshot rid row =
+    update_goes table assigns cond snapshot
+    ∷ step_at the_segment 2 (event.Receive the_coordinator the_segment 1) (mark.Fault first_txn first_cid rid (Some row) ∷ says (reply.Failed first_cid cause.Overflow))
+    ∷ step_at the_coordinator 3 (event.Receive the_segment the_coordinator 1)
+    (mark.Abort first_txn ∷ mark.Answer anna 1 (answer.Refused refused.Overflow) ∷ mark.Fault first_txn first_cid rid None ∷ []) ∷ []
 
 -- WHERE ROWS STAND
 abbrev pub TellsElsewhere : List Step → Type 0
@@ -156,10 +170,27 @@ failed_undecided =
     ∷ step_at the_coordinator 2 (event.Start anna)
     (mark.JournalFailed the_coordinator first_txn ∷ mark.Abort first_txn ∷ mark.Answer anna 2 (answer.Refused (refused.JournalFault the_coordinator)) ∷ []) ∷ []
 
+-- the coordinator's fails, and in the same step it decides
+abbrev pub decided_behind_failure : Table → Snapshot → List Value → List Value → List Step
+decided_behind_failure table snapshot one other =
+    both_promise table snapshot one other
+    ++ step_at the_coordinator 9 (event.Receive other_segment the_coordinator 2) (mark.JournalFailed the_coordinator first_txn ∷ mark.Decided first_txn ∷ []) ∷ []
+
+-- a segment's fails, and in the same step it commits
+abbrev pub committed_behind_failure : Table → Snapshot → List Value → List Step
+committed_behind_failure table snapshot row =
+    one_writes table snapshot row
+    ++ step_at the_coordinator 5 (event.Start anna) (mark.Sent the_segment 2 (message.Commit first_txn) ∷ [])
+    ∷ step_at the_segment 6 (event.Receive the_coordinator the_segment 2) (mark.JournalFailed the_segment first_txn ∷ mark.LocalCommit the_segment first_txn ∷ []) ∷ []
+
 -- ORDERS
--- who hasn't written is asked to promise
+-- who hasn't written is asked to promise (nor are there several who have)
 abbrev pub asked_unwritten : List Step
 asked_unwritten = block_begins ∷ step_at the_coordinator 2 (event.Start anna) (mark.Sent the_segment 1 (message.Prepare first_txn) ∷ []) ∷ []
+
+-- the only writer is asked to promise
+abbrev pub asked_alone : Table → Snapshot → List Value → List Step
+asked_alone table snapshot row = one_writes table snapshot row ++ step_at the_coordinator 5 (event.Start anna) (mark.Sent the_segment 2 (message.Prepare first_txn) ∷ []) ∷ []
 
 -- both segments have written, and one has been heard
 abbrev pub both_write : Table → Snapshot → List Value → List Value → List Step
@@ -200,11 +231,42 @@ told_undone table snapshot one other =
     ∷ writes_there table 2 the_segment 1 one
     ∷ step_at the_coordinator 3 (event.Receive the_segment the_coordinator 1) (mark.Sent the_segment 2 (message.Commit first_txn) ∷ []) ∷ []
 
+-- of the two segments of its plan a command goes to one alone, which is told to commit once it is done
+abbrev pub told_half_sent : Table → List Assign → Snapshot → Rid → List Value → List Step
+told_half_sent table assigns snapshot rid row =
+    let told = message.Exec first_txn first_cid ReadCommitted (Some snapshot) first_txn (slice.Update table assigns None) in
+    step_at the_coordinator 1 (event.Start anna) (mark.Start first_txn anna ∷ mark.Snap first_txn first_cid snapshot ∷ mark.Sent the_segment 1 told ∷ [])
+    ∷ step_at the_segment 2 (event.Receive the_coordinator the_segment 1)
+    (mark.Write first_txn first_cid the_segment table rid (Some row) ∷ mark.Sent the_coordinator 1 (message.Answer first_txn (reply.Done first_cid true 1 (Rows []))) ∷ [])
+    ∷ step_at the_coordinator 3 (event.Receive the_segment the_coordinator 1) (mark.Sent the_segment 2 (message.Commit first_txn) ∷ []) ∷ []
+
 -- a segment is told to commit as promised before it is decided
 abbrev pub told_early : Table → Snapshot → List Value → List Value → List Step
 told_early table snapshot one other =
     both_promise table snapshot one other ++ step_at the_coordinator 9 (event.Receive other_segment the_coordinator 2) (mark.Sent the_segment 3 (message.CommitPrepared first_txn) ∷ []) ∷ []
 
+-- A COMMAND IN ITS TIME
+-- it stands outside a block, and both its segments have written
+abbrev pub alone_writes : Table → Snapshot → List Value → List Value → List Step
+alone_writes table snapshot one other =
+    step_at the_coordinator 1 (event.Start anna)
+    (mark.Start first_txn anna ∷ mark.Snap first_txn first_cid snapshot ∷ mark.Sent the_segment 1 (insert_of table snapshot 1 one) ∷ mark.Sent other_segment 1 (insert_of table snapshot 2 other) ∷ [])
+    ∷ writes_there table 2 the_segment 1 one
+    ∷ writes_there table 2 other_segment 2 other ∷ []
+
+-- behind PREPARE it is sent once more
+abbrev pub sent_behind_prepare : Table → Snapshot → List Value → List Value → List Step
+sent_behind_prepare table snapshot one other =
+    alone_writes table snapshot one other
+    ++ step_at the_coordinator 3 (event.Receive the_segment the_coordinator 1) []
+    ∷ step_at the_coordinator 4 (event.Receive other_segment the_coordinator 1) (mark.Sent the_segment 2 (message.Prepare first_txn) ∷ mark.Sent other_segment 2 (message.Prepare first_txn) ∷ [])
+    ∷ step_at the_coordinator 5 (event.Resend the_segment (Some first_txn)) (mark.Sent the_segment 3 (insert_of table snapshot 1 one) ∷ []) ∷ []
+
+-- one of a block is sent once more behind its answer
+abbrev pub sent_behind_answer : Table → Snapshot → List Value → List Step
+sent_behind_answer table snapshot row = one_writes table snapshot row ++ step_at the_coordinator 5 (event.Resend the_segment (Some first_txn)) (mark.Sent the_segment 2 (insert_of table snapshot 1 row) ∷ []) ∷ []
+
+-- WORDS
 -- a segment says so that was told nothing
 abbrev pub said_unasked : Reply → List Step
 said_unasked told = block_begins ∷ unasked the_segment 2 (says told) ∷ []

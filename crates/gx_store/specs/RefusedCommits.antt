@@ -47,7 +47,7 @@ answered_at_once query snapshot =
 abbrev pub decided_of_nobody : List Step
 decided_of_nobody = block_begins ∷ step_at the_coordinator 2 (event.Start anna) (mark.Decided first_txn ∷ []) ∷ []
 
--- a segment promises that has not written
+-- a segment promises that has not written (nor may it be asked to: `IsToPrepare` refuses its PREPARE, before `Promises` its promise)
 abbrev pub promised_unwritten : List Step
 promised_unwritten =
     block_begins
@@ -107,14 +107,14 @@ decided_late table snapshot one other =
     (mark.JournalFailed the_coordinator first_txn ∷ mark.Abort first_txn ∷ mark.Answer anna 3 (answer.Refused (refused.JournalFault the_coordinator)) ∷ [])
     ∷ step_at the_coordinator 10 (event.Receive other_segment the_coordinator 2) (mark.Decided first_txn ∷ []) ∷ []
 
--- a segment is told to commit as promised, and does so, before it is decided
+-- a segment is told to commit as promised, and does so, before it is decided (`IsToFinish` refuses the order, `CommitsThere` the commit)
 abbrev pub committed_early : Table → Snapshot → List Value → List Value → List Step
 committed_early table snapshot one other =
     both_promise table snapshot one other
     ++ step_at the_coordinator 9 (event.Receive other_segment the_coordinator 2) (mark.Sent the_segment 3 (message.CommitPrepared first_txn) ∷ [])
     ∷ step_at the_segment 10 (event.Receive the_coordinator the_segment 3) (mark.LocalCommit the_segment first_txn ∷ []) ∷ []
 
--- a segment that has promised is sent a further command, and writes a row
+-- a segment that has promised is sent a further command, and writes a row (`IsToExecute` refuses the EXEC, `WritesThere` the write)
 abbrev pub written_late : Table → Snapshot → List Value → List Value → List Value → List Step
 written_late table snapshot one other late =
     both_promise table snapshot one other

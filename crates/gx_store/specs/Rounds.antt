@@ -19,6 +19,7 @@ use Rattle.gx_store.specs.declared.mark.Mark.{Mark}
 use Rattle.gx_store.specs.declared.run.Step.{Step}
 use Rattle.gx_store.specs.declared.mark.Mark.TheVariants as mark
 use Rattle.gx_store.specs.Marks.{is_ended, is_same_gxid}
+pub use Rattle.gx_store.specs.Marks.{is_committing}
 use Rattle.gx_store.specs.Messages.{Receives, ReceivesAt}
 use Rattle.gx_store.specs.Points.{Point, before, marks_in}
 use Rattle.gx_store.specs.Refusals.{the_coordinator}
@@ -29,13 +30,6 @@ abbrev pub is_started : List Mark → Gxid → Bool
 is_started [] g = false
 is_started (mark.Start h session ∷ ms) g = is_same_gxid h g || is_started ms g
 is_started (_ ∷ ms) g = is_started ms g
-
--- some segment was asked to prepare the transaction, or to commit it at once
-abbrev pub is_committing : List Mark → Gxid → Bool
-is_committing [] g = false
-is_committing (mark.Sent to number (message.Prepare h) ∷ ms) g = is_same_gxid h g || is_committing ms g
-is_committing (mark.Sent to number (message.Commit h) ∷ ms) g = is_same_gxid h g || is_committing ms g
-is_committing (_ ∷ ms) g = is_committing ms g
 
 -- the transaction has begun and may still be cancelled
 abbrev pub is_active : List Mark → Gxid → Bool

@@ -1,5 +1,5 @@
 //! Runs that don't follow the commit protocol since something comes without its cause: in each of them all but one thing is right.
-ghost use Rattle.std.specs.Prelude.{List};
+ghost use Rattle.std.specs.Prelude.{List, None};
 ghost use Rattle.std.specs.declared.option.Option.{Option as Maybe};
 ghost use Rattle.gx_dsnap.specs.declared.snapshot.Snapshot.{Snapshot as OneSnapshot};
 ghost use Rattle.gx_ids.specs.declared.ids.Table.{Table as OneTable};
@@ -7,7 +7,7 @@ ghost use Rattle.gx_ids.specs.declared.rid.Rid.{Rid as OneRid};
 ghost use Rattle.gx_msg.specs.declared.reply.Reply.TheVariants as reply;
 ghost use Rattle.gx_script.specs.declared.Script.{Script as OneScript};
 ghost use Rattle.gx_store.specs.declared.mark.Mark.TheVariants as mark;
-ghost use Rattle.gx_store.specs.RefusedCauses.{alone, asked_before_commit, asked_unwritten, at_three, done_unexecuted, failed_unasked, failed_undecided, marked_elsewhere, marked_unexecuted, one_update, one_writer, overtaken_elsewhere, said_unasked, TellsElsewhere, told_at_once, told_early, told_undone, written_behind_commit, written_behind_decision};
+ghost use Rattle.gx_store.specs.RefusedCauses.{alone, asked_before_commit, asked_unwritten, at_three, done_unexecuted, failed_unasked, failed_undecided, marked_elsewhere, marked_unexecuted, one_update, one_writer, overtaken_elsewhere, said_unasked, TellsElsewhere, told_at_once, told_early, told_undone, written_behind_commit, written_behind_decision, asked_alone, committed_behind_failure, decided_behind_failure, faulted_behind_abort, sent_behind_answer, sent_behind_prepare, told_half_sent};
 ghost use Rattle.gx_store.specs.RefusedCommits.{BreaksProtocol, two_writers};
 ghost use Rattle.gx_store.specs.RefusedParts.{empty_block, first_cid, first_txn, nth_row, second_txn};
 ghost use Rattle.gx_tree.specs.declared.cond.Cond.{Cond as OneCond};
@@ -50,12 +50,28 @@ pub fn journals_fail_at_their_items()
     ensures undecided { (script : OneScript) → BreaksProtocol (empty_block script) failed_undecided }
 {}
 
-/// Nobody is asked to promise before COMMIT, nor told to commit before the one command is done.
+/// A journal that has failed takes nothing for its transaction in the same step.
+pub fn failures_leave_nothing()
+    ensures decided { (script : OneScript) (table : OneTable) (one other : List OneExpr) (snapshot : OneSnapshot) (row more : List OneValue)
+        → BreaksProtocol (two_writers script table one other) (decided_behind_failure table snapshot row more) }
+    ensures committed { (script : OneScript) (table : OneTable) (tuple : List OneExpr) (snapshot : OneSnapshot) (row : List OneValue)
+        → BreaksProtocol (one_writer script table tuple) (committed_behind_failure table snapshot row) }
+{}
+
+/// The coordinator notes no fault of a transaction that has aborted.
+pub fn late_faults_are_of_segments()
+    ensures { (script : OneScript) (table : OneTable) (assigns : List OneAssign) (cond : Maybe OneCond) (snapshot : OneSnapshot) (rid : OneRid) (row : List OneValue)
+        → BreaksProtocol (one_update script table assigns cond) (faulted_behind_abort table assigns cond snapshot rid row) }
+{}
+
+/// Nobody is asked to promise before COMMIT, nor told to commit before the one command is done at each segment of its plan.
 pub fn commits_have_their_line()
     ensures early { (script : OneScript) (table : OneTable) (one other : List OneExpr) (snapshot : OneSnapshot) (row more : List OneValue)
         → BreaksProtocol (two_writers script table one other) (asked_before_commit table snapshot row more) }
     ensures undone { (script : OneScript) (table : OneTable) (one other : List OneExpr) (snapshot : OneSnapshot) (row more : List OneValue)
         → BreaksProtocol (alone script table one other) (told_undone table snapshot row more) }
+    ensures unsent { (script : OneScript) (table : OneTable) (assigns : List OneAssign) (snapshot : OneSnapshot) (rid : OneRid) (row : List OneValue)
+        → BreaksProtocol (one_update script table assigns None) (told_half_sent table assigns snapshot rid row) }
 {}
 
 /// Nobody is asked to promise who hasn't written, of two writers none is told to commit at once, and none as promised before it is
@@ -66,6 +82,16 @@ pub fn orders_go_to_whom_they_are_for()
         → BreaksProtocol (two_writers script table one other) (told_at_once table snapshot row more) }
     ensures early { (script : OneScript) (table : OneTable) (one other : List OneExpr) (snapshot : OneSnapshot) (row more : List OneValue)
         → BreaksProtocol (two_writers script table one other) (told_early table snapshot row more) }
+    ensures alone { (script : OneScript) (table : OneTable) (tuple : List OneExpr) (snapshot : OneSnapshot) (row : List OneValue)
+        → BreaksProtocol (one_writer script table tuple) (asked_alone table snapshot row) }
+{}
+
+/// A command is sent, also again, as long as its line is under way and nobody was asked to prepare its transaction.
+pub fn commands_go_out_in_time()
+    ensures prepared { (script : OneScript) (table : OneTable) (one other : List OneExpr) (snapshot : OneSnapshot) (row more : List OneValue)
+        → BreaksProtocol (alone script table one other) (sent_behind_prepare table snapshot row more) }
+    ensures answered { (script : OneScript) (table : OneTable) (tuple : List OneExpr) (snapshot : OneSnapshot) (row : List OneValue)
+        → BreaksProtocol (one_writer script table tuple) (sent_behind_answer table snapshot row) }
 {}
 
 /// No segment says that it has aborted or forgotten what it wasn't told to.
