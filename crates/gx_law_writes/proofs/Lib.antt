@@ -73,6 +73,7 @@ pub mod Answering
 pub mod AnswersHold
 pub mod Shapes
 pub mod Reading
+pub mod Silent
 pub mod Skipped
 mod AskedMarks
 mod AskedHere

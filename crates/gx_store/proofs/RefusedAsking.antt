@@ -20,10 +20,11 @@ use Rattle.gx_store.specs.Commands.{RunsCommand}
 use Rattle.gx_store.specs.Lines.{Outside, cid_of, next_stmt, state_of}
 use Rattle.gx_store.specs.Marks.{answer_count, is_aborted, is_same_session}
 use Rattle.gx_store.specs.Points.{Point, before, starts_at}
-use Rattle.gx_store.specs.RefusedAsking.{idle_wait, locks_too_little, one_change, the_table, two_locks, two_queried, waits_for_more, waits_when_done}
+use Rattle.gx_store.specs.RefusedAsking.{done_while_waiting, idle_wait, locks_too_little, one_change, the_table, two_locks, two_queried, waits_for_more, waits_when_done}
 use Rattle.gx_store.specs.RefusedParts.{anna, bert, first_cid, first_txn, the_segment}
 use Rattle.gx_store.specs.RefusedWaits.{first_table, on_first, one_query}
 use Rattle.gx_store.specs.Refusals.{the_coordinator}
+use Rattle.gx_store.specs.Silent.{AreWaitersSilent}
 use Rattle.gx_store.specs.Waits.{claim, waits_at}
 use Rattle.gx_store.specs.declared.mark.Mark.{Mark}
 use Rattle.gx_store.proofs.RefusedParts.{clash}
@@ -133,3 +134,7 @@ no-weak-there assigns cond (inr (inr own)) off none nobody only = no-own own.own
 
 pub not-weak : (script : Script) (assigns : List Assign) (cond : Option Cond) (snapshot : Snapshot) → AreAsked (one_change script assigns cond) [] (locks_too_little assigns cond snapshot) → ⊥
 not-weak script assigns cond snapshot h = no-weak-there assigns cond h.1.0.0 refl refl refl (λ session. refl)
+
+-- WHO WAITS
+pub not-silent : (query : Query) (snapshot : Snapshot) → AreWaitersSilent [] (done_while_waiting query snapshot) → ⊥
+not-silent query snapshot h = clash true refl h.1.1.1.1.1.1.0.1.0

@@ -17,6 +17,7 @@ pub mod Asking
 pub mod Journals
 pub mod Protocol
 pub mod Skipped
+pub mod Silent
 pub mod Ordered
 pub mod Rounds
 pub mod Schedule

@@ -83,6 +83,23 @@ waits_when_done query snapshot =
     ∷ step_at the_segment 2 (event.Receive the_coordinator the_segment 1) (mark.Hold the_segment first_txn the_table AccessShare ∷ mark.Sent the_coordinator 1 (is_done first_txn) ∷ [])
     ∷ step_at the_segment 3 (event.Receive the_coordinator the_segment 1) (mark.Wait the_segment first_txn the_table AccessShare ∷ []) ∷ []
 
+-- DONE WHILE IT WAITS
+-- Bert's block has locked the table and rolls back; to Anna's SELECT the coordinator grants it, and a segment that hasn't been told of his
+-- end lets her wait. There her SELECT is done all the same.
+abbrev pub done_while_waiting : Query → Snapshot → List Step
+done_while_waiting query snapshot =
+    step_at the_coordinator 1 (event.Start bert) (mark.Start first_txn bert ∷ mark.Answer bert 1 answer.Begin ∷ [])
+    ∷ step_at the_coordinator 2 (event.Start bert)
+    (mark.Hold the_coordinator first_txn the_table AccessExclusive ∷ mark.Sent the_segment 1 (order_of first_txn None (slice.Lock first_table AccessExclusive)) ∷ [])
+    ∷ step_at the_segment 3 (event.Receive the_coordinator the_segment 1) (mark.Hold the_segment first_txn the_table AccessExclusive ∷ mark.Sent the_coordinator 1 (is_done first_txn) ∷ [])
+    ∷ step_at the_coordinator 4 (event.Receive the_segment the_coordinator 1) (mark.Answer bert 2 answer.Locked ∷ [])
+    ∷ step_at the_coordinator 5 (event.Start bert)
+    (mark.Abort first_txn ∷ mark.Release the_coordinator first_txn the_table AccessExclusive ∷ mark.Answer bert 3 answer.Rollback ∷ mark.Sent the_segment 2 (message.Abort first_txn) ∷ [])
+    ∷ step_at the_coordinator 6 (event.Start anna)
+    (mark.Start second_txn anna ∷ mark.Hold the_coordinator second_txn the_table AccessShare ∷ mark.Snap second_txn first_cid snapshot
+    ∷ mark.Sent the_segment 3 (order_of second_txn (Some snapshot) (slice.Select (on_first query))) ∷ [])
+    ∷ step_at the_segment 7 (event.Receive the_coordinator the_segment 3) (mark.Wait the_segment second_txn the_table AccessShare ∷ mark.Sent the_coordinator 2 (is_done second_txn) ∷ []) ∷ []
+
 -- A LOCK THAT IS TOO WEAK
 abbrev pub one_change : Script → List Assign → Option Cond → Script
 one_change script assigns cond = with_lines (record script { detector = false }) (line_of anna 1 (stmt.Update first_table assigns cond) ∷ [])

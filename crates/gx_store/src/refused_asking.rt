@@ -2,7 +2,8 @@
 ghost use Rattle.gx_dsnap.specs.declared.snapshot.Snapshot.{Snapshot};
 ghost use Rattle.gx_script.specs.declared.Script.{Script};
 ghost use Rattle.gx_store.specs.Asking.{AreAsked};
-ghost use Rattle.gx_store.specs.RefusedAsking.{idle_wait, locks_too_little, one_change, two_locks, two_queried, waits_for_more, waits_when_done};
+ghost use Rattle.gx_store.specs.RefusedAsking.{done_while_waiting, idle_wait, locks_too_little, one_change, two_locks, two_queried, waits_for_more, waits_when_done};
+ghost use Rattle.gx_store.specs.Silent.{AreWaitersSilent};
 ghost use Rattle.gx_store.specs.RefusedWaits.{one_query};
 ghost use Rattle.gx_tree.specs.declared.cond.Cond.{Cond as OneCond};
 ghost use Rattle.gx_tree.specs.declared.query.Query.{Query as OneQuery};
@@ -23,6 +24,11 @@ pub fn waited_for_in_another_mode()
 /// A segment that has said that a command is done there has it wait for nothing more.
 pub fn waited_for_behind_done()
     ensures { (script : Script) (query : OneQuery) (snapshot : Snapshot) → AreAsked (two_queried script query) [] (waits_when_done query snapshot) → ⊥ }
+{}
+
+/// Who waits at a segment isn't done there.
+pub fn done_while_it_waits()
+    ensures { (query : OneQuery) (snapshot : Snapshot) → AreWaitersSilent [] (done_while_waiting query snapshot) → ⊥ }
 {}
 
 /// Without a detector an UPDATE isn't granted its table in ROW EXCLUSIVE.
