@@ -73,6 +73,8 @@ pub mod Answering
 pub mod AnswersHold
 pub mod Shapes
 pub mod Reading
+pub mod Statements
+pub mod Outgoing
 pub mod Silent
 pub mod Skipped
 mod AskedMarks

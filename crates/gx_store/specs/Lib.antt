@@ -18,6 +18,7 @@ pub mod Journals
 pub mod Protocol
 pub mod Skipped
 pub mod Silent
+pub mod Outgoing
 pub mod Ordered
 pub mod Rounds
 pub mod Schedule
