@@ -17,6 +17,7 @@ use Rattle.gx_tree.specs.declared.value.Value.{Value}
 use Rattle.gx_dsnap.specs.declared.snapshot.Snapshot.{Snapshot}
 use Rattle.gx_msg.specs.declared.message.Message.{Message}
 use Rattle.gx_msg.specs.declared.message.Message.TheVariants as message
+use Rattle.gx_msg.specs.declared.reply.Cause.{Cause}
 use Rattle.gx_msg.specs.declared.reply.Reply.TheVariants as reply
 use Rattle.gx_script.specs.declared.Script.{Script}
 use Rattle.gx_store.specs.declared.event.Event.{Event}
@@ -44,14 +45,14 @@ pub causes-behind-decision : (script : Script) (table : Table) (one other : List
 causes-behind-decision script table one other s row more late h = one-zero h.1.1.1.1.1.1.1.1.1.1.1.0.0.undecided refl
 
 -- WITHOUT THE COMMAND
-abbrev NoReceipt : Event → Type 0
+abbrev pub NoReceipt : Event → Type 0
 NoReceipt (event.Receive from to number) = ⊥
 NoReceipt _ = Unit {0}
 
 nothing-comes : (steps : List Step) (e : Event) (from to : Node) (m : Message) → NoReceipt e → Receives steps e from to m → ⊥
 nothing-comes steps e from to m n r = subst NoReceipt r.is n
 
-abbrev AreNoReceipts : List Step → Type 0
+abbrev pub AreNoReceipts : List Step → Type 0
 AreNoReceipts [] = Unit {0}
 AreNoReceipts (s ∷ ss) = NoReceipt s.event × AreNoReceipts ss
 
@@ -63,7 +64,7 @@ none-there (s ∷ ss) zero step n e = subst (λ (x : Step). NoReceipt x.event) (
     same a b q = cc
 none-there (s ∷ ss) (suc k) step n e = none-there ss k step n.1 e
 
-none-came : (point : Point) (from to : Node) (m : Message) → AreNoReceipts point.steps → NoReceipt point.event → HasReceived point from to m → ⊥
+pub none-came : (point : Point) (from to : Node) (m : Message) → AreNoReceipts point.steps → NoReceipt point.event → HasReceived point from to m → ⊥
 none-came point from to m n e r = by_place r.1
   where
     by_place : ReceivesAt point r.0 from to m → ⊥
@@ -78,6 +79,9 @@ causes-done script table assigns cond s h = unexecuted first_txn first_cid the_s
 
 pub causes-skipped : (script : Script) (table : Table) (assigns : List Assign) (cond : Option Cond) (s : Snapshot) (rid : Rid) → BreaksProtocol (one_update script table assigns cond) (marked_unexecuted table assigns cond s (mark.Skip first_txn first_cid rid))
 causes-skipped script table assigns cond s rid h = unexecuted first_txn first_cid the_segment (tt, tt) tt h.1.0.0
+
+pub causes-failed : (script : Script) (table : Table) (assigns : List Assign) (cond : Option Cond) (s : Snapshot) (cause : Cause) → BreaksProtocol (one_update script table assigns cond) (marked_unexecuted table assigns cond s (mark.Sent the_coordinator 1 (message.Answer first_txn (reply.Failed first_cid cause))))
+causes-failed script table assigns cond s cause h = unexecuted first_txn first_cid the_segment (tt, tt) tt h.1.0.0
 
 not-own : (P : Type 0) → (the_segment ≡ the_coordinator) × P → ⊥
 not-own P e = one-zero (ap (λ (n : Node). n.0) e.0) refl
