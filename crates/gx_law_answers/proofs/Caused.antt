@@ -50,7 +50,7 @@ use Rattle.gx_law_writes.proofs.Told.{sending-told}
 use Rattle.gx_law_writes.proofs.World.{locals_in, world-holds}
 use Rattle.gx_law_answers.specs.Earned.{Events, IsEarned, RunsAtOnce, RunsBehindWait}
 use Rattle.gx_law_answers.specs.Truth.{IsTrueFailure, IsTrueFault, IsTrueLoss, IsTruth, SendNothing}
-use Rattle.gx_law_answers.proofs.Commands.{IsOf}
+use Rattle.gx_law_writes.proofs.Statements.{IsOf}
 use Rattle.gx_law_answers.proofs.Heard.{marks-are, more, own-step, steps-are, unaborted-then}
 use Rattle.gx_law_answers.proofs.Ours.{its-level, its-slice}
 

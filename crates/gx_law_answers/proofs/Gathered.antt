@@ -47,7 +47,7 @@ use Rattle.gx_law_writes.specs.Rows.{AreRowsOf}
 use Rattle.gx_law_writes.proofs.World as writes
 use Rattle.gx_law_answers.specs.Earned.{Events}
 use Rattle.gx_law_answers.specs.Keyed.{AreInsertsFilled}
-use Rattle.gx_law_answers.proofs.Commands.{IsOf}
+use Rattle.gx_law_writes.proofs.Statements.{IsOf}
 use Rattle.gx_law_answers.proofs.Heard.{Heard, heard}
 use Rattle.gx_store.specs.declared.event.Event.{Event}
 

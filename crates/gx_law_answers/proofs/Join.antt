@@ -30,7 +30,7 @@ use Rattle.gx_law_answers.specs.Cancelled.{AreVictimsCancelled}
 use Rattle.gx_law_answers.specs.Earned.{Events}
 use Rattle.gx_law_answers.specs.Keyed.{AreInsertsFilled, AreRowsKeyed}
 use Rattle.gx_law_answers.specs.Once.{AreSnapshotsOne}
-use Rattle.gx_law_answers.proofs.Commands.{IsOf, command-is}
+use Rattle.gx_law_writes.proofs.Statements.{IsOf, command-is}
 use Rattle.gx_law_answers.proofs.Gathered.{insert-tells}
 use Rattle.gx_law_answers.proofs.Heard.{heard-now}
 use Rattle.gx_law_answers.proofs.Segs.{segments-legal}

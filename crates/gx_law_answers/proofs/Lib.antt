@@ -16,7 +16,6 @@ pub mod Stepping
 pub mod Ordered
 pub mod Origins
 pub mod Always
-pub mod Commands
 pub mod Heard
 pub mod Ours
 pub mod Totals

@@ -23,7 +23,7 @@ use Rattle.gx_rules.specs.Machine.{world_of}
 use Rattle.gx_law_order.specs.Gathering.{Taken, nodes_taken}
 use Rattle.gx_store.specs.Language.{AreLinesNumbered}
 use Rattle.gx_law_answers.specs.Earned.{Events, IsEarned}
-use Rattle.gx_law_answers.proofs.Commands.{IsOf}
+use Rattle.gx_law_writes.proofs.Statements.{IsOf}
 use Rattle.gx_law_answers.proofs.Heard.{order-now}
 use Rattle.gx_law_writes.proofs.Pieces.{IsSliceOf, slice-is}
 use Rattle.gx_law_answers.proofs.Rows.{has-from}

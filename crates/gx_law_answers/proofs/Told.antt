@@ -57,7 +57,7 @@ use Rattle.gx_law_answers.specs.Keyed.{AreRowsKeyed}
 use Rattle.gx_law_answers.specs.Once.{IsOneSnapshot}
 use Rattle.gx_law_answers.specs.Parts.{SaysItsPart}
 use Rattle.gx_law_answers.specs.Truth.{IsTruePart, IsTruth}
-use Rattle.gx_law_answers.proofs.Commands.{IsOf}
+use Rattle.gx_law_writes.proofs.Statements.{IsOf}
 use Rattle.gx_law_answers.proofs.Heard.{heard, lock-now, part-now, unaborted-then}
 use Rattle.gx_law_answers.proofs.Ours.{covers-pieces, its-level, its-slice, nodes-of-pieces, ok-same, some-node}
 use Rattle.gx_law_answers.proofs.Rows.{has-from, seen, whole}

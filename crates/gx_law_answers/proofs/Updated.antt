@@ -50,7 +50,7 @@ use Rattle.gx_law_answers.specs.Once.{IsOneSnapshot}
 use Rattle.gx_law_answers.specs.Parts.{HasItsPart}
 use Rattle.gx_law_answers.specs.Truth.{IsTruth}
 use Rattle.gx_law_answers.proofs.Changed.{processed-more}
-use Rattle.gx_law_answers.proofs.Commands.{IsOf}
+use Rattle.gx_law_writes.proofs.Statements.{IsOf}
 use Rattle.gx_law_answers.proofs.Heard.{done-now, unaborted-then}
 use Rattle.gx_law_answers.proofs.Ordered.{HasOrder, IsOrderedMark, world-ordered}
 use Rattle.gx_law_answers.proofs.Ours.{its-level, its-slice, ok-same, some-node}

@@ -14,6 +14,8 @@ use Rattle.gx_law_locks.proofs.Orders.{world-orders}
 use Rattle.gx_law_locks.proofs.HoldsInRuns.{world-exclusive, world-lasting, world-locked}
 use Rattle.gx_law_writes.proofs.Joined.{at-marks, locked-steps}
 use Rattle.gx_law_writes.proofs.Reading.{reads-held}
+use Rattle.gx_law_writes.proofs.Outgoing.{world-whole}
+use Rattle.gx_law_writes.proofs.Silent.{world-silent}
 use Rattle.gx_law_writes.proofs.AnswersHold.{answers-held}
 use Rattle.gx_law_writes.proofs.AskedRuns.{world-asked}
 use Rattle.gx_law_writes.proofs.Writes.{under-steps}
@@ -34,4 +36,6 @@ locks-legal script some numbered es =
       lasting = world-lasting script some es;
       committing = (world-free script some es).commits;
       keeping = behind-weaker LetsWait KeepsWhileWaiting lets-keep [] (marks_in w.steps) l.lets;
+      silent = world-silent script some es;
+      whole = world-whole script some numbered es;
     }

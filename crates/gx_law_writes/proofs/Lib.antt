@@ -76,6 +76,9 @@ pub mod Reading
 mod RowsHere
 mod TurnsHere
 pub mod Stands
+pub mod Statements
+pub mod Outgoing
+pub mod Silent
 mod AskedMarks
 mod AskedHere
 mod AskedSlices

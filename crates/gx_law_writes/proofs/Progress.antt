@@ -116,7 +116,7 @@ rows-count g c k (t ∷ ts) (r ∷ rs) a = more (rows-count g c (k + 1) ts rs a.
     more : {a b : ℕ} → a ≡ b → suc a ≡ suc b
     more e = ap suc e
 
-rows-values : (g : Gxid) (c : Cid) (k : ℕ) (tuples : List (List Expr)) (rows : List KeyedRow) → AreRowsOf g c k tuples rows → All HasValues tuples
+pub rows-values : (g : Gxid) (c : Cid) (k : ℕ) (tuples : List (List Expr)) (rows : List KeyedRow) → AreRowsOf g c k tuples rows → All HasValues tuples
 rows-values g c k [] [] a = All-nil HasValues
 rows-values g c k [] (r ∷ rs) a = absurd a
 rows-values g c k (t ∷ ts) [] a = absurd a

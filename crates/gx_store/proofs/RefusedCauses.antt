@@ -20,6 +20,7 @@ use Rattle.gx_tree.specs.declared.value.Value.{Value}
 use Rattle.gx_dsnap.specs.declared.snapshot.Snapshot.{Snapshot}
 use Rattle.gx_msg.specs.declared.message.Message.{Message}
 use Rattle.gx_msg.specs.declared.message.Message.TheVariants as message
+use Rattle.gx_msg.specs.declared.reply.Cause.{Cause}
 use Rattle.gx_msg.specs.declared.reply.Reply.TheVariants as reply
 use Rattle.gx_meaning.specs.Plan.{pieces}
 use Rattle.gx_meaning.specs.Target.{target_of}
@@ -51,7 +52,7 @@ pub causes-behind-decision : (script : Script) (table : Table) (one other : List
 causes-behind-decision script table one other s row more late h = one-zero h.1.1.1.1.1.1.1.1.1.1.1.0.0.undecided refl
 
 -- WITHOUT THE COMMAND
-abbrev NoReceipt : Event → Type 0
+abbrev pub NoReceipt : Event → Type 0
 NoReceipt (event.Receive from to number) = ⊥
 NoReceipt _ = Unit {0}
 
@@ -59,7 +60,7 @@ nothing-comes : (steps : List Step) (e : Event) (from to : Node) (m : Message) �
 nothing-comes steps e from to m n r = subst NoReceipt r.is n
 
 -- this is so of each event
-abbrev AreEvents : (Event → Type 0) → List Step → Type 0
+abbrev pub AreEvents : (Event → Type 0) → List Step → Type 0
 AreEvents P [] = Unit {0}
 AreEvents P (s ∷ ss) = P s.event × AreEvents P ss
 
@@ -72,7 +73,7 @@ event-there P (s ∷ ss) zero step n e = subst (λ (x : Step). P x.event) (same 
 event-there P (s ∷ ss) (suc k) step n e = event-there P ss k step n.1 e
 
 -- and so of no delivery of the message
-none-came : (P : Event → Type 0) (point : Point) (from to : Node) (m : Message) → AreEvents P point.steps → P point.event → ((number : ℕ) → P (event.Receive from to number) → ⊥) → HasReceived point from to m → ⊥
+pub none-came : (P : Event → Type 0) (point : Point) (from to : Node) (m : Message) → AreEvents P point.steps → P point.event → ((number : ℕ) → P (event.Receive from to number) → ⊥) → HasReceived point from to m → ⊥
 none-came P point from to m n e none r = by_place r.1
   where
     by_place : ReceivesAt point r.0 from to m → ⊥
@@ -87,6 +88,9 @@ causes-done script table assigns cond s h = unexecuted first_txn first_cid the_s
 
 pub causes-skipped : (script : Script) (table : Table) (assigns : List Assign) (cond : Option Cond) (s : Snapshot) (rid : Rid) → BreaksProtocol (one_update script table assigns cond) (marked_unexecuted table assigns cond s (mark.Skip first_txn first_cid rid))
 causes-skipped script table assigns cond s rid h = unexecuted first_txn first_cid the_segment (tt, tt) tt h.1.0.0
+
+pub causes-failed : (script : Script) (table : Table) (assigns : List Assign) (cond : Option Cond) (s : Snapshot) (cause : Cause) → BreaksProtocol (one_update script table assigns cond) (marked_unexecuted table assigns cond s (mark.Sent the_coordinator 1 (message.Answer first_txn (reply.Failed first_cid cause))))
+causes-failed script table assigns cond s cause h = unexecuted first_txn first_cid the_segment (tt, tt) tt h.1.0.0
 
 not-own : the_segment ≡ the_coordinator → ⊥
 not-own e = one-zero (ap (λ (n : Node). n.0) e) refl

@@ -1,5 +1,6 @@
 -- Why the small runs in which something comes too late are no histories.
-use Rattle.std.proofs.Common.{◌≡◌, ℕ, ◌==◌, Bool, true, false, if◌then◌else◌, ◌&&◌, List, [], ◌∷◌, Option, Some, None, inl, inr, refl, sym, subst, ap, ◌∙◌, arith}
+use Rattle.std.proofs.Common.{◌≡◌, ℕ, ◌==◌, Bool, true, false, if◌then◌else◌, ◌&&◌, List, [], ◌∷◌, Option, Some, None, Result, Ok, Err, inl, inr, refl, sym, subst, ap, ◌∙◌, arith}
+use Rattle.std.proofs.lemmas.List.Elements.{All-head, All-tail}
 use Rattle.gx_ids.specs.declared.ids.Gxid.{Gxid}
 use Rattle.gx_ids.specs.declared.ids.Node.{Node}
 use Rattle.gx_ids.specs.declared.ids.SessionId.{SessionId}
@@ -8,17 +9,22 @@ use Rattle.gx_tree.specs.declared.cond.Cond.{Cond}
 use Rattle.gx_tree.specs.declared.expr.Expr.{Expr}
 use Rattle.gx_tree.specs.declared.slice.Slice.{Slice}
 use Rattle.gx_tree.specs.declared.stmt.Assign.{Assign}
+use Rattle.gx_tree.specs.declared.stmt.Level.TheVariants.{ReadCommitted}
 use Rattle.gx_tree.specs.declared.stmt.Stmt.{Stmt}
 use Rattle.gx_tree.specs.declared.stmt.Stmt.TheVariants as stmt
 use Rattle.gx_tree.specs.declared.value.Value.{Value}
 use Rattle.gx_dsnap.specs.declared.snapshot.Snapshot.{Snapshot}
+use Rattle.gx_meaning.specs.Constants.{values_of}
+use Rattle.gx_meaning.specs.declared.fault.ArithFault.{ArithFault}
 use Rattle.gx_script.specs.declared.Script.{Script}
+use Rattle.gx_store.specs.Answers.{HasValues}
 use Rattle.gx_waits.specs.declared.graph.LocalGraph.{LocalGraph}
 use Rattle.gx_store.specs.Faults.{IsFaultOf, LegalFault, may_fault_late}
 use Rattle.gx_store.specs.Marks.{is_aborted, is_ended, is_sent, node_of, row_table}
+use Rattle.gx_store.specs.Outgoing.{AreSentWhole}
 use Rattle.gx_store.specs.Points.{Point, before}
 use Rattle.gx_store.specs.RefusedHistories.{IsNoHistory, one_insert}
-use Rattle.gx_store.specs.RefusedLate.{dealt_out, faulted_late, faulted_when_sent, insert_and_update, inserted_late, left_open, only_begin, other_table, the_table, updated_elsewhere}
+use Rattle.gx_store.specs.RefusedLate.{dealt_out, faulted_late, faulted_when_sent, goes_out, insert_and_update, inserted_late, left_open, only_begin, other_table, the_table, two_tuples, updated_elsewhere}
 use Rattle.gx_store.specs.RefusedParts.{anna, first_cid, first_txn, line_of, other_segment, row_of, second_txn, the_segment}
 use Rattle.gx_store.specs.Writes.{IsLateWriteOf, LegalWrite}
 use Rattle.gx_store.proofs.RefusedParts.{clash}
@@ -62,6 +68,19 @@ module _ (script : Script) (table : Table) (tuple : List Expr) where
 
   pub no-history-faulted-late : (graph : LocalGraph) (snapshot : Snapshot) (slice : Slice) → IsNoHistory (one_insert script table tuple) (faulted_late graph snapshot slice)
   no-history-faulted-late graph snapshot slice h = insert-late h.1.1.0.marks.0 refl
+
+-- a tuple that faults has no values
+pub not-whole : (script : Script) (table : Table) (one other : List Expr) (fault : ArithFault) (snapshot : Snapshot) (slice : Slice) → values_of other ≡ Err fault
+    → AreSentWhole (two_tuples script table one other) [] (goes_out snapshot slice ∷ []) → ⊥
+not-whole script table one other fault snapshot slice faults h =
+    let all = h.0.1.1.0 anna table (one ∷ other ∷ []) ReadCommitted (record { line = record { started = refl; line = refl }; command = refl; transaction = refl; number = refl; isolation = refl }) in
+    apart (values_of other) faults (All-head HasValues other [] (All-tail HasValues one (other ∷ []) all))
+  where
+    apart : (o : Result (List Value) ArithFault) → o ≡ Err fault → (values : List Value) × (o ≡ Ok values) → ⊥
+    apart o e v = clash-of v.0 (sym e ∙ v.1)
+      where
+        clash-of : (values : List Value) → Err fault ≡ Ok values → ⊥
+        clash-of values e = cc
 
 -- WRITES
 no-node : (o : Option Node) (n : Node) → o ≡ None → o ≡ Some n → ⊥

@@ -17,6 +17,8 @@ pub mod Asking
 pub mod Journals
 pub mod Protocol
 pub mod Stands
+pub mod Silent
+pub mod Outgoing
 pub mod Ordered
 pub mod Rounds
 pub mod Schedule

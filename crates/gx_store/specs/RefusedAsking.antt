@@ -1,8 +1,9 @@
 -- Small runs in which a lock is waited for or granted that nobody has asked for.
-use Rattle.std.specs.Prelude.{false, List, [], ◌∷◌, None, Some}
+use Rattle.std.specs.Prelude.{false, List, [], ◌∷◌, ◌++◌, None, Some}
 use Rattle.std.specs.declared.option.Option.{Option}
 use Rattle.gx_ids.specs.declared.ids.Gxid.{Gxid}
-use Rattle.gx_modes.specs.declared.modes.Mode.TheVariants.{AccessExclusive, AccessShare, Exclusive, RowExclusive, RowShare}
+use Rattle.gx_ids.specs.declared.rid.Rid.{Rid}
+use Rattle.gx_modes.specs.declared.modes.Mode.TheVariants.{AccessExclusive, AccessShare, Exclusive, RowExclusive, RowShare, Share}
 use Rattle.gx_tree.specs.declared.cond.Cond.{Cond}
 use Rattle.gx_tree.specs.declared.part.Part.TheVariants.{Rows}
 use Rattle.gx_tree.specs.declared.query.Query.{Query}
@@ -11,13 +12,14 @@ use Rattle.gx_tree.specs.declared.slice.Slice.TheVariants as slice
 use Rattle.gx_tree.specs.declared.stmt.Assign.{Assign}
 use Rattle.gx_tree.specs.declared.stmt.Level.TheVariants.{ReadCommitted}
 use Rattle.gx_tree.specs.declared.stmt.Stmt.TheVariants as stmt
+use Rattle.gx_tree.specs.declared.value.Value.{Value}
 use Rattle.gx_dsnap.specs.declared.snapshot.Snapshot.{Snapshot}
 use Rattle.gx_msg.specs.declared.message.Message.{Message}
 use Rattle.gx_msg.specs.declared.message.Message.TheVariants as message
 use Rattle.gx_msg.specs.declared.reply.Reply.TheVariants as reply
 use Rattle.gx_script.specs.declared.Script.{Script}
 use Rattle.gx_waits.specs.declared.object.Object.{Object}
-use Rattle.gx_waits.specs.declared.object.Object.TheVariants.{Relation}
+use Rattle.gx_waits.specs.declared.object.Object.TheVariants.{Relation, Transaction}
 use Rattle.gx_store.specs.declared.answer.StmtAnswer.TheVariants as answer
 use Rattle.gx_store.specs.declared.event.Event.TheVariants as event
 use Rattle.gx_store.specs.declared.mark.Mark.{Mark}
@@ -72,6 +74,16 @@ waits_for_more query snapshot =
     query_starts query snapshot []
     ∷ step_at the_segment 2 (event.Receive the_coordinator the_segment 1) (mark.Wait the_segment first_txn the_table AccessExclusive ∷ []) ∷ []
 
+-- at the coordinator it waits for it so already
+abbrev pub waits_here_for_more : List Step
+waits_here_for_more = step_at the_coordinator 1 (event.Start anna) (mark.Start first_txn anna ∷ mark.Wait the_coordinator first_txn the_table AccessExclusive ∷ []) ∷ []
+
+-- A WAIT WHERE NOTHING HAS COME
+-- a segment to which the query hasn't gone out has it wait
+abbrev pub waits_elsewhere : Query → Snapshot → List Step
+waits_elsewhere query snapshot =
+    query_starts query snapshot [] ∷ step_at other_segment 2 (event.Resume other_segment first_txn) (mark.Wait other_segment first_txn the_table AccessShare ∷ []) ∷ []
+
 -- A WAIT BEHIND DONE
 abbrev pub two_queried : Script → Query → Script
 two_queried script query = with_two script (line_of anna 1 (stmt.Select (on_first query)) ∷ [])
@@ -83,14 +95,52 @@ waits_when_done query snapshot =
     ∷ step_at the_segment 2 (event.Receive the_coordinator the_segment 1) (mark.Hold the_segment first_txn the_table AccessShare ∷ mark.Sent the_coordinator 1 (is_done first_txn) ∷ [])
     ∷ step_at the_segment 3 (event.Receive the_coordinator the_segment 1) (mark.Wait the_segment first_txn the_table AccessShare ∷ []) ∷ []
 
+-- DONE WHILE IT WAITS
+-- Bert's block has locked the table and rolls back; to Anna's SELECT the coordinator grants it, and a segment that hasn't been told of his
+-- end lets her wait. There her SELECT is done all the same.
+abbrev pub done_while_waiting : Query → Snapshot → List Step
+done_while_waiting query snapshot =
+    step_at the_coordinator 1 (event.Start bert) (mark.Start first_txn bert ∷ mark.Answer bert 1 answer.Begin ∷ [])
+    ∷ step_at the_coordinator 2 (event.Start bert)
+    (mark.Hold the_coordinator first_txn the_table AccessExclusive ∷ mark.Sent the_segment 1 (order_of first_txn None (slice.Lock first_table AccessExclusive)) ∷ [])
+    ∷ step_at the_segment 3 (event.Receive the_coordinator the_segment 1) (mark.Hold the_segment first_txn the_table AccessExclusive ∷ mark.Sent the_coordinator 1 (is_done first_txn) ∷ [])
+    ∷ step_at the_coordinator 4 (event.Receive the_segment the_coordinator 1) (mark.Answer bert 2 answer.Locked ∷ [])
+    ∷ step_at the_coordinator 5 (event.Start bert)
+    (mark.Abort first_txn ∷ mark.Release the_coordinator first_txn the_table AccessExclusive ∷ mark.Answer bert 3 answer.Rollback ∷ mark.Sent the_segment 2 (message.Abort first_txn) ∷ [])
+    ∷ step_at the_coordinator 6 (event.Start anna)
+    (mark.Start second_txn anna ∷ mark.Hold the_coordinator second_txn the_table AccessShare ∷ mark.Snap second_txn first_cid snapshot
+    ∷ mark.Sent the_segment 3 (order_of second_txn (Some snapshot) (slice.Select (on_first query))) ∷ [])
+    ∷ step_at the_segment 7 (event.Receive the_coordinator the_segment 3) (mark.Wait the_segment second_txn the_table AccessShare ∷ mark.Sent the_coordinator 2 (is_done second_txn) ∷ []) ∷ []
+
 -- A LOCK THAT IS TOO WEAK
 abbrev pub one_change : Script → List Assign → Option Cond → Script
 one_change script assigns cond = with_lines (record script { detector = false }) (line_of anna 1 (stmt.Update first_table assigns cond) ∷ [])
 
--- without a detector a segment grants an UPDATE its table in ROW EXCLUSIVE
-abbrev pub locks_too_little : List Assign → Option Cond → Snapshot → List Step
-locks_too_little assigns cond snapshot =
+-- without a detector an UPDATE goes to a segment, where it makes these marks
+abbrev pub change_runs : List Assign → Option Cond → Snapshot → List Mark → List Step
+change_runs assigns cond snapshot marks =
     step_at the_coordinator 1 (event.Start anna)
     (mark.Start first_txn anna ∷ mark.Hold the_coordinator first_txn the_table Exclusive ∷ mark.Snap first_txn first_cid snapshot
     ∷ mark.Sent the_segment 1 (order_of first_txn (Some snapshot) (slice.Update first_table assigns cond)) ∷ [])
-    ∷ step_at the_segment 2 (event.Receive the_coordinator the_segment 1) (mark.Hold the_segment first_txn the_table RowExclusive ∷ []) ∷ []
+    ∷ step_at the_segment 2 (event.Receive the_coordinator the_segment 1) marks ∷ []
+
+-- it is granted its table in ROW EXCLUSIVE
+abbrev pub locks_too_little : List Assign → Option Cond → Snapshot → List Step
+locks_too_little assigns cond snapshot = change_runs assigns cond snapshot (mark.Hold the_segment first_txn the_table RowExclusive ∷ [])
+
+-- it is done, and when the EXEC comes once more it writes a row
+abbrev pub writes_when_done : List Assign → Option Cond → Snapshot → Rid → Option (List Value) → List Step
+writes_when_done assigns cond snapshot rid image =
+    change_runs assigns cond snapshot (mark.Hold the_segment first_txn the_table Exclusive ∷ mark.Sent the_coordinator 1 (is_done first_txn) ∷ [])
+    ++ step_at the_segment 3 (event.Receive the_coordinator the_segment 1) (mark.Write first_txn first_cid the_segment first_table rid image ∷ []) ∷ []
+
+-- WHAT IT HAS NO NEED OF
+-- it waits for the end of one that has written nothing there
+abbrev pub waits_for_a_reader : List Assign → Option Cond → Snapshot → List Step
+waits_for_a_reader assigns cond snapshot =
+    change_runs assigns cond snapshot (mark.Hold the_segment first_txn the_table Exclusive ∷ mark.Wait the_segment first_txn (Transaction second_txn) Share ∷ [])
+
+-- it locks itself before it writes
+abbrev pub locks_itself_early : List Assign → Option Cond → Snapshot → List Step
+locks_itself_early assigns cond snapshot =
+    change_runs assigns cond snapshot (mark.Hold the_segment first_txn the_table Exclusive ∷ mark.Hold the_segment first_txn (Transaction first_txn) Exclusive ∷ [])

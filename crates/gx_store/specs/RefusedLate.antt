@@ -52,6 +52,10 @@ faulted_late graph snapshot slice =
     ∷ is_cancelled graph first_txn anna
     ∷ step_at the_segment 5 (event.Receive the_coordinator the_segment 1) (mark.Fault first_txn first_cid (row_of first_txn) None ∷ []) ∷ []
 
+-- an INSERT of two tuples
+abbrev pub two_tuples : Script → Table → List Expr → List Expr → Script
+two_tuples script table one other = with_lines script (line_of anna 1 (stmt.Insert table (one ∷ other ∷ [])) ∷ [])
+
 -- WRITES
 -- a script of these lines, over two segments, among which the rows of each table are dealt out
 abbrev pub dealt_out : Script → Table → List Expr → Script

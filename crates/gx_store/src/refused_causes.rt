@@ -4,12 +4,15 @@ ghost use Rattle.std.specs.declared.option.Option.{Option as Maybe};
 ghost use Rattle.gx_dsnap.specs.declared.snapshot.Snapshot.{Snapshot as OneSnapshot};
 ghost use Rattle.gx_ids.specs.declared.ids.Table.{Table as OneTable};
 ghost use Rattle.gx_ids.specs.declared.rid.Rid.{Rid as OneRid};
+ghost use Rattle.gx_msg.specs.declared.message.Message.TheVariants as message;
+ghost use Rattle.gx_msg.specs.declared.reply.Cause.{Cause as OneCause};
 ghost use Rattle.gx_msg.specs.declared.reply.Reply.TheVariants as reply;
 ghost use Rattle.gx_script.specs.declared.Script.{Script as OneScript};
 ghost use Rattle.gx_store.specs.declared.mark.Mark.TheVariants as mark;
 ghost use Rattle.gx_store.specs.RefusedCauses.{alone, asked_before_commit, asked_unwritten, at_three, done_unexecuted, failed_unasked, failed_undecided, marked_elsewhere, marked_unexecuted, one_update, one_writer, overtaken_elsewhere, said_unasked, TellsElsewhere, told_at_once, told_early, told_undone, written_behind_commit, written_behind_decision, asked_alone, committed_behind_failure, decided_behind_failure, faulted_behind_abort, sent_behind_answer, sent_behind_prepare, told_half_sent};
 ghost use Rattle.gx_store.specs.RefusedCommits.{BreaksProtocol, two_writers};
 ghost use Rattle.gx_store.specs.RefusedParts.{empty_block, first_cid, first_txn, nth_row, second_txn};
+ghost use Rattle.gx_store.specs.Refusals.{the_coordinator};
 ghost use Rattle.gx_tree.specs.declared.cond.Cond.{Cond as OneCond};
 ghost use Rattle.gx_tree.specs.declared.expr.Expr.{Expr as OneExpr};
 ghost use Rattle.gx_tree.specs.declared.stmt.Assign.{Assign as OneAssign};
@@ -23,10 +26,13 @@ pub fn nothing_is_written_behind_the_end()
         → BreaksProtocol (at_three (two_writers script table one other)) (written_behind_decision table snapshot row more late) }
 {}
 
-/// A segment that hasn't received a command doesn't say that it is done with it, skips no row for it, and faults on none.
+/// A segment that hasn't received a command doesn't say that it is done with it or that it has failed, skips no row for it, and faults
+/// on none.
 pub fn commands_are_received_first()
     ensures done { (script : OneScript) (table : OneTable) (assigns : List OneAssign) (cond : Maybe OneCond) (snapshot : OneSnapshot)
         → BreaksProtocol (one_update script table assigns cond) (done_unexecuted table assigns cond snapshot) }
+    ensures failed { (script : OneScript) (table : OneTable) (assigns : List OneAssign) (cond : Maybe OneCond) (snapshot : OneSnapshot) (cause : OneCause)
+        → BreaksProtocol (one_update script table assigns cond) (marked_unexecuted table assigns cond snapshot (mark.Sent the_coordinator 1 (message.Answer first_txn (reply.Failed first_cid cause)))) }
     ensures skipped { (script : OneScript) (table : OneTable) (assigns : List OneAssign) (cond : Maybe OneCond) (snapshot : OneSnapshot) (rid : OneRid)
         → BreaksProtocol (one_update script table assigns cond) (marked_unexecuted table assigns cond snapshot (mark.Skip first_txn first_cid rid)) }
     ensures faulted { (script : OneScript) (table : OneTable) (assigns : List OneAssign) (cond : Maybe OneCond) (snapshot : OneSnapshot) (rid : OneRid) (image : Maybe (List OneValue))

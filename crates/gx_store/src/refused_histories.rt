@@ -1,11 +1,14 @@
 //! Runs that are no histories: in each of them all but one thing is right.
-ghost use Rattle.std.specs.Prelude.{List, Some, None};
+ghost use Rattle.std.specs.Prelude.{◌≡◌, List, [], ◌∷◌, Err, Some, None};
 ghost use Rattle.std.specs.declared.option.Option.{Option as OneOption};
 ghost use Rattle.gx_dsnap.specs.declared.snapshot.Snapshot.{Snapshot as OneSnapshot};
 ghost use Rattle.gx_ids.specs.declared.ids.Table.{Table as OneTable};
+ghost use Rattle.gx_meaning.specs.Constants.{values_of};
+ghost use Rattle.gx_meaning.specs.declared.fault.ArithFault.{ArithFault as OneFault};
 ghost use Rattle.gx_script.specs.declared.Script.{Script as OneScript};
 ghost use Rattle.gx_store.specs.RefusedHistories.{IsNoHistory, block_of_insert, block_of_select, commit_is_cancelled, insert_and_select, inserted_nothing, never_started, one_insert, over_two, select_all, select_for_journal, sent_to_nobody, told_another, told_by_another, two_inserts, undrawn, untold, written_elsewhere};
-ghost use Rattle.gx_store.specs.RefusedLate.{dealt_out, faulted_late, faulted_when_sent, insert_and_update, inserted_late, left_open, only_begin, updated_elsewhere};
+ghost use Rattle.gx_store.specs.Outgoing.{AreSentWhole};
+ghost use Rattle.gx_store.specs.RefusedLate.{dealt_out, faulted_late, faulted_when_sent, goes_out, insert_and_update, inserted_late, left_open, only_begin, two_tuples, updated_elsewhere};
 ghost use Rattle.gx_store.specs.RefusedParts.{empty_block, other_segment, the_segment};
 ghost use Rattle.gx_tree.specs.declared.cond.Cond.{Cond as OneCond};
 ghost use Rattle.gx_tree.specs.declared.expr.Expr.{Expr as OneExpr};
@@ -57,6 +60,12 @@ pub fn constants_fault_before_anything_is_sent()
         → IsNoHistory (one_insert script table tuple) (faulted_when_sent snapshot slice) }
     ensures late { (script : OneScript) (table : OneTable) (tuple : List OneExpr) (graph : OneGraph) (snapshot : OneSnapshot) (slice : OneSlice)
         → IsNoHistory (one_insert script table tuple) (faulted_late graph snapshot slice) }
+{}
+
+/// An INSERT doesn't go out of which a constant faults.
+pub fn faulting_constants_hold_an_insert_back()
+    ensures { (script : OneScript) (table : OneTable) (one other : List OneExpr) (fault : OneFault) (snapshot : OneSnapshot) (slice : OneSlice)
+        → values_of other ≡ Err fault → AreSentWhole (two_tuples script table one other) [] (goes_out snapshot slice ∷ []) → ⊥ }
 {}
 
 /// A late INSERT doesn't write at another segment than its row's, nor that the row is gone; a late UPDATE doesn't write a row of another
