@@ -453,9 +453,9 @@ module _ (script : Script) (P : Gxid → Table → Type 0) (here : Node) (before
     prepare : (g : Gxid) (fails : Bool) (p : Phase) → (local_of s g).phase ≡ p → Goes (on_prepare s g fails (local_of s g) p)
     prepare g fails Reading e = only g (local_of s g).vote _ (promise g fails (ap has_ended e))
     prepare g fails Writing e = only g (local_of s g).vote _ (promise g fails (ap has_ended e))
-    prepare g fails Prepared e = kept g (local_of s g).vote
-    prepare g fails Committed e = kept g (local_of s g).vote
-    prepare g fails (Forgotten b) e = kept g (local_of s g).vote
+    prepare g fails Prepared e = either (was_prepared (local_of s g).vote) _ _ (kept g (local_of s g).vote) stay
+    prepare g fails Committed e = either (was_prepared (local_of s g).vote) _ _ (kept g (local_of s g).vote) stay
+    prepare g fails (Forgotten b) e = either (was_prepared (local_of s g).vote) _ _ (kept g (local_of s g).vote) stay
     prepare g fails Aborted e = stay
 
     commit-one : (g : Gxid) (fails : Bool) → has_ended (local_of s g).phase ≡ false → Goes (commits s g fails (local_of s g))

@@ -145,9 +145,9 @@ module _ (script : Script) (told : Message) (s : Seg) (g : ℕ) (wrote : Bool) (
   prepare : (fails : Bool) (p : Phase) → l.phase ≡ p → EndsSo (on_prepare s (gx g) fails l p)
   prepare fails Reading f = once-votes l.vote _ refl (promise fails Reading f refl)
   prepare fails Writing f = once-votes l.vote _ refl (promise fails Writing f refl)
-  prepare fails Prepared f = kept-vote l.vote refl
-  prepare fails Committed f = kept-vote l.vote refl
-  prepare fails (Forgotten b) f = kept-vote l.vote refl
+  prepare fails Prepared f = both (was_prepared l.vote) _ _ (kept-vote l.vote refl) stay
+  prepare fails Committed f = both (was_prepared l.vote) _ _ (kept-vote l.vote refl) stay
+  prepare fails (Forgotten b) f = both (was_prepared l.vote) _ _ (kept-vote l.vote refl) stay
   prepare fails Aborted f = stay
 
   commit-one : (fails : Bool) (p : Phase) → l.phase ≡ p → has_ended p ≡ false → EndsSo (commits s (gx g) fails l)

@@ -371,12 +371,16 @@ module _ (told : Message) (k : Known) (s : Seg) (i g : ℕ) (named : s.node ≡ 
       plain : (c a : Bool) → (k.at ≡ Preparing true) ⊎ (a ≡ true) → (c ≡ true → a ≡ false) → (c ≡ true → k.at ≡ Over) → c ≡ false
       plain c a st x y = grind (arith, nat_tests)
 
+  if-prepared : (b : Bool) → Does (if b then tells_kept s (gx g) l.vote else stays s)
+  if-prepared true = kept-vote l.vote refl
+  if-prepared false = stay
+
   prepare : (fails : Bool) (ph : Phase) → l.phase ≡ ph → told ≡ message.Prepare (gx g) → Said k p (message.Prepare (gx g)) → is_waiting l ≡ false → Does (on_prepare s (gx g) fails l ph)
   prepare fails Reading f m st y = once-votes l.vote _ refl (λ v. promised fails m v (ap is_open f) (st.1 v) (not-ended-prepare (st.1 v)) st.0 y)
   prepare fails Writing f m st y = once-votes l.vote _ refl (λ v. promised fails m v (ap is_open f) (st.1 v) (not-ended-prepare (st.1 v)) st.0 y)
-  prepare fails Prepared f m st y = kept-vote l.vote refl
-  prepare fails Committed f m st y = kept-vote l.vote refl
-  prepare fails (Forgotten b) f m st y = kept-vote l.vote refl
+  prepare fails Prepared f m st y = if-prepared (was_prepared l.vote)
+  prepare fails Committed f m st y = if-prepared (was_prepared l.vote)
+  prepare fails (Forgotten b) f m st y = if-prepared (was_prepared l.vote)
   prepare fails Aborted f m st y = stay
 
   -- COMMIT

@@ -146,9 +146,9 @@ module _ (ms : List Mark) (node : Node) where
     prepare : (g : Gxid) (fails : Bool) (l : Local) (p : Phase) → LocalNoted ms node g l → Notes (on_prepare s g fails l p)
     prepare g fails l Reading h = only g l.vote _ h.vote (promise g fails l h)
     prepare g fails l Writing h = only g l.vote _ h.vote (promise g fails l h)
-    prepare g fails l Prepared h = kept g l.vote h.vote
-    prepare g fails l Committed h = kept g l.vote h.vote
-    prepare g fails l (Forgotten b) h = kept g l.vote h.vote
+    prepare g fails l Prepared h = both (was_prepared l.vote) _ _ (kept g l.vote h.vote) stay
+    prepare g fails l Committed h = both (was_prepared l.vote) _ _ (kept g l.vote h.vote) stay
+    prepare g fails l (Forgotten b) h = both (was_prepared l.vote) _ _ (kept g l.vote h.vote) stay
     prepare g fails l Aborted h = stay
 
     commit-one : (g : Gxid) (fails : Bool) (l : Local) → LocalNoted ms node g l → Notes (commits s g fails l)

@@ -90,9 +90,9 @@ module _ (script : Script) (s : Seg) (Q : Gxid → Type 0) (base : Q s.horizon) 
   prepare : (g : Gxid) (fails : Bool) (l : Local) (p : Phase) → SegKeeps (on_prepare s g fails l p)
   prepare g fails l Reading = only g l.vote _ (promise g fails l)
   prepare g fails l Writing = only g l.vote _ (promise g fails l)
-  prepare g fails l Prepared = kept g l.vote
-  prepare g fails l Committed = kept g l.vote
-  prepare g fails l (Forgotten b) = kept g l.vote
+  prepare g fails l Prepared = both (was_prepared l.vote) _ _ (kept g l.vote) stay
+  prepare g fails l Committed = both (was_prepared l.vote) _ _ (kept g l.vote) stay
+  prepare g fails l (Forgotten b) = both (was_prepared l.vote) _ _ (kept g l.vote) stay
   prepare g fails l Aborted = stay
 
   commit_one : (g : Gxid) (fails : Bool) (l : Local) → SegKeeps (commits s g fails l)

@@ -485,9 +485,9 @@ module _ (script : Script) (s : Seg) (opens : AreOpen s) (before : List Mark) (k
   prepare : (fails : Bool) (g : Gxid) (l : Local) (p : Phase) → l.phase ≡ p → Bound (is_prepared before s.node g) p → Good fails (on_prepare s g fails l p)
   prepare fails g l Reading e b = only fails g l.vote _ (promise fails g l (subst (Bound (is_prepared before s.node g)) (sym e) b))
   prepare fails g l Writing e b = only fails g l.vote _ (promise fails g l (subst (Bound (is_prepared before s.node g)) (sym e) b))
-  prepare fails g l Prepared e b = kept s before k fails g l.vote
-  prepare fails g l Committed e b = kept s before k fails g l.vote
-  prepare fails g l (Forgotten q) e b = kept s before k fails g l.vote
+  prepare fails g l Prepared e b = both s before k fails (was_prepared l.vote) _ _ (kept s before k fails g l.vote) (stay s before k fails)
+  prepare fails g l Committed e b = both s before k fails (was_prepared l.vote) _ _ (kept s before k fails g l.vote) (stay s before k fails)
+  prepare fails g l (Forgotten q) e b = both s before k fails (was_prepared l.vote) _ _ (kept s before k fails g l.vote) (stay s before k fails)
   prepare fails g l Aborted e b = stay s before k fails
 
   commit : (fails : Bool) (g : Gxid) (l : Local) (p : Phase) → l.phase ≡ p → Bound (is_prepared before s.node g) p → Good fails (on_commit s g fails l p)

@@ -388,9 +388,9 @@ module _ (script : Script) (Come : Message → Type 0) where
       prepare : (fails : Bool) (p : Phase) → Keeps (on_prepare s g fails (local_of s g) p)
       prepare fails Reading = only g (local_of s g).vote _ (promise fails)
       prepare fails Writing = only g (local_of s g).vote _ (promise fails)
-      prepare fails Prepared = tell_kept g (local_of s g).vote
-      prepare fails Committed = tell_kept g (local_of s g).vote
-      prepare fails (Forgotten b) = tell_kept g (local_of s g).vote
+      prepare fails Prepared = both (was_prepared (local_of s g).vote) _ _ (tell_kept g (local_of s g).vote) k
+      prepare fails Committed = both (was_prepared (local_of s g).vote) _ _ (tell_kept g (local_of s g).vote) k
+      prepare fails (Forgotten b) = both (was_prepared (local_of s g).vote) _ _ (tell_kept g (local_of s g).vote) k
       prepare fails Aborted = k
 
       commit_one : (fails : Bool) → Keeps (commits s g fails (local_of s g))

@@ -276,9 +276,9 @@ module _ (script : Script) (Come : Message → Type 0) (s : Seg) (waits : AreSus
   prepare : (g : Gxid) (fails : Bool) (p : Phase) → (local_of s g).phase ≡ p → Keeps (on_prepare s g fails (local_of s g) p)
   prepare g fails Reading e = only g (local_of s g).vote _ (promise g fails Reading e refl)
   prepare g fails Writing e = only g (local_of s g).vote _ (promise g fails Writing e refl)
-  prepare g fails Prepared e = tell_kept g (local_of s g).vote
-  prepare g fails Committed e = tell_kept g (local_of s g).vote
-  prepare g fails (Forgotten b) e = tell_kept g (local_of s g).vote
+  prepare g fails Prepared e = both (was_prepared (local_of s g).vote) _ _ (tell_kept g (local_of s g).vote) k
+  prepare g fails Committed e = both (was_prepared (local_of s g).vote) _ _ (tell_kept g (local_of s g).vote) k
+  prepare g fails (Forgotten b) e = both (was_prepared (local_of s g).vote) _ _ (tell_kept g (local_of s g).vote) k
   prepare g fails Aborted e = k
 
   commit_one : (g : Gxid) (fails : Bool) (p : Phase) → (local_of s g).phase ≡ p → has_ended p ≡ false → Keeps (commits s g fails (local_of s g))

@@ -156,15 +156,19 @@ once-stays : (s : Seg) (g : Gxid) (o : Option Reply) (t : SegTurn) → Stays s t
 once-stays s g None t e = e
 once-stays s g (Some r) t e = refl
 
+if-stays : (s : Seg) (g : Gxid) (b : Bool) (o : Option Reply) → Stays s (if b then tells_kept s g o else stays s)
+if-stays s g true o = kept-stays s g o
+if-stays s g false o = refl
+
 prepare-stays : (s : Seg) (g : Gxid) (fails : Bool) (l : Local) (p : Phase) → Stays s (on_prepare s g fails l p)
 prepare-stays s g true l Reading = once-stays s g l.vote (promises s g true l) refl
 prepare-stays s g false l Reading = once-stays s g l.vote (promises s g false l) refl
 prepare-stays s g true l Writing = once-stays s g l.vote (promises s g true l) refl
 prepare-stays s g false l Writing = once-stays s g l.vote (promises s g false l) refl
 prepare-stays s g fails l Aborted = refl
-prepare-stays s g fails l Prepared = kept-stays s g l.vote
-prepare-stays s g fails l Committed = kept-stays s g l.vote
-prepare-stays s g fails l (Forgotten c) = kept-stays s g l.vote
+prepare-stays s g fails l Prepared = if-stays s g (was_prepared l.vote) l.vote
+prepare-stays s g fails l Committed = if-stays s g (was_prepared l.vote) l.vote
+prepare-stays s g fails l (Forgotten c) = if-stays s g (was_prepared l.vote) l.vote
 
 unless-stays : (s : Seg) (g : Gxid) (b : Bool) (o : Option Reply) → Stays s (if b then stays s else tells_kept s g o)
 unless-stays s g true o = refl

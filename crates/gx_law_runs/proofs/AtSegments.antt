@@ -191,7 +191,7 @@ module _ (s : Seg) (g : Gxid) (fails : Bool) where
   prepare l Reading = only s g fails l.vote (promises s g fails l) (promise s g fails l)
   prepare l Writing = only s g fails l.vote (promises s g fails l) (promise s g fails l)
   prepare l Aborted = tt
-  prepare l p = kept s g fails l.vote
+  prepare l p = both s g fails (was_prepared l.vote) (tells_kept s g l.vote) (stays s) (kept s g fails l.vote) tt
 
   commit : (l : Local) (p : Phase) → May s g fails (on_commit s g fails l p)
   commit l Reading = only s g fails l.vote (commits s g fails l) (commit-one s g fails l)

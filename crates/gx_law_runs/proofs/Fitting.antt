@@ -240,9 +240,9 @@ module _ (P : ℕ → Reply → Type 0) (partless : (g : ℕ) (r : Reply) → Is
     prepare : (g : Gxid) (fails : Bool) (p : Phase) → TurnSo (on_prepare s g fails (own g) p)
     prepare g fails Reading = only g (own g).vote _ (so g.0).vote (promise g fails)
     prepare g fails Writing = only g (own g).vote _ (so g.0).vote (promise g fails)
-    prepare g fails Prepared = kept g (own g).vote (so g.0).vote
-    prepare g fails Committed = kept g (own g).vote (so g.0).vote
-    prepare g fails (Forgotten b) = kept g (own g).vote (so g.0).vote
+    prepare g fails Prepared = both (was_prepared (own g).vote) _ _ (kept g (own g).vote (so g.0).vote) stay
+    prepare g fails Committed = both (was_prepared (own g).vote) _ _ (kept g (own g).vote (so g.0).vote) stay
+    prepare g fails (Forgotten b) = both (was_prepared (own g).vote) _ _ (kept g (own g).vote (so g.0).vote) stay
     prepare g fails Aborted = stay
 
     commit-one : (g : Gxid) (fails : Bool) → TurnSo (commits s g fails (own g))

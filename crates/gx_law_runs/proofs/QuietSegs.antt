@@ -119,9 +119,9 @@ module _ (script : Script) (s : Seg) where
   prepare : (g : Gxid) (fails : Bool) (l : Local) (p : Phase) → IsStill (on_prepare s g fails l p)
   prepare g fails l Reading = only g l.vote _ (promise g fails l)
   prepare g fails l Writing = only g l.vote _ (promise g fails l)
-  prepare g fails l Prepared = kept g l.vote
-  prepare g fails l Committed = kept g l.vote
-  prepare g fails l (Forgotten b) = kept g l.vote
+  prepare g fails l Prepared = both (was_prepared l.vote) _ _ (kept g l.vote) stay
+  prepare g fails l Committed = both (was_prepared l.vote) _ _ (kept g l.vote) stay
+  prepare g fails l (Forgotten b) = both (was_prepared l.vote) _ _ (kept g l.vote) stay
   prepare g fails l Aborted = stay
 
   commit_one : (g : Gxid) (fails : Bool) (l : Local) → IsStill (commits s g fails l)

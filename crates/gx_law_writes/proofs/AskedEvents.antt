@@ -87,9 +87,9 @@ module _ (s : Seg) where
   prepare : (g : Gxid) (fails : Bool) (l : Local) (p : Phase) → Silent (on_prepare s g fails l p)
   prepare g fails l Reading = only g l.vote _ (promise g fails l)
   prepare g fails l Writing = only g l.vote _ (promise g fails l)
-  prepare g fails l Prepared = kept g l.vote
-  prepare g fails l Committed = kept g l.vote
-  prepare g fails l (Forgotten b) = kept g l.vote
+  prepare g fails l Prepared = either (was_prepared l.vote) _ _ (kept g l.vote) tt
+  prepare g fails l Committed = either (was_prepared l.vote) _ _ (kept g l.vote) tt
+  prepare g fails l (Forgotten b) = either (was_prepared l.vote) _ _ (kept g l.vote) tt
   prepare g fails l Aborted = tt
 
   commit-one : (g : Gxid) (fails : Bool) (l : Local) → Silent (commits s g fails l)

@@ -259,9 +259,9 @@ module _ (script : Script) (s : Seg) where
   prepare : (g : Gxid) (fails : Bool) (p : Phase) → Rests (on_prepare s g fails (s.locals g.0) p)
   prepare g fails Reading = only g _ _ refl (promise g fails)
   prepare g fails Writing = only g _ _ refl (promise g fails)
-  prepare g fails Prepared = kept-vote g _ refl
-  prepare g fails Committed = kept-vote g _ refl
-  prepare g fails (Forgotten b) = kept-vote g _ refl
+  prepare g fails Prepared = both (was_prepared (s.locals g.0).vote) _ _ (kept-vote g _ refl) stay
+  prepare g fails Committed = both (was_prepared (s.locals g.0).vote) _ _ (kept-vote g _ refl) stay
+  prepare g fails (Forgotten b) = both (was_prepared (s.locals g.0).vote) _ _ (kept-vote g _ refl) stay
   prepare g fails Aborted = stay
 
   commit-one : (g : Gxid) (fails : Bool) → Rests (commits s g fails (s.locals g.0))

@@ -48,6 +48,10 @@ module _ (s : Seg) (g : Gxid) where
   finishes-makes true = record { locals = λ h. refl; locks = refl; others = refl; marks = refl; outs = refl; item = refl }
   finishes-makes false = record { locals = λ h. refl; locks = refl; others = refl; marks = refl; outs = refl; item = refl }
 
+  if-makes : (b : Bool) → Makes s g (if b then tells_kept s g l.vote else stays s) (if b then change.tells l l.vote else change.stays l)
+  if-makes true = tells-makes l.vote
+  if-makes false = stays-makes
+
   unless-makes : (b : Bool) → Makes s g (if b then stays s else tells_kept s g l.vote) (if b then change.stays l else change.tells l l.vote)
   unless-makes true = stays-makes
   unless-makes false = tells-makes l.vote
@@ -56,9 +60,9 @@ module _ (s : Seg) (g : Gxid) where
   prepare-makes fails Reading = once-makes l.vote _ _ (promises-makes fails)
   prepare-makes fails Writing = once-makes l.vote _ _ (promises-makes fails)
   prepare-makes fails Aborted = stays-makes
-  prepare-makes fails Prepared = tells-makes l.vote
-  prepare-makes fails Committed = tells-makes l.vote
-  prepare-makes fails (Forgotten committed) = tells-makes l.vote
+  prepare-makes fails Prepared = if-makes (rule.was_prepared l.vote)
+  prepare-makes fails Committed = if-makes (rule.was_prepared l.vote)
+  prepare-makes fails (Forgotten committed) = if-makes (rule.was_prepared l.vote)
 
   commit-makes : (fails : Bool) (p : Phase) → Makes s g (rule.on_commit s g fails l p) (change.commits s.node g (kept_of s g) fails l p)
   commit-makes fails Reading = once-makes l.vote _ _ (commits-makes fails)

@@ -51,11 +51,14 @@ takes_on node g it phase vote m false l = record { now = record l { phase = phas
 abbrev pub promises : Node → Gxid → List Kept → Bool → Local → Change
 promises node g kept fails l = takes_on node g (item.Prepare g kept) Prepared answer.Prepared (mark.Prepared node g) fails l
 
+abbrev pub if_prepared : Local → Change
+if_prepared l = if was_prepared l.vote then tells l l.vote else stays l
+
 abbrev pub prepares : Node → Gxid → List Kept → Bool → Local → Phase → Change
 prepares node g kept fails l Reading = once l l.vote (promises node g kept fails l)
 prepares node g kept fails l Writing = once l l.vote (promises node g kept fails l)
 prepares node g kept fails l Aborted = stays l
-prepares node g kept fails l _ = tells l l.vote
+prepares node g kept fails l _ = if_prepared l
 
 abbrev pub commits_now : Node → Gxid → List Kept → Bool → Local → Change
 commits_now node g kept fails l = takes_on node g (item.Commit g kept) Committed answer.Committed (mark.LocalCommit node g) fails l

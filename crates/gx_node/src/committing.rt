@@ -1,7 +1,7 @@
 // PREPARE, COMMIT and COMMIT PREPARED.
 ghost use Rattle.std.specs.Prelude.{◌≡◌, true, false, Some, None, IfOk, OnErr};
 ghost use Rattle.gx_outside.specs.Shelves.{HasKept};
-ghost use Rattle.gx_node.specs.Changes.{Does, finishes_now, takes_on, unless_prepared, unless_waiting};
+ghost use Rattle.gx_node.specs.Changes.{Does, finishes_now, if_prepared, takes_on, unless_prepared, unless_waiting};
 ghost use Rattle.gx_node.specs.Changes as change;
 ghost use Rattle.gx_node.specs.Orders.{Took};
 ghost use Rattle.gx_node.specs.Outcomes.{answer_of, mark_of};
@@ -119,6 +119,18 @@ fn take_on<J: Journal, W: Written>(
     }
 }
 
+// PREPARE once the transaction has promised or committed here: who has committed in one phase never promised.
+fn tell_promise(node: Node, gxid: Gxid, local: &Local) -> Taken
+    ensures does { Does (if_prepared (local_of local.now)) (local_of local.now) result }
+    ensures took { result.fails ≡ false }
+{
+    if local.vote == Some(Vote::Prepared) {
+        tell_vote(node, gxid, local)
+    } else {
+        nothing(node, gxid)
+    }
+}
+
 // PREPARE is answered once, and then always with what was answered then.
 pub(crate) fn take_prepare<J: Journal, W: Written>(
     alloc: Global,
@@ -141,8 +153,9 @@ pub(crate) fn take_prepare<J: Journal, W: Written>(
         (Phase::Reading, None) | (Phase::Writing, None) => {
             take_on(alloc, node, gxid, local, promise(), kept, journal)
         }
+        (Phase::Reading, Some(_)) | (Phase::Writing, Some(_)) => Ok(tell_vote(node, gxid, local)),
         (Phase::Aborted, _) => Ok(nothing(node, gxid)),
-        _ => Ok(tell_vote(node, gxid, local)),
+        _ => Ok(tell_promise(node, gxid, local)),
     }
 }
 

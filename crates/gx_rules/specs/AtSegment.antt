@@ -56,7 +56,8 @@ on_exec script s g c level snapshot h slice l Committed = repeats s g c l
 on_exec script s g c level snapshot h slice l _ = stays s
 
 -- PREPARE
--- It is answered once, and then always with what was kept. While a slice of it waits there, it doesn't fit.
+-- It is answered once, and then always with that answer; who was committed in one phase has promised nothing, and doesn't
+-- answer it. While a slice of it waits there, it doesn't fit.
 abbrev pub once : Seg → Gxid → Option Reply → SegTurn → SegTurn
 once s g None new = new
 once s g (Some vote) new = tells s g vote
@@ -70,18 +71,18 @@ promises s g true l = is_refused s g l (item.Prepare g (kept_of s g))
 promises s g false l =
     changes s g (record l { phase = Prepared; vote = Some answer.Prepared }) (mark.Prepared s.node g ∷ []) answer.Prepared (Some (item.Prepare g (kept_of s g)))
 
-abbrev pub on_prepare : Seg → Gxid → Bool → Local → Phase → SegTurn
-on_prepare s g fails l Reading = once s g l.vote (promises s g fails l)
-on_prepare s g fails l Writing = once s g l.vote (promises s g fails l)
-on_prepare s g fails l Aborted = stays s
-on_prepare s g fails l _ = tells_kept s g l.vote
-
--- COMMIT
--- It is for who was never prepared there, and no slice of whom waits.
 abbrev pub was_prepared : Option Reply → Bool
 was_prepared (Some answer.Prepared) = true
 was_prepared _ = false
 
+abbrev pub on_prepare : Seg → Gxid → Bool → Local → Phase → SegTurn
+on_prepare s g fails l Reading = once s g l.vote (promises s g fails l)
+on_prepare s g fails l Writing = once s g l.vote (promises s g fails l)
+on_prepare s g fails l Aborted = stays s
+on_prepare s g fails l _ = if was_prepared l.vote then tells_kept s g l.vote else stays s
+
+-- COMMIT
+-- It is for who was never prepared there, and no slice of whom waits.
 abbrev pub commits : Seg → Gxid → Bool → Local → SegTurn
 commits s g true l = is_refused s g l (item.Commit g (kept_of s g))
 commits s g false l =

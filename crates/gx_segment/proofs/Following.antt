@@ -52,6 +52,10 @@ module _ (node : Node) (g : Gxid) (kept : List Kept) (fails : Bool) (l : Local) 
     once-follows None new f = f
     once-follows (Some vote) new f = itself l _ refl refl
 
+    if-follows : (b : Bool) → Follows l (if b then tells l l.vote else stays l)
+    if-follows true = itself l _ refl refl
+    if-follows false = itself l _ refl refl
+
     unless-follows : (b : Bool) → Follows l (if b then stays l else tells l l.vote)
     unless-follows true = itself l _ refl refl
     unless-follows false = itself l _ refl refl
@@ -68,9 +72,9 @@ module _ (node : Node) (g : Gxid) (kept : List Kept) (fails : Bool) (l : Local) 
     prepares-follows Reading e = once-follows l.vote (promises node g kept fails l) (promises-follows e fails)
     prepares-follows Writing e = once-follows l.vote (promises node g kept fails l) (promises-follows e fails)
     prepares-follows Aborted e = itself l _ refl refl
-    prepares-follows Prepared e = itself l _ refl refl
-    prepares-follows Committed e = itself l _ refl refl
-    prepares-follows (Forgotten committed) e = itself l _ refl refl
+    prepares-follows Prepared e = if-follows (was_prepared l.vote)
+    prepares-follows Committed e = if-follows (was_prepared l.vote)
+    prepares-follows (Forgotten committed) e = if-follows (was_prepared l.vote)
 
     commits-follows : (p : Phase) → has_ended l.phase ≡ has_ended p → Follows l (commits node g kept fails l p)
     commits-follows Reading e = once-follows l.vote (commits_now node g kept fails l) (commits_now-follows e fails)

@@ -28,13 +28,17 @@ module _ (node : Node) (g : Gxid) (kept : List Kept) (fails : Bool) (l : Local) 
     aborted = λ was. absurd (differ (sym a ∙ ap (λ (q : Phase). not (is_unaborted q)) (sym e) ∙ was));
   }
 
+  if-lasts : (b : Bool) → Lasts l (if b then tells l l.vote else stays l)
+  if-lasts true = same _ refl
+  if-lasts false = same _ refl
+
   prepares-lasts : (p : Phase) → l.phase ≡ p → Lasts l (prepares node g kept fails l p)
   prepares-lasts Reading e = undecided Reading e refl refl _
   prepares-lasts Writing e = undecided Writing e refl refl _
   prepares-lasts Aborted e = same _ refl
-  prepares-lasts Prepared e = same _ refl
-  prepares-lasts Committed e = same _ refl
-  prepares-lasts (Forgotten committed) e = same _ refl
+  prepares-lasts Prepared e = if-lasts (was_prepared l.vote)
+  prepares-lasts Committed e = if-lasts (was_prepared l.vote)
+  prepares-lasts (Forgotten committed) e = if-lasts (was_prepared l.vote)
 
   unless-lasts : (b : Bool) → Lasts l (if b then stays l else tells l l.vote)
   unless-lasts true = same _ refl
