@@ -172,14 +172,23 @@ name_token_is n m true k e f g = absurd (cc)
 name_token_is n m false (Some w) e f g = absurd (cc)
 name_token_is n m false None e f g = ap token.Name e
 
-pub name_cuts : (n : List ℕ) → IsName n → Cuts (token.Name n ∷ []) n
-name_cuts [] i = absurd i.0
-name_cuts (b ∷ n) i =
+pub name_word : (n : List ℕ) → IsName n → Begins is_letter is_word_byte n × (token_of (word n) ≡ token.Name n)
+name_word [] i = absurd i.0
+name_word (b ∷ n) i =
     let (l, s) = small_letter b i.0.0 in
     let p = plain (b ∷ n) (s, i.0.1) in
-    is_token (token_of (word (b ∷ n))) (token.Name (b ∷ n)) (b ∷ n)
-    (name_token_is (b ∷ n) (smalls (b ∷ n)) (list_any is_capital (b ∷ n)) (keyword_of (smalls (b ∷ n))) p.same p.none (ap keyword_of p.same ∙ i.1))
-    (one_cuts (word (b ∷ n)) (λ rest e. ((l, p.bytes.1), word_ends rest e)))
+    ((l, p.bytes.1), name_token_is (b ∷ n) (smalls (b ∷ n)) (list_any is_capital (b ∷ n)) (keyword_of (smalls (b ∷ n))) p.same p.none (ap keyword_of p.same ∙ i.1))
+
+pub name_cuts : (n : List ℕ) → IsName n → Cuts (token.Name n ∷ []) n
+name_cuts n i =
+    let (begun, same) = name_word n i in
+    is_token (token_of (word n)) (token.Name n) n same (one_cuts (word n) (λ rest e. (begun, word_ends rest e)))
+
+-- a name before a colon and a space
+pub name_before_colon : (n : List ℕ) (ts : List Token) (bs : List ℕ) → IsName n → Lexes ts bs → Lexes (token.Name n ∷ token.Symbol symbol.Colon ∷ ts) (n ++ 58 ∷ 32 ∷ bs)
+name_before_colon n ts bs i l =
+    let (begun, same) = name_word n i in
+    ([], word n, 58 ∷ 32 ∷ bs, tt, (begun, refl), sym same, refl, ([], sign symbol.Colon, 32 ∷ bs, tt, tt, refl, refl, blank_front 32 ts bs refl l))
 
 -- numbers
 record Reads (n : ℕ) (ds : List ℕ) : Type 0 where
@@ -216,6 +225,13 @@ more_read n ds l r =
 decimal_reads : (n : ℕ) → n < 2 ^ 64 → Reads n (decimal n)
 decimal_reads n l = decimal_by_steps Reads one_reads more_read n l
 
+every_digit : (ds : List ℕ) → Begins is_digit is_digit ds → every is_digit ds
+every_digit [] b = absurd b
+every_digit (d ∷ ds) b = b
+
+pub decimal_digits : (n : ℕ) → n < 2 ^ 64 → every is_digit (decimal n)
+decimal_digits n l = let r = decimal_reads n l in every_digit (decimal n) r.begins
+
 fits : (n : ℕ) → n ≤ 18446744073709551615 → fitting n ≡ Some n
 fits n l = grind arith
 
@@ -231,7 +247,7 @@ doubled-step b bs true ih = ap (λ (l : List ℕ). 39 ∷ 39 ∷ l) ih
 doubled-step b bs false ih = ap (λ (l : List ℕ). b ∷ l) ih
 
 -- the reader's doubled quotes are the printed ones
-doubled-quoted : (t : List ℕ) → doubled t ≡ flat_map quoted_byte t
+pub doubled-quoted : (t : List ℕ) → doubled t ≡ flat_map quoted_byte t
 doubled-quoted [] = refl
 doubled-quoted (b ∷ bs) = doubled-step b bs (is_quote b) (doubled-quoted bs)
 

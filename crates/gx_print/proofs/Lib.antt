@@ -10,6 +10,7 @@ pub mod Nodes
 pub mod CondNodes
 pub mod Printed
 pub mod Tidied
+pub mod ShapeTexts
 pub mod Tidying
 pub mod TidyForms
 pub mod Resolved
@@ -20,4 +21,8 @@ pub mod TidyWithin
 pub mod StmtCleared
 pub mod StmtResolved
 pub mod TableNames
+pub mod Coded
+pub mod Texts
+pub mod Printing
 pub mod LineKept
+pub mod OneLine

@@ -21,7 +21,7 @@ form_again (minus s) = minus_form (form_again s)
 form_again (negated s) = not_form (form_again s)
 form_again (both o a b) = op_form o (form_again a) (form_again b)
 
-form_is : (s : Shape) → form_of (tree_of s) ≡ form_again s
+pub form_is : (s : Shape) → form_of (tree_of s) ≡ form_again s
 form_is (digits n) = ap form_of (sym (rolls-Number false n)) ∙ fold-roll-Syn Form form_step (Syn-F.Number false n)
 form_is (minus_digits n) = ap form_of (sym (rolls-Number true n)) ∙ fold-roll-Syn Form form_step (Syn-F.Number true n)
 form_is (text t) = ap form_of (sym (rolls-Text t)) ∙ fold-roll-Syn Form form_step (Syn-F.Text t)

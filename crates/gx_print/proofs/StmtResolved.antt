@@ -24,6 +24,7 @@ use Rattle.gx_resolve.specs.Resolving.{kinded, sets_key, key_kept, over_found, t
 use Rattle.gx_meaning.specs.Statements.{AreDistinct, column_text}
 use Rattle.gx_print.specs.Limited.{Each, Some_each, IsWithin, StmtClear}
 use Rattle.gx_print.specs.Written.{name_of_schema, columns_of_schema, table_name, columns_of, cond_syn, tuple_syn, assign_syn, select_syn, written}
+use Rattle.gx_print.proofs.Texts.{StmtOne, tidied_one}
 use Rattle.gx_print.proofs.Tidied.{tidy, tidy_select, tidy_tuple, tidy_assign, tidied}
 use Rattle.gx_print.specs.Reading.{IsColumnOf, IsTable, AreTables, HasSize}
 use Rattle.gx_print.specs.Shapes.{IsName}
@@ -201,13 +202,14 @@ pub record ReadAgain (d : Limits) (tables : List Schema) (s : StmtSyn) (x : Stmt
   pub within : IsWithin d (written tables x)
   pub clear : StmtClear (written tables x)
   pub again : stmt_of tables (written tables x) ≡ Ok x
+  pub texts : StmtOne s → StmtOne (written tables x)
 
 plain_again : (d : Limits) (tables : List Schema) (s : StmtSyn) (x : Stmt) → IsWithin d s → StmtClear s → written tables x ≡ s → stmt_of tables s ≡ Ok x → ReadAgain d tables s x
-plain_again d tables s x w c e h = record { within = subst (IsWithin d) (sym e) w; clear = subst StmtClear (sym e) c; again = ap (stmt_of tables) e ∙ h }
+plain_again d tables s x w c e h = record { within = subst (IsWithin d) (sym e) w; clear = subst StmtClear (sym e) c; again = ap (stmt_of tables) e ∙ h; texts = λ one. subst StmtOne (sym e) one }
 
 table_again : (d : Limits) (tables : List Schema) (name : List ℕ) (s : StmtSyn) (x : Stmt) → IsWithin d s → OverAgain d tables name s x → ((columns : List Column) → stmt_of tables (tidied columns s) ≡ over_found (table_after 0 name tables) (tidied columns s)) → ReadAgain d tables s x
 table_again d tables name s x w o is =
-    record { within = subst (IsWithin d) (sym o.written) (tidied_within d o.schema o.table s w); clear = subst StmtClear (sym o.written) o.clear; again = ap (stmt_of tables) o.written ∙ is o.schema.columns ∙ o.again }
+    record { within = subst (IsWithin d) (sym o.written) (tidied_within d o.schema o.table s w); clear = subst StmtClear (sym o.written) o.clear; again = ap (stmt_of tables) o.written ∙ is o.schema.columns ∙ o.again; texts = λ one. subst StmtOne (sym o.written) (tidied_one o.schema.columns s one) }
 
 pub read_again : (d : Limits) (tables : List Schema) (s : StmtSyn) (x : Stmt) → AreTables d tables → IsWithin d s → HasSize x → stmt_of tables s ≡ Ok x → ReadAgain d tables s x
 read_again d tables (stmt_syn.Begin l) x are w size h = plain_again d tables (stmt_syn.Begin l) x w tt (subst (λ (y : Stmt). written tables y ≡ stmt_syn.Begin l) (same_ok (stmt.Begin l) x h) refl) h

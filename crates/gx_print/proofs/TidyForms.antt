@@ -8,12 +8,14 @@ use Rattle.gx_grammar.specs.declared.syn.Syn.TheFolds.{fold-roll-Syn, ind-Syn, m
 use Rattle.gx_grammar.specs.Grammar.{Shape, parens, level, left_level, Within, operators_of}
 use Rattle.gx_print.specs.Forms.{Form, enclosed_if, at_level, number_form, text_form, column_form, minus_form, not_form, op_form, form_step, form_of, IsShallow}
 use Rattle.gx_print.proofs.Tidied.{tidy_number, tidy_step, tidy}
+use Rattle.gx_print.proofs.ShapeTexts.{TextsOne}
 use Rattle.gx_print.proofs.Nodes.{form_of-number, form_of-text, form_of-column, form_of-neg, form_of-not, form_of-bin}
 
--- as deep, with as many operators
+-- as deep, with as many operators, and with texts that may stand in a line where those may
 record AlikeShapes (s t : Shape) : Type 0 where
   pub within : (d : Limits) (n : ℕ) (after : Bool) → Within d n after s → Within d n after t
   pub operators : operators_of t ≡ operators_of s
+  pub texts : TextsOne s → TextsOne t
 
 record Alike (f g : Form) : Type 0 where
   pub shapes : AlikeShapes f.shape g.shape
@@ -21,13 +23,13 @@ record Alike (f g : Form) : Type 0 where
   pub closed : g.closed ≡ f.closed
 
 same_shape : (s : Shape) → AlikeShapes s s
-same_shape s = record { within = λ d n after w. w; operators = refl }
+same_shape s = record { within = λ d n after w. w; operators = refl; texts = λ h. h }
 
 same_form : (f : Form) → Alike f f
 same_form f = record { shapes = same_shape f.shape; level = refl; closed = refl }
 
 parens_alike : (s t : Shape) → AlikeShapes s t → AlikeShapes (parens s) (parens t)
-parens_alike s t a = record { within = λ d n after w. a.within d (if after then n else n + 1) false w; operators = a.operators }
+parens_alike s t a = record { within = λ d n after w. a.within d (if after then n else n + 1) false w; operators = a.operators; texts = a.texts }
 
 enclosed_alike : (b : Bool) (s t : Shape) → AlikeShapes s t → AlikeShapes (enclosed_if b s) (enclosed_if b t)
 enclosed_alike true s t a = parens_alike s t a
@@ -44,10 +46,10 @@ minus_shapes : (f g : Form) → Alike f g → AlikeShapes (enclosed_if f.closed 
 minus_shapes f g a = subst (λ (b : Bool). AlikeShapes (enclosed_if f.closed f.shape) (enclosed_if b g.shape)) (sym a.closed) (enclosed_alike f.closed f.shape g.shape a.shapes)
 
 minus_alike : (f g : Form) → Alike f g → Alike (minus_form f) (minus_form g)
-minus_alike f g a = let s = minus_shapes f g a in record { shapes = record { within = λ d n after w. s.within d (n + 1) true w; operators = ap (λ (n : ℕ). 1 + n) s.operators }; level = refl; closed = refl }
+minus_alike f g a = let s = minus_shapes f g a in record { shapes = record { within = λ d n after w. s.within d (n + 1) true w; operators = ap (λ (n : ℕ). 1 + n) s.operators; texts = s.texts }; level = refl; closed = refl }
 
 not_alike : (f g : Form) → Alike f g → Alike (not_form f) (not_form g)
-not_alike f g a = let s = at_alike 3 f g a in record { shapes = record { within = λ d n after w. s.within d (n + 1) false w; operators = ap (λ (n : ℕ). 1 + n) s.operators }; level = refl; closed = refl }
+not_alike f g a = let s = at_alike 3 f g a in record { shapes = record { within = λ d n after w. s.within d (n + 1) false w; operators = ap (λ (n : ℕ). 1 + n) s.operators; texts = s.texts }; level = refl; closed = refl }
 
 op_alike : (o : Op) (f g h k : Form) → Alike f g → Alike h k → Alike (op_form o f h) (op_form o g k)
 op_alike o f g h k a b =
@@ -57,13 +59,14 @@ op_alike o f g h k a b =
       shapes = record {
         within = λ d n after w. (s.within d n false w.0, t.within d n false w.1);
         operators = ap (λ (n : ℕ). n + (1 + operators_of (at_level (level o + 1) k))) s.operators ∙ ap (λ (n : ℕ). operators_of (at_level (left_level o) f) + (1 + n)) t.operators;
+        texts = λ h. (s.texts h.0, t.texts h.1);
       };
       level = refl;
       closed = refl;
     }
 
 number_alike : (b : Bool) (n : Option ℕ) → Alike (number_form b n) (form_of (tidy_number b n))
-number_alike true (Some zero) = subst (λ (f : Form). Alike (number_form true (Some zero)) f) (sym (form_of-number false (Some zero))) (record { shapes = record { within = λ d n after w. w; operators = refl }; level = refl; closed = refl })
+number_alike true (Some zero) = subst (λ (f : Form). Alike (number_form true (Some zero)) f) (sym (form_of-number false (Some zero))) (record { shapes = record { within = λ d n after w. w; operators = refl; texts = λ h. h }; level = refl; closed = refl })
 number_alike true (Some (suc n)) = subst (λ (f : Form). Alike (number_form true (Some (suc n))) f) (sym (form_of-number true (Some (suc n)))) (same_form (number_form true (Some (suc n))))
 number_alike true None = subst (λ (f : Form). Alike (number_form true None) f) (sym (form_of-number true None)) (same_form (number_form true None))
 number_alike false n = subst (λ (f : Form). Alike (number_form false n) f) (sym (form_of-number false n)) (same_form (number_form false n))
@@ -87,3 +90,6 @@ alike = ind-Syn IsAlike (λ x y is. subst (λ (z : Syn-F Syn). IsAlike (roll-Syn
 
 pub tidy_shallow : (d : Limits) (t : Syn) → IsShallow d t → IsShallow d (tidy t)
 tidy_shallow d t w = let a = alike t in let s = a.shapes in (s.within d 0 false w.0, subst (λ (n : ℕ). n ≤ d.operators) (sym s.operators) w.1)
+
+pub tidy_texts : (t : Syn) → TextsOne (form_of t).shape → TextsOne (form_of (tidy t)).shape
+tidy_texts t h = let a = alike t in let s = a.shapes in s.texts h

@@ -6,3 +6,4 @@ pub mod Written
 pub mod Levels
 pub mod Reading
 pub mod Reprinting
+pub mod OneLine

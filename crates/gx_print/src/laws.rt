@@ -1,5 +1,5 @@
 // The printed form reads back: its tokens are written so, and what was read is printed within the limits.
-ghost use Rattle.std.specs.Prelude.{◌≡◌, ℕ, List, Ok};
+ghost use Rattle.std.specs.Prelude.{◌≡◌, ◌++◌, ℕ, List, Ok};
 ghost use Rattle.gx_tree.specs.declared.schema.Schema.{Schema};
 ghost use Rattle.gx_tree.specs.declared.stmt.Stmt.{Stmt};
 ghost use Rattle.gx_lex.specs.declared.token.Token.{Token};
@@ -18,7 +18,11 @@ ghost use Rattle.gx_print.specs.Forms.{IsShallow};
 ghost use Rattle.gx_print.specs.Statements.{stmt_tokens, stmt_text};
 ghost use Rattle.gx_print.specs.Limited.{IsWithin, StmtClear, IsPrintedAs};
 ghost use Rattle.gx_print.specs.Written.{written, printed};
-ghost use Rattle.gx_print.specs.Reading.{IsTable, AreTables, HasSize};
+ghost use Rattle.gx_print.specs.Reading.{IsTable, AreTables, HasSize, IsNamed};
+ghost use Rattle.gx_script.specs.declared.Script.{Script};
+ghost use Rattle.gx_sql.specs.Script.{the_limits};
+ghost use Rattle.gx_print.specs.Reprinting.{ReadsAs};
+ghost use Rattle.gx_print.specs.OneLine.{IsReadAs, AreHeads, IsOneLine, line_of, with_one};
 
 /// A statement's bytes are cut into its tokens.
 pub fn printed_is_cut()
@@ -51,4 +55,10 @@ pub fn printed_reads_again()
 /// A table that a line declares is one over which statements are read: its names are those of the language.
 pub fn declared_is_table()
     ensures { (d : Limits) (t : TableSyn) (schema : Schema) (ts : List Token) (bytes : List ℕ) → Lexes ts bytes → table d (Table t) ts → new_table t ≡ Ok schema → IsSchema schema → IsTable d schema }
+{}
+
+/// Behind the heads of a script, a session's line with such a text is read as just that statement: the bytes are a script of
+/// these heads and that line, and nothing else.
+pub fn one_line_is_read()
+    ensures { (heads : List ℕ) (over : Script) (name : List ℕ) (x : Stmt) (text : List ℕ) → AreHeads heads over → IsNamed the_limits name → ReadsAs over.tables x text → IsOneLine text → IsReadAs (heads ++ line_of name text) (with_one over name x) }
 {}

@@ -1,8 +1,10 @@
 //! The printed form of the lines of a script, which reads as the same statement under the script's tables.
-ghost use Rattle.std.specs.Prelude.{◌≡◌, ◌≤◌, ℕ, List, Ok, IfOk};
-ghost use Rattle.gx_print.specs.Reading.{HasSize};
+ghost use Rattle.std.specs.Prelude.{◌≡◌, ◌≤◌, ◌++◌, ℕ, List, Ok, IfOk};
+ghost use Rattle.gx_print.specs.Reading.{HasSize, IsNamed};
 ghost use Rattle.gx_print.specs.Written.{printed};
-ghost use Rattle.gx_sql.specs.Script.{Reads};
+ghost use Rattle.gx_script.specs.declared.Script.{Script as OneScript};
+ghost use Rattle.gx_sql.specs.Script.{Reads, the_limits};
+ghost use Rattle.gx_print.specs.OneLine.{AreHeads, IsReadAs, line_of, with_one};
 ghost use Rattle.gx_print.specs.Reprinting.{Among, ReadsAs};
 
 use crate::print_stmt;
@@ -37,6 +39,8 @@ pub fn print_line(alloc: Global, script: &Script, line: &Line) -> Mem<Vec<u8>>
     ensures form { IfOk result (λ text. text.items ≡ printed script.now.tables line.now.stmt) }
     // Where the script was read and has the line, the text reads as its statement under the script's tables.
     ensures again { (bytes : List ℕ) → Reads bytes (Ok script.now) → Among line.now script.now.lines → IfOk result (λ text. ReadsAs script.now.tables line.now.stmt text.items) }
+    // And behind heads with its tables the text as a session's line is read as just that statement, and as nothing else.
+    ensures whole { (bytes heads : List ℕ) (over : OneScript) (name : List ℕ) → Reads bytes (Ok script.now) → Among line.now script.now.lines → AreHeads heads over → over.tables ≡ script.now.tables → IsNamed the_limits name → IfOk result (λ text. IsReadAs (heads ++ line_of name text.items) (with_one over name line.now.stmt)) }
 {
     let _limit = limit_of(&line.stmt);
     print_stmt(alloc, script.tables.as_slice(), &line.stmt)
