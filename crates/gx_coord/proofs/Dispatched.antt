@@ -38,8 +38,10 @@ use Rattle.gx_rules.specs.Maps.{with_at}
 use Rattle.gx_rules.specs.Snapshots.{snapshot_of}
 use Rattle.gx_law_order.proofs.Closings.{live-at, set_live}
 use Rattle.gx_law_order.proofs.Lines.{Asks, asks, begun-whole, idle-none}
-use Rattle.gx_law_order.proofs.Sessions.{Kept, is_nothing_in, is_open_in}
-use Rattle.gx_law_order.proofs.Stages.{IsWhole, append-at, gx}
+use Rattle.gx_law_order.specs.Sessions.{Kept, is_nothing_in, is_open_in}
+use Rattle.gx_law_order.specs.Stages.{IsWhole}
+use Rattle.gx_law_order.proofs.Stages.{append-at}
+use Rattle.gx_law_order.specs.Standings.{gx}
 use Rattle.gx_coord.specs.Sound.{AreSound, IsSoundWork}
 use Rattle.gx_coord.proofs.Keeping.{commits-sound, refused-sound, rolled-sound}
 use Rattle.gx_coord.proofs.Sound.{itself, more-lines, none-sound, others, session-lines, sound-after, with_at-other, with_at-same}

@@ -21,11 +21,12 @@ use Rattle.gx_rules.specs.AtCoordinator.{begins, starts_line}
 use Rattle.gx_rules.specs.Coordinators.{Coord, Session, Work, new_work, session_of}
 use Rattle.gx_rules.specs.Snapshots.{latest_number}
 use Rattle.gx_law_order.proofs.Lines.{Asks, asks, begun-whole, idle-none, unqueued}
-use Rattle.gx_law_order.proofs.Queued.{IsQueued, nothing-queued}
-use Rattle.gx_law_order.proofs.Sessions.{is_nothing_in, is_open_in, stage_of}
-use Rattle.gx_law_order.proofs.Stages.{append-at, gx}
-use Rattle.gx_law_order.proofs.Statuses.{stage}
-use Rattle.gx_law_order.proofs.Statuses.Stage.{Live}
+use Rattle.gx_law_order.proofs.Queued.{nothing-queued}
+use Rattle.gx_law_order.specs.Sessions.{IsQueued, is_nothing_in, is_open_in}
+use Rattle.gx_law_order.specs.Stages.{stage, stage_of}
+use Rattle.gx_law_order.proofs.Stages.{append-at}
+use Rattle.gx_law_order.specs.Standings.{gx}
+use Rattle.gx_law_order.specs.Stages.Stage.{Live}
 use Rattle.gx_coord.specs.Faults.{IsCommand}
 use Rattle.gx_coord.specs.Lines.{MayAsk, MaySend}
 use Rattle.gx_coord.specs.Sound.{IsSound}

@@ -17,7 +17,7 @@ use Rattle.gx_store.specs.declared.node.NodeEvent.TheVariants as event
 use Rattle.gx_waits.specs.declared.claim.Claim.{Claim}
 use Rattle.gx_rules.specs.AtCoordinator.{behind, coord_can, goes_on_locked, lock_for, resumes}
 use Rattle.gx_rules.specs.Coordinators as rule
-use Rattle.gx_law_order.proofs.Sessions.{Kept}
+use Rattle.gx_law_order.specs.Sessions.{Kept}
 use Rattle.gx_law_order.proofs.Waiting.{HasStatement, statement-of}
 use Rattle.gx_coord.specs.Books.{IsFramed, coord_of, stmt_at}
 use Rattle.gx_coord.specs.Faults.{IsCommand}

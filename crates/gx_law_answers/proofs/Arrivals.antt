@@ -26,7 +26,7 @@ use Rattle.gx_rules.specs.Locks.{hold_mark, with_hold}
 use Rattle.gx_rules.specs.Machine.{World, can_here, coord_did, delivered, does, found, new_world, seg_did, world_of}
 use Rattle.gx_rules.specs.Segments.{Seg, SegTurn, after_marks, local_of}
 use Rattle.gx_rules.specs.Running.{runs_slice, slice_lock, suspended_slice}
-use Rattle.gx_law_order.proofs.Lists.{Each}
+use Rattle.gx_law_order.specs.Lists.{Each}
 use Rattle.gx_law_order.proofs.Ordered.{world_well}
 use Rattle.gx_law_order.proofs.Legality.{after-last}
 use Rattle.gx_law_reads.proofs.Waiting.{new-to-run}

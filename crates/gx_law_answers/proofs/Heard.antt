@@ -37,7 +37,8 @@ use Rattle.gx_rules.specs.AtSegment.{seg_rule}
 use Rattle.gx_rules.specs.Machine.{World, after, at_node, can, does, happens, new_world, node_of, world_of}
 use Rattle.gx_store.specs.Journals.{is_same_node}
 use Rattle.gx_store.specs.declared.node.NodeEvent.{NodeEvent}
-use Rattle.gx_law_order.proofs.Lists.{Each, get_last}
+use Rattle.gx_law_order.proofs.Lists.{get_last}
+use Rattle.gx_law_order.specs.Lists.{Each}
 use Rattle.gx_law_order.specs.Orders.{IsOrder}
 use Rattle.gx_store.specs.Language.{AreLinesNumbered}
 use Rattle.gx_law_order.proofs.Outs.{order-more}

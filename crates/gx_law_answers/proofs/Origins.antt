@@ -47,7 +47,8 @@ use Rattle.gx_rules.specs.Locks.{hold_mark}
 use Rattle.gx_rules.specs.Sending.{numbered}
 use Rattle.gx_rules.specs.Shown.{shown}
 use Rattle.gx_rules.specs.Slices.{Moved, adds, answers, first_fault, has_written, inserted, inserts, reads, selects}
-use Rattle.gx_law_order.proofs.Lists.{Each, each_weaker, get_last}
+use Rattle.gx_law_order.proofs.Lists.{each_weaker, get_last}
+use Rattle.gx_law_order.specs.Lists.{Each}
 use Rattle.gx_law_order.proofs.AtSegments.{PlainAt, seg_stays}
 use Rattle.gx_law_order.proofs.Changing.{change-parts}
 use Rattle.gx_law_order.proofs.Ordered.{world_well}

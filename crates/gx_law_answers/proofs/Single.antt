@@ -52,7 +52,7 @@ use Rattle.gx_rules.specs.Machine.{World, and_cancelled, coord_did, new_world, s
 use Rattle.gx_rules.proofs.Rounds.{cancel-ways, graph-ways}
 use Rattle.gx_rules.specs.Sending.{counted, numbered}
 use Rattle.gx_law_order.proofs.Induction.{at-events, marks-by-event, marks-by-victim}
-use Rattle.gx_law_order.proofs.Lists.{Each}
+use Rattle.gx_law_order.specs.Lists.{Each}
 use Rattle.gx_law_order.proofs.Ordered.{seg_marks}
 use Rattle.gx_law_order.proofs.Sent.{at}
 use Rattle.gx_law_order.proofs.More.{marks-last}

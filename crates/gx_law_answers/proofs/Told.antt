@@ -41,7 +41,7 @@ use Rattle.gx_store.specs.Writes.{dist_of}
 use Rattle.gx_rules.specs.AtCoordinator.{nodes_in}
 use Rattle.gx_rules.specs.Machine.{world_of}
 use Rattle.gx_meaning.specs.Merged.{merged_answer}
-use Rattle.gx_law_order.proofs.Lists.{Each}
+use Rattle.gx_law_order.specs.Lists.{Each}
 use Rattle.gx_law_order.specs.Scanned.{began_from}
 use Rattle.gx_law_order.specs.Finish.{point_at}
 use Rattle.gx_law_order.specs.Gathering.{AreAll, AreApart, IsGathered, Taken, nodes_taken, parts_taken}

@@ -43,7 +43,7 @@ use Rattle.gx_rules.specs.Coordinators.{Command, Coord, CoordTurn, Work, rests, 
 use Rattle.gx_rules.specs.Fits.{fits_part}
 use Rattle.gx_rules.specs.Locks.{hold_mark, with_hold}
 use Rattle.gx_rules.proofs.Rounds.{cancel-ways, graph-ways}
-use Rattle.gx_law_order.proofs.Stages.{IsWhole}
+use Rattle.gx_law_order.specs.Stages.{IsWhole}
 use Rattle.gx_law_locks.proofs.Closing.{Asks, Goes, abort-asks, begun-goes, commit-asks, live-goes, parts-go, reply-asks}
 
 module _ (c : Coord) where

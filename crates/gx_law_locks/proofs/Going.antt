@@ -32,7 +32,8 @@ use Rattle.gx_rules.specs.Rounds.{awaits_graph}
 use Rattle.gx_rules.proofs.Rounds.{cancel-ways, graph-ways}
 use Rattle.gx_law_order.proofs.Places.{collects-each}
 use Rattle.gx_law_order.proofs.Waiting.{GoesOut}
-use Rattle.gx_law_order.proofs.Lists.{Each, each_flat, each_map, each_weaker}
+use Rattle.gx_law_order.proofs.Lists.{each_flat, each_map, each_weaker}
+use Rattle.gx_law_order.specs.Lists.{Each}
 use Rattle.gx_law_order.proofs.Outs.{IsBare, NoExec, abort-bare, commit-bare, reply-bare}
 use Rattle.gx_law_locks.proofs.Lasting.{IsIn, in-added, in-new, in-released}
 use Rattle.gx_law_order.proofs.Queued.{lock-of}

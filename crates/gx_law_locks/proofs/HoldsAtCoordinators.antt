@@ -51,13 +51,14 @@ use Rattle.gx_rules.specs.Fits.{fits_part}
 use Rattle.gx_rules.specs.Locks.{hold_mark, release_marks, released, with_hold}
 use Rattle.gx_waits.specs.declared.claim.Claim.{Claim}
 use Rattle.gx_rules.proofs.Rounds.{cancel-ways, graph-ways}
-use Rattle.gx_law_order.proofs.Lists.{Each, each_append}
+use Rattle.gx_law_order.proofs.Lists.{each_append}
+use Rattle.gx_law_order.specs.Lists.{Each}
 use Rattle.gx_law_order.proofs.Lines.{Asks as Admits, asks as admits}
 use Rattle.gx_law_order.proofs.Queued.{lock-of}
-use Rattle.gx_law_order.proofs.Sessions.{is_open_in, stage_of}
-use Rattle.gx_law_order.proofs.Stages.{IsWhole}
-use Rattle.gx_law_order.proofs.Statuses.{Moves, Turned, reply-turns, stage}
-use Rattle.gx_law_order.proofs.Statuses.Stage.{Closing}
+use Rattle.gx_law_order.specs.Sessions.{is_open_in}
+use Rattle.gx_law_order.specs.Stages.{IsWhole, stage, stage_of}
+use Rattle.gx_law_order.proofs.Statuses.{Moves, Turned, reply-turns}
+use Rattle.gx_law_order.specs.Stages.Stage.{Closing}
 use Rattle.gx_law_locks.specs.Waiting.{IsForEnd}
 use Rattle.gx_law_locks.proofs.Marks.{Locking, MayGive, NoLock, aborted-behind, both, ended-behind, grant, no-lock, resumption, wait}
 use Rattle.gx_law_locks.proofs.Marks.{commit as commit-mark}

@@ -54,7 +54,8 @@ use Rattle.gx_rules.specs.Visits.{DidStop, WaitsAt}
 use Rattle.gx_rules.proofs.Moving.{Ends, Keeps, loop-keeps}
 use Rattle.gx_rules.proofs.Rounds.{collect-ways}
 use Rattle.gx_law_order.proofs.Changing.{IsAtRow, change-parts, rows-change}
-use Rattle.gx_law_order.proofs.Lists.{Each, each_append, each_weaker}
+use Rattle.gx_law_order.proofs.Lists.{each_append, each_weaker}
+use Rattle.gx_law_order.specs.Lists.{Each}
 use Rattle.gx_law_order.proofs.OwnLocks.{IsOwn, WritersLock, rows-own, slice-rows}
 use Rattle.gx_law_order.proofs.Waiting.{GoesOnSo, HasDone, IsAtARow, IsAtTable, IsWanted, freed, goes-on-ways, is_open_phase}
 use Rattle.gx_law_locks.specs.Lasting.{IsLasting}

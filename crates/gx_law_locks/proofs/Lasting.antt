@@ -25,7 +25,7 @@ use Rattle.gx_store.specs.declared.mark.Mark.TheVariants as mark
 use Rattle.gx_store.specs.Locks.{IsMomentary}
 use Rattle.gx_store.specs.Marks.{is_ended}
 use Rattle.gx_store.specs.Waits.{added, claim, holds_at, is_held, without}
-use Rattle.gx_law_order.proofs.Lists.{Each}
+use Rattle.gx_law_order.specs.Lists.{Each}
 use Rattle.gx_law_locks.specs.Lasting.{IsLasting}
 use Rattle.gx_law_locks.specs.Late.{AreReleasesLate}
 use Rattle.gx_law_locks.proofs.Claims.{claim-itself}

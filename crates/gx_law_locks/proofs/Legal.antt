@@ -19,7 +19,7 @@ use Rattle.gx_store.specs.declared.mark.Mark.TheVariants as mark
 use Rattle.gx_store.specs.Locks.{AreGranted, LegalHold}
 use Rattle.gx_store.specs.Ordered.{IsAtNode}
 use Rattle.gx_store.specs.Waits.{claim, holds_at, holds_from, waits_at, waits_from}
-use Rattle.gx_law_order.proofs.Lists.{Each}
+use Rattle.gx_law_order.specs.Lists.{Each}
 use Rattle.gx_law_locks.specs.Marked.{AreWaitsLegal, IsWaitLegal}
 use Rattle.gx_law_locks.proofs.Marks.{AreRight, waits_from-append}
 

@@ -18,7 +18,8 @@ use Rattle.gx_store.specs.Marks.{is_aborted, is_committed, is_ended}
 use Rattle.gx_store.specs.Ordered.{IsAtNode}
 use Rattle.gx_store.specs.Waits.{added, claim, holds_from, waits_from, without}
 use Rattle.gx_rules.specs.Locks.{hold_mark, release_mark, wait_mark, with_hold, with_wait, without_hold}
-use Rattle.gx_law_order.proofs.Lists.{Each, each_weaker}
+use Rattle.gx_law_order.proofs.Lists.{each_weaker}
+use Rattle.gx_law_order.specs.Lists.{Each}
 use Rattle.gx_law_order.proofs.Past.{aborted-append, committed-append}
 use Rattle.gx_law_locks.specs.Late.{AreReleasesLate}
 use Rattle.gx_law_locks.specs.Waiting.{IsForEnd}

@@ -29,7 +29,8 @@ use Rattle.gx_rules.specs.Segments.{Local, Phase, Seg, has_ended, local_of, with
 use Rattle.gx_rules.specs.Segments.Phase.{Aborted, Committed, Forgotten, Prepared, Reading, Writing}
 use Rattle.gx_rules.specs.Running.{is_granted}
 use Rattle.gx_rules.specs.Slices.{Moved, adds_version, gives_back, noted, own_lock, starts_from, takes_lock, takes_own, version, writes_row}
-use Rattle.gx_law_order.proofs.Lists.{Each, each_append, each_filter, each_weaker}
+use Rattle.gx_law_order.proofs.Lists.{each_append, each_filter, each_weaker}
+use Rattle.gx_law_order.specs.Lists.{Each}
 use Rattle.gx_law_order.proofs.OwnLocks.{IsOwn, IsOwnOn, SaysWritten, WritersLock, each-held, end-back, has_version}
 use Rattle.gx_law_order.proofs.Suspended.{is_open_phase}
 use Rattle.gx_law_order.proofs.Waiting.{freed}

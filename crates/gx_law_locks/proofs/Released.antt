@@ -19,7 +19,8 @@ use Rattle.gx_store.specs.declared.mark.Mark.{Mark}
 use Rattle.gx_store.specs.Marks.{is_ended}
 use Rattle.gx_store.specs.Waits.{holds_from, waits_from, without}
 use Rattle.gx_rules.specs.Locks.{claim_order, has_there, release_mark, release_marks, released}
-use Rattle.gx_law_order.proofs.Lists.{Each, each_append, each_weaker}
+use Rattle.gx_law_order.proofs.Lists.{each_append, each_weaker}
+use Rattle.gx_law_order.specs.Lists.{Each}
 use Rattle.gx_law_locks.specs.Late.{AreReleasesLate}
 use Rattle.gx_law_locks.proofs.Claims.{claim-itself, each-of, each-passes, filter-alike}
 use Rattle.gx_law_locks.proofs.Marks.{AreLet, AreRight, Locking, MayGive, aborted-more, ended-more, node-itself}

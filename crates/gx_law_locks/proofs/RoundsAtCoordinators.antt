@@ -52,7 +52,8 @@ use Rattle.gx_rules.specs.Locks.{hold_mark, release_marks, with_hold}
 use Rattle.gx_rules.specs.Maps.{with_at}
 use Rattle.gx_rules.specs.Rounds.{begins_round, on_graph}
 use Rattle.gx_rules.proofs.Rounds.{cancel-ways}
-use Rattle.gx_law_order.proofs.Lists.{Each, each_append}
+use Rattle.gx_law_order.proofs.Lists.{each_append}
+use Rattle.gx_law_order.specs.Lists.{Each}
 use Rattle.gx_law_order.proofs.Releases.{each-released}
 use Rattle.gx_law_locks.proofs.Calls.{abort-own, commit-own, reply-own}
 use Rattle.gx_law_locks.proofs.Silent.{AreOfOne, OfOne, Silent, order-of-one}

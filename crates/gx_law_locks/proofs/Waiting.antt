@@ -23,8 +23,8 @@ use Rattle.gx_rules.specs.Coordinators.{Command, Work, work_of}
 use Rattle.gx_rules.specs.Machine.{World}
 use Rattle.gx_rules.specs.Rounds.{is_active, is_live}
 use Rattle.gx_law_order.proofs.Sent.{at}
-use Rattle.gx_law_order.proofs.Statuses.{stage, stage_in}
-use Rattle.gx_law_order.proofs.Statuses.Stage.{Live as LiveStage}
+use Rattle.gx_law_order.specs.Stages.{stage, stage_in}
+use Rattle.gx_law_order.specs.Stages.Stage.{Live as LiveStage}
 use Rattle.gx_law_order.proofs.Waiting.{has-slice, has-statement}
 use Rattle.gx_law_order.proofs.World.{Knows}
 use Rattle.gx_law_order.specs.Pairs.{Pair}

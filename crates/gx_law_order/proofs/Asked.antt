@@ -43,12 +43,14 @@ use Rattle.gx_rules.specs.AtCoordinator.{Reading, kept_at, nodes_in, orders_of, 
 use Rattle.gx_rules.specs.Coordinators.{Coord, CoordTurn, Session, new_work, rests, session_of, with_state, with_work, work_of}
 use Rattle.gx_rules.specs.Snapshots.{snapshot_of}
 use Rattle.gx_law_order.proofs.Lines.{Asks, asks, undrawn}
-use Rattle.gx_law_order.proofs.Lists.{Each, each_append}
+use Rattle.gx_law_order.proofs.Lists.{each_append}
+use Rattle.gx_law_order.specs.Lists.{Each}
 use Rattle.gx_law_order.proofs.Numbers.{NoStart}
-use Rattle.gx_law_order.proofs.Past.{Past}
-use Rattle.gx_law_order.proofs.Sessions.{Kept, is_nothing_in, is_open_in}
-use Rattle.gx_law_order.proofs.Statuses.{Closes, Turned, commit-turns, stage}
-use Rattle.gx_law_order.proofs.Tables.{AreIn}
+use Rattle.gx_law_order.specs.Past.{Past}
+use Rattle.gx_law_order.specs.Sessions.{Kept, is_nothing_in, is_open_in}
+use Rattle.gx_law_order.specs.Stages.{stage}
+use Rattle.gx_law_order.proofs.Statuses.{Closes, Turned, commit-turns}
+use Rattle.gx_law_order.specs.Places.{AreIn}
 use Rattle.gx_store.proofs.Marks.{started_after-append}
 use Rattle.gx_law_order.specs.Standings.{Part, gx, standing, waits_in}
 use Rattle.gx_law_order.proofs.Answering.{IsPlain, MayAll, MayAnswer, NoAnswer, Settles, Tidy, WorksGo, closed-tidy, none-may, one-go, refused-tidy, rests-tidy, rolled-tidy}

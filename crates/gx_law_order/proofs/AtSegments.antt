@@ -43,7 +43,8 @@ use Rattle.gx_rules.proofs.Moving.{Ends, Keeps}
 use Rattle.gx_rules.proofs.Rounds.{collect-ways}
 use Rattle.gx_law_order.proofs.Changing.{row-goes-on, rows-change, stop-keeps}
 use Rattle.gx_law_order.proofs.Releases.{each-released}
-use Rattle.gx_law_order.proofs.Lists.{Each, each_append}
+use Rattle.gx_law_order.proofs.Lists.{each_append}
+use Rattle.gx_law_order.specs.Lists.{Each}
 
 -- a mark that stands at its node and sends nothing
 abbrev pub PlainAt : Script → Node → Mark → Type 0

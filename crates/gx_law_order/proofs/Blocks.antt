@@ -36,9 +36,10 @@ use Rattle.gx_store.specs.Points.{Point, ends_in, marks_in, starts_in}
 use Rattle.gx_rules.specs.AtCoordinator.{answer_at_commit, answer_mark, answers_at_once, begins, behind, commits, dispatches, follows, next_cid, next_line, on_line, rolls_back, starts, starts_line}
 use Rattle.gx_rules.specs.Coordinators.{Command, Coord, Session, Work, no_work, session_of, work_of}
 use Rattle.gx_law_order.proofs.Lines.{idle-none}
-use Rattle.gx_law_order.proofs.Past.{Past}
-use Rattle.gx_law_order.proofs.Sessions.{Kept, is_nothing_in, is_open_in}
-use Rattle.gx_law_order.proofs.Statuses.{Closes, Turned, commit-turns, stage}
+use Rattle.gx_law_order.specs.Past.{Past}
+use Rattle.gx_law_order.specs.Sessions.{Kept, is_nothing_in, is_open_in}
+use Rattle.gx_law_order.specs.Stages.{stage}
+use Rattle.gx_law_order.proofs.Statuses.{Closes, Turned, commit-turns}
 use Rattle.gx_law_order.specs.Scanned.{closes_block}
 use Rattle.gx_law_order.specs.Rest.{EachMark, RestAnswer}
 use Rattle.gx_law_order.specs.Standing.{IsSession, Owns, Roots, Stands, is_alone, is_busy, is_open, is_sound, state_in, under_way}

@@ -27,12 +27,14 @@ use Rattle.gx_rules.specs.Coordinators.{Command, Coord, Session, Work}
 use Rattle.gx_rules.specs.Snapshots.{snapshot_of}
 use Rattle.gx_law_order.specs.Seen.{AreEndedSeen}
 use Rattle.gx_law_order.proofs.Closings.{behind-good, kept-stage, live-at, past-same, refuses-good, set_live}
-use Rattle.gx_law_order.proofs.Lists.{Each}
-use Rattle.gx_law_order.proofs.Past.{Past, Still, seen-now, still-committed}
-use Rattle.gx_law_order.proofs.Sessions.{Kept, Placed, Tied, is_live_in, is_nothing_in, is_said, is_working_in, stage_of}
-use Rattle.gx_law_order.proofs.Stages.{At, IsWhole, gx, txn-at}
-use Rattle.gx_law_order.proofs.Statuses.{Stage, stage}
-use Rattle.gx_law_order.proofs.Statuses.Stage.{Live, Closing}
+use Rattle.gx_law_order.specs.Lists.{Each}
+use Rattle.gx_law_order.proofs.Past.{Still, seen-now, still-committed}
+use Rattle.gx_law_order.specs.Past.{Past}
+use Rattle.gx_law_order.specs.Sessions.{Kept, Placed, Tied, is_live_in, is_nothing_in, is_said, is_working_in}
+use Rattle.gx_law_order.specs.Stages.{IsWhole, Stage, stage, stage_of}
+use Rattle.gx_law_order.proofs.Stages.{At, txn-at}
+use Rattle.gx_law_order.specs.Standings.{gx}
+use Rattle.gx_law_order.specs.Stages.Stage.{Closing, Live}
 use Rattle.gx_law_order.proofs.Turns.{Base, Good, base-kept, home-is, merged, same-sessions, stage-is, work-is}
 use Rattle.gx_rules.specs.Locks.{hold_mark, wait_mark, with_hold}
 use Rattle.gx_locks.specs.Locks.{Locks, is_free}

@@ -56,15 +56,16 @@ use Rattle.gx_law_order.proofs.Counts.{NoSent}
 use Rattle.gx_law_order.proofs.Everywhere.{Holds, does-it, fol-no-sent, follows-no-sent, parts_in, resumed-does}
 use Rattle.gx_law_order.proofs.Handled.{Follows, Tells}
 use Rattle.gx_law_order.proofs.Later.{commit-more, each-contained, no-orders}
-use Rattle.gx_law_order.proofs.Lists.{Each, each_append, each_weaker}
+use Rattle.gx_law_order.proofs.Lists.{each_append, each_weaker}
+use Rattle.gx_law_order.specs.Lists.{Each}
 use Rattle.gx_law_order.proofs.Lowered.{NoExec, abort-none}
 use Rattle.gx_law_order.proofs.More.{marks-last}
 use Rattle.gx_law_order.proofs.Moves.{HasNamed}
 use Rattle.gx_law_order.proofs.Replying.{take-length}
 use Rattle.gx_law_order.proofs.Said.{CalmFor, Said, said-calm}
-use Rattle.gx_law_order.proofs.Sessions.{Tied, is_closing_in, stage_of}
-use Rattle.gx_law_order.proofs.Statuses.{Stage, stage, stage_in}
-use Rattle.gx_law_order.proofs.Statuses.Stage.{Closing, Live as LiveStage}
+use Rattle.gx_law_order.specs.Sessions.{Tied, is_closing_in}
+use Rattle.gx_law_order.specs.Stages.{Stage, stage, stage_in, stage_of}
+use Rattle.gx_law_order.specs.Stages.Stage.{Closing, Live as LiveStage}
 use Rattle.gx_law_order.proofs.Ways.{AsksFor, Led, SaidOut, stands_for}
 use Rattle.gx_law_order.proofs.World.{Knows}
 use Rattle.gx_law_order.specs.Followed.{CommitsAt, DoMarksCommit, DoStepsCommit}

@@ -24,7 +24,7 @@ use Rattle.gx_rules.specs.Segments.{Local, Phase, Seg, SegTurn, Suspended, has_c
 use Rattle.gx_rules.specs.Segments.Phase.{Aborted, Committed, Forgotten, Prepared, Reading, Writing}
 use Rattle.gx_rules.specs.Running.{slice_lock, starts_slice}
 use Rattle.gx_rules.proofs.Rounds.{collect-ways}
-use Rattle.gx_law_order.proofs.Lists.{Each}
+use Rattle.gx_law_order.specs.Lists.{Each}
 use Rattle.gx_law_order.specs.Pairs.{IsKept, IsVote}
 use Rattle.gx_law_order.specs.Said.{gxid_in}
 use Rattle.gx_law_order.specs.Standings.{gx}

@@ -50,7 +50,8 @@ use Rattle.gx_rules.proofs.Moving.{Ends, Keeps, loop-keeps}
 use Rattle.gx_rules.proofs.Rounds.{collect-ways}
 use Rattle.gx_law_order.proofs.Changing.{change-parts, rows-change, stop-keeps}
 use Rattle.gx_law_order.proofs.Releases.{each-released}
-use Rattle.gx_law_order.proofs.Lists.{Each, each_append, each_weaker}
+use Rattle.gx_law_order.proofs.Lists.{each_append, each_weaker}
+use Rattle.gx_law_order.specs.Lists.{Each}
 use Rattle.gx_law_order.proofs.Waiting.{GoesOnSo, freed}
 use Rattle.gx_law_order.specs.Pairs.{IsKept, IsVote, Pair, bit, is_open}
 use Rattle.gx_law_order.specs.Said.{Answers, IsCommand, Said, gxid_in, is_answer}

@@ -57,10 +57,12 @@ use Rattle.gx_rules.specs.Snapshots.{snapshot_of}
 use Rattle.gx_law_order.proofs.Closings.{live-at, set_live}
 use Rattle.gx_law_order.proofs.Ends.{begun-finds}
 use Rattle.gx_law_order.proofs.Lines.{Asks, asks, begun-whole}
-use Rattle.gx_law_order.proofs.Lists.{Each, each_weaker}
+use Rattle.gx_law_order.proofs.Lists.{each_weaker}
+use Rattle.gx_law_order.specs.Lists.{Each}
 use Rattle.gx_law_order.proofs.Places.{collects-each}
-use Rattle.gx_law_order.proofs.Sessions.{Kept, is_nothing_in}
-use Rattle.gx_law_order.proofs.Stages.{IsWhole, txn-at}
+use Rattle.gx_law_order.specs.Sessions.{Kept, is_nothing_in}
+use Rattle.gx_law_order.specs.Stages.{IsWhole}
+use Rattle.gx_law_order.proofs.Stages.{txn-at}
 use Rattle.gx_law_order.specs.Standings.{at, gx}
 use Rattle.gx_law_order.proofs.Dispatching.{IsLive, each-unmap, goes-out-is}
 use Rattle.gx_law_order.proofs.Events.{live-stage}

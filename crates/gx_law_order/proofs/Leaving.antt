@@ -32,7 +32,7 @@ use Rattle.gx_rules.specs.Slices.{Moved, fails_on, first_fault, inserts_row, sel
 use Rattle.gx_rules.specs.Visits.{DidStop}
 use Rattle.gx_rules.proofs.Moving.{Ends, Keeps}
 use Rattle.gx_law_order.proofs.Changing.{change-parts, row-goes-on, rows-change, stop-keeps}
-use Rattle.gx_law_order.proofs.Lists.{Each}
+use Rattle.gx_law_order.specs.Lists.{Each}
 
 -- The horizon stays, and this holds of what is sent.
 pub record Leaves (P : Out → Type 0) (h : Gxid) (turn : SegTurn) : Type 0 where

@@ -29,14 +29,18 @@ use Rattle.gx_rules.specs.Coordinators.{Command, Coord, Session, new_work, rests
 use Rattle.gx_law_order.proofs.Closings.{behind-good, commits-good, past-same}
 use Rattle.gx_law_order.proofs.Commands.{dispatch-good, same-finds}
 use Rattle.gx_law_order.proofs.Ends.{begun-finds, past-begun}
-use Rattle.gx_law_order.proofs.Lists.{Each}
-use Rattle.gx_law_order.proofs.Past.{Past, Still, still-committed}
-use Rattle.gx_law_order.proofs.Sessions.{Kept, Placed, Tied, is_live_in, is_nothing_in, is_open_in, is_working_in, kept-idle, stage_of}
-use Rattle.gx_law_order.proofs.Stages.{Apart, Below, IsWhole, gx, none-at}
-use Rattle.gx_law_order.proofs.Statuses.{Falls, Turned, abort-turns, stage}
-use Rattle.gx_law_order.proofs.Statuses.Stage.{Absent, Live, Closing}
+use Rattle.gx_law_order.specs.Lists.{Each}
+use Rattle.gx_law_order.proofs.Past.{Still, still-committed}
+use Rattle.gx_law_order.specs.Past.{Past}
+use Rattle.gx_law_order.proofs.Sessions.{kept-idle}
+use Rattle.gx_law_order.specs.Sessions.{IsQueued, Kept, Placed, Tied, is_live_in, is_nothing_in, is_open_in, is_working_in}
+use Rattle.gx_law_order.specs.Stages.{Apart, Below, IsWhole, stage, stage_of}
+use Rattle.gx_law_order.proofs.Stages.{none-at}
+use Rattle.gx_law_order.specs.Standings.{gx}
+use Rattle.gx_law_order.proofs.Statuses.{Falls, Turned, abort-turns}
+use Rattle.gx_law_order.specs.Stages.Stage.{Absent, Closing, Live}
 use Rattle.gx_law_order.proofs.Turns.{Base, Good, base-kept, falls-is, merged, rolled-good, same-sessions, same-works, stage-is}
-use Rattle.gx_law_order.proofs.Queued.{IsQueued, Queues, queue-stays, queued-by}
+use Rattle.gx_law_order.proofs.Queued.{Queues, queue-stays, queued-by}
 
 -- marks that tell of no end
 pub past-still : (c d : Coord) (before ns : List Mark) → Past c before → d.table ≡ c.table → Each Still ns → Past d (before ++ ns)
@@ -218,7 +222,7 @@ module _ (script : Script) (c : Coord) (before : List Mark) (k : Kept script c) 
       past-table : Past c before → Past (starts_line c s step.CommitBlock) before
       past-table p = record { committed = p.committed; ended = p.ended; dropped = p.dropped; latest = p.latest; drawn = p.drawn }
 
-      closing : (b : Block) → is_open_in b ≡ true → Rattle.gx_law_order.proofs.Sessions.is_closing_in (block_after b step.CommitBlock) pending.Commit ≡ true
+      closing : (b : Block) → is_open_in b ≡ true → Rattle.gx_law_order.specs.Sessions.is_closing_in (block_after b step.CommitBlock) pending.Commit ≡ true
       closing b e = grind arith
 
   roll-good : (c1 : Coord) (y : Session) (marks : List Mark) → Base script c c1 (session_of c s).transaction.0 s.0 (c.works (session_of c s).transaction.0) y Live → Past c1 before → Each Still marks → is_open_in y.state.block ≡ false → Good script before (rolls_back c1 (session_of c s).transaction marks (on_abort c1.table (session_of c s).transaction))

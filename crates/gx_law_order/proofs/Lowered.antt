@@ -51,8 +51,9 @@ use Rattle.gx_rules.specs.Rounds.{awaits_graph}
 use Rattle.gx_rules.proofs.Rounds.{cancel-ways, graph-ways}
 use Rattle.gx_law_order.proofs.Places.{collects-each}
 use Rattle.gx_store.specs.declared.answer.Refused.TheVariants.{Victim}
-use Rattle.gx_law_order.proofs.Lists.{Each, each_weaker}
-use Rattle.gx_law_order.proofs.Stages.{IsWhole}
+use Rattle.gx_law_order.proofs.Lists.{each_weaker}
+use Rattle.gx_law_order.specs.Lists.{Each}
+use Rattle.gx_law_order.specs.Stages.{IsWhole}
 use Rattle.gx_law_order.specs.Horizons.{IsLow, IsLowIn}
 use Rattle.gx_law_order.proofs.Lows.{Fits, IsDense, all-fits, begun-dense, begun-fits, changed-fits, horizon-fits, live-dense, live-fits, none-fits}
 use Rattle.gx_locks.specs.Locks.{Locks, is_free, resumed, wait_of}

@@ -47,8 +47,8 @@ use Rattle.gx_rules.specs.Visits.{DidStop}
 use Rattle.gx_rules.proofs.Rounds.{collect-ways}
 use Rattle.gx_rules.proofs.Moving.{Ends, Keeps}
 use Rattle.gx_law_order.proofs.Changing.{row-goes-on, rows-change, stop-keeps}
-use Rattle.gx_law_order.proofs.Lists.{Each}
-use Rattle.gx_law_order.proofs.Stages.{gx}
+use Rattle.gx_law_order.specs.Lists.{Each}
+use Rattle.gx_law_order.specs.Standings.{gx}
 use Rattle.gx_law_order.proofs.OrderAnswers.{IsNoted}
 
 abbrev pub IsNotedIn : List Mark → Node → Gxid → Option Reply → Type 0

@@ -24,8 +24,9 @@ use Rattle.gx_rules.specs.Running.{slice_lock}
 use Rattle.gx_rules.specs.Segments.{Phase, Seg, Version, has_ended}
 use Rattle.gx_rules.specs.Segments.Phase.{Reading, Writing}
 use Rattle.gx_rules.specs.Slices.{own_lock}
-use Rattle.gx_law_order.proofs.Lists.{Each, each_append}
-use Rattle.gx_law_order.proofs.Stages.{gx}
+use Rattle.gx_law_order.proofs.Lists.{each_append}
+use Rattle.gx_law_order.specs.Lists.{Each}
+use Rattle.gx_law_order.specs.Standings.{gx}
 
 -- WHAT STANDS
 -- a hold on a transaction is that one's own lock

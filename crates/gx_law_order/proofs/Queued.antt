@@ -14,21 +14,8 @@ use Rattle.gx_waits.specs.declared.claim.Claim.{Claim}
 use Rattle.gx_locks.specs.Claims.{is_of}
 use Rattle.gx_locks.specs.Locks.{Locks, wait_of, without}
 use Rattle.gx_rules.specs.AtCoordinator.{lock_for}
-use Rattle.gx_law_order.proofs.Stages.{gx}
-
-abbrev pub listed : Option Claim → List Claim
-listed None = []
-listed (Some claim) = claim ∷ []
-
--- what a statement that waits has among the waits
-abbrev pub claims_for : Script → Gxid → Option Stmt → List Claim
-claims_for script g None = []
-claims_for script g (Some line) = listed (lock_for script g line)
-
--- of some-same transaction: the statement of it that waits, and its waits
-pub record IsQueued (script : Script) (g : ℕ) (waiting : Option Stmt) (waits : List Claim) : Type 0 where
-  pub claims : filter (is_of (gx g)) waits ≡ claims_for script (gx g) waiting
-  pub locks : (line : Stmt) → waiting ≡ Some line → is_some (lock_for script (gx g) line) ≡ true
+use Rattle.gx_law_order.specs.Standings.{gx}
+use Rattle.gx_law_order.specs.Sessions.{IsQueued, claims_for, listed}
 
 -- the waits of some-same transaction have changed
 pub record Queues (script : Script) (old new : List Claim) (g : ℕ) (waiting : Option Stmt) : Type 0 where

@@ -20,7 +20,7 @@ use Rattle.gx_rules.specs.Segments.{Local, Phase, Seg, SegTurn, Suspended, local
 use Rattle.gx_rules.specs.Segments.Phase.{Aborted, Committed, Forgotten, Prepared, Reading, Writing}
 use Rattle.gx_rules.specs.Running.{slice_lock, starts_slice}
 use Rattle.gx_rules.proofs.Rounds.{collect-ways}
-use Rattle.gx_law_order.proofs.Lists.{Each}
+use Rattle.gx_law_order.specs.Lists.{Each}
 use Rattle.gx_law_order.specs.Said.{is_answer}
 use Rattle.gx_law_order.proofs.Leaving.{Leaves, request-leaves, resumed-leaves}
 

@@ -18,7 +18,7 @@ use Rattle.gx_store.specs.Marks.{is_aborted, is_committed, is_ended}
 use Rattle.gx_store.specs.Protocol.{IsToCommit, IsToFinish, IsToPrepare, decided_count, is_writer, local_count, prepared_count}
 use Rattle.gx_rules.specs.Coordinators.{Coord}
 use Rattle.gx_law_order.proofs.Counts.{NoEnd, NoPart, decided-append, local-append, no-aborted, no-committed, no-decided, no-local, no-prepared, no-writer, prepared-append, writer-append}
-use Rattle.gx_law_order.proofs.Lists.{Each}
+use Rattle.gx_law_order.specs.Lists.{Each}
 use Rattle.gx_law_order.proofs.Past.{aborted-append, committed-append}
 use Rattle.gx_law_order.proofs.Ways.{AsksFor, Stands}
 use Rattle.gx_law_order.specs.Pairs.{Pair, bit}

@@ -54,8 +54,8 @@ use Rattle.gx_rules.proofs.Moving.{Ends, Keeps}
 use Rattle.gx_rules.proofs.Rounds.{collect-ways}
 use Rattle.gx_law_order.proofs.Changing.{row-goes-on, rows-change, stop-keeps}
 use Rattle.gx_law_order.proofs.Releases.{each-released}
-use Rattle.gx_law_order.proofs.Lists.{Each}
-use Rattle.gx_law_order.proofs.Stages.{gx}
+use Rattle.gx_law_order.specs.Lists.{Each}
+use Rattle.gx_law_order.specs.Standings.{gx}
 use Rattle.gx_law_order.proofs.Suspended.{is_open_phase}
 
 -- WHAT THE MARKS SAY

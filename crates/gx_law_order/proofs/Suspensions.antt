@@ -46,7 +46,7 @@ use Rattle.gx_rules.proofs.Moving.{Ends}
 use Rattle.gx_rules.proofs.Rounds.{collect-ways}
 use Rattle.gx_rules.proofs.Moving as Loop
 use Rattle.gx_law_order.proofs.Changing.{IsAtRow, IsChangeOf, change-parts, row-goes-on, rows-change, stop-keeps}
-use Rattle.gx_law_order.proofs.Stages.{gx}
+use Rattle.gx_law_order.specs.Standings.{gx}
 use Rattle.gx_law_order.proofs.Suspended.{AreSuspended, AreWaits, HasDone, HasDoneAt, IsChanging, IsWanted, IsWantedAt, Stands, Suits, is_open_phase, stands-later}
 
 -- THE WAITS OF ONE AND OF THE OTHERS

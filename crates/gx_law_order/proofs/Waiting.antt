@@ -28,10 +28,11 @@ use Rattle.gx_rules.specs.Segments.Phase.{Aborted, Committed, Forgotten, Prepare
 use Rattle.gx_rules.specs.Slices.{Moved}
 use Rattle.gx_law_order.proofs.Changing.{IsAtRow}
 use Rattle.gx_law_order.proofs.Ordered.{Well}
-use Rattle.gx_law_order.proofs.Sessions.{is_working_in, stage_of, Kept}
-use Rattle.gx_law_order.proofs.Queued.{WaitsFor, claims_for, listed, waits-for}
-use Rattle.gx_law_order.proofs.Stages.{gx}
-use Rattle.gx_law_order.proofs.Statuses.Stage.{Live}
+use Rattle.gx_law_order.specs.Sessions.{Kept, claims_for, is_working_in, listed}
+use Rattle.gx_law_order.specs.Stages.{stage_of}
+use Rattle.gx_law_order.proofs.Queued.{WaitsFor, waits-for}
+use Rattle.gx_law_order.specs.Standings.{gx}
+use Rattle.gx_law_order.specs.Stages.Stage.{Live}
 use Rattle.gx_law_order.proofs.Suspended.{AreWaits, HasDoneAt, IsWantedAt, find-filter, waits-there}
 use Rattle.gx_law_order.proofs.Suspensions.{closed-rests}
 use Rattle.gx_law_order.proofs.World.{Knows}

@@ -51,9 +51,10 @@ use Rattle.gx_rules.proofs.Moving.{Ends}
 use Rattle.gx_rules.proofs.Rounds.{collect-ways}
 use Rattle.gx_rules.proofs.Moving as Loop
 use Rattle.gx_law_order.proofs.Changing.{IsAtRow, row-goes-on, rows-change, stop-keeps}
-use Rattle.gx_law_order.proofs.Lists.{Each, each_filter}
+use Rattle.gx_law_order.proofs.Lists.{each_filter}
+use Rattle.gx_law_order.specs.Lists.{Each}
 use Rattle.gx_law_order.proofs.OwnLocks.{IsOfRows, IsOwn, LocksIn, LocksItself, SaysWritten, WritersLock, each-held, end-back, has_version, held-own, held-rows, holds_own, left-rows, none-left, others-left, rows-own, slice-rows}
-use Rattle.gx_law_order.proofs.Stages.{gx}
+use Rattle.gx_law_order.specs.Standings.{gx}
 use Rattle.gx_law_order.proofs.Suspended.{AreSuspended, AreWaits, IsWanted, IsWantedAt, find-filter, is_open_phase}
 
 -- CHANGES OF A SEGMENT

@@ -42,10 +42,10 @@ use Rattle.gx_rules.specs.Coordinators.{with_work, Command, Coord, CoordTurn, Wo
 use Rattle.gx_rules.specs.Maps.{with_at}
 use Rattle.gx_rules.specs.Rounds.{awaits_graph}
 use Rattle.gx_rules.specs.Snapshots.{snapshot_of}
-use Rattle.gx_law_order.proofs.Lists.{Each}
-use Rattle.gx_law_order.proofs.Stages.{gx}
-use Rattle.gx_law_order.proofs.Statuses.{Stage, stage}
-use Rattle.gx_law_order.proofs.Statuses.Stage.{Live}
+use Rattle.gx_law_order.specs.Lists.{Each}
+use Rattle.gx_law_order.specs.Standings.{gx}
+use Rattle.gx_law_order.specs.Stages.{Stage, stage}
+use Rattle.gx_law_order.specs.Stages.Stage.{Live}
 use Rattle.gx_law_reads.proofs.Heights.{Rises, Sorted, begun-rises, changed-rises, enlisted-rises, live-rises, rises-same, rises-then}
 use Rattle.gx_law_reads.proofs.Held.{Held, Latest, held-now, horizon-xmin}
 use Rattle.gx_law_reads.proofs.Plain.{abort-mild, sent-fine}
@@ -63,7 +63,7 @@ pub record Enlists (d u : Table) (g : ℕ) : Type 0 where
 
 kept-both : (f : Txn → Txn) → ((t : Txn) → (f t).phase ≡ t.phase) → ((t : Txn) → (f t).live ≡ t.live) → (o : Option Txn) → (stage (option_map f o) ≡ stage o) × (live_of (option_map f o) ≡ live_of o)
 kept-both f p l None = (refl, refl)
-kept-both f p l (Some t) = (ap Rattle.gx_law_order.proofs.Statuses.stage_in (p t), l t)
+kept-both f p l (Some t) = (ap Rattle.gx_law_order.specs.Stages.stage_in (p t), l t)
 
 abbrev joins : Node → Txn → Txn
 joins i t = record t { participants = with_node i t.participants }
@@ -129,7 +129,7 @@ module _ (c : Coord) (g : ℕ) (s : Stood c.table c.works) (latest : Latest c.ta
       absent-live : (o : Option Txn) → stage o ≡ Live → (live_of (option_map (λ (t : Txn). record t { live = Some (xmin_of c.table) }) o) ≡ Some (xmin_of c.table))
       absent-live None e = absurd (differ e)
         where
-          differ : Rattle.gx_law_order.proofs.Statuses.Stage.Absent ≡ Live → ⊥
+          differ : Rattle.gx_law_order.specs.Stages.Stage.Absent ≡ Live → ⊥
           differ e = cc
       absent-live (Some t) e = refl
 

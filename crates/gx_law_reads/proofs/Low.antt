@@ -39,15 +39,16 @@ use Rattle.gx_rules.specs.Sending.{clock_after}
 use Rattle.gx_rules.specs.Running.{slice_lock, starts_slice}
 use Rattle.gx_rules.proofs.Rounds.{collect-ways}
 use Rattle.gx_law_order.proofs.Induction.{after_turn}
-use Rattle.gx_law_order.proofs.Lists.{Each, each_weaker}
+use Rattle.gx_law_order.proofs.Lists.{each_weaker}
+use Rattle.gx_law_order.specs.Lists.{Each}
 use Rattle.gx_law_order.proofs.Past.{there-drawn}
-use Rattle.gx_law_order.proofs.Stages.{gx}
-use Rattle.gx_law_order.proofs.Statuses.{is_running, runs-stage, stage, stage_in}
-use Rattle.gx_law_order.proofs.Statuses.Stage.{Live as Running}
+use Rattle.gx_law_order.specs.Stages.{is_running, stage, stage_in}
+use Rattle.gx_law_order.proofs.Statuses.{runs-stage}
+use Rattle.gx_law_order.specs.Stages.Stage.{Live as Running}
 use Rattle.gx_law_order.proofs.Waiting.{GoesOn, goes-on-is, going-on}
 use Rattle.gx_law_order.proofs.World.{Knows}
 use Rattle.gx_law_order.specs.Said.{Said, SaidIn, gxid_in, is_answer, segment_of}
-use Rattle.gx_law_order.specs.Standings.{at, known_at, standing, standing_in}
+use Rattle.gx_law_order.specs.Standings.{at, gx, known_at, standing, standing_in}
 use Rattle.gx_law_order.specs.Standings.Standing.{Unborn, Over, Live}
 use Rattle.gx_law_order.proofs.Counts.{NoSent}
 use Rattle.gx_law_order.proofs.Everywhere.{Holds, does-it, fol-no-sent, follows-no-sent, parts_in, posted-each, resumed-does, told-answer}

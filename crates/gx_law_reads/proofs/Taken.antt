@@ -58,17 +58,18 @@ use Rattle.gx_rules.specs.Fits.{fits_part}
 use Rattle.gx_rules.specs.Machine.{World}
 use Rattle.gx_rules.specs.Rounds.{awaits_graph, begins_round, on_graph, rechecks, with_report}
 use Rattle.gx_rules.proofs.Rounds.{cancel-ways, graph-ways}
-use Rattle.gx_law_order.proofs.Lists.{Each, each_append, each_weaker}
+use Rattle.gx_law_order.proofs.Lists.{each_append, each_weaker}
+use Rattle.gx_law_order.specs.Lists.{Each}
 use Rattle.gx_law_order.proofs.Lines.{asks}
 use Rattle.gx_law_order.proofs.Past.{committed-append}
 use Rattle.gx_law_order.proofs.Places.{collects-each}
-use Rattle.gx_law_order.proofs.Sessions.{is_nothing_in, is_open_in, is_working_in, stage_of}
-use Rattle.gx_law_order.proofs.Stages.{gx}
-use Rattle.gx_law_order.proofs.Statuses.{Moves, Turned, reply-turns, stage, stage_in}
-use Rattle.gx_law_order.proofs.Statuses.Stage.{Closing, Live as Running}
+use Rattle.gx_law_order.specs.Sessions.{is_nothing_in, is_open_in, is_working_in}
+use Rattle.gx_law_order.specs.Stages.{stage, stage_in, stage_of}
+use Rattle.gx_law_order.proofs.Statuses.{Moves, Turned, reply-turns}
+use Rattle.gx_law_order.specs.Stages.Stage.{Closing, Live as Running}
 use Rattle.gx_law_order.proofs.World.{Knows}
 use Rattle.gx_law_order.specs.Said.{Answers, IsCommand, IsDone, Said, gxid_in, is_answer}
-use Rattle.gx_law_order.specs.Standings.{Known, at, is_closing, known_at, standing, standing_in, waits_in}
+use Rattle.gx_law_order.specs.Standings.{Known, at, gx, is_closing, known_at, standing, standing_in, waits_in}
 use Rattle.gx_law_order.specs.Standings.Standing.{Live}
 use Rattle.gx_law_order.proofs.Everywhere.{Holds, parts_in}
 use Rattle.gx_law_order.proofs.Nodes.{has-without}

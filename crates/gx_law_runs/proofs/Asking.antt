@@ -35,8 +35,10 @@ use Rattle.gx_rules.specs.AtCoordinator.{Reading, answers, awaited, commits, com
 use Rattle.gx_rules.specs.Coordinators.{Command, Coord, CoordTurn, Work, no_work, rests, with_work, work_of}
 use Rattle.gx_rules.specs.Snapshots.{snapshot_of}
 use Rattle.gx_law_order.proofs.Closings.{live-at, set_live}
-use Rattle.gx_law_order.proofs.Lists.{Each}
-use Rattle.gx_law_order.proofs.Stages.{At, IsWhole, changed-at, gx, left_of, txn-at}
+use Rattle.gx_law_order.specs.Lists.{Each}
+use Rattle.gx_law_order.proofs.Stages.{At, changed-at, left_of, txn-at}
+use Rattle.gx_law_order.specs.Stages.{IsWhole}
+use Rattle.gx_law_order.specs.Standings.{gx}
 use Rattle.gx_law_order.proofs.Dispatching.{IsLive}
 use Rattle.gx_law_order.proofs.Nodes.{AreApart, apart-with, has-with}
 use Rattle.gx_law_runs.proofs.Neat.{CallAsks, IsDone, IsExecOf, Neat, NeatCommand, NeatPhase, NeatTxn, abort-asks, commit-asks, done-neat, done-waiting, txn-less, waiting}

@@ -40,11 +40,12 @@ use Rattle.gx_law_order.specs.Moves.{Move, world_by}
 use Rattle.gx_law_order.proofs.Induction.{IsThere, at-events}
 use Rattle.gx_law_order.proofs.Lines.{asks as admits}
 use Rattle.gx_law_order.proofs.Moves.{HasNamed}
-use Rattle.gx_law_order.proofs.Past.{Past, there-drawn}
-use Rattle.gx_law_order.proofs.Sessions.{Kept, is_nothing_in, stage_of}
-use Rattle.gx_law_order.proofs.Stages.{gx}
-use Rattle.gx_law_order.proofs.Statuses.{Stage, is_running, stage}
-use Rattle.gx_law_order.proofs.Statuses.Stage.{Absent, Live, Closing, Finished, Dropped}
+use Rattle.gx_law_order.proofs.Past.{there-drawn}
+use Rattle.gx_law_order.specs.Past.{Past}
+use Rattle.gx_law_order.specs.Sessions.{Kept, is_nothing_in}
+use Rattle.gx_law_order.specs.Stages.{Stage, is_running, stage, stage_of}
+use Rattle.gx_law_order.specs.Standings.{gx}
+use Rattle.gx_law_order.specs.Stages.Stage.{Absent, Closing, Dropped, Finished, Live}
 use Rattle.gx_law_order.proofs.World.{world_knows}
 use Rattle.gx_law_runs.specs.Awaiting.{IsAwaiting}
 use Rattle.gx_law_runs.proofs.Awaited.{DoAsk, IsKnown, moves-ask, moves-known, undrawn-none}

@@ -30,7 +30,8 @@ use Rattle.gx_locks.specs.Locks.{Locks, is_ready, wait_of}
 use Rattle.gx_rules.specs.AtCoordinator.{awaited, coord_can, is_segment}
 use Rattle.gx_rules.specs.Machine.{World, can, can_here, delivered, found, world_of}
 use Rattle.gx_rules.specs.Rounds.{awaits_graph, can_begin}
-use Rattle.gx_law_order.proofs.Lists.{Each, each_append, each_flat, each_map, each_weaker}
+use Rattle.gx_law_order.proofs.Lists.{each_append, each_flat, each_map, each_weaker}
+use Rattle.gx_law_order.specs.Lists.{Each}
 use Rattle.gx_law_order.proofs.World.{Knows, world_knows}
 use Rattle.gx_law_order.proofs.Legality.{sessions-stand, world-holds}
 use Rattle.gx_law_runs.specs.Enabled.{at_segment_by, drawn, enabled_there, ends_by, is_anybody_waiting, is_due, is_next_by, resends_due, resumes_by, rounds_by, sessions_of, starts_by}

@@ -23,7 +23,8 @@ use Rattle.gx_rules.specs.Rounds.{awaits_graph}
 use Rattle.gx_store.specs.Whole.{AreInsertsWhole}
 use Rattle.gx_law_order.proofs.Legality.{sessions-stand}
 use Rattle.gx_law_order.proofs.Dispatching.{each-unmap}
-use Rattle.gx_law_order.proofs.Lists.{Each, each_weaker}
+use Rattle.gx_law_order.proofs.Lists.{each_weaker}
+use Rattle.gx_law_order.specs.Lists.{Each}
 use Rattle.gx_law_runs.specs.Reached.{IsReached}
 use Rattle.gx_law_runs.specs.Replays.{AreReplayed, coordinator_after, segment_after, world_behind}
 use Rattle.gx_law_runs.proofs.Reaching.{replayed}

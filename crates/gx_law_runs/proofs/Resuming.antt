@@ -28,13 +28,12 @@ use Rattle.gx_rules.specs.Segments.{Seg}
 use Rattle.gx_rules.specs.Machine.{Letter, World, world_of}
 use Rattle.gx_law_order.proofs.Past.{there-drawn}
 use Rattle.gx_law_order.proofs.Sent.{at}
-use Rattle.gx_law_order.proofs.Stages.{gx}
 use Rattle.gx_law_order.proofs.Waiting.{HasSlice, Waits, each-among, has-slice, has-statement, waiting}
 use Rattle.gx_law_order.proofs.World.{Knows, world_knows}
 use Rattle.gx_law_order.proofs.Always.{world-holds}
 use Rattle.gx_law_order.proofs.Events.{live-stage}
 use Rattle.gx_law_order.proofs.WaitingParts.{awaited}
-use Rattle.gx_law_order.specs.Standings.{standing}
+use Rattle.gx_law_order.specs.Standings.{gx, standing}
 use Rattle.gx_law_order.specs.Standings.Standing.{Unborn}
 use Rattle.gx_law_reads.proofs.Ends.{TakenAt, world-facts}
 use Rattle.gx_law_locks.specs.Marked.{IsMarked}

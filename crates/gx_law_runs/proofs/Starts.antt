@@ -28,8 +28,8 @@ use Rattle.gx_rules.specs.Coordinators.{Command, Coord, CoordTurn, Session, new_
 use Rattle.gx_rules.specs.Snapshots.{snapshot_of}
 use Rattle.gx_store.specs.Whole.{IsWholeStmt}
 use Rattle.gx_law_order.proofs.Lines.{Asks as Admits}
-use Rattle.gx_law_order.proofs.Sessions.{Kept, is_nothing_in, is_open_in, is_working_in}
-use Rattle.gx_law_order.proofs.Stages.{gx}
+use Rattle.gx_law_order.specs.Sessions.{Kept, is_nothing_in, is_open_in, is_working_in}
+use Rattle.gx_law_order.specs.Standings.{gx}
 use Rattle.gx_law_order.proofs.Dispatching.{IsLive}
 use Rattle.gx_law_order.proofs.Events.{live-stage}
 use Rattle.gx_law_runs.proofs.Asking.{with_waiting}

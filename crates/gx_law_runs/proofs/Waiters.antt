@@ -18,7 +18,8 @@ use Rattle.gx_rules.specs.AtCoordinator.{is_segment}
 use Rattle.gx_rules.specs.Coordinators.{Coord}
 use Rattle.gx_rules.specs.Machine.{can}
 use Rattle.gx_rules.specs.Segments.{Seg}
-use Rattle.gx_law_order.proofs.Lists.{Each, each_weaker}
+use Rattle.gx_law_order.proofs.Lists.{each_weaker}
+use Rattle.gx_law_order.specs.Lists.{Each}
 use Rattle.gx_law_order.proofs.Ordered.{world_well}
 use Rattle.gx_law_runs.proofs.Enabled.{any-each, any-same, resumes-here-admitted, resumes-there-admitted, segments-first}
 use Rattle.gx_law_runs.specs.Reached.{IsReached}

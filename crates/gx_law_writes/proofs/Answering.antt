@@ -6,11 +6,13 @@ use Rattle.gx_msg.specs.declared.message.Out.{Out}
 use Rattle.gx_rules.specs.Sending.{counted, numbered}
 use Rattle.gx_law_order.proofs.Releases.{each-released}
 use Rattle.gx_dtx.specs.Table.{find_txn}
-use Rattle.gx_law_order.proofs.Lists.{Each, each_append}
-use Rattle.gx_law_order.proofs.Sessions.{Kept, is_said, stage_of}
-use Rattle.gx_law_order.proofs.Stages.{gx}
-use Rattle.gx_law_order.proofs.Statuses.{Moves, Stage, Turned, reply-turns, stage}
-use Rattle.gx_law_order.proofs.Statuses.Stage.{Absent, Closing, Dropped, Finished, Live}
+use Rattle.gx_law_order.proofs.Lists.{each_append}
+use Rattle.gx_law_order.specs.Lists.{Each}
+use Rattle.gx_law_order.specs.Sessions.{Kept, is_said}
+use Rattle.gx_law_order.specs.Stages.{Stage, stage, stage_of}
+use Rattle.gx_law_order.specs.Standings.{gx}
+use Rattle.gx_law_order.proofs.Statuses.{Moves, Turned, reply-turns}
+use Rattle.gx_law_order.specs.Stages.Stage.{Absent, Closing, Dropped, Finished, Live}
 use Rattle.gx_law_reads.proofs.Reading.{at-self}
 use Rattle.gx_ids.specs.declared.ids.Cid.{Cid}
 use Rattle.gx_ids.specs.declared.ids.Gxid.{Gxid}

@@ -41,7 +41,8 @@ use Rattle.gx_rules.specs.Machine.{World, and_cancelled, coord_did, seg_did, wit
 use Rattle.gx_rules.proofs.Rounds.{cancel-ways}
 use Rattle.gx_rules.proofs.Turns.{with_more-last}
 use Rattle.gx_rules.specs.Sending.{clock_after, counted, numbered}
-use Rattle.gx_law_order.proofs.Lists.{Each, each_append}
+use Rattle.gx_law_order.proofs.Lists.{each_append}
+use Rattle.gx_law_order.specs.Lists.{Each}
 use Rattle.gx_law_order.specs.Moves.{Move, world_by}
 use Rattle.gx_law_order.proofs.Induction.{IsThere, at-events}
 use Rattle.gx_law_order.proofs.Moves.{HasNamed}

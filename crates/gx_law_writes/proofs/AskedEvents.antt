@@ -43,7 +43,7 @@ use Rattle.gx_law_order.specs.Standings.{at}
 use Rattle.gx_law_order.proofs.Given.{marks-append}
 use Rattle.gx_law_order.proofs.Induction.{IsThere, from-coordinator}
 use Rattle.gx_law_order.proofs.Letters.{IsFound, found_is}
-use Rattle.gx_law_order.proofs.Lists.{Each}
+use Rattle.gx_law_order.specs.Lists.{Each}
 use Rattle.gx_law_order.proofs.Releases.{each-released}
 use Rattle.gx_law_order.proofs.Stepping as stepping
 use Rattle.gx_law_order.proofs.Suspensions.{fits-new}

@@ -58,14 +58,16 @@ use Rattle.gx_law_order.proofs.AtLine.{AtLine, at-start, has_txn, under-way}
 use Rattle.gx_law_order.proofs.Dispatches.{dispatch-ways, out_of_wait, resume-ways, without_wait}
 use Rattle.gx_law_order.proofs.Given.{marks-append}
 use Rattle.gx_law_order.proofs.Induction.{IsThere}
-use Rattle.gx_law_order.proofs.Lists.{Each, each_append}
+use Rattle.gx_law_order.proofs.Lists.{each_append}
+use Rattle.gx_law_order.specs.Lists.{Each}
 use Rattle.gx_law_order.proofs.Others.{ended-more}
 use Rattle.gx_law_order.proofs.Queued.{lock-of, statement-waits}
+use Rattle.gx_law_order.specs.Sessions.{is_live_in, is_nothing_in, is_working_in}
 use Rattle.gx_law_order.proofs.Releases.{each-released}
 use Rattle.gx_law_order.proofs.SegAnswers.{same-gxid, stand}
-use Rattle.gx_law_order.proofs.Sessions.{is_live_in, is_nothing_in, is_working_in, stage_of}
+use Rattle.gx_law_order.specs.Stages.{stage_of}
 use Rattle.gx_law_order.proofs.Starting.{at-zero, session-now, st}
-use Rattle.gx_law_order.proofs.Statuses.Stage.{Live}
+use Rattle.gx_law_order.specs.Stages.Stage.{Live}
 use Rattle.gx_law_order.proofs.Stepping as stepping
 use Rattle.gx_law_order.proofs.World.{Knows}
 use Rattle.gx_law_order.specs.Rest.{EachMark}

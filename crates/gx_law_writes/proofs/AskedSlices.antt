@@ -45,7 +45,8 @@ use Rattle.gx_rules.specs.Visits.{DidStop, Does, GoesThrough, IsPath, Visit, Wai
 use Rattle.gx_rules.proofs.Loop.{goes}
 use Rattle.gx_rules.proofs.RowEnds.{does}
 use Rattle.gx_law_order.proofs.Changing.{IsAtRow}
-use Rattle.gx_law_order.proofs.Lists.{Each, each_append, each_weaker}
+use Rattle.gx_law_order.proofs.Lists.{each_append, each_weaker}
+use Rattle.gx_law_order.specs.Lists.{Each}
 use Rattle.gx_law_locks.specs.Waiting.{EachBehind}
 use Rattle.gx_law_locks.proofs.Lets.{behind-append}
 use Rattle.gx_law_writes.proofs.Current.{newest-has}

@@ -49,7 +49,8 @@ use Rattle.gx_law_order.specs.Rest.{EachMark}
 use Rattle.gx_law_order.specs.Standings.{at}
 use Rattle.gx_law_order.proofs.Alive.{alive-now}
 use Rattle.gx_law_order.proofs.Letters.{same_node}
-use Rattle.gx_law_order.proofs.Lists.{Each, each_append, each_weaker}
+use Rattle.gx_law_order.proofs.Lists.{each_append, each_weaker}
+use Rattle.gx_law_order.specs.Lists.{Each}
 use Rattle.gx_law_order.proofs.Outs.{MessageIs}
 use Rattle.gx_law_order.proofs.Ran.{LetterRan, has-run}
 use Rattle.gx_law_order.proofs.Sendings.{IsOrderLetter, LetterState}

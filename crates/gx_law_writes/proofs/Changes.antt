@@ -36,7 +36,7 @@ use Rattle.gx_rules.specs.Maps.{each_below}
 use Rattle.gx_rules.specs.Running.{runs_locked, slice_lock, starts_slice, suspends}
 use Rattle.gx_rules.specs.Segments.{Phase, Seg, SegTurn, Suspended, local_of, stays}
 use Rattle.gx_rules.specs.Segments.Phase.{Aborted, Committed, Forgotten, Prepared, Reading, Writing}
-use Rattle.gx_law_order.proofs.Lists.{Each}
+use Rattle.gx_law_order.specs.Lists.{Each}
 use Rattle.gx_law_order.proofs.Ordered.{resumes_there, world_well}
 use Rattle.gx_law_order.proofs.Waiting.{GoesOn, going-on}
 use Rattle.gx_law_order.specs.Rest.{EachMark}

@@ -36,10 +36,11 @@ use Rattle.gx_locks.specs.Claims.{is_of}
 use Rattle.gx_locks.specs.Locks.{wait_of}
 use Rattle.gx_locks.proofs.Filed.{same_claim-along, same_claim-itself, same_claim-turned}
 use Rattle.gx_waits.specs.Claim.{same_claim}
-use Rattle.gx_law_order.proofs.Lists.{Each}
+use Rattle.gx_law_order.specs.Lists.{Each}
 use Rattle.gx_law_order.proofs.Queued.{lock-of, statement-waits}
-use Rattle.gx_law_order.proofs.Sessions.{Kept, stage_of}
-use Rattle.gx_law_order.proofs.Statuses.Stage.{Live}
+use Rattle.gx_law_order.specs.Sessions.{Kept}
+use Rattle.gx_law_order.specs.Stages.{stage_of}
+use Rattle.gx_law_order.specs.Stages.Stage.{Live}
 use Rattle.gx_law_locks.proofs.Marks.{waits_from-append}
 use Rattle.gx_law_order.proofs.Said.{CalmFor, Said, said-calm}
 use Rattle.gx_law_order.specs.Standing.{IsLineOf, IsSession, IsStanding, Owns, Stands, is_alone, is_busy, is_sound, state_in}

@@ -23,7 +23,8 @@ use Rattle.gx_rules.specs.Segments.{Local, Phase, Seg, Version, local_of, with_l
 use Rattle.gx_rules.specs.Segments.Phase.{Aborted, Committed, Forgotten, Prepared, Reading, Writing}
 use Rattle.gx_rules.specs.Slices.{Moved, adds_version, gives_back, is_holding, noted, own_lock, takes_lock, takes_own, version}
 use Rattle.gx_rules.proofs.Moving.{Keeps}
-use Rattle.gx_law_order.proofs.Lists.{Each, each_append}
+use Rattle.gx_law_order.proofs.Lists.{each_append}
+use Rattle.gx_law_order.specs.Lists.{Each}
 use Rattle.gx_law_order.proofs.SegItems.{writes_at, writes-append}
 use Rattle.gx_law_order.specs.Pairs.{is_open}
 

@@ -50,12 +50,14 @@ use Rattle.gx_rules.specs.Sending.{clock_after, numbered}
 use Rattle.gx_law_order.specs.Moves.{Move, world_by}
 use Rattle.gx_law_order.proofs.Dispatches.{without_wait}
 use Rattle.gx_law_order.proofs.Induction.{IsThere, at-events, marks-by-victim}
-use Rattle.gx_law_order.proofs.Lists.{Each, each_append, each_weaker}
+use Rattle.gx_law_order.proofs.Lists.{each_append, each_weaker}
+use Rattle.gx_law_order.specs.Lists.{Each}
 use Rattle.gx_law_order.proofs.Moves.{HasNamed}
 use Rattle.gx_law_order.proofs.Ordered.{seg_marks}
 use Rattle.gx_law_order.proofs.Sent.{at}
-use Rattle.gx_law_order.proofs.Sessions.{is_nothing_in, is_open_in, stage_of}
-use Rattle.gx_law_order.proofs.Statuses.Stage.{Live}
+use Rattle.gx_law_order.specs.Sessions.{is_nothing_in, is_open_in}
+use Rattle.gx_law_order.specs.Stages.{stage_of}
+use Rattle.gx_law_order.specs.Stages.Stage.{Live}
 use Rattle.gx_law_order.proofs.Waiting.{GoesOut, going-out}
 use Rattle.gx_law_order.proofs.World.{Knows, moves_knows}
 use Rattle.gx_law_order.proofs.Always as always

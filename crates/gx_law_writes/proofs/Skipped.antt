@@ -36,7 +36,8 @@ use Rattle.gx_rules.specs.Sending.{clock_after, counted, numbered}
 use Rattle.gx_rules.proofs.Turns.{with_more-last}
 use Rattle.gx_law_order.proofs.Always.{said-to}
 use Rattle.gx_law_order.proofs.Induction.{IsThere, by-moves}
-use Rattle.gx_law_order.proofs.Lists.{Each, each_append, each_weaker}
+use Rattle.gx_law_order.proofs.Lists.{each_append, each_weaker}
+use Rattle.gx_law_order.specs.Lists.{Each}
 use Rattle.gx_law_order.proofs.More.{marks-last}
 use Rattle.gx_law_order.proofs.Moves.{HasNamed, moves_after, world-moves}
 use Rattle.gx_law_order.proofs.Ordered.{moves_well}

@@ -39,7 +39,7 @@ use Rattle.gx_rules.specs.Shown.{shown}
 use Rattle.gx_rules.specs.Running.{runs_locked, runs_slice, slice_lock, starts_slice, suspends}
 use Rattle.gx_rules.specs.Slices.{first_fault, inserted, inserts, locks as locks_only, selects}
 use Rattle.gx_law_order.proofs.Releases.{each-released}
-use Rattle.gx_law_order.proofs.Lists.{Each}
+use Rattle.gx_law_order.specs.Lists.{Each}
 use Rattle.gx_law_order.proofs.Suspensions.{wanted-owner}
 use Rattle.gx_law_order.proofs.Waiting.{GoesOn, GoesOnAtRow, GoesOnSo, freed, going-ways}
 use Rattle.gx_law_order.specs.Pairs.{is_open}

@@ -59,10 +59,12 @@ use Rattle.gx_rules.specs.Maps.{with_at}
 use Rattle.gx_rules.specs.Snapshots.{snapshot_of}
 use Rattle.gx_rules.proofs.Rounds.{cancel-ways, graph-ways}
 use Rattle.gx_law_order.proofs.Lines.{Asks, asks}
-use Rattle.gx_law_order.proofs.Lists.{Each, each_append}
-use Rattle.gx_law_order.proofs.Sessions.{Kept, is_nothing_in, is_open_in, stage_of}
-use Rattle.gx_law_order.proofs.Statuses.Stage.{Closing, Live as LiveStage}
-use Rattle.gx_law_order.proofs.Statuses.{Moves, Turned, reply-turns, stage}
+use Rattle.gx_law_order.proofs.Lists.{each_append}
+use Rattle.gx_law_order.specs.Lists.{Each}
+use Rattle.gx_law_order.specs.Sessions.{Kept, is_nothing_in, is_open_in}
+use Rattle.gx_law_order.specs.Stages.{stage, stage_of}
+use Rattle.gx_law_order.specs.Stages.Stage.{Closing, Live as LiveStage}
+use Rattle.gx_law_order.proofs.Statuses.{Moves, Turned, reply-turns}
 use Rattle.gx_law_order.specs.Standings.{gx}
 use Rattle.gx_rules.specs.Locks.{with_hold, hold_mark, release_marks}
 use Rattle.gx_locks.specs.Locks.{Locks, is_free, resumed, wait_of}
