@@ -31,7 +31,8 @@ use Rattle.gx_script.specs.declared.line_step.LineStep.TheVariants as step
 use Rattle.gx_script.specs.declared.state.Block.{Block}
 use Rattle.gx_script.specs.declared.state.Block.TheVariants as block
 use Rattle.gx_store.specs.Writes.{dist_of}
-use Rattle.gx_rules.specs.AtCoordinator.{Reading, begins, dispatches, ends_in, enlisted_all, fault_mark, goes, goes_on_locked, goes_out, if_granted, lock_for, next_cid, nodes_in, on_line, reads_by, reads_for, refusal_of, requests, resumes, rolls_back, starts, starts_line, table_of, takes_snapshot, waits_for}
+use Rattle.gx_rules.specs.AtCoordinator.{Reading, begins, dispatches, ends_in, enlisted_all, fault_mark, goes, goes_on_locked, goes_out, if_granted, next_cid, nodes_in, on_line, reads_by, reads_for, refusal_of, requests, resumes, rolls_back, starts, starts_line, table_of, takes_snapshot, waits_for}
+use Rattle.gx_store.specs.Locks.{table_lock}
 use Rattle.gx_rules.specs.Coordinators.{Command, Coord, Session, Work, new_work, session_of, with_state, with_work}
 use Rattle.gx_rules.specs.Locks.{with_hold}
 use Rattle.gx_rules.specs.Maps.{with_at}
@@ -247,7 +248,7 @@ request-sound c g whole e script line l f (Some wanted) = by_test (is_free c.loc
     by_test false = waiting-sound c g e line wanted l
 
 pub dispatch-sound : (c : Coord) (g : ℕ) → IsWhole c.table → AreSound c → (script : Script) (line : Stmt) → (c.works g).last + 1 ≤ (c.sessions (c.works g).session.0).lines → (c.works g).waiting ≡ None → AreSound (dispatches script c (gx g) line).coord
-dispatch-sound c g whole e script line l f = request-sound c g whole e script line l f (lock_for script (gx g) line)
+dispatch-sound c g whole e script line l f = request-sound c g whole e script line l f (table_lock script (gx g) line)
 
 -- and goes on
 pub resume-sound : (c : Coord) (g : ℕ) → IsWhole c.table → AreSound c → (script : Script) (o : Option Claim) (waiting : Option Stmt) → (c.works g).waiting ≡ waiting → AreSound (resumes script c (gx g) o waiting).coord

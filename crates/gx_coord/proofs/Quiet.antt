@@ -15,6 +15,7 @@ use Rattle.gx_node.specs.Orders.{Took}
 use Rattle.gx_outside.specs.Shelves.{Shelf}
 use Rattle.gx_script.specs.declared.state.Block.{Block}
 use Rattle.gx_script.specs.declared.state.Block.TheVariants as block
+use Rattle.gx_store.specs.Locks.{table_lock}
 use Rattle.gx_rules.specs.AtCoordinator as turns
 use Rattle.gx_rules.specs.Coordinators.{Command, Coord, CoordTurn, rests, session_of, with_work, work_of}
 use Rattle.gx_rules.specs.Fits.{fits_part}
@@ -151,8 +152,8 @@ line-quiet script c s line step.CommitBlock =
     let turn = on_commit c.table g (work_of c g).writers in
     follows-quiet c g turn turn.out.outcome
 line-quiet script c s line step.RollbackBlock = refl
-line-quiet script c s line (step.Command true) = request-quiet script (turns.begins c s ReadCommitted) c.table.next line (turns.lock_for script c.table.next line)
-line-quiet script c s line (step.Command false) = request-quiet script c (session_of c s).transaction line (turns.lock_for script (session_of c s).transaction line)
+line-quiet script c s line (step.Command true) = request-quiet script (turns.begins c s ReadCommitted) c.table.next line (table_lock script c.table.next line)
+line-quiet script c s line (step.Command false) = request-quiet script c (session_of c s).transaction line (table_lock script (session_of c s).transaction line)
 
 start-quiet : (script : Script) (c : Coord) (s : SessionId) (line : Option Stmt) → IsQuiet (turns.starts script c s line)
 start-quiet script c s None = refl

@@ -37,7 +37,8 @@ use Rattle.gx_store.specs.Refusals.{the_coordinator}
 use Rattle.gx_store.specs.Writes.{dist_of}
 use Rattle.gx_locks.specs.Locks.{is_free, resumed, wait_of}
 use Rattle.gx_waits.specs.declared.claim.Claim.{Claim}
-use Rattle.gx_rules.specs.AtCoordinator.{Reading, awaited, awaited_collect, begins, behind, cancels, completes, dispatches, ends_in, enlisted_all, fault_mark, follows, goes, goes_on, goes_on_locked, if_granted, is_awaited, is_refused, lock_for, next_cid, next_line, nodes_in, on_answer, on_done, on_event, on_failed, on_line, on_message, on_status, reads_by, reads_for, reason_of, refusal_of, requests, resends, resumes, starts, starts_line, table_of, takes_done, unless_kept, with_done, writers_with}
+use Rattle.gx_rules.specs.AtCoordinator.{Reading, awaited, awaited_collect, begins, behind, cancels, completes, dispatches, ends_in, enlisted_all, fault_mark, follows, goes, goes_on, goes_on_locked, if_granted, is_awaited, is_refused, next_cid, next_line, nodes_in, on_answer, on_done, on_event, on_failed, on_line, on_message, on_status, reads_by, reads_for, reason_of, refusal_of, requests, resends, resumes, starts, starts_line, table_of, takes_done, unless_kept, with_done, writers_with}
+use Rattle.gx_store.specs.Locks.{table_lock}
 use Rattle.gx_rules.specs.AtCoordinator as coordinator
 use Rattle.gx_rules.specs.Coordinators.{Command, Coord, CoordTurn, Work, rests, session_of, with_work, work_of}
 use Rattle.gx_rules.specs.Fits.{fits_part}
@@ -106,7 +107,7 @@ module _ (c : Coord) where
         by_test false = record { closing = λ h q. inl (e.closing h q) }
 
     dispatch : (d : Coord) (g : Gxid) (line : Stmt) → Still d → Asked (dispatches script d g line)
-    dispatch d g line e = request d g line (lock_for script g line) e
+    dispatch d g line e = request d g line (table_lock script g line) e
 
     resume : (d : Coord) (g : Gxid) (o : Option Claim) (line : Option Stmt) → Still d → Asked (resumes script d g o line)
     resume d g None line e = rest d e

@@ -24,10 +24,10 @@ use Rattle.gx_meaning.specs.Target.{target_of}
 use Rattle.gx_meaning.specs.declared.target.Target.TheVariants.{All as AllOfThem}
 use Rattle.gx_msg.specs.declared.message.Out.{Out}
 use Rattle.gx_store.specs.Waits.{added}
-use Rattle.gx_rules.specs.AtCoordinator.{Reading, awaited, awaited_collect, begins, cancels, command_order, commits, completes, dispatches, ends_in, follows, failure_marks, goes, goes_on, goes_on_locked, if_granted, is_awaited, is_committed, is_refused, lock_for, next_cid, next_line, on_answer, on_done, on_event, on_failed, on_line, on_message, on_status, order_of, order_to, orders_of, reads_by, reads_for, reason_of, requests, resends, resumes, rolls_back, starts, starts_line, status_order, table_of, takes_done, with_done, writers_with, answer_mark}
+use Rattle.gx_rules.specs.AtCoordinator.{Reading, awaited, awaited_collect, begins, cancels, command_order, commits, completes, dispatches, ends_in, follows, failure_marks, goes, goes_on, goes_on_locked, if_granted, is_awaited, is_committed, is_refused, next_cid, next_line, on_answer, on_done, on_event, on_failed, on_line, on_message, on_status, order_of, order_to, orders_of, reads_by, reads_for, reason_of, requests, resends, resumes, rolls_back, starts, starts_line, status_order, table_of, takes_done, with_done, writers_with, answer_mark}
+use Rattle.gx_store.specs.Locks.{slice_lock, table_lock}
 use Rattle.gx_rules.specs.Locks.{with_hold}
 use Rattle.gx_rules.specs.Maps.{with_at}
-use Rattle.gx_rules.specs.Running.{slice_lock}
 use Rattle.gx_rules.specs.Rounds.{awaits_graph}
 use Rattle.gx_rules.proofs.Rounds.{cancel-ways, graph-ways}
 use Rattle.gx_law_order.proofs.Places.{collects-each}
@@ -92,7 +92,7 @@ OrderLocked script holds g o = Own g o.message × Locked script holds o.message
 
 -- the lock that a statement takes at the coordinator
 abbrev pub HasLock : Script → List Claim → Gxid → Stmt → Type 0
-HasLock script holds g line = (wanted : Claim) → lock_for script g line ≡ Some wanted → IsIn holds wanted
+HasLock script holds g line = (wanted : Claim) → table_lock script g line ≡ Some wanted → IsIn holds wanted
 
 abbrev pub CommandLocked : Script → List Claim → ℕ → Option Command → Type 0
 CommandLocked script holds g None = Unit {0}
@@ -196,13 +196,13 @@ module _ (script : Script) where
 
   -- PLANS
   abbrev PieceLocked : Gxid → Stmt → Piece → Type 0
-  PieceLocked g line p = lock_for script g line ≡ Some (slice_lock script g p.slice)
+  PieceLocked g line p = table_lock script g line ≡ Some (slice_lock script g p.slice)
 
   abbrev PlanLocked : Gxid → Stmt → Result (List Piece) ArithFault → Type 0
   PlanLocked g line (Ok pieces) = Each (PieceLocked g line) pieces
   PlanLocked g line (Err f) = Unit {0}
 
-  same_pieces : (g : Gxid) (line : Stmt) (x : Slice) (nodes : List Node) → lock_for script g line ≡ Some (slice_lock script g x) → Each (PieceLocked g line) (map (piece x) nodes)
+  same_pieces : (g : Gxid) (line : Stmt) (x : Slice) (nodes : List Node) → table_lock script g line ≡ Some (slice_lock script g x) → Each (PieceLocked g line) (map (piece x) nodes)
   same_pieces g line x nodes e = each_map (PieceLocked g line) (piece x) nodes (each-of (λ node. PieceLocked g line (piece x node)) (λ node. e) nodes)
 
   row_pieces_locked : (g : Gxid) (table : Table) (tuples : List (List Expr)) (node : Node) (rows : List KeyedRow) → Each (PieceLocked g (stmt.Insert table tuples)) (row_pieces table node rows)
@@ -264,7 +264,7 @@ module _ (script : Script) where
       go c.locks g (next_cid (work_of c g)) line (reads_for c g (next_cid (work_of c g)) (work_of c g) line) (plan_of script.segments (dist_of script.tables (table_of line)) g (next_cid (work_of c g)) line)
       (read_for c g (next_cid (work_of c g)) line e) has (plan_locked script.segments (dist_of script.tables (table_of line)) g (next_cid (work_of c g)) line)
 
-  request : (c : Coord) (g : Gxid) (line : Stmt) (o : Option Claim) → lock_for script g line ≡ o → Good script c → Going script (requests script c g line o)
+  request : (c : Coord) (g : Gxid) (line : Stmt) (o : Option Claim) → table_lock script g line ≡ o → Good script c → Going script (requests script c g line o)
   request c g line None is e = go_locked c g line e (λ wanted f. absurd (none (sym is ∙ f)))
     where
       none : {wanted : Claim} → None ≡ Some wanted → ⊥
@@ -279,7 +279,7 @@ module _ (script : Script) where
       by_test false = record { coord = with-work c.locks.holds c.works g.0 _ e (e g.0); outs = tt }
 
   dispatch : (c : Coord) (g : Gxid) (line : Stmt) → Good script c → Going script (dispatches script c g line)
-  dispatch c g line e = request c g line (lock_for script g line) refl e
+  dispatch c g line e = request c g line (table_lock script g line) refl e
 
   -- LINES
   rolled : (c : Coord) (g : Gxid) (marks : List Mark) → Good script c → Going script (rolls_back c g marks (on_abort c.table g))

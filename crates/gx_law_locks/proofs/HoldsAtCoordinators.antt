@@ -44,7 +44,8 @@ use Rattle.gx_store.specs.Marks.{is_aborted, is_ended, is_same_gxid}
 use Rattle.gx_store.specs.Marks as marks
 use Rattle.gx_store.specs.Refusals.{the_coordinator}
 use Rattle.gx_store.specs.Writes.{dist_of}
-use Rattle.gx_rules.specs.AtCoordinator.{Reading, answer_at_commit, answer_mark, awaited, awaited_collect, begins, cancels, behind, commits, completes, coord_can, dispatches, ends_in, failure_marks, fault_mark, follows, goes, goes_on, goes_out, goes_on_locked, if_granted, is_awaited, is_idle, is_committed, is_refused, lock_for, next_cid, next_line, on_answer, on_done, on_event, on_failed, on_line, on_message, on_status, reads_by, reads_for, reason_of, requests, resends, resumes, rolls_back, starts, starts_line, table_of, takes_done, with_done, writers_with}
+use Rattle.gx_rules.specs.AtCoordinator.{Reading, answer_at_commit, answer_mark, awaited, awaited_collect, begins, cancels, behind, commits, completes, coord_can, dispatches, ends_in, failure_marks, fault_mark, follows, goes, goes_on, goes_out, goes_on_locked, if_granted, is_awaited, is_idle, is_committed, is_refused, next_cid, next_line, on_answer, on_done, on_event, on_failed, on_line, on_message, on_status, reads_by, reads_for, reason_of, requests, resends, resumes, rolls_back, starts, starts_line, table_of, takes_done, with_done, writers_with}
+use Rattle.gx_store.specs.Locks.{table_lock}
 use Rattle.gx_meaning.specs.Plan.{plan_of}
 use Rattle.gx_rules.specs.Coordinators.{Command, Coord, CoordTurn, Work, rests, session_of, with_state, with_work, work_of}
 use Rattle.gx_rules.specs.Fits.{fits_part}
@@ -182,7 +183,7 @@ go_held script before c d g line wanted e =
     both the_coordinator before c.locks (hold_mark the_coordinator wanted ∷ []) d.locks (goes_on_locked script d g line).marks _ e (go_locked script (before ++ hold_mark the_coordinator wanted ∷ []) d g line)
 
 -- what a statement waits for is its table
-for-table : (script : Script) (g : Gxid) (line : Stmt) (wanted : Claim) → lock_for script g line ≡ Some wanted → IsForEnd wanted.object wanted.mode
+for-table : (script : Script) (g : Gxid) (line : Stmt) (wanted : Claim) → table_lock script g line ≡ Some wanted → IsForEnd wanted.object wanted.mode
 for-table script g (stmt.Select q) wanted e = subst (λ (c : Claim). IsForEnd c.object c.mode) (some-same _ wanted e) tt
 for-table script g (stmt.Insert table tuples) wanted e = subst (λ (c : Claim). IsForEnd c.object c.mode) (some-same _ wanted e) tt
 for-table script g (stmt.Update table assigns cond) wanted e = subst (λ (c : Claim). IsForEnd c.object c.mode) (some-same _ wanted e) tt
@@ -193,7 +194,7 @@ for-table script g stmt.Commit wanted e = absurd (cc)
 for-table script g stmt.Rollback wanted e = absurd (cc)
 
 -- whose transaction has no wait here
-request : (script : Script) (before : List Mark) (c : Coord) (g : Gxid) (line : Stmt) → wait_of c.locks g ≡ None → (o : Option Claim) → lock_for script g line ≡ o
+request : (script : Script) (before : List Mark) (c : Coord) (g : Gxid) (line : Stmt) → wait_of c.locks g ≡ None → (o : Option Claim) → table_lock script g line ≡ o
     → Holding before c (requests script c g line o)
 request script before c g line none None e = go_locked script before c g line
 request script before c g line none (Some wanted) e = by_test (is_free c.locks.holds wanted) refl
@@ -206,7 +207,7 @@ request script before c g line none (Some wanted) e = by_test (is_free c.locks.h
     by_test false f = wait the_coordinator before c.locks wanted (for-table script g line wanted e) f none-own
 
 dispatch : (script : Script) (before : List Mark) (c : Coord) (g : Gxid) (line : Stmt) → wait_of c.locks g ≡ None → Holding before c (dispatches script c g line)
-dispatch script before c g line none = request script before c g line none (lock_for script g line) refl
+dispatch script before c g line none = request script before c g line none (table_lock script g line) refl
 
 -- whose transaction has one wait here
 resume : (script : Script) (before : List Mark) (c : Coord) (g : Gxid) (w : Option Claim) (line : Option Stmt)

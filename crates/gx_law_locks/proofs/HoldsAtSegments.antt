@@ -45,7 +45,8 @@ use Rattle.gx_rules.specs.Fits.{fits_exec, holds_locks, is_right_slice, is_waiti
 use Rattle.gx_rules.specs.Maps.{each_below}
 use Rattle.gx_rules.specs.Locks.{has_there, hold_mark, release_mark, release_marks, released, wait_mark, with_hold, with_wait}
 use Rattle.gx_rules.specs.Changes.{Change, RowTurn, change_of, changes_rows, end_lock, goes_through, suspended_at, suspends_at, tuple_lock, waits}
-use Rattle.gx_rules.specs.Running.{is_granted, runs_locked, runs_slice, slice_lock, starts_slice, suspended_slice, suspends}
+use Rattle.gx_rules.specs.Running.{is_granted, runs_locked, runs_slice, starts_slice, suspended_slice, suspends}
+use Rattle.gx_store.specs.Locks.{slice_lock}
 use Rattle.gx_rules.specs.Segments.{Local, Phase, Seg, SegTurn, Suspended, after_marks, has_ended, local_of, stays, tells, tells_kept, with_local}
 use Rattle.gx_rules.specs.Segments.Phase.{Aborted, Committed, Forgotten, Prepared, Reading, Writing}
 use Rattle.gx_rules.specs.Shown.{shown}

@@ -39,7 +39,8 @@ use Rattle.gx_store.specs.declared.node.NodeEvent.TheVariants as event
 use Rattle.gx_store.specs.Lines.{BlockState, is_command}
 use Rattle.gx_store.specs.Marks.{started_after}
 use Rattle.gx_store.specs.Writes.{dist_of}
-use Rattle.gx_rules.specs.AtCoordinator.{Reading, kept_at, nodes_in, orders_of, answer_mark, answers_at_once, awaited, awaited_collect, begins, behind, cancels, commits, coord_can, dispatches, ends_in, fault_mark, follows, goes, goes_out, next_cid, next_line, on_event, on_line, plain_answer_of, reads_by, reads_for, refusal_of, resumes, rolls_back, starts, starts_line, table_of, takes_snapshot, goes_on_locked, if_granted, lock_for, requests, waits_for}
+use Rattle.gx_rules.specs.AtCoordinator.{Reading, kept_at, nodes_in, orders_of, answer_mark, answers_at_once, awaited, awaited_collect, begins, behind, cancels, commits, coord_can, dispatches, ends_in, fault_mark, follows, goes, goes_out, next_cid, next_line, on_event, on_line, plain_answer_of, reads_by, reads_for, refusal_of, resumes, rolls_back, starts, starts_line, table_of, takes_snapshot, goes_on_locked, if_granted, requests, waits_for}
+use Rattle.gx_store.specs.Locks.{table_lock}
 use Rattle.gx_rules.specs.Coordinators.{Coord, CoordTurn, Session, new_work, rests, session_of, with_state, with_work, work_of}
 use Rattle.gx_rules.specs.Snapshots.{snapshot_of}
 use Rattle.gx_law_order.proofs.Lines.{Asks, asks, undrawn}
@@ -196,7 +197,7 @@ module _ (script : Script) (P : ℕ → ℕ → Part) (c : Coord) (ms : List Mar
         by_test false = waits-tidy wanted
 
     dispatch-tidy : TidyIn d.sessions earlier (dispatches script d (gx g) line)
-    dispatch-tidy = request-tidy (lock_for script (gx g) line)
+    dispatch-tidy = request-tidy (table_lock script (gx g) line)
 
   -- A WHOLE EVENT
   pub record Told (count : ℕ → ℕ) (turn : CoordTurn) : Type 0 where

@@ -47,7 +47,8 @@ use Rattle.gx_store.specs.declared.answer.StmtAnswer.TheVariants as told
 use Rattle.gx_store.specs.declared.node.NodeEvent.TheVariants as event
 use Rattle.gx_store.specs.Refusals.{the_coordinator}
 use Rattle.gx_store.specs.Writes.{dist_of}
-use Rattle.gx_rules.specs.AtCoordinator.{Reading, cancels, answers, answers_at_once, awaited, begins, behind, command_order, commits, completes, dispatches, ends_in, enlisted_all, failure_marks, fault_mark, follows, goes, goes_on, goes_out, is_awaited, is_committed, is_refused, next_cid, nodes_in, on_answer, on_done, on_event, on_failed, on_line, on_message, on_status, order_of, order_to, orders_of, reads_by, reads_for, resends, rolls_back, starts, starts_line, status_order, table_of, takes_done, takes_snapshot, unless_kept, writers_with, goes_on_locked, if_granted, lock_for, requests, resumes, waits_for, answer_mark}
+use Rattle.gx_rules.specs.AtCoordinator.{Reading, cancels, answers, answers_at_once, awaited, begins, behind, command_order, commits, completes, dispatches, ends_in, enlisted_all, failure_marks, fault_mark, follows, goes, goes_on, goes_out, is_awaited, is_committed, is_refused, next_cid, nodes_in, on_answer, on_done, on_event, on_failed, on_line, on_message, on_status, order_of, order_to, orders_of, reads_by, reads_for, resends, rolls_back, starts, starts_line, status_order, table_of, takes_done, takes_snapshot, unless_kept, writers_with, goes_on_locked, if_granted, requests, resumes, waits_for, answer_mark}
+use Rattle.gx_store.specs.Locks.{table_lock}
 use Rattle.gx_rules.specs.Coordinators.{Command, Coord, CoordTurn, Session, Work, new_work, no_work, rests, session_of, with_session, with_state, with_work, work_of}
 use Rattle.gx_rules.specs.Fits.{fits_part}
 use Rattle.gx_rules.specs.Maps.{with_at}
@@ -219,7 +220,7 @@ module _ (script : Script) where
         by_test false = waits_here c g line wanted e
 
     dispatch : (c : Coord) (g : Gxid) (line : Stmt) → CoordIn script c → CoordStays c.sent (dispatches script c g line)
-    dispatch c g line e = request c g line (lock_for script g line) e
+    dispatch c g line e = request c g line (table_lock script g line) e
 
     -- a statement that has waited goes out with its lock
     resume : (c : Coord) (g : Gxid) (o : Option Claim) (line : Option Stmt) → CoordIn script c → CoordStays c.sent (resumes script c g o line)

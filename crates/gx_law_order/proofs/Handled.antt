@@ -42,7 +42,8 @@ use Rattle.gx_rules.specs.Locks.{hold_mark, release_mark, release_marks, wait_ma
 use Rattle.gx_rules.specs.Maps.{with_at}
 use Rattle.gx_rules.specs.Segments.{Local, Phase, Seg, SegTurn, Suspended, after_marks as behind, has_committed, local_of, reply, stays, tells, tells_kept, with_local}
 use Rattle.gx_rules.specs.Segments.Phase.{Reading, Writing, Prepared, Committed, Forgotten, Aborted}
-use Rattle.gx_rules.specs.Running.{is_granted, requests, runs_locked, runs_slice, slice_lock, starts_slice, suspended_slice, suspends, unless_end}
+use Rattle.gx_rules.specs.Running.{is_granted, requests, runs_locked, runs_slice, starts_slice, suspended_slice, suspends, unless_end}
+use Rattle.gx_store.specs.Locks.{slice_lock}
 use Rattle.gx_rules.specs.Shown.{shown}
 use Rattle.gx_rules.specs.Slices.{Moved, adds_version, answers, cause_of, fails_on, first_fault, has_written, inserted, inserts_row, own_lock, selects, starts_from, takes_own, version, writes_row}
 use Rattle.gx_rules.specs.Visits.{DidStop}

@@ -47,7 +47,8 @@ use Rattle.gx_store.specs.declared.node.NodeEvent.{NodeEvent}
 use Rattle.gx_store.specs.declared.node.NodeEvent.TheVariants as event
 use Rattle.gx_store.specs.Writes.{dist_of}
 use Rattle.gx_store.specs.declared.answer.StmtAnswer.TheVariants as told
-use Rattle.gx_rules.specs.AtCoordinator.{Reading, answers, awaited, awaited_collect, begins, behind, cancels, command_order, commits, completes, coord_can, dispatches, ends_in, enlisted_all, fault_mark, follows, goes, goes_on, is_awaited, is_committed as is_closed, is_idle, is_nothing, is_refused, kept_at, next_cid, next_line, nodes_in, on_answer, on_done, on_event, on_failed, on_line, on_message, on_status, order_to, orders_of, reads_by, reads_for, reason_of, refusal_of, resends, resumes, rolls_back, starts, starts_line, status_order, table_of, takes_done, takes_snapshot, unless_kept, with_done, writers_with, goes_on_locked, if_granted, lock_for, requests, answer_mark}
+use Rattle.gx_rules.specs.AtCoordinator.{Reading, answers, awaited, awaited_collect, begins, behind, cancels, command_order, commits, completes, coord_can, dispatches, ends_in, enlisted_all, fault_mark, follows, goes, goes_on, is_awaited, is_committed as is_closed, is_idle, is_nothing, is_refused, kept_at, next_cid, next_line, nodes_in, on_answer, on_done, on_event, on_failed, on_line, on_message, on_status, order_to, orders_of, reads_by, reads_for, reason_of, refusal_of, resends, resumes, rolls_back, starts, starts_line, status_order, table_of, takes_done, takes_snapshot, unless_kept, with_done, writers_with, goes_on_locked, if_granted, requests, answer_mark}
+use Rattle.gx_store.specs.Locks.{table_lock}
 use Rattle.gx_rules.specs.Coordinators.{Command, Coord, CoordTurn, Session, Work, new_work, no_work, rests, session_of, with_session, with_state, with_work, work_of}
 use Rattle.gx_rules.specs.Fits.{fits_part}
 use Rattle.gx_rules.specs.Maps.{with_at}
@@ -388,7 +389,7 @@ module _ (E : ℕ → ℕ → Bool) where
         by_test false = record { table = same-on c.table; orders = work-at c.table c.works g (record (c.works g) { waiting = Some line }) ol (ol g); outs = tt }
 
     dispatch-holds : Holding c (dispatches script c (gx g) line)
-    dispatch-holds = request-holds (lock_for script (gx g) line)
+    dispatch-holds = request-holds (table_lock script (gx g) line)
 
   -- LINES, AND ALL EVENTS
   module _ (script : Script) (c : Coord) (k : Kept script c) (ol : OrdersHeld c.table c.works) where

@@ -43,7 +43,8 @@ use Rattle.gx_store.specs.declared.node.NodeEvent.{NodeEvent}
 use Rattle.gx_store.specs.declared.node.NodeEvent.TheVariants as event
 use Rattle.gx_store.specs.Writes.{dist_of}
 use Rattle.gx_store.specs.declared.answer.StmtAnswer.TheVariants as told
-use Rattle.gx_rules.specs.AtCoordinator.{Reading, answer_mark, answers, answers_at_once, awaited, awaited_collect, begins, cancels, behind, command_order, commits, completes, dispatches, ends_in, fault_mark, follows, goes, goes_on, goes_out, is_awaited, is_committed as is_closed, is_refused, kept_at, next_cid, next_line, nodes_in, on_answer, on_done, on_event, on_failed, on_line, on_message, on_status, order_to, orders_of, reads_by, reads_for, reason_of, refusal_of, resends, rolls_back, starts, starts_line, status_order, table_of, takes_done, takes_snapshot, with_done, writers_with, goes_on_locked, if_granted, lock_for, requests, resumes}
+use Rattle.gx_rules.specs.AtCoordinator.{Reading, answer_mark, answers, answers_at_once, awaited, awaited_collect, begins, cancels, behind, command_order, commits, completes, dispatches, ends_in, fault_mark, follows, goes, goes_on, goes_out, is_awaited, is_committed as is_closed, is_refused, kept_at, next_cid, next_line, nodes_in, on_answer, on_done, on_event, on_failed, on_line, on_message, on_status, order_to, orders_of, reads_by, reads_for, reason_of, refusal_of, resends, rolls_back, starts, starts_line, status_order, table_of, takes_done, takes_snapshot, with_done, writers_with, goes_on_locked, if_granted, requests, resumes}
+use Rattle.gx_store.specs.Locks.{table_lock}
 use Rattle.gx_rules.specs.Coordinators.{Command, Coord, CoordTurn, Session, Work, new_work, no_work, rests, session_of, with_session, with_state, with_work, work_of}
 use Rattle.gx_rules.specs.Fits.{fits_part}
 use Rattle.gx_rules.specs.Maps.{with_at}
@@ -396,7 +397,7 @@ module _ (script : Script) (c : Coord) (whole : IsWhole c.table) (dense : IsDens
       by_test false = record { table = λ n f. f; orders = work-at c.table c.works g.0 (record (work_of c g) { waiting = Some line }) ol (ol g.0); outs = tt }
 
   dispatch-low : (line : Stmt) → Lowered c (dispatches script c g line)
-  dispatch-low line = request-low line (lock_for script g line)
+  dispatch-low line = request-low line (table_lock script g line)
 
 module _ (script : Script) (c : Coord) (whole : IsWhole c.table) (dense : IsDense c.table) (ol : OrdersLow c.table c.works) (g : Gxid) where
   resume-low : (o : Option Claim) (line : Option Stmt) → Lowered c (resumes script c g o line)

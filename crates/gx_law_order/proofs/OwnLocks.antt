@@ -20,7 +20,7 @@ use Rattle.gx_locks.proofs.Filed.{list_any-weaker}
 use Rattle.gx_script.specs.declared.Script.{Script}
 use Rattle.gx_store.specs.Marks.{is_same_gxid}
 use Rattle.gx_rules.specs.Changes.{end_lock}
-use Rattle.gx_rules.specs.Running.{slice_lock}
+use Rattle.gx_store.specs.Locks.{slice_lock}
 use Rattle.gx_rules.specs.Segments.{Phase, Seg, Version, has_ended}
 use Rattle.gx_rules.specs.Segments.Phase.{Reading, Writing}
 use Rattle.gx_rules.specs.Slices.{own_lock}

@@ -26,7 +26,7 @@ use Rattle.gx_rules.specs.Fits.{is_right_slice, reads_nothing}
 use Rattle.gx_rules.specs.Machine.{Letter, World, posted}
 use Rattle.gx_rules.specs.Segments.{Local, Phase, Seg, Suspended, local_of}
 use Rattle.gx_rules.specs.Segments.Phase.{Reading, Writing}
-use Rattle.gx_rules.specs.Running.{slice_lock}
+use Rattle.gx_store.specs.Locks.{slice_lock}
 use Rattle.gx_law_order.proofs.Changing.{IsAtRow}
 use Rattle.gx_law_order.proofs.Letters.{IsFound, IsLetter}
 use Rattle.gx_law_order.proofs.Lists.{get_last}

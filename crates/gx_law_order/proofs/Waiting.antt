@@ -15,14 +15,15 @@ use Rattle.gx_locks.specs.Claims.{is_of}
 use Rattle.gx_locks.specs.Locks.{is_free, is_ready, resumed, wait_of}
 use Rattle.gx_script.specs.declared.Script.{Script}
 use Rattle.gx_store.specs.declared.node.NodeEvent.TheVariants as event
-use Rattle.gx_rules.specs.AtCoordinator.{coord_can, is_segment, lock_for}
+use Rattle.gx_rules.specs.AtCoordinator.{coord_can, is_segment}
+use Rattle.gx_store.specs.Locks.{slice_lock, table_lock}
 use Rattle.gx_rules.specs.AtSegment.{resumes}
 use Rattle.gx_rules.specs.Changes.{Change, change_of, goes_on_at, goes_through}
 use Rattle.gx_rules.specs.Coordinators.{Coord, session_of, work_of}
 use Rattle.gx_rules.specs.Fits.{holds_locks}
 use Rattle.gx_rules.specs.Locks.{hold_mark}
 use Rattle.gx_rules.specs.Machine.{World, seg_can}
-use Rattle.gx_rules.specs.Running.{goes_on, is_granted, runs_slice, slice_lock}
+use Rattle.gx_rules.specs.Running.{goes_on, is_granted, runs_slice}
 use Rattle.gx_rules.specs.Segments.{Phase, Seg, SegTurn, Suspended, after_marks, has_ended, local_of, with_local}
 use Rattle.gx_rules.specs.Segments.Phase.{Aborted, Committed, Forgotten, Prepared, Reading, Writing}
 use Rattle.gx_rules.specs.Slices.{Moved}
@@ -190,7 +191,7 @@ pub record GoesOut (script : Script) (c : Coord) (g : Gxid) : Type 0 where
   pub is : (work_of c g).waiting ≡ Some line
   pub wanted : Claim
   pub claims : wait_of c.locks g ≡ Some wanted
-  pub lock : lock_for script g line ≡ Some wanted
+  pub lock : table_lock script g line ≡ Some wanted
   pub free : is_free c.locks.holds wanted ≡ true
   pub idle : (work_of c g).command ≡ None
   pub live : stage_of c g.0 ≡ Live
@@ -202,7 +203,7 @@ pub record HasStatement (script : Script) (c : Coord) (g : Gxid) (wanted : Claim
   pub line : Stmt
   pub is : (work_of c g).waiting ≡ Some line
   pub once : filter (is_of g) c.locks.waits ≡ wanted ∷ []
-  pub lock : lock_for script g line ≡ Some wanted
+  pub lock : table_lock script g line ≡ Some wanted
   pub idle : (work_of c g).command ≡ None
   pub live : stage_of c g.0 ≡ Live
   pub home : (session_of c (work_of c g).session).transaction ≡ g

@@ -41,7 +41,8 @@ use Rattle.gx_rules.specs.AtSegment.{commits, ends, finishes, if_fits, on_abort,
 use Rattle.gx_rules.specs.Changes.{Change, RowTurn, change_of, changes_rows, end_lock, goes_on_at, suspended_at, suspends_at, tuple_lock, waits}
 use Rattle.gx_rules.specs.Fits.{fits_exec, is_waiting}
 use Rattle.gx_rules.specs.Locks.{with_hold, without_hold}
-use Rattle.gx_rules.specs.Running.{goes_on, is_granted, requests, runs_slice, slice_lock, suspended_slice, unless_end}
+use Rattle.gx_rules.specs.Running.{goes_on, is_granted, requests, runs_slice, suspended_slice, unless_end}
+use Rattle.gx_store.specs.Locks.{slice_lock}
 use Rattle.gx_rules.specs.Segments.{Local, Phase, Seg, SegTurn, Suspended, Version, has_ended, local_of, tells_kept, with_local}
 use Rattle.gx_rules.specs.Segments.Phase.{Aborted, Committed, Forgotten, Prepared, Reading, Writing}
 use Rattle.gx_rules.specs.Shown.{shown}

@@ -10,7 +10,7 @@ use Rattle.gx_script.specs.declared.state.Block.TheVariants.{Outside, Open}
 use Rattle.gx_script.specs.declared.state.Pending.{Pending}
 use Rattle.gx_script.specs.declared.state.Pending.TheVariants as pending
 use Rattle.gx_locks.specs.Claims.{is_of}
-use Rattle.gx_rules.specs.AtCoordinator.{lock_for}
+use Rattle.gx_store.specs.Locks.{table_lock}
 use Rattle.gx_rules.specs.Coordinators.{Command, Coord, Session, Work}
 use Rattle.gx_law_order.specs.Stages.{IsWhole, Stage, stage_of}
 use Rattle.gx_law_order.specs.Stages.Stage.{Live, Closing}
@@ -66,12 +66,12 @@ listed (Some claim) = claim ∷ []
 -- what a statement that waits has among the waits
 abbrev pub claims_for : Script → Gxid → Option Stmt → List Claim
 claims_for script g None = []
-claims_for script g (Some line) = listed (lock_for script g line)
+claims_for script g (Some line) = listed (table_lock script g line)
 
 -- of a transaction: the statement of it that waits, and its waits
 pub record IsQueued (script : Script) (g : ℕ) (waiting : Option Stmt) (waits : List Claim) : Type 0 where
   pub claims : filter (is_of (gx g)) waits ≡ claims_for script (gx g) waiting
-  pub locks : (line : Stmt) → waiting ≡ Some line → is_some (lock_for script (gx g) line) ≡ true
+  pub locks : (line : Stmt) → waiting ≡ Some line → is_some (table_lock script (gx g) line) ≡ true
 
 pub record Kept (script : Script) (c : Coord) : Type 0 where
   pub whole : IsWhole c.table

@@ -37,7 +37,8 @@ use Rattle.gx_script.specs.declared.state.Block.TheVariants.{Failed, Open, Outsi
 use Rattle.gx_store.specs.Writes.{dist_of}
 use Rattle.gx_store.specs.declared.node.NodeEvent.{NodeEvent}
 use Rattle.gx_store.specs.declared.node.NodeEvent.TheVariants as event
-use Rattle.gx_rules.specs.AtCoordinator.{Reading, awaited, begins, command_order, dispatches, ends_in, enlisted_all, goes, goes_out, kept_at, next_cid, next_line, nodes_in, on_event, on_line, order_to, orders_of, reads_by, reads_for, resends, starts, starts_line, status_order, table_of, takes_snapshot, goes_on_locked, if_granted, lock_for, requests, resumes}
+use Rattle.gx_rules.specs.AtCoordinator.{Reading, awaited, begins, command_order, dispatches, ends_in, enlisted_all, goes, goes_out, kept_at, next_cid, next_line, nodes_in, on_event, on_line, order_to, orders_of, reads_by, reads_for, resends, starts, starts_line, status_order, table_of, takes_snapshot, goes_on_locked, if_granted, requests, resumes}
+use Rattle.gx_store.specs.Locks.{table_lock}
 use Rattle.gx_rules.specs.Coordinators.{with_work, Command, Coord, CoordTurn, Work, new_work, no_work, session_of, work_of}
 use Rattle.gx_rules.specs.Maps.{with_at}
 use Rattle.gx_rules.specs.Rounds.{awaits_graph}
@@ -261,7 +262,7 @@ module _ (c : Coord) (g : ℕ) (s : Stood c.table c.works) (latest : Latest c.ta
   request-went (Some wanted) = granted-went wanted (is_free c.locks.holds wanted)
 
   pub dispatch-went : WentBy c (dispatches script c (gx g) line)
-  dispatch-went = request-went (lock_for script (gx g) line)
+  dispatch-went = request-went (table_lock script (gx g) line)
 
 -- and behind a wait
 resumes-went : (c : Coord) (g : ℕ) → Stood c.table c.works → Latest c.table → (script : Script) (o : Option Claim) (line : Option Stmt) → WentBy c (resumes script c (gx g) o line)

@@ -29,6 +29,7 @@ use Rattle.gx_store.specs.Points.{marks_in}
 use Rattle.gx_store.specs.Refusals.{the_coordinator}
 use Rattle.gx_rules.specs.AtCoordinator as coordinator
 use Rattle.gx_rules.specs.AtCoordinator.{coord_can, coord_turn}
+use Rattle.gx_store.specs.Locks.{slice_lock}
 use Rattle.gx_rules.specs.AtSegment.{commits, if_fits, on_abort, on_commit, on_commit_prepared, on_event, on_exec, on_forget, on_message, on_prepare, once, promises, raised, repeats, seg_rule, takes, unless_below, was_prepared}
 use Rattle.gx_rules.specs.Coordinators.{CoordTurn, Work, no_work}
 use Rattle.gx_rules.specs.Fits.{fits_exec, is_waiting}
@@ -36,7 +37,7 @@ use Rattle.gx_rules.specs.Machine.{Letter, World, and_cancelled, coord_did, new_
 use Rattle.gx_rules.specs.Segments.{Local, Phase, Seg, SegTurn, local_of, stays, tells_kept}
 use Rattle.gx_rules.specs.Segments.Phase.{Aborted, Committed, Forgotten, Prepared, Reading, Writing}
 use Rattle.gx_rules.specs.Sending.{clock_after}
-use Rattle.gx_rules.specs.Running.{slice_lock, starts_slice}
+use Rattle.gx_rules.specs.Running.{starts_slice}
 use Rattle.gx_rules.proofs.Rounds.{collect-ways}
 use Rattle.gx_law_order.proofs.Induction.{after_turn}
 use Rattle.gx_law_order.proofs.Lists.{each_weaker}

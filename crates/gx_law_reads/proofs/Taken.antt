@@ -52,7 +52,8 @@ use Rattle.gx_store.specs.Points.{marks_in}
 use Rattle.gx_store.specs.Writes.{dist_of}
 use Rattle.gx_store.specs.declared.answer.StmtAnswer.TheVariants as told
 use Rattle.gx_rules.specs.AtCoordinator as coordinator
-use Rattle.gx_rules.specs.AtCoordinator.{Reading, answer_mark, answers, awaited, begins, command_order, completes, coord_can, dispatches, ends_in, enlisted_all, failure_marks, fault_mark, follows, goes, goes_on, goes_out, is_awaited, is_idle, is_nothing, is_refused, next_cid, next_line, nodes_in, on_answer, on_done, on_failed, on_line, on_message, on_status, order_to, orders_of, reads_by, reads_for, reason_of, refusal_of, resends, rolls_back, starts, starts_line, status_order, table_of, takes_done, takes_snapshot, with_done, goes_on_locked, if_granted, lock_for, requests, resumes}
+use Rattle.gx_rules.specs.AtCoordinator.{Reading, answer_mark, answers, awaited, begins, command_order, completes, coord_can, dispatches, ends_in, enlisted_all, failure_marks, fault_mark, follows, goes, goes_on, goes_out, is_awaited, is_idle, is_nothing, is_refused, next_cid, next_line, nodes_in, on_answer, on_done, on_failed, on_line, on_message, on_status, order_to, orders_of, reads_by, reads_for, reason_of, refusal_of, resends, rolls_back, starts, starts_line, status_order, table_of, takes_done, takes_snapshot, with_done, goes_on_locked, if_granted, requests, resumes}
+use Rattle.gx_store.specs.Locks.{table_lock}
 use Rattle.gx_rules.specs.Coordinators.{Command, Coord, CoordTurn, Session, rests, session_of, with_state, with_work, work_of}
 use Rattle.gx_rules.specs.Fits.{fits_part}
 use Rattle.gx_rules.specs.Machine.{World}
@@ -337,7 +338,7 @@ module _ (script : Script) (w : World) (k : Knows script w) (v : Holds script w)
     request-pass (Some wanted) = granted-pass wanted (is_free c1.locks.holds wanted)
 
     dispatch-pass : Passes (dispatches script c1 (gx g) line)
-    dispatch-pass = request-pass (lock_for script (gx g) line)
+    dispatch-pass = request-pass (table_lock script (gx g) line)
 
   -- and behind a wait
   resumes-pass : (g : ℕ) → stage_of w.coord g ≡ Running → (o : Option Claim) (line : Option Stmt) → Passes (resumes script w.coord (gx g) o line)

@@ -31,7 +31,8 @@ use Rattle.gx_store.specs.declared.answer.Refused.{Refused}
 use Rattle.gx_store.specs.declared.mark.Mark.{Mark}
 use Rattle.gx_store.specs.Schedule.{is_about}
 use Rattle.gx_store.specs.Writes.{dist_of}
-use Rattle.gx_rules.specs.AtCoordinator.{Reading, answers, awaited, commits, completes, dispatches, enlisted_all, fault_mark, follows, goes, goes_out, is_refused, kept_at, next_cid, nodes_in, order_to, orders_of, reads_by, reads_for, refusal_of, rolls_back, status_order, table_of, takes_snapshot, unless_kept, goes_on_locked, if_granted, lock_for, requests, resumes}
+use Rattle.gx_rules.specs.AtCoordinator.{Reading, answers, awaited, commits, completes, dispatches, enlisted_all, fault_mark, follows, goes, goes_out, is_refused, kept_at, next_cid, nodes_in, order_to, orders_of, reads_by, reads_for, refusal_of, rolls_back, status_order, table_of, takes_snapshot, unless_kept, goes_on_locked, if_granted, requests, resumes}
+use Rattle.gx_store.specs.Locks.{table_lock}
 use Rattle.gx_rules.specs.Coordinators.{Command, Coord, CoordTurn, Work, no_work, rests, with_work, work_of}
 use Rattle.gx_rules.specs.Snapshots.{snapshot_of}
 use Rattle.gx_law_order.proofs.Closings.{live-at, set_live}
@@ -402,7 +403,7 @@ module _ (c : Coord) (whole : IsWhole c.table) (n : AreNeat c) (g : ℕ) (live :
   request-asks (Some wanted) = granted-asks wanted (is_free c.locks.holds wanted)
 
   pub dispatch-asks : Asks (now_asked c) (dispatches script c (gx g) line)
-  dispatch-asks = request-asks (lock_for script (gx g) line)
+  dispatch-asks = request-asks (table_lock script (gx g) line)
 
   -- behind a wait
   pub resume-asks : (wanted : Claim) → Asks (now_asked c) (resumes script c (gx g) (Some wanted) (Some line))

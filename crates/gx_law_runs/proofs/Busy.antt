@@ -27,7 +27,8 @@ use Rattle.gx_store.specs.Lines.{stmt_of}
 use Rattle.gx_store.specs.Marks.{is_aborted, is_committed, is_ended, is_same_session}
 use Rattle.gx_store.specs.Points.{ends_in, marks_in}
 use Rattle.gx_store.specs.Refusals.{the_coordinator}
-use Rattle.gx_rules.specs.AtCoordinator.{awaited, awaited_collect, cancels, coord_can, is_idle, is_nothing, lock_for, next_line, on_event, on_message, resends, starts, resumes}
+use Rattle.gx_rules.specs.AtCoordinator.{awaited, awaited_collect, cancels, coord_can, is_idle, is_nothing, next_line, on_event, on_message, resends, starts, resumes}
+use Rattle.gx_store.specs.Locks.{table_lock}
 use Rattle.gx_rules.specs.Coordinators.{Coord, CoordTurn, Session, rests, session_of, work_of}
 use Rattle.gx_rules.specs.Machine.{World, world_of}
 use Rattle.gx_rules.specs.Rounds.{begins_round}
@@ -66,7 +67,7 @@ use Rattle.gx_law_runs.proofs.Plans.{IsFilled}
 use Rattle.gx_law_runs.proofs.Sparing.{HasWait}
 
 -- a command that takes a lock is filled
-lock-filled : (script : Script) (g : Gxid) (line : Stmt) (wanted : Claim) → lock_for script g line ≡ Some wanted → IsWholeStmt script.tables line → IsFilled line
+lock-filled : (script : Script) (g : Gxid) (line : Stmt) (wanted : Claim) → table_lock script g line ≡ Some wanted → IsWholeStmt script.tables line → IsFilled line
 lock-filled script g (stmt.Select q) wanted e w = tt
 lock-filled script g (stmt.Insert t []) wanted e w = absurd w
 lock-filled script g (stmt.Insert t (x ∷ xs)) wanted e w = tt

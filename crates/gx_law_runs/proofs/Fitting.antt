@@ -31,7 +31,8 @@ use Rattle.gx_rules.specs.AtSegment.{changes, commits, ends, finishes, if_fits, 
 use Rattle.gx_rules.specs.Segments.{Local, Phase, Seg, SegTurn, Suspended, local_of, stays, tells, tells_kept}
 use Rattle.gx_rules.specs.Segments.Phase.{Aborted, Committed, Forgotten, Prepared, Reading, Writing}
 use Rattle.gx_rules.specs.Changes.{Change, RowTurn, change_of, changes_rows, goes_on_at, suspended_at, suspends_at}
-use Rattle.gx_rules.specs.Running.{goes_on, is_granted, requests, runs_slice, slice_lock, unless_end}
+use Rattle.gx_rules.specs.Running.{goes_on, is_granted, requests, runs_slice, unless_end}
+use Rattle.gx_store.specs.Locks.{slice_lock}
 use Rattle.gx_rules.specs.Slices.{Moved, answers, cause_of, first_fault, inserted, inserts, inserts_row, selects, starts_from, takes_own, writes_row}
 use Rattle.gx_rules.specs.Visits.{DidStop}
 use Rattle.gx_rules.proofs.Moving.{Ends, Keeps}

@@ -34,7 +34,8 @@ use Rattle.gx_store.specs.declared.node.NodeEvent.{NodeEvent}
 use Rattle.gx_store.specs.declared.node.NodeEvent.TheVariants as event
 use Rattle.gx_store.specs.Writes.{dist_of}
 use Rattle.gx_store.specs.declared.answer.StmtAnswer.TheVariants as told
-use Rattle.gx_rules.specs.AtCoordinator.{Reading, awaited, awaited_collect, begins, behind, command_order, coord_can, dispatches, ends_in, fault_mark, goes, goes_out, is_idle, is_nothing, next_cid, next_line, on_event, on_line, order_to, orders_of, reads_by, reads_for, refusal_of, starts, starts_line, status_order, table_of, takes_snapshot, goes_on_locked, if_granted, lock_for, requests, resumes, answer_mark}
+use Rattle.gx_rules.specs.AtCoordinator.{Reading, awaited, awaited_collect, begins, behind, command_order, coord_can, dispatches, ends_in, fault_mark, goes, goes_out, is_idle, is_nothing, next_cid, next_line, on_event, on_line, order_to, orders_of, reads_by, reads_for, refusal_of, starts, starts_line, status_order, table_of, takes_snapshot, goes_on_locked, if_granted, requests, resumes, answer_mark}
+use Rattle.gx_store.specs.Locks.{table_lock}
 use Rattle.gx_rules.specs.Coordinators.{Command, Coord, CoordTurn, new_work, session_of}
 use Rattle.gx_law_order.proofs.Lines.{Asks as Admits, asks as admits}
 use Rattle.gx_law_order.proofs.Lists.{each_weaker}
@@ -159,7 +160,7 @@ module _ (g : ℕ) (last : ℕ) where
     request-serves (Some wanted) = granted-serves wanted (is_free c.locks.holds wanted)
 
     pub dispatch-serves : Serves c FreshAt (dispatches script c (gx g) line)
-    dispatch-serves = request-serves (lock_for script (gx g) line)
+    dispatch-serves = request-serves (table_lock script (gx g) line)
 
     -- behind a wait
     pub resume-serves : (wanted : Claim) → Serves c FreshAt (resumes script c (gx g) (Some wanted) (Some line))

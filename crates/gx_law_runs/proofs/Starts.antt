@@ -23,7 +23,8 @@ use Rattle.gx_script.specs.declared.state.Block.TheVariants.{Outside, Open, Fail
 use Rattle.gx_script.specs.declared.state.Pending.{Pending}
 use Rattle.gx_store.specs.declared.mark.Mark.TheVariants as mark
 use Rattle.gx_store.specs.Writes.{dist_of}
-use Rattle.gx_rules.specs.AtCoordinator.{Reading, begins, behind, commits, dispatches, ends_in, fault_mark, goes, is_idle, kept_at, next_cid, nodes_in, on_line, order_of, order_to, orders_of, reads_by, reads_for, refusal_of, starts_line, table_of, goes_on_locked, if_granted, lock_for, requests, resumes}
+use Rattle.gx_rules.specs.AtCoordinator.{Reading, begins, behind, commits, dispatches, ends_in, fault_mark, goes, is_idle, kept_at, next_cid, nodes_in, on_line, order_of, order_to, orders_of, reads_by, reads_for, refusal_of, starts_line, table_of, goes_on_locked, if_granted, requests, resumes}
+use Rattle.gx_store.specs.Locks.{table_lock}
 use Rattle.gx_rules.specs.Coordinators.{Command, Coord, CoordTurn, Session, new_work, session_of, work_of}
 use Rattle.gx_rules.specs.Snapshots.{snapshot_of}
 use Rattle.gx_store.specs.Whole.{IsWholeStmt}
@@ -123,12 +124,12 @@ module _ (script : Script) (some : 1 ≤ script.segments) (c : Coord) (g : ℕ) 
       held-goes d wanted (goes-by (Unit {0}) d c g (goes_on_locked script d (gx g) line) refl refl (λ h e. refl) (locked-goes script some d g line f))
   granted-goes wanted own false = inl (record { sessions = λ j. refl; asked = λ b. inr (waits-own c.locks g wanted own); spares = waits-spares c.locks g wanted own })
 
-  request-goes : (o : Option Claim) → lock_for script (gx g) line ≡ o → Goes (Unit {0}) c g (requests script c (gx g) line o)
+  request-goes : (o : Option Claim) → table_lock script (gx g) line ≡ o → Goes (Unit {0}) c g (requests script c (gx g) line o)
   request-goes None e = locked-goes script some c g line f
   request-goes (Some wanted) e = granted-goes wanted (lock-of script (gx g) line wanted e) (is_free c.locks.holds wanted)
 
   dispatch-goes : Goes (Unit {0}) c g (dispatches script c (gx g) line)
-  dispatch-goes = request-goes (lock_for script (gx g) line) refl
+  dispatch-goes = request-goes (table_lock script (gx g) line) refl
 
   -- and once it has waited
   pub resume-goes : (wanted : Claim) → Goes (Unit {0}) c g (resumes script c (gx g) (Some wanted) (Some line))

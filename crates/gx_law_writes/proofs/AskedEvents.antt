@@ -34,7 +34,8 @@ use Rattle.gx_rules.specs.AtSegment as segment
 use Rattle.gx_rules.specs.AtSegment.{commits, ends, finishes, if_fits, on_abort, on_commit, on_commit_prepared, on_exec, on_forget, on_message, on_prepare, once, promises, raised, repeats, resumes, seg_rule, takes, unless_below, was_prepared}
 use Rattle.gx_rules.specs.Fits.{fits_exec, is_waiting}
 use Rattle.gx_rules.specs.Machine.{World, seg_can}
-use Rattle.gx_rules.specs.Running.{runs_locked, slice_lock, starts_slice, suspends, runs_slice}
+use Rattle.gx_rules.specs.Running.{runs_locked, starts_slice, suspends, runs_slice}
+use Rattle.gx_store.specs.Locks.{slice_lock}
 use Rattle.gx_rules.specs.Segments.{Local, Phase, Seg, SegTurn, Suspended, local_of, stays, tells_kept, after_marks}
 use Rattle.gx_rules.specs.Segments.Phase.{Aborted, Committed, Forgotten, Prepared, Reading, Writing}
 use Rattle.gx_rules.proofs.Rounds.{collect-ways}

@@ -33,7 +33,8 @@ use Rattle.gx_rules.specs.Changes.{Change, change_of}
 use Rattle.gx_rules.specs.Fits.{fits_exec, holds_locks, is_right_slice, reads_nothing}
 use Rattle.gx_rules.specs.Machine.{World, after, world_of}
 use Rattle.gx_rules.specs.Maps.{each_below}
-use Rattle.gx_rules.specs.Running.{runs_locked, slice_lock, starts_slice, suspends}
+use Rattle.gx_rules.specs.Running.{runs_locked, starts_slice, suspends}
+use Rattle.gx_store.specs.Locks.{slice_lock}
 use Rattle.gx_rules.specs.Segments.{Phase, Seg, SegTurn, Suspended, local_of, stays}
 use Rattle.gx_rules.specs.Segments.Phase.{Aborted, Committed, Forgotten, Prepared, Reading, Writing}
 use Rattle.gx_law_order.specs.Lists.{Each}

@@ -24,12 +24,11 @@ use Rattle.gx_store.specs.declared.run.Step.{Step}
 use Rattle.gx_store.proofs.Exclusive.{holds_from-append}
 use Rattle.gx_store.specs.Commands.{RunsCommand}
 use Rattle.gx_store.specs.Lines.{BlockState, Failed, InBlock, Outside, cid_of, is_command, state_of, stmt_of, transaction_of}
-use Rattle.gx_store.specs.Locks.{HoldsTable}
+use Rattle.gx_store.specs.Locks.{HoldsTable, table_lock}
 use Rattle.gx_store.specs.Marks.{answer_count, is_begun, is_snapped, started_after}
 use Rattle.gx_store.specs.Points.{marks_in, starts_by, starts_in}
 use Rattle.gx_store.specs.Refusals.{the_coordinator}
 use Rattle.gx_store.specs.Waits.{added, claim, holds_at, holds_from, is_held, waits_at, waits_from, without}
-use Rattle.gx_rules.specs.AtCoordinator.{lock_for}
 use Rattle.gx_rules.specs.Coordinators.{Command, Coord, Work, session_of, work_of}
 use Rattle.gx_rules.specs.Machine.{World}
 use Rattle.gx_locks.specs.Claims.{is_of}
@@ -51,7 +50,7 @@ use Rattle.gx_law_locks.proofs.Lasting.{IsIn, in-added, in-filter, in-new, in-wi
 -- THE TABLE
 -- the transaction holds at the coordinator the lock that the statement takes on its table
 abbrev pub HoldsTableOf : Script → List Mark → Gxid → Stmt → Type 0
-HoldsTableOf script marks g line = (wanted : Claim) → lock_for script g line ≡ Some wanted → is_held marks the_coordinator wanted.gxid wanted.object wanted.mode ≡ true
+HoldsTableOf script marks g line = (wanted : Claim) → table_lock script g line ≡ Some wanted → is_held marks the_coordinator wanted.gxid wanted.object wanted.mode ≡ true
 
 -- what the rule takes is what is meant
 pub as-meant : (script : Script) (marks : List Mark) (g : Gxid) (line : Stmt) → HoldsTableOf script marks g line → HoldsTable script marks g line
@@ -302,20 +301,20 @@ module _ (script : Script) (w : World) (sessions : (k : SessionId) → IsSession
   waits-or : (earlier : List Mark) (k : SessionId) (line : Stmt) (g : Gxid) (c : Cid) → AreLeftAlone k g earlier → (work_of w.coord g).waiting ≡ Some line → HoldsTableOf script (marks_in w.steps ++ earlier) g line ⊎ AwaitsTable script (marks_in w.steps ++ earlier) g line
   waits-or earlier k line g c alone it = by_either (stays-either k g wanted (holds_at (marks_in w.steps) the_coordinator) (waits_at (marks_in w.steps) the_coordinator) earlier (lock-of script g line wanted takes) alone (inr (subst (λ ws. IsIn ws wanted) queued (wait-in g w.coord.locks.waits wanted stands))))
     where
-      found : (wanted : Claim) × (lock_for script g line ≡ Some wanted)
-      found = some-lock (lock_for script g line) ((kept.queued g.0).locks line it)
+      found : (wanted : Claim) × (table_lock script g line ≡ Some wanted)
+      found = some-lock (table_lock script g line) ((kept.queued g.0).locks line it)
 
       wanted : Claim
       wanted = found.0
 
-      takes : lock_for script g line ≡ Some wanted
+      takes : table_lock script g line ≡ Some wanted
       takes = found.1
 
       stands : wait_of w.coord.locks g ≡ Some wanted
       stands = statement-waits g.0 (work_of w.coord g).waiting w.coord.locks (kept.queued g.0) line it ∙ takes
 
       by_either : IsIn (holds_from the_coordinator (holds_at (marks_in w.steps) the_coordinator) earlier) wanted ⊎ IsIn (waits_from the_coordinator (waits_at (marks_in w.steps) the_coordinator) earlier) wanted → HoldsTableOf script (marks_in w.steps ++ earlier) g line ⊎ AwaitsTable script (marks_in w.steps ++ earlier) g line
-      by_either (inl h) = inl (λ v q. subst (λ hs. IsIn hs v) (sym (holds_from-append the_coordinator [] (marks_in w.steps) earlier)) (subst (λ v. IsIn (holds_from the_coordinator (holds_at (marks_in w.steps) the_coordinator) earlier) v) (same-lock (lock_for script g line) wanted v takes q) h))
+      by_either (inl h) = inl (λ v q. subst (λ hs. IsIn hs v) (sym (holds_from-append the_coordinator [] (marks_in w.steps) earlier)) (subst (λ v. IsIn (holds_from the_coordinator (holds_at (marks_in w.steps) the_coordinator) earlier) v) (same-lock (table_lock script g line) wanted v takes q) h))
       by_either (inr h) = inr (record { wanted = wanted; takes = takes; stands = subst (λ ws. IsIn ws wanted) (sym (waits_from-append the_coordinator [] (marks_in w.steps) earlier)) h })
 
   pub commands-hold : ((g : Gxid) (c : Cid) → stage_of w.coord g.0 ≡ Live → (w.coord.works g.0).last < c.0 → AreUnsent g c (marks_in w.steps)) → DoCommandsHold script w.steps

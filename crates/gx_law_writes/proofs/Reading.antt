@@ -27,7 +27,7 @@ use Rattle.gx_store.proofs.Exclusive.{holds_from-append}
 use Rattle.gx_store.proofs.Marks.{is_snapped-append}
 use Rattle.gx_store.proofs.Runs.{marks_in-push, starts_in-push}
 use Rattle.gx_store.specs.Lines.{BlockState, Failed, InBlock, Outside, cid_of, state_of, stmt_of, transaction_of}
-use Rattle.gx_store.specs.Locks.{HasGoneOut, LocksWhileReading}
+use Rattle.gx_store.specs.Locks.{HasGoneOut, LocksWhileReading, table_lock}
 use Rattle.gx_store.specs.Marks.{answer_count, is_begun, is_same_session, is_snapped, started_after}
 use Rattle.gx_store.specs.Ordered.{IsAtNode, IsSegment}
 use Rattle.gx_store.specs.Points.{marks_in, starts_by, starts_in}
@@ -40,7 +40,7 @@ use Rattle.gx_store.specs.declared.mark.Mark.TheVariants as mark
 use Rattle.gx_store.specs.declared.node.NodeEvent.{NodeEvent}
 use Rattle.gx_store.specs.declared.node.NodeEvent.TheVariants as here
 use Rattle.gx_store.specs.declared.run.Step.{Step}
-use Rattle.gx_rules.specs.AtCoordinator.{awaited, awaited_collect, cancel_turn, cancels, coord_can, coord_turn, is_nothing, lock_for, next_line, on_event, on_line, resends, resumes, starts, starts_line}
+use Rattle.gx_rules.specs.AtCoordinator.{awaited, awaited_collect, cancel_turn, cancels, coord_can, coord_turn, is_nothing, next_line, on_event, on_line, resends, resumes, starts, starts_line}
 use Rattle.gx_rules.specs.AtSegment.{seg_rule}
 use Rattle.gx_rules.specs.Coordinators.{Coord, CoordTurn, Work, session_of, work_of}
 use Rattle.gx_rules.specs.Locks.{hold_mark}
@@ -410,17 +410,17 @@ module _ (script : Script) (some : 1 ≤ script.segments) where
             at-first : Held script w.steps e k (pre ++ [])
             at-first = subst (Held script w.steps e k) (sym (append-nil pre)) (λ line g c r o. absurd ((says line g c r).2 o))
 
-            said-behind : (zs : List Mark) → Each (CalmFor k) zs → (line : Stmt) (g : Gxid) (c : Cid) → Runs script k (marks_in w.steps ++ (pre ++ zs)) (starts_in k w.steps + starts_by k e) line g c → (wanted : Claim) → lock_for script g line ≡ Some wanted → lock_for script h asked ≡ Some wanted
-            said-behind zs calm line g c r wanted takes = subst (λ x. lock_for script x asked ≡ Some wanted) i.0 (subst (λ l. lock_for script g l ≡ Some wanted) i.1 takes)
+            said-behind : (zs : List Mark) → Each (CalmFor k) zs → (line : Stmt) (g : Gxid) (c : Cid) → Runs script k (marks_in w.steps ++ (pre ++ zs)) (starts_in k w.steps + starts_by k e) line g c → (wanted : Claim) → table_lock script g line ≡ Some wanted → table_lock script h asked ≡ Some wanted
+            said-behind zs calm line g c r wanted takes = subst (λ x. table_lock script x asked ≡ Some wanted) i.0 (subst (λ l. table_lock script g l ≡ Some wanted) i.1 takes)
               where
                 i : (g ≡ h) × (line ≡ asked) × (IsOut (marks_in w.steps ++ pre) g c → ⊥)
                 i = says line g c (runs-back script k (marks_in w.steps ++ pre) zs _ line g c calm (subst (λ m. Runs script k m (starts_in k w.steps + starts_by k e) line g c) (sym (append_assoc (marks_in w.steps) pre zs)) r))
 
             behind-free : (zs : List Mark) → Each (Free script h asked) zs → Held script w.steps e k (pre ++ zs)
             behind-free [] f = at-first
-            behind-free (z ∷ zs) f = λ line g c r o wanted takes. absurd (none-some (lock_for script h asked) wanted f.0.1 (said-behind (z ∷ zs) (each_weaker (Free script h asked) (CalmFor k) (λ m q. plain-calm k m q.0) (z ∷ zs) f) line g c r wanted takes))
+            behind-free (z ∷ zs) f = λ line g c r o wanted takes. absurd (none-some (table_lock script h asked) wanted f.0.1 (said-behind (z ∷ zs) (each_weaker (Free script h asked) (CalmFor k) (λ m q. plain-calm k m q.0) (z ∷ zs) f) line g c r wanted takes))
 
-            behind-hold : (own : Claim) → lock_for script h asked ≡ Some own → (zs : List Mark) → Each Plain zs → Held script w.steps e k (pre ++ hold_mark the_coordinator own ∷ zs)
+            behind-hold : (own : Claim) → table_lock script h asked ≡ Some own → (zs : List Mark) → Each Plain zs → Held script w.steps e k (pre ++ hold_mark the_coordinator own ∷ zs)
             behind-hold own takes zs f =
                 λ line g c r o wanted wants.
                 subst (λ (x : Claim). IsIn (holds_at (marks_in w.steps ++ (pre ++ hold_mark the_coordinator own ∷ zs)) the_coordinator) x)

@@ -36,7 +36,8 @@ use Rattle.gx_rules.specs.Segments.{Local, Phase, Seg, SegTurn, Suspended, after
 use Rattle.gx_rules.proofs.Rounds.{collect-ways}
 use Rattle.gx_rules.specs.Segments.Phase.{Reading, Writing, Prepared, Committed, Forgotten, Aborted}
 use Rattle.gx_rules.specs.Shown.{shown}
-use Rattle.gx_rules.specs.Running.{runs_locked, runs_slice, slice_lock, starts_slice, suspends}
+use Rattle.gx_rules.specs.Running.{runs_locked, runs_slice, starts_slice, suspends}
+use Rattle.gx_store.specs.Locks.{slice_lock}
 use Rattle.gx_rules.specs.Slices.{first_fault, inserted, inserts, locks as locks_only, selects}
 use Rattle.gx_law_order.proofs.Releases.{each-released}
 use Rattle.gx_law_order.specs.Lists.{Each}

@@ -52,7 +52,8 @@ use Rattle.gx_store.specs.declared.node.NodeEvent.TheVariants as event
 use Rattle.gx_store.specs.Marks.{has_snapshot, is_snapped}
 use Rattle.gx_store.specs.Refusals.{the_coordinator}
 use Rattle.gx_store.specs.Writes.{dist_of}
-use Rattle.gx_rules.specs.AtCoordinator.{Reading, answer_at_commit, answer_mark, answer_of_command, answers, answers_at_once, awaited, awaited_collect, begins, behind, cancels, command_answer, commits, completes, coord_can, dispatches, ends_in, failure_marks, fault_mark, follows, goes, goes_on, goes_out, is_awaited, is_committed, is_idle, is_nothing, is_refused, kept_at, next_cid, next_line, nodes_in, on_answer, on_done, on_event, on_failed, on_line, on_message, on_status, orders_of, plain_answer_of, reads_by, reads_for, reason_of, refusal_of, resends, rolls_back, starts, starts_line, table_of, takes_done, takes_snapshot, with_done, writers_with, goes_on_locked, if_granted, lock_for, requests, resumes, waits_for}
+use Rattle.gx_rules.specs.AtCoordinator.{Reading, answer_at_commit, answer_mark, answer_of_command, answers, answers_at_once, awaited, awaited_collect, begins, behind, cancels, command_answer, commits, completes, coord_can, dispatches, ends_in, failure_marks, fault_mark, follows, goes, goes_on, goes_out, is_awaited, is_committed, is_idle, is_nothing, is_refused, kept_at, next_cid, next_line, nodes_in, on_answer, on_done, on_event, on_failed, on_line, on_message, on_status, orders_of, plain_answer_of, reads_by, reads_for, reason_of, refusal_of, resends, rolls_back, starts, starts_line, table_of, takes_done, takes_snapshot, with_done, writers_with, goes_on_locked, if_granted, requests, resumes, waits_for}
+use Rattle.gx_store.specs.Locks.{table_lock}
 use Rattle.gx_rules.specs.Coordinators.{Command, Coord, CoordTurn, Session, Work, new_work, no_work, rests, session_of, with_state, with_work, work_of}
 use Rattle.gx_rules.specs.Fits.{fits_part}
 use Rattle.gx_rules.specs.Maps.{with_at}
@@ -412,7 +413,7 @@ module _ (script : Script) (c : Coord) (x : NodeEvent) where
         by_test false = waits-walk wanted
 
     pub dispatch-walk : Walk earlier (dispatches script c1 (gx g) line)
-    dispatch-walk = request-walk (lock_for script (gx g) line)
+    dispatch-walk = request-walk (table_lock script (gx g) line)
 
   -- A STATEMENT THAT HAS WAITED
   module _ (g : Gxid) (it : IsGoingOut x) (o : GoesOut script c g) where

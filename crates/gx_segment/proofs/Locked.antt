@@ -15,7 +15,7 @@ use Rattle.gx_waits.specs.declared.object.Object.TheVariants.{Relation, Transact
 use Rattle.gx_locks.specs.Claims.{is_of}
 use Rattle.gx_locks.specs.Locks.{Locks, is_free, is_ready, resumed, wait_of}
 use Rattle.gx_node.specs.Locking as code_of
-use Rattle.gx_node.specs.Locking.{asked_locks, asked_mark, granted_locks, granted_marks, marks_on_end}
+use Rattle.gx_node.specs.Locking.{asked_locks, asked_mark, granted_locks, granted_marks, is_on_transaction, marks_on_end}
 use Rattle.gx_node.specs.Phases.{suspended_of}
 use Rattle.gx_node.specs.declared.local.Suspended as code
 use Rattle.gx_store.specs.declared.mark.Mark.{Mark}
@@ -27,7 +27,7 @@ use Rattle.gx_rules.specs.Slices.{Moved}
 use Rattle.gx_slices.specs.Agrees.{AreWriters, IsHeld}
 use Rattle.gx_slices.specs.Ran.{MayGoOn, MayRun}
 use Rattle.gx_slices.specs.Suspensions.{HasSuspended, HasWoken}
-use Rattle.gx_slices.specs.Owning.{is_on_transaction, is_own}
+use Rattle.gx_slices.specs.Owning.{is_own}
 use Rattle.gx_slices.specs.Waiting.{AreWaits}
 use Rattle.gx_slices.specs.declared.held.Held.{Held}
 use Rattle.gx_slices.proofs.OwnMoves.{AreWriters-held}

@@ -24,7 +24,8 @@ use Rattle.gx_store.specs.declared.mark.Mark.TheVariants as mark
 use Rattle.gx_rules.specs.AtSegment.{resumes}
 use Rattle.gx_rules.specs.Changes.{Change, change_of, changes_rows, goes_on_at, goes_through, selected, shown_to, unless_fault}
 use Rattle.gx_rules.specs.Locks.{hold_mark, with_hold}
-use Rattle.gx_rules.specs.Running.{goes_on, is_granted, runs_locked, runs_slice, slice_lock, starts_slice, suspends, unless_end}
+use Rattle.gx_rules.specs.Running.{goes_on, is_granted, runs_locked, runs_slice, starts_slice, suspends, unless_end}
+use Rattle.gx_store.specs.Locks.{slice_lock}
 use Rattle.gx_rules.specs.Segments.{Phase, Reading, Writing, Prepared, Committed, Forgotten, Aborted, Seg, Suspended, local_of, with_local}
 use Rattle.gx_rules.specs.Shown.{shown}
 use Rattle.gx_rules.specs.Slices.{Moved, adds_version, first_fault, inserts_row, selects, starts_from, takes_own, version, writes_row}

@@ -10,12 +10,12 @@ use Rattle.gx_waits.specs.declared.claim.Claim.{Claim}
 use Rattle.gx_waits.specs.declared.object.Object.{Object}
 use Rattle.gx_waits.specs.declared.object.Object.TheVariants.{Relation, Transaction, Tuple}
 use Rattle.gx_locks.specs.Locks.{Locks, held, resumed, wait_of, without, without_claim}
-use Rattle.gx_node.specs.Locking.{granted_locks, unless_end}
+use Rattle.gx_node.specs.Locking.{granted_locks, is_on_transaction, unless_end}
 use Rattle.gx_rules.specs.Segments.{Phase, Reading, Writing, Prepared, Committed, Forgotten, Aborted, Seg}
 use Rattle.gx_rules.specs.Slices.{own_lock}
 use Rattle.gx_slices.specs.Agrees.{AreWriters}
 use Rattle.gx_slices.specs.Apart.{IsApart}
-use Rattle.gx_slices.specs.Owning.{AreOwn, is_on_transaction, own_locks}
+use Rattle.gx_slices.specs.Owning.{AreOwn, own_locks}
 use Rattle.gx_slices.specs.declared.held.Entry.{Entry}
 use Rattle.gx_slices.specs.declared.held.Held.{Held}
 use Rattle.gx_slices.proofs.Owning.{without-held}

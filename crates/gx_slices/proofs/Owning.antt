@@ -12,11 +12,11 @@ use Rattle.gx_waits.specs.declared.claim.Claim.{Claim}
 use Rattle.gx_waits.specs.declared.object.Object.{Object}
 use Rattle.gx_waits.specs.declared.object.Object.TheVariants.{Relation, Transaction, Tuple}
 use Rattle.gx_locks.specs.Locks.{Locks, held, is_free, resumed, without_claim}
-use Rattle.gx_node.specs.Locking.{granted_locks, unless_end}
+use Rattle.gx_node.specs.Locking.{granted_locks, is_on_transaction, unless_end}
 use Rattle.gx_store.specs.declared.mark.Mark.{Mark}
 use Rattle.gx_rules.specs.Segments.{Phase, Reading, Writing, Prepared, Committed, Forgotten, Aborted}
 use Rattle.gx_rules.specs.Slices.{Moved, own_lock, takes_own}
-use Rattle.gx_slices.specs.Owning.{AreOwn, is_on_transaction, is_own, is_own_on, own_locks, own_marks}
+use Rattle.gx_slices.specs.Owning.{AreOwn, is_own, is_own_on, own_locks, own_marks}
 use Rattle.gx_slices.proofs.Gxids.{itself}
 use Rattle.gx_slices.proofs.Lists.{and_parts}
 

@@ -14,6 +14,7 @@ use Rattle.gx_tree.specs.declared.stmt.Level.{Level}
 use Rattle.gx_tree.specs.declared.stmt.Stmt.{Stmt}
 use Rattle.gx_tree.specs.declared.stmt.Stmt.TheVariants as stmt
 use Rattle.gx_waits.specs.Claim.{same_claim}
+use Rattle.gx_waits.specs.declared.claim.Claim.{Claim}
 use Rattle.gx_waits.specs.declared.object.Object.{Object}
 use Rattle.gx_store.specs.Asking.{AreAsked, Asks, AsksThere, GrantsWait, IsOrWasUnderWay, LocksItself, Needs, has_told}
 use Rattle.gx_store.specs.Commands.{RunsCommand}
@@ -86,7 +87,7 @@ no-share script marks query line e n = wrong (subst (λ l. Needs script marks th
     other q = cc
 
     wrong : Needs script marks the_segment first_txn (stmt.Select query) the_table AccessExclusive → ⊥
-    wrong (inl z) = other z.1
+    wrong (inl z) = other (sym (ap (λ (c : Claim). c.mode) (some-same _ _ z)))
     wrong (inr z) = z.1
 
 no-more-there : {script : Script} {point : Point} (query : Query) → Asks script point the_segment first_txn the_table AccessExclusive → is_aborted (before point) first_txn ≡ false
@@ -116,7 +117,7 @@ no-weak script marks assigns cond line off e n = wrong (subst (λ l. Needs scrip
     other q = cc
 
     wrong : Needs script marks the_segment first_txn (stmt.Update first_table assigns cond) the_table RowExclusive → ⊥
-    wrong (inl z) = other (z.1 ∙ ap (λ b. if b then RowExclusive else Exclusive) off)
+    wrong (inl z) = other (sym (ap (λ (c : Claim). c.mode) (some-same _ _ z)) ∙ ap (λ b. if b then RowExclusive else Exclusive) off)
     wrong (inr z) = z.2
 
 no-weak-there : {script : Script} {point : Point} (assigns : List Assign) (cond : Option Cond) → Asks script point the_segment first_txn the_table RowExclusive ⊎ GrantsWait script point the_segment first_txn the_table RowExclusive ⊎ LocksItself point.earlier the_segment first_txn the_table RowExclusive → script.detector ≡ false → is_aborted (before point) first_txn ≡ false → waits_at (before point) the_segment ≡ []
