@@ -19,7 +19,8 @@ use Rattle.gx_dtx.specs.Nodes.{has, with_node}
 use Rattle.gx_dtx.specs.Rules.{abort_found, begun, enlisted, with_live}
 use Rattle.gx_dtx.specs.Table.{Table, find_txn, new_txn, xmin_of}
 use Rattle.gx_dtx.specs.declared.txn.Txn.{Txn}
-use Rattle.gx_locks.specs.Locks.{is_free, resumed}
+use Rattle.gx_locks.specs.Locks.{resumed}
+use Rattle.gx_waits.specs.Claims.{is_free}
 use Rattle.gx_waits.specs.declared.claim.Claim.{Claim}
 use Rattle.gx_meaning.specs.declared.fault.ArithFault.{ArithFault}
 use Rattle.gx_meaning.specs.Plan.{plan_of}
@@ -317,8 +318,8 @@ module _ (script : Script) (c : Coord) (kept : Kept script c) (e : AreSound c) (
 
   line-sound : is_nothing_in (session_of c s).state.pending ≡ true → (line : Stmt) (asked : LineStep) → Asks (session_of c s).state.block asked → AreSound (on_line script (now asked) s line asked).coord
   line-sound idle line (step.Answer plain) a = started (step.Answer plain)
-  line-sound idle line step.Refuse5 a = started step.Refuse5
-  line-sound idle line step.Refuse7 a = started step.Refuse7
+  line-sound idle line step.InFailedBlock a = started step.InFailedBlock
+  line-sound idle line step.NotInBlock a = started step.NotInBlock
   line-sound idle line (step.BeginBlock level) a = begun-now (step.BeginBlock level) level
   line-sound idle line step.CommitBlock a = commits-sound (now step.CommitBlock) kept.whole (started step.CommitBlock) (session_of (now step.CommitBlock) s).transaction.0
   line-sound idle line step.RollbackBlock a =

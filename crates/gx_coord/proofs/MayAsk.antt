@@ -4,7 +4,7 @@ use Rattle.std.specs.List.{list_any}
 use Rattle.std.specs.Prelude.{find}
 use Rattle.gx_lemmas.proofs.Numbers.{eqb-self}
 use Rattle.gx_ids.specs.declared.ids.SessionId.{SessionId}
-use Rattle.gx_locks.specs.Claims.{is_of}
+use Rattle.gx_waits.specs.Claims.{is_of}
 use Rattle.gx_tree.specs.declared.stmt.Level.TheVariants.{ReadCommitted}
 use Rattle.gx_tree.specs.declared.stmt.Stmt.{Stmt}
 use Rattle.gx_tree.specs.declared.stmt.Stmt.TheVariants as stmt
@@ -134,8 +134,8 @@ module _ (script : Script) (c : Coord) (h : IsSound script c) (s : SessionId) (i
 
   pub may-ask : (line : Stmt) (asked : LineStep) → line_step (session_of c s).state.block line ≡ asked → MayAsk (now asked) s line asked
   may-ask line (step.Answer plain) e = tt
-  may-ask line step.Refuse5 e = tt
-  may-ask line step.Refuse7 e = tt
+  may-ask line step.InFailedBlock e = tt
+  may-ask line step.NotInBlock e = tt
   may-ask line (step.BeginBlock level) e = tt
   may-ask line step.CommitBlock e =
       subst (λ (x : Session). IsReady (now step.CommitBlock) x.transaction) (sym (session_now step.CommitBlock))

@@ -22,7 +22,8 @@ use Rattle.gx_rules.specs.Fits.{fits_part}
 use Rattle.gx_rules.specs.Locks.{with_hold}
 use Rattle.gx_rules.specs.Rounds.{victims_at}
 use Rattle.gx_rules.specs.Sending.{clock_after}
-use Rattle.gx_locks.specs.Locks.{is_free, resumed, wait_of}
+use Rattle.gx_locks.specs.Locks.{resumed, wait_of}
+use Rattle.gx_waits.specs.Claims.{is_free}
 use Rattle.gx_meaning.specs.Plan.{plan_of}
 use Rattle.gx_meaning.specs.declared.fault.ArithFault.{ArithFault}
 use Rattle.gx_meaning.specs.declared.piece.Piece.{Piece}
@@ -144,8 +145,8 @@ request-quiet script c g line (Some wanted) = by_test (is_free c.locks.holds wan
 
 line-quiet : (script : Script) (c : Coord) (s : SessionId) (line : Stmt) (asked : LineStep) → IsQuiet (turns.on_line script c s line asked)
 line-quiet script c s line (step.Answer plain) = refl
-line-quiet script c s line step.Refuse5 = refl
-line-quiet script c s line step.Refuse7 = refl
+line-quiet script c s line step.InFailedBlock = refl
+line-quiet script c s line step.NotInBlock = refl
 line-quiet script c s line (step.BeginBlock level) = refl
 line-quiet script c s line step.CommitBlock =
     let g = (session_of c s).transaction in

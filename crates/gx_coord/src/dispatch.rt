@@ -3,7 +3,7 @@ ghost use Rattle.std.specs.Prelude.{◌≡◌, ◌<◌, ◌+◌, ◌^◌, [], Er
 ghost use Rattle.std.specs.List.{list_any};
 ghost use Rattle.gx_dtx.specs.Table.{IsActive};
 ghost use Rattle.gx_eval.specs.Faults.{eval_fault};
-ghost use Rattle.gx_locks.specs.Claims.{is_of};
+ghost use Rattle.gx_waits.specs.Claims.{is_of};
 ghost use Rattle.gx_meaning.specs.declared.fault.ArithFault.{ArithFault as Fault};
 ghost use Rattle.gx_meaning.specs.Statements.{IsStmtOf};
 ghost use Rattle.gx_rules.specs.AtCoordinator as turns;

@@ -1,8 +1,8 @@
 // The locks that transactions have here, how they wait for them, and how they are given back.
 ghost use Rattle.std.specs.Prelude.{◌≡◌, ◌++◌, ◌∷◌, [], IfOk, OnOk, false, true};
 ghost use Rattle.std.specs.List.{list_any};
-ghost use Rattle.gx_locks.specs.Claims.{is_of};
-ghost use Rattle.gx_locks.specs.Locks.{is_free, is_ready, resumed, wait_of};
+ghost use Rattle.gx_waits.specs.Claims.{is_free, is_of};
+ghost use Rattle.gx_locks.specs.Locks.{may_take, resumed, wait_of};
 ghost use Rattle.gx_node.specs.Locking.{asked_mark, resumed_marks};
 ghost use Rattle.gx_rules.specs.Locks as rule;
 ghost use Rattle.gx_store.specs.Refusals.{the_coordinator};
@@ -36,7 +36,7 @@ pub(crate) fn take_lock(coord: &mut Coord, wanted: Claim, marks: &mut Vec<Mark>)
 
 // The ready wait of a transaction is a hold from now on.
 pub(crate) fn take_ready(coord: &mut Coord, gxid: Gxid, marks: &mut Vec<Mark>) -> Mem<()>
-    requires { is_ready coord.old.locks.holds (wait_of coord.old.locks gxid) ≡ true }
+    requires { may_take coord.old.locks gxid ≡ true }
     ensures framed { OnOk result (IsFramed coord.old coord.new) }
     ensures coord { OnOk result (coord_of coord.new ≡ record (coord_of coord.old) { locks = resumed coord.old.locks gxid (wait_of coord.old.locks gxid) }) }
     ensures marks { OnOk result (marks.new.items ≡ marks.old.items ++ resumed_marks the_coordinator (wait_of coord.old.locks gxid)) }
@@ -46,7 +46,7 @@ pub(crate) fn take_ready(coord: &mut Coord, gxid: Gxid, marks: &mut Vec<Mark>) -
 
 // Whether the wait of a transaction is ready.
 pub(crate) fn can_take(coord: &Coord, gxid: Gxid) -> bool
-    ensures { result ≡ is_ready coord.now.locks.holds (wait_of coord.now.locks gxid) }
+    ensures { result ≡ may_take coord.now.locks gxid }
 {
     coord.locks.is_ready(gxid)
 }

@@ -29,7 +29,8 @@ use Rattle.gx_store.specs.Messages.{HasReceived, IsSending, IsSent}
 use Rattle.gx_store.specs.Ordered.{AreOrdered, IsAtNode, IsLink, IsSegment}
 use Rattle.gx_store.specs.Points.{marks_in}
 use Rattle.gx_store.specs.Refusals.{the_coordinator}
-use Rattle.gx_store.specs.Waits.{claim, is_held}
+use Rattle.gx_store.specs.Waits.{is_held}
+use Rattle.gx_waits.specs.Claims.{claim}
 use Rattle.gx_waits.specs.declared.object.Object.TheVariants.{Relation}
 use Rattle.gx_modes.specs.declared.modes.Mode.{Mode}
 use Rattle.gx_rules.specs.AtCoordinator.{coord_rule}

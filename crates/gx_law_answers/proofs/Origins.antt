@@ -33,7 +33,8 @@ use Rattle.gx_store.specs.Messages.{IsSent}
 use Rattle.gx_store.specs.Ordered.{IsSegment}
 use Rattle.gx_store.specs.Points.{marks_in}
 use Rattle.gx_store.specs.Refusals.{the_coordinator}
-use Rattle.gx_store.specs.Waits.{claim, is_held}
+use Rattle.gx_store.specs.Waits.{is_held}
+use Rattle.gx_waits.specs.Claims.{claim}
 use Rattle.gx_waits.specs.declared.claim.Claim.{Claim}
 use Rattle.gx_waits.specs.declared.object.Object.{Object}
 use Rattle.gx_waits.specs.declared.object.Object.TheVariants.{Relation, Transaction, Tuple}

@@ -68,7 +68,8 @@ use Rattle.gx_law_order.proofs.Legality.{moves-holds}
 use Rattle.gx_law_answers.specs.Earned.{Events}
 use Rattle.gx_rules.specs.Locks.{has_there, release_mark, release_marks, with_hold}
 use Rattle.gx_waits.specs.declared.claim.Claim.{Claim}
-use Rattle.gx_locks.specs.Locks.{Locks, is_free, resumed, wait_of}
+use Rattle.gx_locks.specs.Locks.{Locks, resumed, wait_of}
+use Rattle.gx_waits.specs.Claims.{is_free}
 
 -- MARKS WITH ONE SNAPSHOT AT MOST
 abbrev NoSnaps : List Mark → Type 0
@@ -161,8 +162,8 @@ module _ (P : Gxid → Type 0) where
 
   on-one : (script : Script) (c : Coord) (s : SessionId) (line : Stmt) (asked : LineStep) → P c.table.next → (asked ≡ step.Command false → (work_of c (session_of c s).transaction).snapshot ≡ None → P (session_of c s).transaction) → OneSnap P (on_line script c s line asked).marks
   on-one script c s line (step.Answer plain) new inside = tt
-  on-one script c s line step.Refuse5 new inside = tt
-  on-one script c s line step.Refuse7 new inside = tt
+  on-one script c s line step.InFailedBlock new inside = tt
+  on-one script c s line step.NotInBlock new inside = tt
   on-one script c s line (step.BeginBlock level) new inside = tt
   on-one script c s line step.CommitBlock new inside = none-one (commits c (session_of c s).transaction).marks (commits-none c (session_of c s).transaction)
   on-one script c s line step.RollbackBlock new inside = none-one (release_marks the_coordinator c.locks (session_of c s).transaction) (back-none c.locks (session_of c s).transaction)

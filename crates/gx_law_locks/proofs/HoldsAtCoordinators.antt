@@ -18,8 +18,8 @@ use Rattle.gx_dsnap.specs.declared.snapshot.Snapshot.{Snapshot}
 use Rattle.gx_dtx.specs.Rules.{Turn, on_abort, on_commit, on_reply}
 use Rattle.gx_dtx.specs.declared.outcome.Outcome.{Outcome}
 use Rattle.gx_dtx.specs.declared.outcome.Outcome.TheVariants as outcome
-use Rattle.gx_locks.specs.Claims.{is_of}
-use Rattle.gx_locks.specs.Locks.{Locks, is_free, is_ready, resumed, wait_of}
+use Rattle.gx_waits.specs.Claims.{is_free, is_of}
+use Rattle.gx_locks.specs.Locks.{Locks, is_ready, resumed, wait_of}
 use Rattle.gx_meaning.specs.declared.fault.ArithFault.{ArithFault}
 use Rattle.gx_meaning.specs.declared.piece.Piece.{Piece}
 use Rattle.gx_msg.specs.declared.message.Message.{Message}
@@ -296,8 +296,8 @@ module _ (script : Script) (before : List Mark) (c : Coord) (single : AreSingle 
   line-done : (s : SessionId) → is_idle (session_of c s) ≡ true → (line : Stmt) (asked : LineStep) → Admits (session_of c s).state.block asked
       → Holding before c (on_line script (starts_line c s asked) s line asked)
   line-done s idle line (step.Answer plain) a = no-lock the_coordinator before c.locks _ (tt, tt)
-  line-done s idle line step.Refuse5 a = no-lock the_coordinator before c.locks _ (tt, tt)
-  line-done s idle line step.Refuse7 a = no-lock the_coordinator before c.locks _ (tt, tt)
+  line-done s idle line step.InFailedBlock a = no-lock the_coordinator before c.locks _ (tt, tt)
+  line-done s idle line step.NotInBlock a = no-lock the_coordinator before c.locks _ (tt, tt)
   line-done s idle line (step.BeginBlock level) a = no-lock the_coordinator before c.locks _ (tt, (tt, tt))
   line-done s idle line step.CommitBlock a =
       commit before (starts_line c s step.CommitBlock) (session_of (starts_line c s step.CommitBlock) s).transaction (ap (wait_of c.locks) (transaction-now s step.CommitBlock) ∙ single.idle s idle a)

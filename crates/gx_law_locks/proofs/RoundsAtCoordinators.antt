@@ -42,7 +42,8 @@ use Rattle.gx_store.specs.declared.node.NodeEvent.{NodeEvent}
 use Rattle.gx_store.specs.declared.node.NodeEvent.TheVariants as event
 use Rattle.gx_store.specs.Refusals.{the_coordinator}
 use Rattle.gx_store.specs.Writes.{dist_of}
-use Rattle.gx_locks.specs.Locks.{Locks, is_free, resumed, wait_of}
+use Rattle.gx_locks.specs.Locks.{Locks, resumed, wait_of}
+use Rattle.gx_waits.specs.Claims.{is_free}
 use Rattle.gx_waits.specs.declared.claim.Claim.{Claim}
 use Rattle.gx_waits.specs.declared.graph.LocalGraph.{LocalGraph}
 use Rattle.gx_rules.specs.AtCoordinator.{answer_mark, answers, answers_at_once, awaited_collect, begins, behind, cancels, command_order, commits, completes, dispatches, ends_in, failure_marks, fault_mark, follows, goes, goes_on, goes_on_locked, if_granted, is_awaited, is_committed, is_refused, next_cid, on_answer, on_done, on_event, on_failed, on_line, on_message, on_status, order_to, orders_of, reads_by, reads_for, reason_of, requests, resends, resumes, rolls_back, starts, starts_line, status_order, table_of, takes_done, Reading}
@@ -241,8 +242,8 @@ module _ (c : Coord) where
 
     line_done : (d : Coord) (s : SessionId) (line : Stmt) (asked : LineStep) → Like d → Quiet (on_line script d s line asked)
     line_done d s line (step.Answer plain) e = at_once d s _ e
-    line_done d s line step.Refuse5 e = at_once d s _ e
-    line_done d s line step.Refuse7 e = at_once d s _ e
+    line_done d s line step.InFailedBlock e = at_once d s _ e
+    line_done d s line step.NotInBlock e = at_once d s _ e
     line_done d s line (step.BeginBlock level) e = record { coord = begin d s level e; marks = (tt, (tt, tt)); outs = tt }
     line_done d s line step.CommitBlock e = commit d (session_of d s).transaction e
     line_done d s line step.RollbackBlock e =

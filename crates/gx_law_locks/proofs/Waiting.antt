@@ -11,7 +11,7 @@ use Rattle.gx_dtx.specs.Table.{find_txn}
 use Rattle.gx_dtx.specs.declared.phase.Phase.{Phase as Status}
 use Rattle.gx_dtx.specs.declared.phase.Phase.TheVariants as status
 use Rattle.gx_dtx.specs.declared.txn.Txn.{Txn}
-use Rattle.gx_locks.specs.Claims.{is_of}
+use Rattle.gx_waits.specs.Claims.{is_of}
 use Rattle.gx_locks.specs.Locks.{wait_of}
 use Rattle.gx_waits.specs.declared.claim.Claim.{Claim}
 use Rattle.gx_script.specs.declared.Script.{Script}

@@ -60,7 +60,8 @@ use Rattle.gx_law_order.proofs.Events.{idle-first, live-stage, own-idle}
 use Rattle.gx_law_order.proofs.Ways.{Stands}
 use Rattle.gx_law_order.proofs.Waiting.{GoesOut}
 use Rattle.gx_law_order.proofs.Dispatching.{goes-out-is}
-use Rattle.gx_locks.specs.Locks.{Locks, is_free, resumed, wait_of}
+use Rattle.gx_locks.specs.Locks.{Locks, resumed, wait_of}
+use Rattle.gx_waits.specs.Claims.{is_free}
 use Rattle.gx_rules.specs.Locks.{hold_mark, with_hold}
 use Rattle.gx_waits.specs.declared.claim.Claim.{Claim}
 use Rattle.gx_store.specs.Refusals.{the_coordinator}
@@ -360,8 +361,8 @@ module _ (script : Script) (P : ℕ → ℕ → Part) (c : Coord) (ms : List Mar
 
     line-all : (line : Stmt) (asked : LineStep) → Asks block asked → (IsPlainStep asked → IsPlain script c ms Gets starting s) → Told one_line (on_line script (starts_line c s asked) s line asked)
     line-all line (step.Answer plain) a q = at-once (step.Answer plain) _ (plain-may plain (q tt))
-    line-all line step.Refuse5 a q = at-once step.Refuse5 _ tt
-    line-all line step.Refuse7 a q = at-once step.Refuse7 _ tt
+    line-all line step.InFailedBlock a q = at-once step.InFailedBlock _ tt
+    line-all line step.NotInBlock a q = at-once step.NotInBlock _ tt
     line-all line (step.BeginBlock level) a q = begin-told level (q tt)
     line-all line step.CommitBlock a q = commit-told a
     line-all line step.RollbackBlock a q = rollback-told a (q tt)

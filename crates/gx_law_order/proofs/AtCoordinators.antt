@@ -59,7 +59,8 @@ use Rattle.gx_law_order.proofs.Places.{IsAtOneOf, PlanIn, collects-each, plan_in
 use Rattle.gx_law_order.specs.Places.{AreIn, IsOneOf, OutIn, PhaseIn, TableIn}
 use Rattle.gx_law_order.proofs.Tables.{FoundIn, TurnIn, begun_in, enlisted_in, find_in, has_in, live_in, on_abort_in, on_commit_in, on_reply_in, with_in, without_in}
 use Rattle.gx_rules.specs.Locks.{hold_mark, release_marks, with_hold}
-use Rattle.gx_locks.specs.Locks.{Locks, is_free, resumed, wait_of}
+use Rattle.gx_locks.specs.Locks.{Locks, resumed, wait_of}
+use Rattle.gx_waits.specs.Claims.{is_free}
 use Rattle.gx_waits.specs.declared.claim.Claim.{Claim}
 use Rattle.gx_waits.specs.declared.graph.LocalGraph.{LocalGraph}
 use Rattle.gx_rules.specs.Rounds.{begins_round, noted_in, on_graph, with_report}
@@ -242,8 +243,8 @@ module _ (script : Script) where
 
     line_done : (c : Coord) (s : SessionId) (line : Stmt) (asked : LineStep) → CoordIn script c → CoordStays c.sent (on_line script c s line asked)
     line_done c s line (step.Answer plain) e = at_once c s _ e
-    line_done c s line step.Refuse5 e = at_once c s _ e
-    line_done c s line step.Refuse7 e = at_once c s _ e
+    line_done c s line step.InFailedBlock e = at_once c s _ e
+    line_done c s line step.NotInBlock e = at_once c s _ e
     line_done c s line (step.BeginBlock level) e = record { coord = begin c s level e; counts = refl; marks = (refl, (refl, tt)); outs = tt }
     line_done c s line step.CommitBlock e = commit c (session_of c s).transaction e
     line_done c s line step.RollbackBlock e = back c (session_of c s).transaction (answer_mark c s told.Rollback ∷ []) _ e (on_abort_in n c.table (session_of c s).transaction e.table) (refl, tt)

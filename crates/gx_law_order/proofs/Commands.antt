@@ -38,7 +38,8 @@ use Rattle.gx_law_order.specs.Standings.{gx}
 use Rattle.gx_law_order.specs.Stages.Stage.{Closing, Live}
 use Rattle.gx_law_order.proofs.Turns.{Base, Good, base-kept, home-is, merged, same-sessions, stage-is, work-is}
 use Rattle.gx_rules.specs.Locks.{hold_mark, wait_mark, with_hold}
-use Rattle.gx_locks.specs.Locks.{Locks, is_free}
+use Rattle.gx_locks.specs.Locks.{Locks}
+use Rattle.gx_waits.specs.Claims.{is_free}
 use Rattle.gx_waits.specs.declared.claim.Claim.{Claim}
 use Rattle.gx_law_order.proofs.Queued.{Queues, queue-stays, queue-waits, queued-by}
 use Rattle.gx_store.specs.Refusals.{the_coordinator}

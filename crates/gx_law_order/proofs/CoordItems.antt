@@ -50,7 +50,8 @@ use Rattle.gx_law_order.proofs.Lists.{each_append}
 use Rattle.gx_law_order.specs.Lists.{Each}
 use Rattle.gx_law_order.proofs.SegItems.{Dull, dull-items}
 use Rattle.gx_rules.specs.Locks.{hold_mark, release_marks, with_hold}
-use Rattle.gx_locks.specs.Locks.{Locks, is_free, wait_of, resumed}
+use Rattle.gx_locks.specs.Locks.{Locks, wait_of, resumed}
+use Rattle.gx_waits.specs.Claims.{is_free}
 use Rattle.gx_waits.specs.declared.claim.Claim.{Claim}
 use Rattle.gx_waits.specs.declared.graph.LocalGraph.{LocalGraph}
 use Rattle.gx_rules.specs.Rounds.{begins_round, on_graph, with_report}
@@ -160,8 +161,8 @@ resume-dull script c g (Some wanted) (Some line) = held-dull script (with_work (
 -- lines
 line-dull : (script : Script) (c : Coord) (s : SessionId) (line : Stmt) (asked : LineStep) → IsDull (on_line script c s line asked)
 line-dull script c s line (step.Answer plain) = record { marks = (tt, tt); item = refl }
-line-dull script c s line step.Refuse5 = record { marks = (tt, tt); item = refl }
-line-dull script c s line step.Refuse7 = record { marks = (tt, tt); item = refl }
+line-dull script c s line step.InFailedBlock = record { marks = (tt, tt); item = refl }
+line-dull script c s line step.NotInBlock = record { marks = (tt, tt); item = refl }
 line-dull script c s line (step.BeginBlock level) = record { marks = (tt, (tt, tt)); item = refl }
 line-dull script c s line step.CommitBlock = commit-dull c (session_of c s).transaction
 line-dull script c s line step.RollbackBlock = record { marks = (tt, (tt, back-dull c.locks (session_of c s).transaction)); item = refl }

@@ -50,7 +50,8 @@ use Rattle.gx_law_order.proofs.Calls.{Mute, abort-led, becomes-calm, commits-rea
 use Rattle.gx_law_order.proofs.Nodes.{AreApart, apart-with, each-has, has-with, has-without}
 use Rattle.gx_law_order.proofs.Shifts.{Shift, is-sent, learn-shift, send-shift, sending, shift-same}
 use Rattle.gx_law_order.proofs.Ways.{Agrees, AgreesIn, CommandOf, IsOrderOf, Led, Same, SaidOut, Stands, Way, Working, at-one, rest-led, same-then, way-same, way-then}
-use Rattle.gx_locks.specs.Locks.{Locks, is_free, resumed, wait_of}
+use Rattle.gx_locks.specs.Locks.{Locks, resumed, wait_of}
+use Rattle.gx_waits.specs.Claims.{is_free}
 use Rattle.gx_rules.specs.Locks.{release_marks, hold_mark, wait_mark, with_hold, with_wait}
 use Rattle.gx_waits.specs.declared.claim.Claim.{Claim}
 use Rattle.gx_store.specs.Refusals.{the_coordinator}

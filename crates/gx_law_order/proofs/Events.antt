@@ -367,8 +367,8 @@ module _ (script : Script) (P : ℕ → ℕ → Part) (c : Coord) (ms : List Mar
 
     line-led : (line : Stmt) (asked : LineStep) → Asks block asked → Leads (on_line script (starts_line c s asked) s line asked)
     line-led line (step.Answer plain) a = at-once (step.Answer plain) _
-    line-led line step.Refuse5 a = at-once step.Refuse5 _
-    line-led line step.Refuse7 a = at-once step.Refuse7 _
+    line-led line step.InFailedBlock a = at-once step.InFailedBlock _
+    line-led line step.NotInBlock a = at-once step.NotInBlock _
     line-led line (step.BeginBlock level) a = begin-led level
     line-led line step.CommitBlock a = commit-led a
     line-led line step.RollbackBlock a = rollback-led a

@@ -70,7 +70,8 @@ use Rattle.gx_law_order.proofs.Events.{live-stage}
 use Rattle.gx_law_order.proofs.Held.{ChangeHeld, GoesOn, SaysEnded, abort-held, begun-held, changed-held, commit-held, held_in, is_awaited_at, is_held, live-held, one-held, reply-held}
 use Rattle.gx_law_order.proofs.Lowered.{NoExec, NoneOf, abort-none, commit-none, reply-none}
 use Rattle.gx_law_order.proofs.Nodes.{each-has, has-with}
-use Rattle.gx_locks.specs.Locks.{is_free, resumed, wait_of}
+use Rattle.gx_locks.specs.Locks.{resumed, wait_of}
+use Rattle.gx_waits.specs.Claims.{is_free}
 use Rattle.gx_rules.specs.Locks.{with_hold}
 use Rattle.gx_waits.specs.declared.claim.Claim.{Claim}
 use Rattle.gx_waits.specs.declared.graph.LocalGraph.{LocalGraph}
@@ -414,8 +415,8 @@ module _ (E : ℕ → ℕ → Bool) where
 
       line-holds : (line : Stmt) (asked : LineStep) → Asks block asked → Holding c (on_line script (starts_line c s asked) s line asked)
       line-holds line (step.Answer plain) a = record { table = same-on c.table; orders = ol; outs = tt }
-      line-holds line step.Refuse5 a = record { table = same-on c.table; orders = ol; outs = tt }
-      line-holds line step.Refuse7 a = record { table = same-on c.table; orders = ol; outs = tt }
+      line-holds line step.InFailedBlock a = record { table = same-on c.table; orders = ol; outs = tt }
+      line-holds line step.NotInBlock a = record { table = same-on c.table; orders = ol; outs = tt }
       line-holds line (step.BeginBlock level) a = begins-holds (step.BeginBlock level) level _ (record { table = same-on (begun c.table); orders = begun-orders level; outs = tt })
       line-holds line step.CommitBlock a = moved-holds s _ _ (commit-holds (starts_line c s step.CommitBlock) k.whole ol (session_of (starts_line c s step.CommitBlock) s).transaction)
       line-holds line step.RollbackBlock a = moved-holds s _ _ (rolling-holds (starts_line c s step.RollbackBlock) k.whole ol (session_of (starts_line c s step.RollbackBlock) s).transaction (answer_mark (starts_line c s step.RollbackBlock) s told.Rollback ∷ []))

@@ -53,8 +53,8 @@ rest-good c before k p = record { kept = k; past = subst (λ m. Past c m) (sym (
 -- what a line asks for, by the block
 abbrev pub Asks : Block → LineStep → Type 0
 Asks b (step.Answer plain) = is_open_in (block_after b (step.Answer plain)) ≡ is_open_in b
-Asks b step.Refuse5 = Unit {0}
-Asks b step.Refuse7 = Unit {0}
+Asks b step.InFailedBlock = Unit {0}
+Asks b step.NotInBlock = Unit {0}
 Asks b (step.BeginBlock level) = b ≡ Outside
 Asks b step.CommitBlock = is_open_in b ≡ true
 Asks b step.RollbackBlock = is_open_in b ≡ true
@@ -87,15 +87,15 @@ asks Failed (stmt.Insert t x) = tt
 asks Failed (stmt.Update t x y) = tt
 asks Failed (stmt.Delete t x) = tt
 
-same5 : (b : Block) → is_open_in (block_after b step.Refuse5) ≡ is_open_in b
-same5 Outside = refl
-same5 (Open level) = refl
-same5 Failed = refl
+same-failed : (b : Block) → is_open_in (block_after b step.InFailedBlock) ≡ is_open_in b
+same-failed Outside = refl
+same-failed (Open level) = refl
+same-failed Failed = refl
 
-same7 : (b : Block) → is_open_in (block_after b step.Refuse7) ≡ is_open_in b
-same7 Outside = refl
-same7 (Open level) = refl
-same7 Failed = refl
+same-outside : (b : Block) → is_open_in (block_after b step.NotInBlock) ≡ is_open_in b
+same-outside Outside = refl
+same-outside (Open level) = refl
+same-outside Failed = refl
 
 -- A SESSION IN A BLOCK, AND ITS TRANSACTION
 base-own : {script : Script} (c : Coord) (s : SessionId) (y : Session) → Kept script c → is_open_in (session_of c s).state.block ≡ true → is_nothing_in (session_of c s).state.pending ≡ true → y.transaction ≡ (session_of c s).transaction → Base script c (with_session c s y) (session_of c s).transaction.0 s.0 (c.works (session_of c s).transaction.0) y Live
@@ -333,8 +333,8 @@ module _ (script : Script) (c : Coord) (before : List Mark) (k : Kept script c) 
 
   line-good : (line : Stmt) (asked : LineStep) → Asks block asked → Good script before (on_line script (starts_line c s asked) s line asked)
   line-good line (step.Answer plain) a = at-once-good (step.Answer plain) _ refl a
-  line-good line step.Refuse5 a = at-once-good step.Refuse5 _ refl (same5 block)
-  line-good line step.Refuse7 a = at-once-good step.Refuse7 _ refl (same7 block)
+  line-good line step.InFailedBlock a = at-once-good step.InFailedBlock _ refl (same-failed block)
+  line-good line step.NotInBlock a = at-once-good step.NotInBlock _ refl (same-outside block)
   line-good line (step.BeginBlock level) a = begin-good level a
   line-good line step.CommitBlock a = commit-good a
   line-good line step.RollbackBlock a = rollback-good a

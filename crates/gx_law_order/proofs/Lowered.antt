@@ -57,7 +57,8 @@ use Rattle.gx_law_order.specs.Lists.{Each}
 use Rattle.gx_law_order.specs.Stages.{IsWhole}
 use Rattle.gx_law_order.specs.Horizons.{IsLow, IsLowIn}
 use Rattle.gx_law_order.proofs.Lows.{Fits, IsDense, all-fits, begun-dense, begun-fits, changed-fits, horizon-fits, live-dense, live-fits, none-fits}
-use Rattle.gx_locks.specs.Locks.{Locks, is_free, resumed, wait_of}
+use Rattle.gx_locks.specs.Locks.{Locks, resumed, wait_of}
+use Rattle.gx_waits.specs.Claims.{is_free}
 use Rattle.gx_rules.specs.Locks.{hold_mark, with_hold}
 use Rattle.gx_waits.specs.declared.claim.Claim.{Claim}
 use Rattle.gx_store.specs.Refusals.{the_coordinator}
@@ -423,8 +424,8 @@ module _ (script : Script) (c : Coord) (whole : IsWhole c.table) (dense : IsDens
 
   line-low : (s : SessionId) (line : Stmt) (asked : LineStep) → Lowered c (on_line script c s line asked)
   line-low s line (step.Answer plain) = record { table = λ n f. f; orders = ol; outs = tt }
-  line-low s line step.Refuse5 = record { table = λ n f. f; orders = ol; outs = tt }
-  line-low s line step.Refuse7 = record { table = λ n f. f; orders = ol; outs = tt }
+  line-low s line step.InFailedBlock = record { table = λ n f. f; orders = ol; outs = tt }
+  line-low s line step.NotInBlock = record { table = λ n f. f; orders = ol; outs = tt }
   line-low s line (step.BeginBlock level) = begins-low s level _ (record { table = λ n f. f; orders = begins-orders s level; outs = tt })
   line-low s line step.CommitBlock = commit-low script c whole ol (session_of c s).transaction
   line-low s line step.RollbackBlock = rolling-low script c whole ol (session_of c s).transaction (answer_mark c s told.Rollback ∷ [])

@@ -47,7 +47,8 @@ use Rattle.gx_law_order.proofs.Lists.{each_append}
 use Rattle.gx_law_order.specs.Lists.{Each}
 use Rattle.gx_law_order.specs.Numbers.{AreStartsNumbered}
 use Rattle.gx_rules.specs.Locks.{hold_mark, release_marks, with_hold}
-use Rattle.gx_locks.specs.Locks.{Locks, is_free, resumed, wait_of}
+use Rattle.gx_locks.specs.Locks.{Locks, resumed, wait_of}
+use Rattle.gx_waits.specs.Claims.{is_free}
 use Rattle.gx_waits.specs.declared.claim.Claim.{Claim}
 use Rattle.gx_rules.specs.Rounds.{begins_round}
 use Rattle.gx_rules.proofs.Rounds.{cancel-ways, graph-ways}
@@ -275,8 +276,8 @@ module _ (before : List Mark) where
 
   line-numbered : (script : Script) (c : Coord) (s : SessionId) (line : Stmt) (asked : LineStep) → c.table.next.0 ≡ start_count before + 1 → IsNumbered before (on_line script c s line asked)
   line-numbered script c s line (step.Answer plain) n = calm c.table.next _ n (record { marks = (tt, tt); stands = refl })
-  line-numbered script c s line step.Refuse5 n = calm c.table.next _ n (record { marks = (tt, tt); stands = refl })
-  line-numbered script c s line step.Refuse7 n = calm c.table.next _ n (record { marks = (tt, tt); stands = refl })
+  line-numbered script c s line step.InFailedBlock n = calm c.table.next _ n (record { marks = (tt, tt); stands = refl })
+  line-numbered script c s line step.NotInBlock n = calm c.table.next _ n (record { marks = (tt, tt); stands = refl })
   line-numbered script c s line (step.BeginBlock level) n = begun-numbered c.table.next s _ n (tt, tt) refl
   line-numbered script c s line step.CommitBlock n = calm c.table.next _ n (commit-calm c (session_of c s).transaction)
   line-numbered script c s line step.RollbackBlock n = calm c.table.next _ n (record { marks = (tt, (tt, back-calm c.locks (session_of c s).transaction)); stands = refl })

@@ -11,8 +11,8 @@ use Rattle.gx_script.specs.declared.Script.{Script}
 use Rattle.gx_tree.specs.declared.stmt.Stmt.{Stmt}
 use Rattle.gx_tree.specs.declared.stmt.Stmt.TheVariants as stmt
 use Rattle.gx_waits.specs.declared.claim.Claim.{Claim}
-use Rattle.gx_locks.specs.Claims.{is_of}
-use Rattle.gx_locks.specs.Locks.{Locks, wait_of, without}
+use Rattle.gx_waits.specs.Claims.{is_of, without}
+use Rattle.gx_locks.specs.Locks.{Locks, wait_of}
 use Rattle.gx_store.specs.Locks.{table_lock}
 use Rattle.gx_law_order.specs.Standings.{gx}
 use Rattle.gx_law_order.specs.Sessions.{IsQueued, claims_for, listed}

@@ -8,7 +8,7 @@ use Rattle.gx_ids.specs.declared.ids.Node.{Node}
 use Rattle.gx_ids.specs.declared.rid.Rid.{Rid}
 use Rattle.gx_tree.specs.declared.slice.Slice.{Slice}
 use Rattle.gx_waits.specs.declared.claim.Claim.{Claim}
-use Rattle.gx_locks.specs.Claims.{is_of}
+use Rattle.gx_waits.specs.Claims.{is_of}
 use Rattle.gx_locks.specs.Locks.{wait_of}
 use Rattle.gx_msg.specs.declared.message.Envelope.{Envelope}
 use Rattle.gx_msg.specs.declared.message.Message.{Message}

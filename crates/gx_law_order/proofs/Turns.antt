@@ -32,7 +32,7 @@ use Rattle.gx_law_order.specs.Past.{Past}
 use Rattle.gx_law_order.proofs.Sessions.{Change, kept-new, kept-own}
 use Rattle.gx_law_order.specs.Sessions.{Kept, Placed, Tied, is_open_in, is_said}
 use Rattle.gx_law_order.specs.Stages.{IsWhole, Stage, is_running, stage, stage_of}
-use Rattle.gx_locks.specs.Locks.{without}
+use Rattle.gx_waits.specs.Claims.{without}
 use Rattle.gx_law_order.proofs.Queued.{Queues, queue-released, queue-then}
 use Rattle.gx_law_order.specs.Standings.{gx}
 use Rattle.gx_law_order.proofs.Statuses.{Falls, Turned}

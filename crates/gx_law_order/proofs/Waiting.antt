@@ -11,8 +11,8 @@ use Rattle.gx_tree.specs.declared.slice.Slice.{Slice}
 use Rattle.gx_tree.specs.declared.slice.Slice.TheVariants as slice
 use Rattle.gx_tree.specs.declared.stmt.Stmt.{Stmt}
 use Rattle.gx_waits.specs.declared.claim.Claim.{Claim}
-use Rattle.gx_locks.specs.Claims.{is_of}
-use Rattle.gx_locks.specs.Locks.{is_free, is_ready, resumed, wait_of}
+use Rattle.gx_waits.specs.Claims.{is_free, is_of}
+use Rattle.gx_locks.specs.Locks.{is_ready, may_take, resumed, wait_of}
 use Rattle.gx_script.specs.declared.Script.{Script}
 use Rattle.gx_store.specs.declared.node.NodeEvent.TheVariants as event
 use Rattle.gx_rules.specs.AtCoordinator.{coord_can, is_segment}
@@ -101,7 +101,7 @@ no-slice script w good i g e = closed-rests script (HasCome w i) (w.segs i).hori
 
 -- who is admitted to go on waits, and its lock is free
 pub going-on : (script : Script) (w : World) → Well script w → (i : ℕ) (g : Gxid) → seg_can script (w.segs i) (event.Resume g) ≡ true → GoesOn script w i g
-going-on script w good i g ok = by_wait (wait_of s.locks g) refl (and-second (is_segment script s.node) (is_ready s.locks.holds (wait_of s.locks g)) ok)
+going-on script w good i g ok = by_wait (wait_of s.locks g) refl (and-second (is_segment script s.node) (may_take s.locks g) ok)
   where
     s : Seg
     s = w.segs i

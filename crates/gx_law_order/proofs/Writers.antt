@@ -24,8 +24,8 @@ use Rattle.gx_waits.specs.Claim.{same_claim}
 use Rattle.gx_waits.specs.declared.claim.Claim.{Claim}
 use Rattle.gx_waits.specs.declared.object.Object.{Object}
 use Rattle.gx_waits.specs.declared.object.Object.TheVariants.{Relation, Transaction, Tuple}
-use Rattle.gx_locks.specs.Claims.{is_of}
-use Rattle.gx_locks.specs.Locks.{Locks, held, is_free, wait_of, without}
+use Rattle.gx_waits.specs.Claims.{is_free, is_of, with_claim, without}
+use Rattle.gx_locks.specs.Locks.{Locks, wait_of}
 use Rattle.gx_meaning.specs.declared.fault.ArithFault.{ArithFault}
 use Rattle.gx_msg.specs.declared.message.Message.{Message}
 use Rattle.gx_msg.specs.declared.message.Message.TheVariants as message
@@ -164,7 +164,7 @@ write_goes g c table m rid image f = by_phase (local_of m.seg g).phase refl f.op
         record {
           writers = record {
             owns = each-held s.locks.holds (own_lock g) f.writers.owns refl;
-            each = each_by (held s.locks.holds (own_lock g)) (λ h n. held-own h g.0 s.locks.holds ∙ ap (λ b. holds_own h s.locks.holds || b) n ∙ or-false (holds_own h s.locks.holds))
+            each = each_by (with_claim (own_lock g) s.locks.holds) (λ h n. held-own h g.0 s.locks.holds ∙ ap (λ b. holds_own h s.locks.holds || b) n ∙ or-false (holds_own h s.locks.holds))
                 (subst (LocksItself Writing (has_version g.0 s.versions || true)) (sym (held-own g.0 g.0 s.locks.holds ∙ ap (λ b. holds_own g.0 s.locks.holds || b) (eqb-self g.0))) (first _ _ (itself Reading e)));
           };
           opens = opened;

@@ -54,7 +54,8 @@ use Rattle.gx_law_reads.proofs.Reading.{CommandLow, CountedIn, Fine, OrderHeld, 
 use Rattle.gx_law_reads.proofs.Turns.{WentBy, begins-round-went, commits-went, counted-by, live-apart, live-here, message-went, rest-went, rolled-went, went-then, work-went}
 use Rattle.gx_rules.specs.Locks.{with_hold}
 use Rattle.gx_waits.specs.declared.claim.Claim.{Claim}
-use Rattle.gx_locks.specs.Locks.{is_free, resumed, wait_of}
+use Rattle.gx_locks.specs.Locks.{resumed, wait_of}
+use Rattle.gx_waits.specs.Claims.{is_free}
 
 -- ENLISTING
 pub record Enlists (d u : Table) (g : ℕ) : Type 0 where
@@ -327,8 +328,8 @@ module _ (script : Script) (c : Coord) (s : Stood c.table c.works) (latest : Lat
 
   line-went : (session : SessionId) (line : Stmt) (asked : LineStep) → WentBy c (on_line script (starts_line c session asked) session line asked)
   line-went session line (step.Answer plain) = let x = rest-went c s in record { went = x.went; outs = tt }
-  line-went session line step.Refuse5 = let x = rest-went c s in record { went = x.went; outs = tt }
-  line-went session line step.Refuse7 = let x = rest-went c s in record { went = x.went; outs = tt }
+  line-went session line step.InFailedBlock = let x = rest-went c s in record { went = x.went; outs = tt }
+  line-went session line step.NotInBlock = let x = rest-went c s in record { went = x.went; outs = tt }
   line-went session line (step.BeginBlock level) = record { went = begins-went c.table c.works session level s; outs = tt }
   line-went session line step.CommitBlock =
       let x = commits-went (starts_line c session step.CommitBlock) (session_of (starts_line c session step.CommitBlock) session).transaction.0 s in record { went = x.went; outs = x.outs }

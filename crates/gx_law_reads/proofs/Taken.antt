@@ -82,7 +82,8 @@ use Rattle.gx_law_reads.proofs.Plain.{NoExec, abort-mild, commit-mild, reply-mil
 use Rattle.gx_law_reads.proofs.Reading.{CommandLow, OrderLow, Stood}
 use Rattle.gx_law_order.proofs.Always.{SaidTo}
 use Rattle.gx_rules.specs.Locks.{with_hold, hold_mark, release_marks}
-use Rattle.gx_locks.specs.Locks.{Locks, is_free, resumed, wait_of}
+use Rattle.gx_locks.specs.Locks.{Locks, resumed, wait_of}
+use Rattle.gx_waits.specs.Claims.{is_free}
 use Rattle.gx_waits.specs.declared.claim.Claim.{Claim}
 use Rattle.gx_waits.specs.declared.graph.LocalGraph.{LocalGraph}
 use Rattle.gx_store.specs.Refusals.{the_coordinator}
@@ -385,8 +386,8 @@ module _ (script : Script) (w : World) (k : Knows script w) (v : Holds script w)
 
     line-pass : (line : Stmt) (asked : LineStep) → Rattle.gx_law_order.proofs.Lines.Asks (session_of w.coord s).state.block asked → Passes (on_line script (started asked) s line asked)
     line-pass line (step.Answer x) a = plain (on_line script (started (step.Answer x)) s line (step.Answer x)) tt (tt, tt)
-    line-pass line step.Refuse5 a = plain (on_line script (started step.Refuse5) s line step.Refuse5) tt (tt, tt)
-    line-pass line step.Refuse7 a = plain (on_line script (started step.Refuse7) s line step.Refuse7) tt (tt, tt)
+    line-pass line step.InFailedBlock a = plain (on_line script (started step.InFailedBlock) s line step.InFailedBlock) tt (tt, tt)
+    line-pass line step.NotInBlock a = plain (on_line script (started step.NotInBlock) s line step.NotInBlock) tt (tt, tt)
     line-pass line (step.BeginBlock level) a = plain (on_line script (started (step.BeginBlock level)) s line (step.BeginBlock level)) tt (tt, (tt, tt))
     line-pass line step.CommitBlock a = commits-pass (started step.CommitBlock) (session_of (started step.CommitBlock) s).transaction.0 (subst AllTaken (sym (own-same step.CommitBlock)) (idle-taken a))
     line-pass line step.RollbackBlock a = rolled-pass (started step.RollbackBlock) (session_of (started step.RollbackBlock) s).transaction.0 (answer_mark (started step.RollbackBlock) s told.Rollback ∷ []) (tt, tt)

@@ -30,6 +30,7 @@ use Rattle.gx_script.specs.declared.state.Block.TheVariants.{Outside, Open, Fail
 use Rattle.gx_store.specs.declared.answer.Refused.{Refused}
 use Rattle.gx_store.specs.declared.mark.Mark.{Mark}
 use Rattle.gx_store.specs.Schedule.{is_about}
+use Rattle.gx_waits.specs.Claims.{is_free}
 use Rattle.gx_store.specs.Writes.{dist_of}
 use Rattle.gx_rules.specs.AtCoordinator.{Reading, answers, awaited, commits, completes, dispatches, enlisted_all, fault_mark, follows, goes, goes_out, is_refused, kept_at, next_cid, nodes_in, order_to, orders_of, reads_by, reads_for, refusal_of, rolls_back, status_order, table_of, takes_snapshot, unless_kept, goes_on_locked, if_granted, requests, resumes}
 use Rattle.gx_store.specs.Locks.{table_lock}
@@ -46,7 +47,7 @@ use Rattle.gx_law_runs.proofs.Neat.{CallAsks, IsDone, IsExecOf, Neat, NeatComman
 use Rattle.gx_law_runs.proofs.Told.{ArePlanApart, orders-other, plan-apart, sends, sends-orders, told-orders, told-other, told_by}
 use Rattle.gx_rules.specs.Locks.{with_hold, with_wait}
 use Rattle.gx_waits.specs.declared.claim.Claim.{Claim}
-use Rattle.gx_locks.specs.Locks.{Locks, is_free, resumed}
+use Rattle.gx_locks.specs.Locks.{Locks, resumed}
 
 -- what was asked before, by node and transaction
 abbrev pub Asked : Type 0

@@ -50,7 +50,8 @@ use Rattle.gx_rules.proofs.Turns.{cancels_all-each}
 use Rattle.gx_law_runs.proofs.Marks.{MayFail, NoFailures, may-append, may-none, may-sent, none-append, none-sent}
 use Rattle.gx_rules.specs.Locks.{has_there, release_mark, release_marks, with_hold}
 use Rattle.gx_waits.specs.declared.claim.Claim.{Claim}
-use Rattle.gx_locks.specs.Locks.{Locks, is_free, resumed, wait_of}
+use Rattle.gx_locks.specs.Locks.{Locks, resumed, wait_of}
+use Rattle.gx_waits.specs.Claims.{is_free}
 
 -- WHAT CALLS COME TO
 -- the coordinator's own journal has failed
@@ -188,8 +189,8 @@ module _ (fails : Bool) where
   -- LINES
   line-may : (script : Script) (c : Coord) (s : SessionId) (line : Stmt) (asked : LineStep) → May (on_line script c s line asked).marks
   line-may script c s line (step.Answer plain) = tt
-  line-may script c s line step.Refuse5 = tt
-  line-may script c s line step.Refuse7 = tt
+  line-may script c s line step.InFailedBlock = tt
+  line-may script c s line step.NotInBlock = tt
   line-may script c s line (step.BeginBlock level) = tt
   line-may script c s line step.CommitBlock = commits-may c (session_of c s).transaction
   line-may script c s line step.RollbackBlock = back-may fails c.locks (session_of c s).transaction

@@ -49,7 +49,8 @@ use Rattle.gx_law_runs.proofs.Neat.{IsExecOf, Neat, NeatCommand}
 use Rattle.gx_law_runs.proofs.Parts.{IsFor, PlanFor, plan-for}
 use Rattle.gx_law_runs.proofs.Serving.{AnyServes, AreFor, ForOut, IsFresh, IsOld, OrdersServe, OutServes, Serves, again, commit, no-command, old-same, order-collect, order-status, received, refused, rest-serves, rolled, round-begun, same, serves-map, some-same}
 use Rattle.gx_rules.specs.Locks.{with_hold, with_wait}
-use Rattle.gx_locks.specs.Locks.{Locks, is_free, resumed, wait_of}
+use Rattle.gx_locks.specs.Locks.{Locks, resumed, wait_of}
+use Rattle.gx_waits.specs.Claims.{is_free}
 use Rattle.gx_waits.specs.declared.claim.Claim.{Claim}
 use Rattle.gx_law_order.proofs.Waiting.{GoesOut}
 
@@ -223,8 +224,8 @@ module _ (script : Script) (c : Coord) (k : Kept script c) (own : OrdersServe c)
 
     line-serves : (line : Stmt) (asked : LineStep) → Admits block asked → Done (on_line script (starts_line c s asked) s line asked)
     line-serves line (step.Answer plain) a = same (IsNew c) c _ (λ h. refl) tt
-    line-serves line step.Refuse5 a = same (IsNew c) c _ (λ h. refl) tt
-    line-serves line step.Refuse7 a = same (IsNew c) c _ (λ h. refl) tt
+    line-serves line step.InFailedBlock a = same (IsNew c) c _ (λ h. refl) tt
+    line-serves line step.NotInBlock a = same (IsNew c) c _ (λ h. refl) tt
     line-serves line (step.BeginBlock level) a = begun-serves (step.BeginBlock level) level _
     line-serves line step.CommitBlock a = same-base step.CommitBlock _ (commit (IsNew c) (starts_line c s step.CommitBlock) (session_of (starts_line c s step.CommitBlock) s).transaction)
     line-serves line step.RollbackBlock a = same-base step.RollbackBlock _ (rolled (IsNew c) (starts_line c s step.RollbackBlock) (session_of (starts_line c s step.RollbackBlock) s).transaction (answer_mark (starts_line c s step.RollbackBlock) s told.Rollback ∷ []))

@@ -37,7 +37,8 @@ use Rattle.gx_rules.specs.Coordinators.{Command, Coord, CoordTurn, Work, rests, 
 use Rattle.gx_rules.specs.Fits.{fits_part}
 use Rattle.gx_rules.specs.Locks.{with_hold}
 use Rattle.gx_waits.specs.declared.claim.Claim.{Claim}
-use Rattle.gx_locks.specs.Locks.{is_free, resumed, wait_of}
+use Rattle.gx_locks.specs.Locks.{resumed, wait_of}
+use Rattle.gx_waits.specs.Claims.{is_free}
 use Rattle.gx_rules.proofs.Rounds.{cancel-ways, graph-ways}
 
 -- gxids stay below this
@@ -170,8 +171,8 @@ module _ (limit : ℕ) where
   module _ (script : Script) (c : Coord) (n : c.table.next.0 ≤ limit) (more : c.table.next.0 + 1 ≤ limit) where
     line-still : (s : SessionId) (line : Stmt) (asked : LineStep) → IsStill limit (on_line script c s line asked)
     line-still s line (step.Answer plain) = n
-    line-still s line step.Refuse5 = n
-    line-still s line step.Refuse7 = n
+    line-still s line step.InFailedBlock = n
+    line-still s line step.NotInBlock = n
     line-still s line (step.BeginBlock level) = more
     line-still s line step.CommitBlock = commit-still c (session_of c s).transaction n
     line-still s line step.RollbackBlock = n

@@ -40,7 +40,8 @@ use Rattle.gx_law_runs.proofs.Plans.{IsFilled, IsPlanFull, plan-full}
 use Rattle.gx_law_runs.proofs.Turns.{Goes, commits-goes, goes-by, refused-settles}
 use Rattle.gx_rules.specs.Locks.{hold_mark, released, with_hold}
 use Rattle.gx_waits.specs.declared.claim.Claim.{Claim}
-use Rattle.gx_locks.specs.Locks.{Locks, is_free, resumed, wait_of}
+use Rattle.gx_locks.specs.Locks.{Locks, resumed, wait_of}
+use Rattle.gx_waits.specs.Claims.{is_free}
 use Rattle.std.proofs.lemmas.Bool.{eqb-true}
 use Rattle.gx_ids.specs.declared.ids.Gxid.{Gxid}
 use Rattle.gx_law_order.proofs.Queued.{lock-of}
@@ -257,8 +258,8 @@ module _ (script : Script) (some : 1 ≤ script.segments) (c : Coord) (k : Kept 
 
   pub line-stays : (line : Stmt) (asked : LineStep) → line_step block line ≡ asked → Admits block asked → IsWholeStmt script.tables line → Stays c s (on_line script (starts_line c s asked) s line asked)
   line-stays line (step.Answer plain) e a w = quiet c s _ (led (step.Answer plain)) (λ j. refl) refl (λ h e n. refl)
-  line-stays line step.Refuse5 e a w = quiet c s _ (led step.Refuse5) (λ j. refl) refl (λ h e n. refl)
-  line-stays line step.Refuse7 e a w = quiet c s _ (led step.Refuse7) (λ j. refl) refl (λ h e n. refl)
+  line-stays line step.InFailedBlock e a w = quiet c s _ (led step.InFailedBlock) (λ j. refl) refl (λ h e n. refl)
+  line-stays line step.NotInBlock e a w = quiet c s _ (led step.NotInBlock) (λ j. refl) refl (λ h e n. refl)
   line-stays line (step.BeginBlock level) e a w = quiet c s _ (record (led (step.BeginBlock level)) { transaction = c.table.next }) (fresh-at (step.BeginBlock level) level) refl (λ h e n. refl)
   line-stays line step.CommitBlock e a w = commit-stays a
   line-stays line step.RollbackBlock e a w = quiet c s _ (led step.RollbackBlock) (λ j. refl) refl (λ h e n. ap (λ (g : Gxid). wait_of (released c.locks g) (gx h)) (transaction-now step.RollbackBlock) ∙ released-spares c.locks own h (own-apart a h e))

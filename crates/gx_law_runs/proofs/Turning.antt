@@ -218,8 +218,8 @@ module _ (script : Script) (c : Coord) (k : Kept script c) (n : AreNeat c) where
 
     line-asks : (line : Stmt) (asked : LineStep) → Admits block asked → Asks (now_asked c) (on_line script (starts_line c s asked) s line asked)
     line-asks line (step.Answer plain) a = quiet (starts_line c s (step.Answer plain)) _ refl refl
-    line-asks line step.Refuse5 a = quiet (starts_line c s step.Refuse5) _ refl refl
-    line-asks line step.Refuse7 a = quiet (starts_line c s step.Refuse7) _ refl refl
+    line-asks line step.InFailedBlock a = quiet (starts_line c s step.InFailedBlock) _ refl refl
+    line-asks line step.NotInBlock a = quiet (starts_line c s step.NotInBlock) _ refl refl
     line-asks line (step.BeginBlock level) a = begun-asks (step.BeginBlock level) level _
     line-asks line step.CommitBlock a = commit-asks a
     line-asks line step.RollbackBlock a = rollback-asks a (answer_mark (starts_line c s step.RollbackBlock) s told.Rollback ∷ [])

@@ -26,7 +26,8 @@ use Rattle.gx_dsnap.specs.declared.snapshot.Snapshot.{Snapshot}
 use Rattle.gx_dtx.specs.Rules.{Turn, on_abort, on_commit, on_reply}
 use Rattle.gx_dtx.specs.declared.outcome.Outcome.{Outcome}
 use Rattle.gx_dtx.specs.declared.outcome.Outcome.TheVariants as outcome
-use Rattle.gx_locks.specs.Locks.{Locks, is_free, resumed}
+use Rattle.gx_locks.specs.Locks.{Locks, resumed}
+use Rattle.gx_waits.specs.Claims.{is_free}
 use Rattle.gx_meaning.specs.declared.fault.ArithFault.{ArithFault}
 use Rattle.gx_meaning.specs.declared.piece.Piece.{Piece}
 use Rattle.gx_msg.specs.declared.message.Message.{Message}

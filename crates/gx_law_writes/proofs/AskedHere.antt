@@ -345,8 +345,8 @@ module _ (script : Script) (w : World) (n : Knows script w) (k : stepping.Holds 
 
     line-turns : (a : LineStep) → asked ≡ a → Turns e (on_line script (starts_line w.coord s a) s line a)
     line-turns (step.Answer plain) is = quiet e (on_line script (starts_line w.coord s (step.Answer plain)) s line (step.Answer plain)) (tt, tt)
-    line-turns step.Refuse5 is = quiet e (on_line script (starts_line w.coord s step.Refuse5) s line step.Refuse5) (tt, tt)
-    line-turns step.Refuse7 is = quiet e (on_line script (starts_line w.coord s step.Refuse7) s line step.Refuse7) (tt, tt)
+    line-turns step.InFailedBlock is = quiet e (on_line script (starts_line w.coord s step.InFailedBlock) s line step.InFailedBlock) (tt, tt)
+    line-turns step.NotInBlock is = quiet e (on_line script (starts_line w.coord s step.NotInBlock) s line step.NotInBlock) (tt, tt)
     line-turns (step.BeginBlock level) is = quiet e (on_line script (starts_line w.coord s (step.BeginBlock level)) s line (step.BeginBlock level)) (tt, (tt, tt))
     line-turns step.CommitBlock is =
         let c : Coord = starts_line w.coord s step.CommitBlock in

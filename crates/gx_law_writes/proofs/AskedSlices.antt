@@ -29,7 +29,8 @@ use Rattle.gx_meaning.specs.declared.fault.ArithFault.{ArithFault}
 use Rattle.gx_script.specs.declared.Script.{Script}
 use Rattle.gx_store.specs.Asking.{GoesThroughRows, HasWritten, LocksItself, Needs, NeedsTable}
 use Rattle.gx_store.specs.Marks.{is_same_gxid, is_same_rid}
-use Rattle.gx_store.specs.Waits.{claim, waits_at}
+use Rattle.gx_store.specs.Waits.{waits_at}
+use Rattle.gx_waits.specs.Claims.{claim}
 use Rattle.gx_store.proofs.Rows.{same_rid}
 use Rattle.gx_store.specs.declared.mark.Mark.{Mark}
 use Rattle.gx_store.specs.declared.mark.Mark.TheVariants as mark

@@ -31,7 +31,8 @@ use Rattle.gx_store.specs.Messages.{HasReceived}
 use Rattle.gx_store.specs.Ordered.{IsSegment}
 use Rattle.gx_store.specs.Points.{marks_in, starts_by}
 use Rattle.gx_store.specs.Refusals.{the_coordinator}
-use Rattle.gx_store.specs.Waits.{claim, holds_at, is_held, waits_at, added}
+use Rattle.gx_store.specs.Waits.{holds_at, is_held, waits_at}
+use Rattle.gx_waits.specs.Claims.{claim, with_claim}
 use Rattle.gx_store.proofs.Exclusive.{holds_from-append}
 use Rattle.gx_store.proofs.Marks.{is_aborted-append}
 use Rattle.gx_store.specs.declared.event.Event.{Event}
@@ -390,7 +391,7 @@ module _ (script : Script) (numbered_lines : AreLinesNumbered [] script.lines) (
         held : IsIn (holds_at (ms ++ hold_mark node (slice_lock script g x) ∷ []) (at i)) (slice_lock script g x)
         held =
             subst (λ q. IsIn q (slice_lock script g x)) (sym (holds_from-append (at i) [] ms (hold_mark node (slice_lock script g x) ∷ [])))
-            (subst (λ b. IsIn (if b then added (slice_lock script g x) (holds_at ms (at i)) else holds_at ms (at i)) (slice_lock script g x)) (sym (ap (λ (q : Node). q.0 == i) at_node ∙ itself i)) (in-new (slice_lock script g x) (holds_at ms (at i))))
+            (subst (λ b. IsIn (if b then with_claim (slice_lock script g x) (holds_at ms (at i)) else holds_at ms (at i)) (slice_lock script g x)) (sym (ap (λ (q : Node). q.0 == i) at_node ∙ itself i)) (in-new (slice_lock script g x) (holds_at ms (at i))))
 
     -- or it waits for it
     pub waits : (node : Node) → node ≡ at i → Goes (wait_mark node (slice_lock script g x) ∷ [])

@@ -28,10 +28,10 @@ use Rattle.gx_store.specs.Locks.{HoldsTable, table_lock}
 use Rattle.gx_store.specs.Marks.{answer_count, is_begun, is_snapped, started_after}
 use Rattle.gx_store.specs.Points.{marks_in, starts_by, starts_in}
 use Rattle.gx_store.specs.Refusals.{the_coordinator}
-use Rattle.gx_store.specs.Waits.{added, claim, holds_at, holds_from, is_held, waits_at, waits_from, without}
+use Rattle.gx_store.specs.Waits.{holds_at, holds_from, is_held, waits_at, waits_from}
+use Rattle.gx_waits.specs.Claims.{claim, is_of, with_claim, without_claim}
 use Rattle.gx_rules.specs.Coordinators.{Command, Coord, Work, session_of, work_of}
 use Rattle.gx_rules.specs.Machine.{World}
-use Rattle.gx_locks.specs.Claims.{is_of}
 use Rattle.gx_locks.specs.Locks.{wait_of}
 use Rattle.gx_locks.proofs.Filed.{same_claim-along, same_claim-itself, same_claim-turned}
 use Rattle.gx_waits.specs.Claim.{same_claim}
@@ -72,14 +72,14 @@ calm-for k g (m ∷ ms) e = (tt, calm-for k g ms e.1)
 
 stays-in : (k : SessionId) (g : Gxid) (c : Claim) (holds : List Claim) (ms : List Mark) → c.gxid ≡ g → AreLeftAlone k g ms → IsIn holds c → IsIn (holds_from the_coordinator holds ms) c
 stays-in k g c holds [] own e h = h
-stays-in k g c holds (mark.Hold n f object mode ∷ ms) own e h = stays-in k g c (if n.0 == 0 then added (claim f object mode) holds else holds) ms own e.1 (by_test (n.0 == 0))
+stays-in k g c holds (mark.Hold n f object mode ∷ ms) own e h = stays-in k g c (if n.0 == 0 then with_claim (claim f object mode) holds else holds) ms own e.1 (by_test (n.0 == 0))
   where
-    by_test : (b : Bool) → IsIn (if b then added (claim f object mode) holds else holds) c
+    by_test : (b : Bool) → IsIn (if b then with_claim (claim f object mode) holds else holds) c
     by_test true = in-added (claim f object mode) c holds h
     by_test false = h
-stays-in k g c holds (mark.Release n f object mode ∷ ms) own e h = stays-in k g c (if n.0 == 0 then without (claim f object mode) holds else holds) ms own e.1 (by_test (n.0 == 0))
+stays-in k g c holds (mark.Release n f object mode ∷ ms) own e h = stays-in k g c (if n.0 == 0 then without_claim (claim f object mode) holds else holds) ms own e.1 (by_test (n.0 == 0))
   where
-    by_test : (b : Bool) → IsIn (if b then without (claim f object mode) holds else holds) c
+    by_test : (b : Bool) → IsIn (if b then without_claim (claim f object mode) holds else holds) c
     by_test true = in-without (claim f object mode) c holds (ap (λ (x : Gxid). x.0 == f.0) own ∙ e.0) h
     by_test false = h
 stays-in k g c holds (m ∷ ms) own e h = stays-in k g c holds ms own e.1 h
@@ -93,7 +93,7 @@ same-in a b (x ∷ xs) e h = by_test (same_claim a x) (sym (same_claim-along a b
     by_test true f h more = ap (λ q. q || list_any (same_claim b) xs) f
     by_test false f h more = ap (λ q. q || list_any (same_claim b) xs) f ∙ more h
 
-in-apart : (old c : Claim) (xs : List Claim) → same_claim old c ≡ false → IsIn xs c → IsIn (without old xs) c
+in-apart : (old c : Claim) (xs : List Claim) → same_claim old c ≡ false → IsIn xs c → IsIn (without_claim old xs) c
 in-apart old c xs e h = in-filter (λ x. not (same_claim old x)) c xs (λ x s. differs x s (same_claim old x) refl) h
   where
     differs : (x : Claim) → same_claim c x ≡ true → (b : Bool) → same_claim old x ≡ b → not (same_claim old x) ≡ true
@@ -103,29 +103,29 @@ in-apart old c xs e h = in-filter (λ x. not (same_claim old x)) c xs (λ x s. d
 stays-either : (k : SessionId) (g : Gxid) (c : Claim) (holds waits : List Claim) (ms : List Mark) → c.gxid ≡ g → AreLeftAlone k g ms → IsIn holds c ⊎ IsIn waits c → IsIn (holds_from the_coordinator holds ms) c ⊎ IsIn (waits_from the_coordinator waits ms) c
 stays-either k g c holds waits [] own e h = h
 stays-either k g c holds waits (mark.Hold n f object mode ∷ ms) own e h =
-    stays-either k g c (if n.0 == 0 then added (claim f object mode) holds else holds) (if n.0 == 0 then without (claim f object mode) waits else waits) ms own e.1 (by_test (n.0 == 0) h)
+    stays-either k g c (if n.0 == 0 then with_claim (claim f object mode) holds else holds) (if n.0 == 0 then without_claim (claim f object mode) waits else waits) ms own e.1 (by_test (n.0 == 0) h)
   where
-    by_claim : (b : Bool) → same_claim (claim f object mode) c ≡ b → IsIn waits c → IsIn (added (claim f object mode) holds) c ⊎ IsIn (without (claim f object mode) waits) c
-    by_claim true q w = inl (same-in (claim f object mode) c (added (claim f object mode) holds) q (in-new (claim f object mode) holds))
+    by_claim : (b : Bool) → same_claim (claim f object mode) c ≡ b → IsIn waits c → IsIn (with_claim (claim f object mode) holds) c ⊎ IsIn (without_claim (claim f object mode) waits) c
+    by_claim true q w = inl (same-in (claim f object mode) c (with_claim (claim f object mode) holds) q (in-new (claim f object mode) holds))
     by_claim false q w = inr (in-apart (claim f object mode) c waits q w)
 
-    by_test : (b : Bool) → IsIn holds c ⊎ IsIn waits c → IsIn (if b then added (claim f object mode) holds else holds) c ⊎ IsIn (if b then without (claim f object mode) waits else waits) c
+    by_test : (b : Bool) → IsIn holds c ⊎ IsIn waits c → IsIn (if b then with_claim (claim f object mode) holds else holds) c ⊎ IsIn (if b then without_claim (claim f object mode) waits else waits) c
     by_test true (inl x) = inl (in-added (claim f object mode) c holds x)
     by_test true (inr x) = by_claim (same_claim (claim f object mode) c) refl x
     by_test false x = x
-stays-either k g c holds waits (mark.Wait n f object mode ∷ ms) own e h = stays-either k g c holds (if n.0 == 0 then added (claim f object mode) waits else waits) ms own e.1 (by_test (n.0 == 0) h)
+stays-either k g c holds waits (mark.Wait n f object mode ∷ ms) own e h = stays-either k g c holds (if n.0 == 0 then with_claim (claim f object mode) waits else waits) ms own e.1 (by_test (n.0 == 0) h)
   where
-    by_test : (b : Bool) → IsIn holds c ⊎ IsIn waits c → IsIn holds c ⊎ IsIn (if b then added (claim f object mode) waits else waits) c
+    by_test : (b : Bool) → IsIn holds c ⊎ IsIn waits c → IsIn holds c ⊎ IsIn (if b then with_claim (claim f object mode) waits else waits) c
     by_test true (inl x) = inl x
     by_test true (inr x) = inr (in-added (claim f object mode) c waits x)
     by_test false x = x
 stays-either k g c holds waits (mark.Release n f object mode ∷ ms) own e h =
-    stays-either k g c (if n.0 == 0 then without (claim f object mode) holds else holds) (if n.0 == 0 then without (claim f object mode) waits else waits) ms own e.1 (by_test (n.0 == 0) h)
+    stays-either k g c (if n.0 == 0 then without_claim (claim f object mode) holds else holds) (if n.0 == 0 then without_claim (claim f object mode) waits else waits) ms own e.1 (by_test (n.0 == 0) h)
   where
     apart : (c.gxid.0 == f.0) ≡ false
     apart = ap (λ (x : Gxid). x.0 == f.0) own ∙ e.0
 
-    by_test : (b : Bool) → IsIn holds c ⊎ IsIn waits c → IsIn (if b then without (claim f object mode) holds else holds) c ⊎ IsIn (if b then without (claim f object mode) waits else waits) c
+    by_test : (b : Bool) → IsIn holds c ⊎ IsIn waits c → IsIn (if b then without_claim (claim f object mode) holds else holds) c ⊎ IsIn (if b then without_claim (claim f object mode) waits else waits) c
     by_test true (inl x) = inl (in-without (claim f object mode) c holds apart x)
     by_test true (inr x) = inr (in-without (claim f object mode) c waits apart x)
     by_test false x = x

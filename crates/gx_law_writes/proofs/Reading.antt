@@ -15,6 +15,7 @@ use Rattle.gx_ids.specs.declared.ids.SessionId.{SessionId}
 use Rattle.gx_tree.specs.declared.stmt.Stmt.{Stmt}
 use Rattle.gx_waits.specs.declared.claim.Claim.{Claim}
 use Rattle.gx_locks.specs.Locks.{wait_of}
+use Rattle.gx_waits.specs.Claims.{claim, with_claim, without_claim}
 use Rattle.gx_msg.specs.declared.message.Message.{Message}
 use Rattle.gx_msg.specs.declared.message.Message.TheVariants as message
 use Rattle.gx_script.specs.Session.{after_line, line_step}
@@ -32,7 +33,7 @@ use Rattle.gx_store.specs.Marks.{answer_count, is_begun, is_same_session, is_sna
 use Rattle.gx_store.specs.Ordered.{IsAtNode, IsSegment}
 use Rattle.gx_store.specs.Points.{marks_in, starts_by, starts_in}
 use Rattle.gx_store.specs.Refusals.{the_coordinator}
-use Rattle.gx_store.specs.Waits.{holds_at, holds_from, without, added, claim}
+use Rattle.gx_store.specs.Waits.{holds_at, holds_from}
 use Rattle.gx_store.specs.declared.event.Event.{Event}
 use Rattle.gx_store.specs.declared.event.Event.TheVariants as event
 use Rattle.gx_store.specs.declared.mark.Mark.{Mark}
@@ -157,10 +158,10 @@ any-filter p q (x ∷ xs) e = by_test (q x) e (any-filter p q xs)
 -- what is held behind marks that grant nothing was held before them
 held-back : (k : SessionId) (c : Claim) (ms : List Mark) (holds : List Claim) → Each (Ebbs k) ms → IsIn (holds_from the_coordinator holds ms) c → IsIn holds c
 held-back k c [] holds e h = h
-held-back k c (mark.Hold n g object mode ∷ ms) holds e h = subst (λ b. IsIn (if b then added (claim g object mode) holds else holds) c) e.0 (held-back k c ms _ e.1 h)
+held-back k c (mark.Hold n g object mode ∷ ms) holds e h = subst (λ b. IsIn (if b then with_claim (claim g object mode) holds else holds) c) e.0 (held-back k c ms _ e.1 h)
 held-back k c (mark.Release n g object mode ∷ ms) holds e h = by_test (n.0 == 0) (held-back k c ms _ e.1 h)
   where
-    by_test : (b : Bool) → IsIn (if b then without (claim g object mode) holds else holds) c → IsIn holds c
+    by_test : (b : Bool) → IsIn (if b then without_claim (claim g object mode) holds else holds) c → IsIn holds c
     by_test true i = any-filter _ _ holds i
     by_test false i = i
 held-back k c (mark.Start h s ∷ ms) holds e i = held-back k c ms holds e.1 i

@@ -16,7 +16,8 @@ use Rattle.gx_dsnap.specs.Gxids.{is_below}
 use Rattle.gx_modes.specs.declared.modes.Mode.{Mode}
 use Rattle.gx_dsnap.specs.declared.snapshot.Snapshot.{Snapshot}
 use Rattle.gx_waits.specs.declared.claim.Claim.{Claim}
-use Rattle.gx_locks.specs.Locks.{Locks, is_free, wait_of}
+use Rattle.gx_locks.specs.Locks.{Locks, wait_of}
+use Rattle.gx_waits.specs.Claims.{is_free}
 use Rattle.gx_msg.specs.declared.item.JournalItem.{JournalItem}
 use Rattle.gx_msg.specs.declared.message.Message.{Message}
 use Rattle.gx_msg.specs.declared.message.Message.TheVariants as message

@@ -68,7 +68,8 @@ use Rattle.gx_law_order.specs.Stages.Stage.{Closing, Live as LiveStage}
 use Rattle.gx_law_order.proofs.Statuses.{Moves, Turned, reply-turns}
 use Rattle.gx_law_order.specs.Standings.{gx}
 use Rattle.gx_rules.specs.Locks.{with_hold, hold_mark, release_marks}
-use Rattle.gx_locks.specs.Locks.{Locks, is_free, resumed, wait_of}
+use Rattle.gx_locks.specs.Locks.{Locks, resumed, wait_of}
+use Rattle.gx_waits.specs.Claims.{is_free}
 use Rattle.gx_waits.specs.declared.claim.Claim.{Claim}
 use Rattle.gx_law_order.proofs.Releases.{each-released}
 use Rattle.gx_law_order.proofs.Waiting.{GoesOut}
@@ -640,8 +641,8 @@ module _ (script : Script) (c : Coord) (x : NodeEvent) where
 
       line-walk : (line : Stmt) (asked : LineStep) → Asks block asked → Walk [] (on_line script (starts_line c s asked) s line asked)
       line-walk line (step.Answer p) a = at-once (step.Answer p) _ (plain-ok p)
-      line-walk line step.Refuse5 a = at-once step.Refuse5 _ tt
-      line-walk line step.Refuse7 a = at-once step.Refuse7 _ tt
+      line-walk line step.InFailedBlock a = at-once step.InFailedBlock _ tt
+      line-walk line step.NotInBlock a = at-once step.NotInBlock _ tt
       line-walk line (step.BeginBlock level) a = begin-line level
       line-walk line step.CommitBlock a = commit-line a
       line-walk line step.RollbackBlock a = rollback-line

@@ -1,10 +1,10 @@
 ghost use Rattle.std.specs.Prelude.{◌≡◌, ◌++◌, ◌∷◌, [], filter, length, map, IfOk, OnOk, false, true, find};
 ghost use Rattle.std.specs.Cmp.{IsTotalOrder};
 ghost use Rattle.std.specs.List.{list_any};
-ghost use Rattle.gx_locks.specs.Claims.{is_of};
+ghost use Rattle.gx_waits.specs.Claims.{is_free, is_of};
 ghost use Rattle.gx_locks.specs.HoldLists.{held};
 ghost use Rattle.gx_locks.specs.Holds.{claims_of};
-ghost use Rattle.gx_locks.specs.Locks.{is_free, is_ready, resumed, wait_of};
+ghost use Rattle.gx_locks.specs.Locks.{may_take, resumed, wait_of};
 ghost use Rattle.gx_meaning.specs.Order.{in_order};
 ghost use Rattle.gx_rules.specs.Locks as rule;
 ghost use Rattle.gx_waits.specs.Claim.{same_claim};
@@ -277,7 +277,7 @@ fn push_resumed(marks: &mut Vec<Mark>, node: Node, wait: Option<Claim>) -> Mem<(
 
 /// The ready wait of a transaction at a node is a hold from now on, with its mark.
 pub fn take_ready(node: Node, locks: &mut LockTable, gxid: Gxid, marks: &mut Vec<Mark>) -> Mem<()>
-    requires { is_ready locks.old.holds (wait_of locks.old gxid) ≡ true }
+    requires { may_take locks.old gxid ≡ true }
     ensures locks { OnOk result (locks.new ≡ resumed locks.old gxid (wait_of locks.old gxid)) }
     ensures marks { OnOk result (marks.new.items ≡ marks.old.items ++ resumed_marks node (wait_of locks.old gxid)) }
 {
@@ -308,7 +308,7 @@ fn give_back_end(
 
 /// What a transaction has waited for at a node is granted, with its mark; where that is another's end, it is given back at once.
 pub fn take_granted(node: Node, locks: &mut LockTable, gxid: Gxid, marks: &mut Vec<Mark>) -> Mem<()>
-    requires { is_ready locks.old.holds (wait_of locks.old gxid) ≡ true }
+    requires { may_take locks.old gxid ≡ true }
     ensures locks { OnOk result (locks.new ≡ granted_locks locks.old gxid (wait_of locks.old gxid)) }
     ensures marks { OnOk result (marks.new.items ≡ marks.old.items ++ granted_marks node (wait_of locks.old gxid)) }
 {

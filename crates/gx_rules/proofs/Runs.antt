@@ -29,7 +29,7 @@ use Rattle.gx_rules.specs.Rows.{between_commits, drives, insert, kept_snapshot, 
 use Rattle.gx_waits.specs.declared.claim.Claim.{Claim}
 use Rattle.gx_waits.specs.declared.object.Object.TheVariants.{Relation}
 use Rattle.gx_modes.specs.declared.modes.Mode.TheVariants.{RowExclusive}
-use Rattle.gx_store.specs.Waits.{claim}
+use Rattle.gx_waits.specs.Claims.{claim}
 use Rattle.gx_rules.specs.Locks.{hold_mark, with_hold}
 use Rattle.gx_store.specs.Refusals.{the_coordinator}
 

@@ -57,7 +57,8 @@ use Rattle.gx_store.specs.Lines.{stmt_of}
 use Rattle.gx_store.specs.Locks.{table_lock}
 use Rattle.gx_store.specs.Refusals.{the_coordinator}
 use Rattle.gx_store.specs.Writes.{dist_of}
-use Rattle.gx_locks.specs.Locks.{is_free, is_ready, resumed, wait_of}
+use Rattle.gx_locks.specs.Locks.{may_take, resumed, wait_of}
+use Rattle.gx_waits.specs.Claims.{is_free}
 use Rattle.gx_waits.specs.declared.claim.Claim.{Claim}
 use Rattle.gx_rules.specs.Coordinators.{Command, Coord, CoordTurn, Session, Work, joined, new_work, no_work, rests, session_of, with_session, with_state, with_work, work_of}
 use Rattle.gx_rules.specs.Fits.{fits_part}
@@ -274,8 +275,8 @@ rolls_back c g marks turn =
 -- by what the line asks for; the session stands where the line has led it
 abbrev pub on_line : Script → Coord → SessionId → Stmt → LineStep → CoordTurn
 on_line script c s line (step.Answer plain) = answers_at_once c s (plain_answer_of plain)
-on_line script c s line step.Refuse5 = answers_at_once c s (told.Refused refused.InFailedBlock)
-on_line script c s line step.Refuse7 = answers_at_once c s (told.Refused refused.NotInBlock)
+on_line script c s line step.InFailedBlock = answers_at_once c s (told.Refused refused.InFailedBlock)
+on_line script c s line step.NotInBlock = answers_at_once c s (told.Refused refused.NotInBlock)
 on_line script c s line (step.BeginBlock level) = behind (mark.Start c.table.next s ∷ []) (answers_at_once (begins c s level) s told.Begin)
 on_line script c s line step.CommitBlock = commits c (session_of c s).transaction
 on_line script c s line step.RollbackBlock =
@@ -486,7 +487,7 @@ is_segment script i = nat_le 1 i.0 && nat_le i.0 script.segments
 -- detector is on and none runs.
 abbrev pub coord_can : Script → Coord → NodeEvent → Bool
 coord_can script c (node.Deliver from envelope) = is_segment script from
-coord_can script c (node.Resume g) = is_ready c.locks.holds (wait_of c.locks g)
+coord_can script c (node.Resume g) = may_take c.locks g
 coord_can script c (node.Start s) = is_idle (session_of c s) && is_left (next_line script c s)
 coord_can script c (node.End s) = is_idle (session_of c s) && (not (is_left (next_line script c s)) && is_in_block (session_of c s).state.block)
 coord_can script c (node.Resend i (Some g)) = is_some (awaited c g i)

@@ -11,7 +11,8 @@ use Rattle.gx_dsnap.specs.declared.snapshot.Snapshot.{Snapshot}
 use Rattle.gx_waits.specs.declared.claim.Claim.{Claim}
 use Rattle.gx_waits.specs.declared.object.Object.{Object}
 use Rattle.gx_waits.specs.declared.object.Object.TheVariants.{Transaction}
-use Rattle.gx_locks.specs.Locks.{is_free, resumed}
+use Rattle.gx_locks.specs.Locks.{resumed}
+use Rattle.gx_waits.specs.Claims.{is_free}
 use Rattle.gx_script.specs.declared.Script.{Script}
 use Rattle.gx_store.specs.Locks.{slice_lock}
 use Rattle.gx_rules.specs.Changes.{change_of, changes_rows, goes_on_at}

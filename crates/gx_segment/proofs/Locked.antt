@@ -12,8 +12,8 @@ use Rattle.gx_dsnap.specs.declared.snapshot.Snapshot.{Snapshot}
 use Rattle.gx_waits.specs.declared.claim.Claim.{Claim}
 use Rattle.gx_waits.specs.declared.object.Object.{Object}
 use Rattle.gx_waits.specs.declared.object.Object.TheVariants.{Relation, Transaction, Tuple}
-use Rattle.gx_locks.specs.Claims.{is_of}
-use Rattle.gx_locks.specs.Locks.{Locks, is_free, is_ready, resumed, wait_of}
+use Rattle.gx_waits.specs.Claims.{is_free, is_of}
+use Rattle.gx_locks.specs.Locks.{Locks, is_ready, may_take, resumed, wait_of}
 use Rattle.gx_node.specs.Locking as code_of
 use Rattle.gx_node.specs.Locking.{asked_locks, asked_mark, granted_locks, granted_marks, is_on_transaction, marks_on_end}
 use Rattle.gx_node.specs.Phases.{suspended_of}
@@ -146,9 +146,9 @@ module _ (s : Seg) (g : Gxid) where
   by-wait w None e = absurd (cc)
   by-wait w (Some wanted) e = ap (λ (m : Moved). goes_on m g w w.row) (by-object wanted wanted.object)
 
-module _ (tables : List Schema) (held woke : Held) (s : Seg) (g : Gxid) (found : Option code.Suspended) (is : IsHeld tables held s) (ready : is_ready s.locks.holds (wait_of s.locks g) ≡ true) (did : HasWoken held woke g found) where
-  pub ready-still : is_ready woke.locks.holds (wait_of woke.locks g) ≡ true
-  ready-still = ap (λ (l : Locks). is_ready l.holds (wait_of l g)) (did.locks ∙ is.locks) ∙ ready
+module _ (tables : List Schema) (held woke : Held) (s : Seg) (g : Gxid) (found : Option code.Suspended) (is : IsHeld tables held s) (ready : may_take s.locks g ≡ true) (did : HasWoken held woke g found) where
+  pub ready-still : may_take woke.locks g ≡ true
+  ready-still = ap (λ (l : Locks). may_take l g) (did.locks ∙ is.locks) ∙ ready
 
   pub turn-resumed : (w : code.Suspended) → found ≡ Some w → (node : Node) (marks : List Mark) → node ≡ s.node → marks ≡ [] ++ granted_marks node (wait_of woke.locks g) → goes_on (record { seg = awakened s g; marks = marks }) g (suspended_of w) w.row ≡ resumes s g (wait_of s.locks g) (local_of s g).suspended
   turn-resumed w some node marks n told =

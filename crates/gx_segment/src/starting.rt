@@ -1,8 +1,8 @@
 // A slice takes its table's lock and runs, or waits for it; and one that has waited, there or at a row, goes on.
 ghost use Rattle.std.specs.Prelude.{[], ◌∷◌, ◌≡◌, true, false, None, IfOk, OnOk};
 ghost use Rattle.std.specs.List.{list_any};
-ghost use Rattle.gx_locks.specs.Claims.{is_of};
-ghost use Rattle.gx_locks.specs.Locks.{is_free, is_ready, wait_of};
+ghost use Rattle.gx_waits.specs.Claims.{is_free, is_of};
+ghost use Rattle.gx_locks.specs.Locks.{may_take, wait_of};
 ghost use Rattle.gx_node.specs.Locking.{asked_locks, asked_mark, granted_locks, granted_marks, is_on_transaction};
 ghost use Rattle.gx_rules.specs.AtSegment.{resumes};
 ghost use Rattle.gx_rules.specs.Segments.{local_of};
@@ -143,7 +143,7 @@ pub(crate) fn resume<G: Gate>(
     ghost was: { Before }
     requires script { script.now ≡ was.script }
     requires held { IsHeld was.script.tables held.old was.seg }
-    requires ready { is_ready was.seg.locks.holds (wait_of was.seg.locks gxid) ≡ true }
+    requires ready { may_take was.seg.locks gxid ≡ true }
     requires node { node ≡ was.seg.node }
     requires blank { marks.old.items ≡ [] }
     ensures done { IfOk result (λ done. HasDone was.script.tables held.new was.seg.horizon (came marks.new.items done)

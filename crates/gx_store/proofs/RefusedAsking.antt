@@ -25,7 +25,8 @@ use Rattle.gx_store.specs.RefusedAsking.{idle_wait, locks_too_little, one_change
 use Rattle.gx_store.specs.RefusedParts.{anna, bert, first_cid, first_txn, the_segment}
 use Rattle.gx_store.specs.RefusedWaits.{first_table, on_first, one_query}
 use Rattle.gx_store.specs.Refusals.{the_coordinator}
-use Rattle.gx_store.specs.Waits.{claim, waits_at}
+use Rattle.gx_store.specs.Waits.{waits_at}
+use Rattle.gx_waits.specs.Claims.{claim}
 use Rattle.gx_store.specs.declared.mark.Mark.{Mark}
 use Rattle.gx_store.proofs.RefusedParts.{clash}
 

@@ -34,7 +34,8 @@ use Rattle.gx_store.specs.Marks.{is_aborted, is_command_of, is_same_gxid}
 use Rattle.gx_store.specs.Messages.{HasReceived}
 use Rattle.gx_store.specs.Points.{Point, before}
 use Rattle.gx_store.specs.Refusals.{the_coordinator}
-use Rattle.gx_store.specs.Waits.{claim, is_held, waits_at}
+use Rattle.gx_store.specs.Waits.{is_held, waits_at}
+use Rattle.gx_waits.specs.Claims.{claim}
 use Rattle.gx_store.specs.Writes.{IsLate}
 
 -- WHAT A STATEMENT NEEDS

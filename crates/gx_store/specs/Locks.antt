@@ -30,7 +30,8 @@ use Rattle.gx_store.specs.Commands.{RunsCommand}
 use Rattle.gx_store.specs.Marks.{is_aborted, is_ended, is_snapped}
 use Rattle.gx_store.specs.Points.{Point, before, marks_in}
 use Rattle.gx_store.specs.Refusals.{the_coordinator}
-use Rattle.gx_store.specs.Waits.{claim, holds_at, is_held}
+use Rattle.gx_store.specs.Waits.{holds_at, is_held}
+use Rattle.gx_waits.specs.Claims.{claim}
 
 -- a lock is granted only where it meets no hold, and waited for only where it meets one
 abbrev pub LegalHold : List Mark → Node → Claim → Type 0
