@@ -19,7 +19,8 @@ use Rattle.gx_store.proofs.Runs.{marks_in-push}
 use Rattle.gx_store.specs.Journals.{is_same_node}
 use Rattle.gx_store.specs.Marks.{is_same_gxid}
 use Rattle.gx_store.specs.Points.{marks_in}
-use Rattle.gx_store.specs.Waits.{added, waits_at, waits_from, without}
+use Rattle.gx_store.specs.Waits.{waits_at, waits_from}
+use Rattle.gx_waits.specs.Claims.{with_claim, without_claim}
 use Rattle.gx_agenda.specs.declared.asked.Asked.{Asked}
 use Rattle.gx_agenda.specs.declared.expected.Expected.{Expected}
 use Rattle.gx_agenda.specs.declared.request.Request.{Request}
@@ -100,11 +101,11 @@ pub no-waits : (q : Request) (es : List (Request × List Claim)) → length es �
 no-waits q [] none = refl
 no-waits q (e ∷ es) none = absurd (omega (arith, none))
 
-pub none-waiting : (q : Request) (c : Claim) (waiting : BTreeMap Request (List Claim)) → btree_map_len waiting ≡ 0 → (r : Request) → waits_in waiting r ≡ cond (is_at (request_cmp q) r) (without c (waits_in waiting r)) (waits_in waiting r)
+pub none-waiting : (q : Request) (c : Claim) (waiting : BTreeMap Request (List Claim)) → btree_map_len waiting ≡ 0 → (r : Request) → waits_in waiting r ≡ cond (is_at (request_cmp q) r) (without_claim c (waits_in waiting r)) (waits_in waiting r)
 none-waiting q c waiting none r = by (is_at (request_cmp q) r) (no-waits r waiting.entries none)
   where
-    by : (b : Bool) → waits_in waiting r ≡ [] → waits_in waiting r ≡ cond b (without c (waits_in waiting r)) (waits_in waiting r)
-    by true e = e ∙ sym (ap (without c) e)
+    by : (b : Bool) → waits_in waiting r ≡ [] → waits_in waiting r ≡ cond b (without_claim c (waits_in waiting r)) (waits_in waiting r)
+    by true e = e ∙ sym (ap (without_claim c) e)
     by false e = refl
 
 -- ONE MARK
@@ -140,85 +141,85 @@ of-append g c (x ∷ xs) b e = by (is_same_gxid x.gxid g) (of-append g c xs b e)
     by false h = h
 
 -- the transaction's own wait is added to its own
-added-own : (g : Gxid) (c : Claim) (xs : List Claim) → is_same_gxid c.gxid g ≡ true → of_gxid g (added c xs) ≡ added c (of_gxid g xs)
+added-own : (g : Gxid) (c : Claim) (xs : List Claim) → is_same_gxid c.gxid g ≡ true → of_gxid g (with_claim c xs) ≡ with_claim c (of_gxid g xs)
 added-own g c xs own = by (list_any (same_claim c) xs) refl
   where
-    by : (b : Bool) → list_any (same_claim c) xs ≡ b → of_gxid g (added c xs) ≡ added c (of_gxid g xs)
+    by : (b : Bool) → list_any (same_claim c) xs ≡ b → of_gxid g (with_claim c xs) ≡ with_claim c (of_gxid g xs)
     by true e = ap (λ b. of_gxid g (cond b xs (xs ++ c ∷ []))) e ∙ sym (ap (λ b. cond b (of_gxid g xs) (of_gxid g xs ++ c ∷ [])) (any-of c g xs own ∙ e))
     by false e = ap (λ b. of_gxid g (cond b xs (xs ++ c ∷ []))) e ∙ of-append g c xs true own ∙ sym (ap (λ b. cond b (of_gxid g xs) (of_gxid g xs ++ c ∷ [])) (any-of c g xs own ∙ e))
 
-added-other : (g : Gxid) (c : Claim) (xs : List Claim) → is_same_gxid c.gxid g ≡ false → of_gxid g (added c xs) ≡ of_gxid g xs
+added-other : (g : Gxid) (c : Claim) (xs : List Claim) → is_same_gxid c.gxid g ≡ false → of_gxid g (with_claim c xs) ≡ of_gxid g xs
 added-other g c xs other = by (list_any (same_claim c) xs)
   where
     by : (b : Bool) → of_gxid g (cond b xs (xs ++ c ∷ [])) ≡ of_gxid g xs
     by true = refl
     by false = of-append g c xs false other ∙ append-nil (of_gxid g xs)
 
-without-of : (g : Gxid) (c : Claim) (xs : List Claim) → of_gxid g (without c xs) ≡ without c (of_gxid g xs)
+without-of : (g : Gxid) (c : Claim) (xs : List Claim) → of_gxid g (without_claim c xs) ≡ without_claim c (of_gxid g xs)
 without-of g c [] = refl
 without-of g c (x ∷ xs) = by (same_claim c x) (is_same_gxid x.gxid g) refl refl (without-of g c xs)
   where
-    by : (s b : Bool) → same_claim c x ≡ s → is_same_gxid x.gxid g ≡ b → of_gxid g (without c xs) ≡ without c (of_gxid g xs)
-        → of_gxid g (cond (not (same_claim c x)) (x ∷ without c xs) (without c xs)) ≡ without c (cond (is_same_gxid x.gxid g) (x ∷ of_gxid g xs) (of_gxid g xs))
-    by true true e f h = ap (λ s. of_gxid g (cond (not s) (x ∷ without c xs) (without c xs))) e ∙ h ∙ sym (ap (λ b. without c (cond b (x ∷ of_gxid g xs) (of_gxid g xs))) f ∙ ap (λ s. cond (not s) (x ∷ without c (of_gxid g xs)) (without c (of_gxid g xs))) e)
-    by true false e f h = ap (λ s. of_gxid g (cond (not s) (x ∷ without c xs) (without c xs))) e ∙ h ∙ sym (ap (λ b. without c (cond b (x ∷ of_gxid g xs) (of_gxid g xs))) f)
+    by : (s b : Bool) → same_claim c x ≡ s → is_same_gxid x.gxid g ≡ b → of_gxid g (without_claim c xs) ≡ without_claim c (of_gxid g xs)
+        → of_gxid g (cond (not (same_claim c x)) (x ∷ without_claim c xs) (without_claim c xs)) ≡ without_claim c (cond (is_same_gxid x.gxid g) (x ∷ of_gxid g xs) (of_gxid g xs))
+    by true true e f h = ap (λ s. of_gxid g (cond (not s) (x ∷ without_claim c xs) (without_claim c xs))) e ∙ h ∙ sym (ap (λ b. without_claim c (cond b (x ∷ of_gxid g xs) (of_gxid g xs))) f ∙ ap (λ s. cond (not s) (x ∷ without_claim c (of_gxid g xs)) (without_claim c (of_gxid g xs))) e)
+    by true false e f h = ap (λ s. of_gxid g (cond (not s) (x ∷ without_claim c xs) (without_claim c xs))) e ∙ h ∙ sym (ap (λ b. without_claim c (cond b (x ∷ of_gxid g xs) (of_gxid g xs))) f)
     by false true e f h =
-        ap (λ s. of_gxid g (cond (not s) (x ∷ without c xs) (without c xs))) e ∙ ap (λ b. cond b (x ∷ of_gxid g (without c xs)) (of_gxid g (without c xs))) f ∙ ap (λ ys. x ∷ ys) h
-        ∙ sym (ap (λ b. without c (cond b (x ∷ of_gxid g xs) (of_gxid g xs))) f ∙ ap (λ s. cond (not s) (x ∷ without c (of_gxid g xs)) (without c (of_gxid g xs))) e)
+        ap (λ s. of_gxid g (cond (not s) (x ∷ without_claim c xs) (without_claim c xs))) e ∙ ap (λ b. cond b (x ∷ of_gxid g (without_claim c xs)) (of_gxid g (without_claim c xs))) f ∙ ap (λ ys. x ∷ ys) h
+        ∙ sym (ap (λ b. without_claim c (cond b (x ∷ of_gxid g xs) (of_gxid g xs))) f ∙ ap (λ s. cond (not s) (x ∷ without_claim c (of_gxid g xs)) (without_claim c (of_gxid g xs))) e)
     by false false e f h =
-        ap (λ s. of_gxid g (cond (not s) (x ∷ without c xs) (without c xs))) e ∙ ap (λ b. cond b (x ∷ of_gxid g (without c xs)) (of_gxid g (without c xs))) f ∙ h
-        ∙ sym (ap (λ b. without c (cond b (x ∷ of_gxid g xs) (of_gxid g xs))) f)
+        ap (λ s. of_gxid g (cond (not s) (x ∷ without_claim c xs) (without_claim c xs))) e ∙ ap (λ b. cond b (x ∷ of_gxid g (without_claim c xs)) (of_gxid g (without_claim c xs))) f ∙ h
+        ∙ sym (ap (λ b. without_claim c (cond b (x ∷ of_gxid g xs) (of_gxid g xs))) f)
 
-without-other : (g : Gxid) (c : Claim) (xs : List Claim) → is_same_gxid c.gxid g ≡ false → without c (of_gxid g xs) ≡ of_gxid g xs
+without-other : (g : Gxid) (c : Claim) (xs : List Claim) → is_same_gxid c.gxid g ≡ false → without_claim c (of_gxid g xs) ≡ of_gxid g xs
 without-other g c [] other = refl
 without-other g c (x ∷ xs) other = by (is_same_gxid x.gxid g) (same_claim c x) refl refl (without-other g c xs other)
   where
     clash : true ≡ false → ⊥
     clash h = cc
 
-    by : (b s : Bool) → is_same_gxid x.gxid g ≡ b → same_claim c x ≡ s → without c (of_gxid g xs) ≡ of_gxid g xs
-        → without c (cond (is_same_gxid x.gxid g) (x ∷ of_gxid g xs) (of_gxid g xs)) ≡ cond (is_same_gxid x.gxid g) (x ∷ of_gxid g xs) (of_gxid g xs)
+    by : (b s : Bool) → is_same_gxid x.gxid g ≡ b → same_claim c x ≡ s → without_claim c (of_gxid g xs) ≡ of_gxid g xs
+        → without_claim c (cond (is_same_gxid x.gxid g) (x ∷ of_gxid g xs) (of_gxid g xs)) ≡ cond (is_same_gxid x.gxid g) (x ∷ of_gxid g xs) (of_gxid g xs)
     by true true e f h = absurd (clash (sym e ∙ (same-of c x g f ∙ other)))
     by true false e f h =
-        ap (λ b. without c (cond b (x ∷ of_gxid g xs) (of_gxid g xs))) e ∙ ap (λ s. cond (not s) (x ∷ without c (of_gxid g xs)) (without c (of_gxid g xs))) f ∙ ap (λ ys. x ∷ ys) h
+        ap (λ b. without_claim c (cond b (x ∷ of_gxid g xs) (of_gxid g xs))) e ∙ ap (λ s. cond (not s) (x ∷ without_claim c (of_gxid g xs)) (without_claim c (of_gxid g xs))) f ∙ ap (λ ys. x ∷ ys) h
         ∙ sym (ap (λ b. cond b (x ∷ of_gxid g xs) (of_gxid g xs)) e)
-    by false s e f h = ap (λ b. without c (cond b (x ∷ of_gxid g xs) (of_gxid g xs))) e ∙ h ∙ sym (ap (λ b. cond b (x ∷ of_gxid g xs) (of_gxid g xs)) e)
+    by false s e f h = ap (λ b. without_claim c (cond b (x ∷ of_gxid g xs) (of_gxid g xs))) e ∙ h ∙ sym (ap (λ b. cond b (x ∷ of_gxid g xs) (of_gxid g xs)) e)
 
 -- what was told of the request of a claim is so of each transaction at each node
 module _ (node : Node) (c : Claim) (standing : Node → List Claim) (old new : Request → List Claim) (were : (n : Node) (g : Gxid) → old (record { segment = n; gxid = g }) ≡ of_gxid g (standing n)) where
   abbrev request : Request
   request = record { segment = node; gxid = c.gxid }
 
-  pub begun-waits : ((r : Request) → new r ≡ cond (is_at (request_cmp request) r) (added c (old r)) (old r)) → (n : Node) (g : Gxid)
-      → new (record { segment = n; gxid = g }) ≡ of_gxid g (cond (is_same_node node n) (added c (standing n)) (standing n))
+  pub begun-waits : ((r : Request) → new r ≡ cond (is_at (request_cmp request) r) (with_claim c (old r)) (old r)) → (n : Node) (g : Gxid)
+      → new (record { segment = n; gxid = g }) ≡ of_gxid g (cond (is_same_node node n) (with_claim c (standing n)) (standing n))
   begun-waits set n g = by (is_same_node node n) (is_same_gxid c.gxid g) refl refl
     where
       r : Request
       r = record { segment = n; gxid = g }
 
-      by : (a b : Bool) → is_same_node node n ≡ a → is_same_gxid c.gxid g ≡ b → new r ≡ of_gxid g (cond (is_same_node node n) (added c (standing n)) (standing n))
-      by a b e f = set r ∙ ap (λ x. cond x (added c (old r)) (old r)) (is_same_request node n c.gxid g) ∙ ap (λ ws. cond (is_same_node node n && is_same_gxid c.gxid g) (added c ws) ws) (were n g)
-          ∙ ap (λ x. cond (x && is_same_gxid c.gxid g) (added c (of_gxid g (standing n))) (of_gxid g (standing n))) e ∙ ap (λ x. cond (a && x) (added c (of_gxid g (standing n))) (of_gxid g (standing n))) f
-          ∙ so a b f ∙ sym (ap (λ x. of_gxid g (cond x (added c (standing n)) (standing n))) e)
+      by : (a b : Bool) → is_same_node node n ≡ a → is_same_gxid c.gxid g ≡ b → new r ≡ of_gxid g (cond (is_same_node node n) (with_claim c (standing n)) (standing n))
+      by a b e f = set r ∙ ap (λ x. cond x (with_claim c (old r)) (old r)) (is_same_request node n c.gxid g) ∙ ap (λ ws. cond (is_same_node node n && is_same_gxid c.gxid g) (with_claim c ws) ws) (were n g)
+          ∙ ap (λ x. cond (x && is_same_gxid c.gxid g) (with_claim c (of_gxid g (standing n))) (of_gxid g (standing n))) e ∙ ap (λ x. cond (a && x) (with_claim c (of_gxid g (standing n))) (of_gxid g (standing n))) f
+          ∙ so a b f ∙ sym (ap (λ x. of_gxid g (cond x (with_claim c (standing n)) (standing n))) e)
         where
-          so : (a b : Bool) → is_same_gxid c.gxid g ≡ b → cond (a && b) (added c (of_gxid g (standing n))) (of_gxid g (standing n)) ≡ of_gxid g (cond a (added c (standing n)) (standing n))
+          so : (a b : Bool) → is_same_gxid c.gxid g ≡ b → cond (a && b) (with_claim c (of_gxid g (standing n))) (of_gxid g (standing n)) ≡ of_gxid g (cond a (with_claim c (standing n)) (standing n))
           so true true f = sym (added-own g c (standing n) f)
           so true false f = sym (added-other g c (standing n) f)
           so false b f = refl
 
-  pub ended-waits : ((r : Request) → new r ≡ cond (is_at (request_cmp request) r) (without c (old r)) (old r)) → (n : Node) (g : Gxid)
-      → new (record { segment = n; gxid = g }) ≡ of_gxid g (cond (is_same_node node n) (without c (standing n)) (standing n))
+  pub ended-waits : ((r : Request) → new r ≡ cond (is_at (request_cmp request) r) (without_claim c (old r)) (old r)) → (n : Node) (g : Gxid)
+      → new (record { segment = n; gxid = g }) ≡ of_gxid g (cond (is_same_node node n) (without_claim c (standing n)) (standing n))
   ended-waits set n g = by (is_same_node node n) (is_same_gxid c.gxid g) refl refl
     where
       r : Request
       r = record { segment = n; gxid = g }
 
-      by : (a b : Bool) → is_same_node node n ≡ a → is_same_gxid c.gxid g ≡ b → new r ≡ of_gxid g (cond (is_same_node node n) (without c (standing n)) (standing n))
-      by a b e f = set r ∙ ap (λ x. cond x (without c (old r)) (old r)) (is_same_request node n c.gxid g) ∙ ap (λ ws. cond (is_same_node node n && is_same_gxid c.gxid g) (without c ws) ws) (were n g)
-          ∙ ap (λ x. cond (x && is_same_gxid c.gxid g) (without c (of_gxid g (standing n))) (of_gxid g (standing n))) e ∙ ap (λ x. cond (a && x) (without c (of_gxid g (standing n))) (of_gxid g (standing n))) f
-          ∙ so a b f ∙ sym (ap (λ x. of_gxid g (cond x (without c (standing n)) (standing n))) e)
+      by : (a b : Bool) → is_same_node node n ≡ a → is_same_gxid c.gxid g ≡ b → new r ≡ of_gxid g (cond (is_same_node node n) (without_claim c (standing n)) (standing n))
+      by a b e f = set r ∙ ap (λ x. cond x (without_claim c (old r)) (old r)) (is_same_request node n c.gxid g) ∙ ap (λ ws. cond (is_same_node node n && is_same_gxid c.gxid g) (without_claim c ws) ws) (were n g)
+          ∙ ap (λ x. cond (x && is_same_gxid c.gxid g) (without_claim c (of_gxid g (standing n))) (of_gxid g (standing n))) e ∙ ap (λ x. cond (a && x) (without_claim c (of_gxid g (standing n))) (of_gxid g (standing n))) f
+          ∙ so a b f ∙ sym (ap (λ x. of_gxid g (cond x (without_claim c (standing n)) (standing n))) e)
         where
-          so : (a b : Bool) → is_same_gxid c.gxid g ≡ b → cond (a && b) (without c (of_gxid g (standing n))) (of_gxid g (standing n)) ≡ of_gxid g (cond a (without c (standing n)) (standing n))
+          so : (a b : Bool) → is_same_gxid c.gxid g ≡ b → cond (a && b) (without_claim c (of_gxid g (standing n))) (of_gxid g (standing n)) ≡ of_gxid g (cond a (without_claim c (standing n)) (standing n))
           so true true f = sym (without-of g c (standing n))
           so true false f = sym (without-of g c (standing n) ∙ without-other g c (standing n) f)
           so false b f = refl
@@ -242,7 +243,7 @@ all-none (w ∷ ws) none = absurd (never w (of_gxid w.gxid ws) (sym (ap (λ b. c
     never : (x : Claim) (xs : List Claim) → x ∷ xs ≡ [] → ⊥
     never x xs e = cc
 
-none-ends : (c : Claim) (b : Bool) → cond b (without c []) [] ≡ []
+none-ends : (c : Claim) (b : Bool) → cond b (without_claim c []) [] ≡ []
 none-ends c true = refl
 none-ends c false = refl
 

@@ -3,7 +3,8 @@ ghost use Rattle.std.specs.Prelude.{◌≡◌, ◌∷◌, [], List, true, OnOk, 
 ghost use Rattle.std.specs.BTreeMap.{is_at};
 ghost use Rattle.std.specs.List.{list_any};
 ghost use Rattle.gx_ids.specs.declared.ids.Node.{Node as OneNode};
-ghost use Rattle.gx_store.specs.Waits.{added, waits_from, without};
+ghost use Rattle.gx_store.specs.Waits.{waits_from};
+ghost use Rattle.gx_waits.specs.Claims.{with_claim, without_claim};
 ghost use Rattle.gx_waits.specs.Claim.{same_claim};
 ghost use Rattle.gx_waits.specs.declared.claim.Claim.{Claim as OneClaim};
 ghost use Rattle.gx_agenda.specs.declared.request.Request.{Request as OneRequest};
@@ -64,7 +65,7 @@ impl Asked {
     fn begin(&mut self, node: Node, claim: Claim) -> Mem<()>
         ensures awaited { OnOk result ((r : OneRequest) → awaited_at self.new r ≡ awaited_at self.old r) }
         ensures waits { OnOk result ((r : OneRequest) → waits_in self.new.waiting r
-            ≡ (if is_at (request_cmp (record { segment = node; gxid = claim.gxid })) r then added claim (waits_in self.old.waiting r) else waits_in self.old.waiting r)) }
+            ≡ (if is_at (request_cmp (record { segment = node; gxid = claim.gxid })) r then with_claim claim (waits_in self.old.waiting r) else waits_in self.old.waiting r)) }
         ensures due { OnOk result (IsIndexed self.old → IsIndexed self.new) }
     {
         let request = Request {
@@ -78,7 +79,7 @@ impl Asked {
     fn end(&mut self, node: Node, gxid: &Gxid, object: &Object, mode: &Mode) -> Mem<()>
         ensures awaited { OnOk result ((r : OneRequest) → awaited_at self.new r ≡ awaited_at self.old r) }
         ensures waits { OnOk result ((r : OneRequest) → waits_in self.new.waiting r
-            ≡ (if is_at (request_cmp (record { segment = node; gxid = gxid.now })) r then without (record { gxid = gxid.now; object = object.now; mode = mode.now }) (waits_in self.old.waiting r)
+            ≡ (if is_at (request_cmp (record { segment = node; gxid = gxid.now })) r then without_claim (record { gxid = gxid.now; object = object.now; mode = mode.now }) (waits_in self.old.waiting r)
             else waits_in self.old.waiting r)) }
         ensures due { OnOk result (IsIndexed self.old → IsIndexed self.new) }
     {
@@ -92,7 +93,7 @@ impl Asked {
     fn strike(&mut self, node: Node, claim: Claim) -> Mem<()>
         ensures awaited { OnOk result ((r : OneRequest) → awaited_at self.new r ≡ awaited_at self.old r) }
         ensures waits { OnOk result ((r : OneRequest) → waits_in self.new.waiting r
-            ≡ (if is_at (request_cmp (record { segment = node; gxid = claim.gxid })) r then without claim (waits_in self.old.waiting r) else waits_in self.old.waiting r)) }
+            ≡ (if is_at (request_cmp (record { segment = node; gxid = claim.gxid })) r then without_claim claim (waits_in self.old.waiting r) else waits_in self.old.waiting r)) }
         ensures due { OnOk result (IsIndexed self.old → IsIndexed self.new) }
     {
         let request = Request {
@@ -148,7 +149,7 @@ fn claim_of(gxid: &Gxid, object: &Object, mode: &Mode) -> Claim
 
 // Claims with one more, unless it is among them.
 fn with_claim(alloc: Global, claims: Option<Seq<Claim>>, claim: Claim) -> Mem<Seq<Claim>>
-    ensures { IfOk result (λ more. more ≡ added claim (unwrap_or claims [])) }
+    ensures { IfOk result (λ more. more ≡ with_claim claim (unwrap_or claims [])) }
 {
     let mut claims = claims.unwrap_or(Seq::new(alloc));
     if !is_among(claims.as_slice(), &claim) {
@@ -158,7 +159,7 @@ fn with_claim(alloc: Global, claims: Option<Seq<Claim>>, claim: Claim) -> Mem<Se
 }
 
 fn without_claim(claims: Seq<Claim>, claim: &Claim) -> Seq<Claim>
-    ensures { result ≡ without claim.now claims }
+    ensures { result ≡ without_claim claim.now claims }
 {
     let mut left = claims.into_vec();
     left.retain(|other| !is_same_claim(claim, other));

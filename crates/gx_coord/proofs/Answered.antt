@@ -22,8 +22,8 @@ use Rattle.gx_rules.specs.AtCoordinator.{goes_on, is_awaited, on_answer, on_done
 use Rattle.gx_rules.specs.Coordinators.{Command, Coord, Work, rests, with_work}
 use Rattle.gx_rules.specs.Fits.{fits_part}
 use Rattle.gx_rules.proofs.Rounds.{graph-ways}
-use Rattle.gx_law_order.proofs.Stages.{IsWhole, gx}
-use Rattle.gx_law_order.proofs.Statuses.{stage}
+use Rattle.gx_law_order.specs.Stages.{IsWhole, stage}
+use Rattle.gx_law_order.specs.Standings.{gx}
 use Rattle.gx_coord.specs.Sound.{AreSound, AreSoundIn, IsSmallMessage, IsSmallReply, IsSoundCommand, IsSoundWork}
 use Rattle.gx_coord.proofs.Keeping.{completes-sound, refused-sound, replies-sound}
 use Rattle.gx_coord.proofs.Rising.{rising-with}

@@ -14,7 +14,7 @@ use Rattle.gx_rules.specs.AtCoordinator.{goes_on, on_done, takes_done, with_done
 use Rattle.gx_rules.specs.Coordinators.{Command, Coord, Work, rests, with_state, with_work}
 use Rattle.gx_coord.specs.Sound.{AreSoundIn, IsSound, IsSoundWork}
 use Rattle.gx_dtx.specs.Table.{participants_in}
-use Rattle.gx_law_order.proofs.Statuses.{Stage, stage}
+use Rattle.gx_law_order.specs.Stages.{Stage, stage}
 use Rattle.gx_coord.specs.Turns.{AreCounted, IsFit, IsReady, asks, done_work, left_in, takes}
 use Rattle.gx_coord.proofs.Answered.{done-sound}
 use Rattle.gx_coord.proofs.Facts.{asked-active, asked-busy, asked-live, sound-fit, sound-writers}

@@ -19,7 +19,8 @@ use Rattle.gx_dtx.specs.Nodes.{has, with_node}
 use Rattle.gx_dtx.specs.Rules.{abort_found, begun, enlisted, with_live}
 use Rattle.gx_dtx.specs.Table.{Table, find_txn, new_txn, xmin_of}
 use Rattle.gx_dtx.specs.declared.txn.Txn.{Txn}
-use Rattle.gx_locks.specs.Locks.{is_free, resumed}
+use Rattle.gx_locks.specs.Locks.{resumed}
+use Rattle.gx_waits.specs.Claims.{is_free}
 use Rattle.gx_waits.specs.declared.claim.Claim.{Claim}
 use Rattle.gx_meaning.specs.declared.fault.ArithFault.{ArithFault}
 use Rattle.gx_meaning.specs.Plan.{plan_of}
@@ -31,15 +32,18 @@ use Rattle.gx_script.specs.declared.line_step.LineStep.TheVariants as step
 use Rattle.gx_script.specs.declared.state.Block.{Block}
 use Rattle.gx_script.specs.declared.state.Block.TheVariants as block
 use Rattle.gx_store.specs.Writes.{dist_of}
-use Rattle.gx_rules.specs.AtCoordinator.{Reading, begins, dispatches, ends_in, enlisted_all, fault_mark, goes, goes_on_locked, goes_out, if_granted, lock_for, next_cid, nodes_in, on_line, reads_by, reads_for, refusal_of, requests, resumes, rolls_back, starts, starts_line, table_of, takes_snapshot, waits_for}
+use Rattle.gx_rules.specs.AtCoordinator.{Reading, begins, dispatches, ends_in, enlisted_all, fault_mark, goes, goes_on_locked, goes_out, if_granted, next_cid, nodes_in, on_line, reads_by, reads_for, refusal_of, requests, resumes, rolls_back, starts, starts_line, table_of, takes_snapshot, waits_for}
+use Rattle.gx_store.specs.Locks.{table_lock}
 use Rattle.gx_rules.specs.Coordinators.{Command, Coord, Session, Work, new_work, session_of, with_state, with_work}
 use Rattle.gx_rules.specs.Locks.{with_hold}
 use Rattle.gx_rules.specs.Maps.{with_at}
 use Rattle.gx_rules.specs.Snapshots.{snapshot_of}
 use Rattle.gx_law_order.proofs.Closings.{live-at, set_live}
 use Rattle.gx_law_order.proofs.Lines.{Asks, asks, begun-whole, idle-none}
-use Rattle.gx_law_order.proofs.Sessions.{Kept, is_nothing_in, is_open_in}
-use Rattle.gx_law_order.proofs.Stages.{IsWhole, append-at, gx}
+use Rattle.gx_law_order.specs.Sessions.{Kept, is_nothing_in, is_open_in}
+use Rattle.gx_law_order.specs.Stages.{IsWhole}
+use Rattle.gx_law_order.proofs.Stages.{append-at}
+use Rattle.gx_law_order.specs.Standings.{gx}
 use Rattle.gx_coord.specs.Sound.{AreSound, IsSoundWork}
 use Rattle.gx_coord.proofs.Keeping.{commits-sound, refused-sound, rolled-sound}
 use Rattle.gx_coord.proofs.Sound.{itself, more-lines, none-sound, others, session-lines, sound-after, with_at-other, with_at-same}
@@ -245,7 +249,7 @@ request-sound c g whole e script line l f (Some wanted) = by_test (is_free c.loc
     by_test false = waiting-sound c g e line wanted l
 
 pub dispatch-sound : (c : Coord) (g : ℕ) → IsWhole c.table → AreSound c → (script : Script) (line : Stmt) → (c.works g).last + 1 ≤ (c.sessions (c.works g).session.0).lines → (c.works g).waiting ≡ None → AreSound (dispatches script c (gx g) line).coord
-dispatch-sound c g whole e script line l f = request-sound c g whole e script line l f (lock_for script (gx g) line)
+dispatch-sound c g whole e script line l f = request-sound c g whole e script line l f (table_lock script (gx g) line)
 
 -- and goes on
 pub resume-sound : (c : Coord) (g : ℕ) → IsWhole c.table → AreSound c → (script : Script) (o : Option Claim) (waiting : Option Stmt) → (c.works g).waiting ≡ waiting → AreSound (resumes script c (gx g) o waiting).coord
@@ -314,8 +318,8 @@ module _ (script : Script) (c : Coord) (kept : Kept script c) (e : AreSound c) (
 
   line-sound : is_nothing_in (session_of c s).state.pending ≡ true → (line : Stmt) (asked : LineStep) → Asks (session_of c s).state.block asked → AreSound (on_line script (now asked) s line asked).coord
   line-sound idle line (step.Answer plain) a = started (step.Answer plain)
-  line-sound idle line step.Refuse5 a = started step.Refuse5
-  line-sound idle line step.Refuse7 a = started step.Refuse7
+  line-sound idle line step.InFailedBlock a = started step.InFailedBlock
+  line-sound idle line step.NotInBlock a = started step.NotInBlock
   line-sound idle line (step.BeginBlock level) a = begun-now (step.BeginBlock level) level
   line-sound idle line step.CommitBlock a = commits-sound (now step.CommitBlock) kept.whole (started step.CommitBlock) (session_of (now step.CommitBlock) s).transaction.0
   line-sound idle line step.RollbackBlock a =

@@ -23,10 +23,11 @@ use Rattle.gx_script.specs.declared.state.Pending.TheVariants as pending
 use Rattle.gx_rules.specs.AtCoordinator.{is_under_way}
 use Rattle.gx_rules.specs.Coordinators.{Command, Coord, Work}
 use Rattle.gx_rules.specs.Rounds.{is_active as is_active_phase, is_live}
-use Rattle.gx_law_order.proofs.Sessions.{Kept, is_closing_in, is_working_in, stage_of}
-use Rattle.gx_law_order.proofs.Stages.{gx}
-use Rattle.gx_law_order.proofs.Statuses.{Moves, Stage, stage, stage_in}
-use Rattle.gx_law_order.proofs.Statuses.Stage.{Live, Closing}
+use Rattle.gx_law_order.specs.Sessions.{Kept, is_closing_in, is_working_in}
+use Rattle.gx_law_order.specs.Stages.{Stage, stage, stage_in, stage_of}
+use Rattle.gx_law_order.specs.Standings.{gx}
+use Rattle.gx_law_order.proofs.Statuses.{Moves}
+use Rattle.gx_law_order.specs.Stages.Stage.{Closing, Live}
 use Rattle.gx_coord.specs.Sound.{AreSoundIn, IsSoundWork}
 use Rattle.gx_coord.specs.Turns.{IsBusy, IsFit, answers_line, asks, is_active}
 

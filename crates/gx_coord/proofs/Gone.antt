@@ -11,8 +11,8 @@ use Rattle.gx_store.specs.declared.mark.Mark.{Mark}
 use Rattle.gx_rules.specs.AtCoordinator.{cancels, coord_can, coord_rule, on_event}
 use Rattle.gx_rules.specs.Coordinators as rule
 use Rattle.gx_law_order.proofs.AtCoordinators.{cancel_stays, coord_stays}
-use Rattle.gx_law_order.proofs.Lists.{Each}
-use Rattle.gx_law_order.proofs.Tables.{OutIn}
+use Rattle.gx_law_order.specs.Places.{OutIn}
+use Rattle.gx_law_order.specs.Lists.{Each}
 use Rattle.gx_coord.specs.Books.{coord_of}
 use Rattle.gx_coord.specs.Places.{AreIndexed}
 use Rattle.gx_coord.specs.Sound.{IsSound}

@@ -25,9 +25,11 @@ use Rattle.gx_rules.specs.AtCoordinator.{answers, commits, completes, failure_ma
 use Rattle.gx_rules.specs.Coordinators.{Coord, Session, Work, no_work, session_of, with_state, with_work}
 use Rattle.gx_rules.specs.Maps.{with_at}
 use Rattle.gx_law_order.proofs.Closings.{live-at, set_live}
-use Rattle.gx_law_order.proofs.Stages.{At, IsWhole, changed-at, gx, left_of}
-use Rattle.gx_law_order.proofs.Statuses.{Moves, Stage, reply-turns, stage, stage_in}
-use Rattle.gx_law_order.proofs.Statuses.Stage.{Absent, Live, Finished, Dropped}
+use Rattle.gx_law_order.proofs.Stages.{At, changed-at, left_of}
+use Rattle.gx_law_order.specs.Stages.{IsWhole, Stage, stage, stage_in}
+use Rattle.gx_law_order.specs.Standings.{gx}
+use Rattle.gx_law_order.proofs.Statuses.{Moves, reply-turns}
+use Rattle.gx_law_order.specs.Stages.Stage.{Absent, Dropped, Finished, Live}
 use Rattle.gx_coord.specs.Sound.{AreSound, IsSoundWork}
 use Rattle.gx_coord.proofs.Sound.{itself, moved-sound, none-sound, others, session-lines, sound-after, with_at-other, with_at-same}
 

@@ -4,7 +4,7 @@ use Rattle.std.specs.List.{list_any}
 use Rattle.std.specs.Prelude.{find}
 use Rattle.gx_lemmas.proofs.Numbers.{eqb-self}
 use Rattle.gx_ids.specs.declared.ids.SessionId.{SessionId}
-use Rattle.gx_locks.specs.Claims.{is_of}
+use Rattle.gx_waits.specs.Claims.{is_of}
 use Rattle.gx_tree.specs.declared.stmt.Level.TheVariants.{ReadCommitted}
 use Rattle.gx_tree.specs.declared.stmt.Stmt.{Stmt}
 use Rattle.gx_tree.specs.declared.stmt.Stmt.TheVariants as stmt
@@ -21,11 +21,12 @@ use Rattle.gx_rules.specs.AtCoordinator.{begins, starts_line}
 use Rattle.gx_rules.specs.Coordinators.{Coord, Session, Work, new_work, session_of}
 use Rattle.gx_rules.specs.Snapshots.{latest_number}
 use Rattle.gx_law_order.proofs.Lines.{Asks, asks, begun-whole, idle-none, unqueued}
-use Rattle.gx_law_order.proofs.Queued.{IsQueued, nothing-queued}
-use Rattle.gx_law_order.proofs.Sessions.{is_nothing_in, is_open_in, stage_of}
-use Rattle.gx_law_order.proofs.Stages.{append-at, gx}
-use Rattle.gx_law_order.proofs.Statuses.{stage}
-use Rattle.gx_law_order.proofs.Statuses.Stage.{Live}
+use Rattle.gx_law_order.proofs.Queued.{nothing-queued}
+use Rattle.gx_law_order.specs.Sessions.{IsQueued, is_nothing_in, is_open_in}
+use Rattle.gx_law_order.specs.Stages.{stage, stage_of}
+use Rattle.gx_law_order.proofs.Stages.{append-at}
+use Rattle.gx_law_order.specs.Standings.{gx}
+use Rattle.gx_law_order.specs.Stages.Stage.{Live}
 use Rattle.gx_coord.specs.Faults.{IsCommand}
 use Rattle.gx_coord.specs.Lines.{MayAsk, MaySend}
 use Rattle.gx_coord.specs.Sound.{IsSound}
@@ -133,8 +134,8 @@ module _ (script : Script) (c : Coord) (h : IsSound script c) (s : SessionId) (i
 
   pub may-ask : (line : Stmt) (asked : LineStep) → line_step (session_of c s).state.block line ≡ asked → MayAsk (now asked) s line asked
   may-ask line (step.Answer plain) e = tt
-  may-ask line step.Refuse5 e = tt
-  may-ask line step.Refuse7 e = tt
+  may-ask line step.InFailedBlock e = tt
+  may-ask line step.NotInBlock e = tt
   may-ask line (step.BeginBlock level) e = tt
   may-ask line step.CommitBlock e =
       subst (λ (x : Session). IsReady (now step.CommitBlock) x.transaction) (sym (session_now step.CommitBlock))

@@ -15,13 +15,15 @@ use Rattle.gx_node.specs.Orders.{Took}
 use Rattle.gx_outside.specs.Shelves.{Shelf}
 use Rattle.gx_script.specs.declared.state.Block.{Block}
 use Rattle.gx_script.specs.declared.state.Block.TheVariants as block
+use Rattle.gx_store.specs.Locks.{table_lock}
 use Rattle.gx_rules.specs.AtCoordinator as turns
 use Rattle.gx_rules.specs.Coordinators.{Command, Coord, CoordTurn, rests, session_of, with_work, work_of}
 use Rattle.gx_rules.specs.Fits.{fits_part}
 use Rattle.gx_rules.specs.Locks.{with_hold}
 use Rattle.gx_rules.specs.Rounds.{victims_at}
 use Rattle.gx_rules.specs.Sending.{clock_after}
-use Rattle.gx_locks.specs.Locks.{is_free, resumed, wait_of}
+use Rattle.gx_locks.specs.Locks.{resumed, wait_of}
+use Rattle.gx_waits.specs.Claims.{is_free}
 use Rattle.gx_meaning.specs.Plan.{plan_of}
 use Rattle.gx_meaning.specs.declared.fault.ArithFault.{ArithFault}
 use Rattle.gx_meaning.specs.declared.piece.Piece.{Piece}
@@ -143,16 +145,16 @@ request-quiet script c g line (Some wanted) = by_test (is_free c.locks.holds wan
 
 line-quiet : (script : Script) (c : Coord) (s : SessionId) (line : Stmt) (asked : LineStep) → IsQuiet (turns.on_line script c s line asked)
 line-quiet script c s line (step.Answer plain) = refl
-line-quiet script c s line step.Refuse5 = refl
-line-quiet script c s line step.Refuse7 = refl
+line-quiet script c s line step.InFailedBlock = refl
+line-quiet script c s line step.NotInBlock = refl
 line-quiet script c s line (step.BeginBlock level) = refl
 line-quiet script c s line step.CommitBlock =
     let g = (session_of c s).transaction in
     let turn = on_commit c.table g (work_of c g).writers in
     follows-quiet c g turn turn.out.outcome
 line-quiet script c s line step.RollbackBlock = refl
-line-quiet script c s line (step.Command true) = request-quiet script (turns.begins c s ReadCommitted) c.table.next line (turns.lock_for script c.table.next line)
-line-quiet script c s line (step.Command false) = request-quiet script c (session_of c s).transaction line (turns.lock_for script (session_of c s).transaction line)
+line-quiet script c s line (step.Command true) = request-quiet script (turns.begins c s ReadCommitted) c.table.next line (table_lock script c.table.next line)
+line-quiet script c s line (step.Command false) = request-quiet script c (session_of c s).transaction line (table_lock script (session_of c s).transaction line)
 
 start-quiet : (script : Script) (c : Coord) (s : SessionId) (line : Option Stmt) → IsQuiet (turns.starts script c s line)
 start-quiet script c s None = refl

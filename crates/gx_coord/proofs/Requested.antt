@@ -1,13 +1,14 @@
 -- A request for a table's lock, and what follows it.
 use Rattle.std.proofs.Common.{◌≡◌, ◌++◌, ◌∙◌, ℕ, List, [], ◌∷◌, Result, Ok, Err, OnOk, IfOk, Option, Some, Bool, true, false, ap, subst, sym}
 use Rattle.gx_ids.specs.declared.ids.Gxid.{Gxid}
-use Rattle.gx_locks.specs.Locks.{is_free}
+use Rattle.gx_waits.specs.Claims.{is_free}
 use Rattle.gx_waits.specs.declared.claim.Claim.{Claim}
 use Rattle.gx_tree.specs.declared.stmt.Stmt.{Stmt}
 use Rattle.gx_msg.specs.declared.message.Out.{Out}
 use Rattle.gx_script.specs.declared.Script.{Script}
 use Rattle.gx_store.specs.declared.mark.Mark.{Mark}
-use Rattle.gx_rules.specs.AtCoordinator.{dispatches, goes_on_locked, if_granted, lock_for, requests}
+use Rattle.gx_rules.specs.AtCoordinator.{dispatches, goes_on_locked, if_granted, requests}
+use Rattle.gx_store.specs.Locks.{table_lock}
 use Rattle.gx_rules.specs.Coordinators as rule
 use Rattle.gx_coord.specs.Books.{IsFramed, coord_of, stmt_at}
 use Rattle.gx_store.specs.Refusals.{the_coordinator}
@@ -51,5 +52,5 @@ pub waits-outs : (old : Coord) (g : Gxid) (s : Script) (line : Stmt) (wanted : C
 waits-outs old g s line wanted granted no_ free = ap (λ b. (if_granted s (coord_of old) g line wanted b).outs) (sym no_ ∙ free)
 
 -- by what it asks for
-pub dispatched-by : (s : Script) (c : rule.Coord) (g : Gxid) (line : Stmt) (o : Option Claim) → o ≡ lock_for s g line → requests s c g line o ≡ dispatches s c g line
+pub dispatched-by : (s : Script) (c : rule.Coord) (g : Gxid) (line : Stmt) (o : Option Claim) → o ≡ table_lock s g line → requests s c g line o ≡ dispatches s c g line
 dispatched-by s c g line o e = ap (requests s c g line) e

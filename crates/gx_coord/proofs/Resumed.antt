@@ -15,9 +15,10 @@ use Rattle.gx_store.specs.Refusals.{the_coordinator}
 use Rattle.gx_store.specs.declared.mark.Mark.{Mark}
 use Rattle.gx_store.specs.declared.node.NodeEvent.TheVariants as event
 use Rattle.gx_waits.specs.declared.claim.Claim.{Claim}
-use Rattle.gx_rules.specs.AtCoordinator.{behind, coord_can, goes_on_locked, lock_for, resumes}
+use Rattle.gx_rules.specs.AtCoordinator.{behind, coord_can, goes_on_locked, resumes}
+use Rattle.gx_store.specs.Locks.{table_lock}
 use Rattle.gx_rules.specs.Coordinators as rule
-use Rattle.gx_law_order.proofs.Sessions.{Kept}
+use Rattle.gx_law_order.specs.Sessions.{Kept}
 use Rattle.gx_law_order.proofs.Waiting.{HasStatement, statement-of}
 use Rattle.gx_coord.specs.Books.{IsFramed, coord_of, stmt_at}
 use Rattle.gx_coord.specs.Faults.{IsCommand}
@@ -29,7 +30,7 @@ use Rattle.gx_coord.proofs.Sound.{with_at-same}
 use Rattle.gx_coord.proofs.Turned.{framed-trans, on_behind-turn, script-same}
 
 -- a statement that takes a lock is a command, and stands in the script
-pub locked-command : (script : Script) (g : Gxid) (line : Stmt) (wanted : Claim) → lock_for script g line ≡ Some wanted → IsCommand line
+pub locked-command : (script : Script) (g : Gxid) (line : Stmt) (wanted : Claim) → table_lock script g line ≡ Some wanted → IsCommand line
 locked-command script g (stmt.Select query) wanted e = tt
 locked-command script g (stmt.Insert table tuples) wanted e = tt
 locked-command script g (stmt.Update table assigns cond) wanted e = tt
@@ -39,7 +40,7 @@ locked-command script g (stmt.Begin level) wanted e = absurd (cc)
 locked-command script g stmt.Commit wanted e = absurd (cc)
 locked-command script g stmt.Rollback wanted e = absurd (cc)
 
-pub locked-inside : (script : Script) (lines : List Line) (place : ℕ) (g : Gxid) (wanted : Claim) → lock_for script g (stmt_at lines place) ≡ Some wanted → place < length lines
+pub locked-inside : (script : Script) (lines : List Line) (place : ℕ) (g : Gxid) (wanted : Claim) → table_lock script g (stmt_at lines place) ≡ Some wanted → place < length lines
 locked-inside script [] place g wanted e = absurd (cc)
 locked-inside script (x ∷ xs) zero g wanted e = omega arith
 locked-inside script (x ∷ xs) (suc place) g wanted e = omega (arith, locked-inside script xs place g wanted e)
@@ -95,8 +96,8 @@ module _ (old mid awake : Coord) (script : Script) (g : Gxid) (sound : IsSound s
     line-is : Some line ≡ (c.works g.0).waiting
     line-is = ap (λ (s : Script). Some (stmt_at s.lines place)) (sym (script-same old mid f1 ∙ same)) ∙ at ∙ ap (λ (k : rule.Coord). (k.works g.0).waiting) e1
 
-    lock : lock_for script g line ≡ Some wakes.wanted
-    lock = ap (lock_for script g) (some-same line wakes.statement.line (line-is ∙ wakes.statement.is)) ∙ wakes.statement.lock
+    lock : table_lock script g line ≡ Some wakes.wanted
+    lock = ap (table_lock script g) (some-same line wakes.statement.line (line-is ∙ wakes.statement.is)) ∙ wakes.statement.lock
 
     pub wakes-inside : place < length awake.script.value.lines
     wakes-inside = subst (λ (s : Script). place < length s.lines) (sym script-is) (locked-inside script script.lines place g wakes.wanted lock)

@@ -16,7 +16,7 @@ use Rattle.gx_dtx.specs.Table.{Table, find_txn, has_ended, listed_of, runs, xmax
 use Rattle.gx_dtx.specs.declared.txn.Txn.{Txn}
 use Rattle.gx_rules.specs.Gxids.{filter-rising, gxids_from}
 use Rattle.gx_rules.specs.Snapshots.{after_latest, latest_number, running_below, snapshot_of}
-use Rattle.gx_law_order.proofs.Stages.{Below, IsWhole}
+use Rattle.gx_law_order.specs.Stages.{Below, IsWhole}
 
 same-gxid : (g h : Gxid) → g.0 ≡ h.0 → g ≡ h
 same-gxid g h e = ap (λ n. record { 0 = n }) e

@@ -10,9 +10,10 @@ use Rattle.gx_dtx.specs.Table.{Table, find_txn, participants_in}
 use Rattle.gx_dtx.specs.declared.txn.Txn.{Txn}
 use Rattle.gx_rules.specs.Coordinators.{Command, Coord, Session, Work, new_work}
 use Rattle.gx_rules.specs.Maps.{with_at}
-use Rattle.gx_law_order.proofs.Stages.{At, gx}
-use Rattle.gx_law_order.proofs.Statuses.{stage}
-use Rattle.gx_law_order.proofs.Statuses.Stage.{Live}
+use Rattle.gx_law_order.proofs.Stages.{At}
+use Rattle.gx_law_order.specs.Standings.{gx}
+use Rattle.gx_law_order.specs.Stages.{stage}
+use Rattle.gx_law_order.specs.Stages.Stage.{Live}
 use Rattle.gx_coord.specs.Sound.{AreSound, AreSoundIn, IsSoundWork}
 
 -- what is known of one transaction changes, and no session's lines fall

@@ -19,7 +19,7 @@ use Rattle.gx_rules.proofs.Rounds.{cancel-ways}
 use Rattle.gx_rules.proofs.Turns.{cancels_all-each}
 use Rattle.gx_law_order.proofs.AtCoordinators.{cancel_stays, coord_stays}
 use Rattle.gx_law_order.proofs.Replies.{cancel-good, event-good}
-use Rattle.gx_law_order.proofs.Sessions.{is_nothing_in}
+use Rattle.gx_law_order.specs.Sessions.{is_nothing_in}
 use Rattle.gx_coord.specs.Sound.{AreSound, IsSmall, IsSound}
 use Rattle.gx_coord.proofs.Answered.{message-sound}
 use Rattle.gx_coord.proofs.Dispatched.{end-sound, resume-sound, start-sound}

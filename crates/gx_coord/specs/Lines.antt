@@ -7,7 +7,7 @@ use Rattle.gx_tree.specs.declared.stmt.Level.TheVariants.{ReadCommitted}
 use Rattle.gx_tree.specs.declared.stmt.Stmt.{Stmt}
 use Rattle.gx_dtx.specs.Rules.{on_abort}
 use Rattle.gx_dtx.specs.Table.{IsActive}
-use Rattle.gx_locks.specs.Claims.{is_of}
+use Rattle.gx_waits.specs.Claims.{is_of}
 use Rattle.gx_script.specs.declared.line_step.LineStep.{LineStep}
 use Rattle.gx_script.specs.declared.line_step.LineStep.TheVariants as step
 use Rattle.gx_store.specs.declared.answer.StmtAnswer.TheVariants as told

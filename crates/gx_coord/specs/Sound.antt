@@ -15,13 +15,13 @@ use Rattle.gx_store.specs.declared.mark.Mark.{Mark}
 use Rattle.gx_store.specs.declared.node.NodeEvent.{NodeEvent}
 use Rattle.gx_store.specs.declared.node.NodeEvent.TheVariants as event
 use Rattle.gx_rules.specs.Coordinators.{Command, Coord, Work}
-use Rattle.gx_law_order.proofs.AtCoordinators.{CoordIn}
-use Rattle.gx_law_order.proofs.Past.{Past}
-use Rattle.gx_law_order.proofs.Sessions.{Kept}
+use Rattle.gx_law_order.specs.Places.{CoordIn}
+use Rattle.gx_law_order.specs.Past.{Past}
+use Rattle.gx_law_order.specs.Sessions.{Kept}
+use Rattle.gx_law_order.specs.Stages.{IsWhole, Stage, stage}
 use Rattle.gx_rules.specs.Snapshots.{latest_number}
-use Rattle.gx_law_order.proofs.Stages.{IsWhole, gx}
-use Rattle.gx_law_order.proofs.Statuses.{Stage, stage}
-use Rattle.gx_law_order.proofs.Statuses.Stage.{Live}
+use Rattle.gx_law_order.specs.Standings.{gx}
+use Rattle.gx_law_order.specs.Stages.Stage.{Live}
 use Rattle.gx_coord.specs.Turns.{AreFit}
 
 -- The parts fit the statement, and each raised the count by less than 2^64. While the transaction's commands run, the nodes

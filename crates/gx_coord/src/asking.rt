@@ -150,11 +150,11 @@ pub(crate) fn ask(
 {
     match asked {
         LineStep::Answer(plain) => tell(alloc, coord, id, plain_answer(plain), marks),
-        LineStep::Refuse5 => {
+        LineStep::InFailedBlock => {
             let answer = StmtAnswer::Refused(Refused::InFailedBlock);
             tell(alloc, coord, id, answer, marks)
         }
-        LineStep::Refuse7 => {
+        LineStep::NotInBlock => {
             let answer = StmtAnswer::Refused(Refused::NotInBlock);
             tell(alloc, coord, id, answer, marks)
         }

@@ -1,6 +1,6 @@
-ghost use Rattle.std.specs.Prelude.{◌≡◌, ◌==◌, ◌<◌, ◌^◌, [], All, length, not, true, false, None, IfOk, OnOk, OnErr, IsErr};
+ghost use Rattle.std.specs.Prelude.{◌≡◌, ◌==◌, ◌<◌, ◌^◌, [], All, length, not, true, false, IfOk, OnOk, OnErr, IsErr};
 ghost use Rattle.gx_locks.specs.Graphs.{graph_at};
-ghost use Rattle.gx_locks.specs.Locks.{least_with, ready_ones};
+ghost use Rattle.gx_locks.specs.Locks.{next_ready};
 ghost use Rattle.gx_outside.specs.Shelves.{IsLater};
 ghost use Rattle.gx_rules.specs.AtCoordinator.{awaited, coord_can, is_unfinished_there};
 ghost use Rattle.gx_rules.specs.Coordinators.{Coord as RuleCoord, new_coordinator};
@@ -178,7 +178,7 @@ impl Coord {
     pub fn ready(&self) -> Option<Gxid>
         ghost c: { RuleCoord }
         requires { IsCoord self.now c }
-        ensures { result ≡ least_with None (ready_ones c.locks) }
+        ensures { result ≡ next_ready c.locks }
     {
         self.locks.ready()
     }

@@ -3,12 +3,13 @@ ghost use Rattle.std.specs.Prelude.{◌≡◌, ◌<◌, ◌+◌, ◌^◌, [], Er
 ghost use Rattle.std.specs.List.{list_any};
 ghost use Rattle.gx_dtx.specs.Table.{IsActive};
 ghost use Rattle.gx_eval.specs.Faults.{eval_fault};
-ghost use Rattle.gx_locks.specs.Claims.{is_of};
+ghost use Rattle.gx_waits.specs.Claims.{is_of};
 ghost use Rattle.gx_meaning.specs.declared.fault.ArithFault.{ArithFault as Fault};
 ghost use Rattle.gx_meaning.specs.Statements.{IsStmtOf};
 ghost use Rattle.gx_rules.specs.AtCoordinator as turns;
 ghost use Rattle.gx_rules.specs.Coordinators.{with_work};
 ghost use Rattle.gx_store.specs.Language.{IsScript};
+ghost use Rattle.gx_store.specs.Locks as legal;
 ghost use Rattle.gx_coord.specs.Books.{IsFramed, command_of, coord_of, stmt_at};
 ghost use Rattle.gx_coord.specs.Faults.{HasConstants, IsCommand, is_short as has_short, planned as rule_plan};
 ghost use Rattle.gx_coord.specs.Sound.{IsDrawn};
@@ -19,7 +20,7 @@ use crate::books::set_work;
 use crate::completing::level_of;
 use crate::coord::Coord;
 use crate::faults::push_fault;
-use crate::locking::{lock_for, take_lock};
+use crate::locking::take_lock;
 use crate::orders::{Ordering, copied, enlist_all, nodes, orders};
 use crate::replies::refuse;
 use crate::snapshots::read_for;
@@ -30,6 +31,7 @@ use gx_eval::EvalFault;
 use gx_ids::{Cid, Gxid, Mem, OutOfMemory, Seq, SessionId, Shared, Table};
 use gx_meaning::{ArithFault, Piece};
 use gx_msg::Out;
+use gx_node::table_lock;
 use gx_plan::plan_in;
 use gx_script::Script;
 use gx_store::Mark;
@@ -390,10 +392,10 @@ fn go_with_lock(
 
 fn lock_at(coord: &Coord, gxid: Gxid, place: usize) -> Option<Claim>
     requires { place < length coord.now.script.value.lines }
-    ensures value { result ≡ turns.lock_for coord.now.script.value gxid (stmt_at coord.now.script.value.lines place) }
+    ensures value { result ≡ legal.table_lock coord.now.script.value gxid (stmt_at coord.now.script.value.lines place) }
     ensures own { IfSome result (λ wanted. wanted.gxid ≡ gxid) }
 {
-    lock_for(&coord.script, gxid, line_at(&coord.script, place))
+    table_lock(&coord.script, gxid, line_at(&coord.script, place))
 }
 
 // A command of a transaction takes its table's lock and goes out, or waits.

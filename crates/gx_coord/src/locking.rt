@@ -1,10 +1,9 @@
 // The locks that transactions have here, how they wait for them, and how they are given back.
-ghost use Rattle.std.specs.Prelude.{◌≡◌, ◌++◌, ◌∷◌, [], IfOk, IfSome, OnOk, false, true};
+ghost use Rattle.std.specs.Prelude.{◌≡◌, ◌++◌, ◌∷◌, [], IfOk, OnOk, false, true};
 ghost use Rattle.std.specs.List.{list_any};
-ghost use Rattle.gx_locks.specs.Claims.{is_of};
-ghost use Rattle.gx_locks.specs.Locks.{is_free, is_ready, resumed, wait_of};
+ghost use Rattle.gx_waits.specs.Claims.{is_free, is_of};
+ghost use Rattle.gx_locks.specs.Locks.{may_take, resumed, wait_of};
 ghost use Rattle.gx_node.specs.Locking.{asked_mark, resumed_marks};
-ghost use Rattle.gx_rules.specs.AtCoordinator as turns;
 ghost use Rattle.gx_rules.specs.Locks as rule;
 ghost use Rattle.gx_store.specs.Refusals.{the_coordinator};
 ghost use Rattle.gx_coord.specs.Books.{IsFramed, coord_of};
@@ -12,11 +11,7 @@ ghost use Rattle.gx_coord.specs.Locking.{asked};
 
 use crate::coord::Coord;
 use gx_ids::{Gxid, Mem, Node};
-use gx_modes::Mode;
-use gx_node::{changing_mode, claim_on};
-use gx_script::Script;
 use gx_store::Mark;
-use gx_tree::Stmt;
 use gx_waits::Claim;
 
 // A transaction that has ended gives its locks back.
@@ -26,23 +21,6 @@ pub(crate) fn give_back(coord: &mut Coord, gxid: Gxid, marks: &mut Vec<Mark>) ->
     ensures marks { OnOk result (marks.new.items ≡ marks.old.items ++ rule.release_marks the_coordinator coord.old.locks gxid) }
 {
     gx_node::give_back(coord.alloc, Node(0), &mut coord.locks, gxid, marks)
-}
-
-// The lock that a command takes on its table.
-pub(crate) fn lock_for(script: &Script, gxid: Gxid, line: &Stmt) -> Option<Claim>
-    ensures value { result ≡ turns.lock_for script.now gxid line.now }
-    ensures own { IfSome result (λ wanted. wanted.gxid ≡ gxid) }
-{
-    match line {
-        Stmt::Select(query) => Some(claim_on(gxid, query.get().table, Mode::AccessShare)),
-        Stmt::Insert(table, _) => Some(claim_on(gxid, *table, Mode::RowExclusive)),
-        Stmt::Update(table, _, _) => Some(claim_on(gxid, *table, changing_mode(script))),
-        Stmt::Delete(table, _) => Some(claim_on(gxid, *table, changing_mode(script))),
-        Stmt::Lock(table, mode) => Some(claim_on(gxid, *table, *mode)),
-        Stmt::Begin(_) => None,
-        Stmt::Commit => None,
-        Stmt::Rollback => None,
-    }
 }
 
 // Whether a transaction has the lock that it asks for; else it waits for it from now on.
@@ -58,7 +36,7 @@ pub(crate) fn take_lock(coord: &mut Coord, wanted: Claim, marks: &mut Vec<Mark>)
 
 // The ready wait of a transaction is a hold from now on.
 pub(crate) fn take_ready(coord: &mut Coord, gxid: Gxid, marks: &mut Vec<Mark>) -> Mem<()>
-    requires { is_ready coord.old.locks.holds (wait_of coord.old.locks gxid) ≡ true }
+    requires { may_take coord.old.locks gxid ≡ true }
     ensures framed { OnOk result (IsFramed coord.old coord.new) }
     ensures coord { OnOk result (coord_of coord.new ≡ record (coord_of coord.old) { locks = resumed coord.old.locks gxid (wait_of coord.old.locks gxid) }) }
     ensures marks { OnOk result (marks.new.items ≡ marks.old.items ++ resumed_marks the_coordinator (wait_of coord.old.locks gxid)) }
@@ -68,7 +46,7 @@ pub(crate) fn take_ready(coord: &mut Coord, gxid: Gxid, marks: &mut Vec<Mark>) -
 
 // Whether the wait of a transaction is ready.
 pub(crate) fn can_take(coord: &Coord, gxid: Gxid) -> bool
-    ensures { result ≡ is_ready coord.now.locks.holds (wait_of coord.now.locks gxid) }
+    ensures { result ≡ may_take coord.now.locks gxid }
 {
     coord.locks.is_ready(gxid)
 }

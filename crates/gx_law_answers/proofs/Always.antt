@@ -19,7 +19,8 @@ use Rattle.gx_rules.specs.Machine.{World, coord_did, seg_did, world_of}
 use Rattle.gx_rules.specs.Segments.{Seg, SegTurn}
 use Rattle.gx_rules.specs.Sending.{counted, numbered}
 use Rattle.gx_law_order.proofs.AtSegments.{PlainAt, seg_stays}
-use Rattle.gx_law_order.proofs.Lists.{Each, each_append, each_weaker}
+use Rattle.gx_law_order.proofs.Lists.{each_append, each_weaker}
+use Rattle.gx_law_order.specs.Lists.{Each}
 use Rattle.gx_store.specs.Language.{AreLinesNumbered}
 use Rattle.gx_law_order.specs.Standings.{at, gx}
 use Rattle.gx_law_order.proofs.Whole.{world-both}

@@ -19,14 +19,15 @@ use Rattle.gx_store.specs.declared.node.NodeEvent.TheVariants as here
 use Rattle.gx_store.specs.Language.{AreLinesNumbered}
 use Rattle.gx_store.specs.Ordered.{IsSegment}
 use Rattle.gx_rules.specs.AtCoordinator.{coord_can, coord_rule}
+use Rattle.gx_store.specs.Locks.{slice_lock}
 use Rattle.gx_rules.specs.AtSegment.{on_message, seg_rule}
 use Rattle.gx_rules.specs.Fits.{reads_nothing}
 use Rattle.gx_rules.specs.Changes.{Change, change_of, changes_rows}
 use Rattle.gx_rules.specs.Locks.{hold_mark, with_hold}
 use Rattle.gx_rules.specs.Machine.{World, can_here, coord_did, delivered, does, found, new_world, seg_did, world_of}
 use Rattle.gx_rules.specs.Segments.{Seg, SegTurn, after_marks, local_of}
-use Rattle.gx_rules.specs.Running.{runs_slice, slice_lock, suspended_slice}
-use Rattle.gx_law_order.proofs.Lists.{Each}
+use Rattle.gx_rules.specs.Running.{runs_slice, suspended_slice}
+use Rattle.gx_law_order.specs.Lists.{Each}
 use Rattle.gx_law_order.proofs.Ordered.{world_well}
 use Rattle.gx_law_order.proofs.Legality.{after-last}
 use Rattle.gx_law_reads.proofs.Waiting.{new-to-run}

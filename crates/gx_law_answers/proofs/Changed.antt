@@ -33,7 +33,8 @@ use Rattle.gx_rules.specs.Segments.Phase.{Aborted, Committed, Forgotten, Prepare
 use Rattle.gx_rules.specs.Slices.{Moved, adds_version, answers, first_fault, starts_from, takes_own, version}
 use Rattle.gx_rules.specs.Visits.{WaitsAt}
 use Rattle.gx_rules.proofs.Moving.{Ends, Keeps, loop-keeps}
-use Rattle.gx_law_order.proofs.Lists.{Each, get_last}
+use Rattle.gx_law_order.proofs.Lists.{get_last}
+use Rattle.gx_law_order.specs.Lists.{Each}
 use Rattle.gx_law_writes.proofs.Turns.{NoWrite}
 use Rattle.gx_law_writes.specs.Says.{IsPartDone, Says, SaysDone, SaysFault, SaysOvertaken, count_at, stmt_of_change}
 use Rattle.gx_law_answers.specs.Truth.{IsTrueFailure, IsTruth, SendNothing}

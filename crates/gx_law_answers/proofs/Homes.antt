@@ -23,7 +23,7 @@ use Rattle.gx_store.specs.Marks.{is_same_rid, node_of}
 use Rattle.gx_store.specs.View.{image_after}
 use Rattle.gx_store.specs.Writes.{dist_of}
 use Rattle.gx_store.proofs.Rows.{same_rid}
-use Rattle.gx_law_order.proofs.Lists.{Each}
+use Rattle.gx_law_order.specs.Lists.{Each}
 use Rattle.gx_law_writes.specs.Homes.{IsPlaced, IsPlacedMark, IsSameKey, KeepsKey}
 use Rattle.gx_law_writes.proofs.Placed.{same-place}
 use Rattle.gx_law_answers.specs.Keyed.{AreRowsKeyed}

@@ -18,7 +18,7 @@ use Rattle.gx_store.specs.Legal.{AreLegalSteps}
 use Rattle.gx_store.specs.Runs.{IsLegalHistory}
 use Rattle.gx_rules.specs.Machine.{run_of, world_of}
 use Rattle.gx_rules.specs.System.{IsSystemRun}
-use Rattle.gx_law_order.proofs.Lists.{Each}
+use Rattle.gx_law_order.specs.Lists.{Each}
 use Rattle.gx_law_order.proofs.Machines.{system-led}
 use Rattle.gx_law_order.specs.Finish.{AreCommandsTold, IsRestShown, point_at}
 use Rattle.gx_law_order.specs.Gathering.{IsGathered}

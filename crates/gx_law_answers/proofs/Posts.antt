@@ -10,7 +10,7 @@ use Rattle.gx_store.specs.Points.{marks_in}
 use Rattle.gx_store.specs.Refusals.{the_coordinator}
 use Rattle.gx_rules.specs.Machine.{Letter, World, found, world_of}
 use Rattle.gx_law_order.proofs.Letters.{IsFound, IsLetter, found_is}
-use Rattle.gx_law_order.proofs.Lists.{Each}
+use Rattle.gx_law_order.specs.Lists.{Each}
 use Rattle.gx_law_order.proofs.Waiting.{HasCome, each-among}
 use Rattle.gx_law_order.specs.Alive.{AreAlive, HasRun, HaveRun, IsAlive}
 use Rattle.gx_law_order.proofs.Outs.{MessageIs}

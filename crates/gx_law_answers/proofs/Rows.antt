@@ -36,7 +36,7 @@ use Rattle.gx_store.specs.Marks.{node_of}
 use Rattle.gx_store.specs.Rows.{row_at}
 use Rattle.gx_store.specs.View.{image, is_shown_to}
 use Rattle.gx_store.specs.Writes.{dist_of}
-use Rattle.gx_law_order.proofs.Lists.{Each}
+use Rattle.gx_law_order.specs.Lists.{Each}
 use Rattle.gx_rules.proofs.ShownRows.{rows-same}
 use Rattle.gx_law_order.specs.Gathering.{AreAll, Taken, nodes_taken}
 use Rattle.gx_law_writes.specs.Homes.{IsPlacedMark}

@@ -33,8 +33,9 @@ use Rattle.gx_rules.specs.Locks.{hold_mark}
 use Rattle.gx_rules.specs.Machine.{World, seg_did, world_of}
 use Rattle.gx_rules.specs.Segments.{Seg, SegTurn, after_marks, local_of, reply as reply_out}
 use Rattle.gx_rules.specs.Shown.{shown}
-use Rattle.gx_rules.specs.Running.{runs_slice, slice_lock}
-use Rattle.gx_law_order.proofs.Lists.{Each}
+use Rattle.gx_rules.specs.Running.{runs_slice}
+use Rattle.gx_store.specs.Locks.{slice_lock}
+use Rattle.gx_law_order.specs.Lists.{Each}
 use Rattle.gx_law_order.proofs.Waiting.{GoesOn, GoesOnAtRow}
 use Rattle.gx_law_reads.specs.Sights.{IsOnlyAt}
 use Rattle.gx_law_writes.specs.Changes.{IsTrueTurn}

@@ -35,7 +35,7 @@ use Rattle.gx_rules.specs.Sending.{numbered}
 use Rattle.gx_rules.specs.Shown.{shown}
 use Rattle.gx_rules.specs.Slices.{adds, first_fault, selects}
 use Rattle.gx_law_order.proofs.AtSegments.{PlainAt, seg_stays}
-use Rattle.gx_law_order.proofs.Lists.{Each}
+use Rattle.gx_law_order.specs.Lists.{Each}
 use Rattle.gx_law_order.specs.Scanned.{stmt_of_command}
 use Rattle.gx_law_order.specs.Alive.{HasAnswered, IsHeard, IsUnderWayBehind, WasUnderWay}
 use Rattle.gx_law_order.specs.Finish.{AreSegmentsLegal}

@@ -17,7 +17,7 @@ use Rattle.gx_script.specs.declared.Script.{Script}
 use Rattle.gx_store.specs.declared.mark.Mark.{Mark}
 use Rattle.gx_store.specs.Writes.{dist_of}
 use Rattle.gx_meaning.specs.Merged.{merged_answer}
-use Rattle.gx_law_order.proofs.Lists.{Each}
+use Rattle.gx_law_order.specs.Lists.{Each}
 use Rattle.gx_law_order.specs.Gathering.{AreAll, AreApart, Taken, nodes_taken, parts_taken}
 use Rattle.gx_law_writes.specs.Homes.{IsPlacedMark}
 use Rattle.gx_law_answers.specs.Keyed.{AreRowsKeyed}

@@ -11,7 +11,7 @@ use Rattle.gx_store.specs.declared.mark.Mark.{Mark}
 use Rattle.gx_store.specs.declared.mark.Mark.TheVariants as mark
 use Rattle.gx_store.specs.Marks.{is_same_rid, node_of}
 use Rattle.gx_store.proofs.Rows.{same_rid}
-use Rattle.gx_law_order.proofs.Lists.{Each}
+use Rattle.gx_law_order.specs.Lists.{Each}
 use Rattle.gx_law_reads.specs.Sights.{IsOnlyAt}
 use Rattle.gx_law_writes.specs.Homes.{IsPlaced, IsPlacedMark}
 use Rattle.gx_law_writes.proofs.Placed.{same-place}

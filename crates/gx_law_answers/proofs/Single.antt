@@ -45,14 +45,15 @@ use Rattle.gx_store.specs.Ordered.{IsAtNode}
 use Rattle.gx_store.specs.Points.{marks_in}
 use Rattle.gx_store.specs.Writes.{dist_of}
 use Rattle.gx_store.specs.Refusals.{the_coordinator}
-use Rattle.gx_rules.specs.AtCoordinator.{Reading, awaited, awaited_collect, begins, cancel_turn, commits, completes, coord_can, coord_turn, dispatches, ends_in, fault_mark, follows, goes, goes_on, is_refused, next_cid, next_line, on_answer, on_event, on_failed, on_done, on_line, on_message, on_status, reads_by, reads_for, resends, starts, starts_line, table_of, takes_done, with_done, writers_with, goes_on_locked, if_granted, lock_for, requests, resumes}
+use Rattle.gx_rules.specs.AtCoordinator.{Reading, awaited, awaited_collect, begins, cancel_turn, commits, completes, coord_can, coord_turn, dispatches, ends_in, fault_mark, follows, goes, goes_on, is_refused, next_cid, next_line, on_answer, on_event, on_failed, on_done, on_line, on_message, on_status, reads_by, reads_for, resends, starts, starts_line, table_of, takes_done, with_done, writers_with, goes_on_locked, if_granted, requests, resumes}
+use Rattle.gx_store.specs.Locks.{table_lock}
 use Rattle.gx_rules.specs.Coordinators.{Command, Coord, CoordTurn, Work, rests, session_of, with_work, work_of}
 use Rattle.gx_rules.specs.AtSegment.{seg_rule}
 use Rattle.gx_rules.specs.Machine.{World, and_cancelled, coord_did, new_world, seg_did, world_of}
 use Rattle.gx_rules.proofs.Rounds.{cancel-ways, graph-ways}
 use Rattle.gx_rules.specs.Sending.{counted, numbered}
 use Rattle.gx_law_order.proofs.Induction.{at-events, marks-by-event, marks-by-victim}
-use Rattle.gx_law_order.proofs.Lists.{Each}
+use Rattle.gx_law_order.specs.Lists.{Each}
 use Rattle.gx_law_order.proofs.Ordered.{seg_marks}
 use Rattle.gx_law_order.proofs.Sent.{at}
 use Rattle.gx_law_order.proofs.More.{marks-last}
@@ -67,7 +68,8 @@ use Rattle.gx_law_order.proofs.Legality.{moves-holds}
 use Rattle.gx_law_answers.specs.Earned.{Events}
 use Rattle.gx_rules.specs.Locks.{has_there, release_mark, release_marks, with_hold}
 use Rattle.gx_waits.specs.declared.claim.Claim.{Claim}
-use Rattle.gx_locks.specs.Locks.{Locks, is_free, resumed, wait_of}
+use Rattle.gx_locks.specs.Locks.{Locks, resumed, wait_of}
+use Rattle.gx_waits.specs.Claims.{is_free}
 
 -- MARKS WITH ONE SNAPSHOT AT MOST
 abbrev NoSnaps : List Mark → Type 0
@@ -156,12 +158,12 @@ module _ (P : Gxid → Type 0) where
       by_test false = tt
 
   dispatch-one : (script : Script) (c : Coord) (g : Gxid) (line : Stmt) → ((work_of c g).snapshot ≡ None → P g) → OneSnap P (dispatches script c g line).marks
-  dispatch-one script c g line p = request-one script c g line p (lock_for script g line)
+  dispatch-one script c g line p = request-one script c g line p (table_lock script g line)
 
   on-one : (script : Script) (c : Coord) (s : SessionId) (line : Stmt) (asked : LineStep) → P c.table.next → (asked ≡ step.Command false → (work_of c (session_of c s).transaction).snapshot ≡ None → P (session_of c s).transaction) → OneSnap P (on_line script c s line asked).marks
   on-one script c s line (step.Answer plain) new inside = tt
-  on-one script c s line step.Refuse5 new inside = tt
-  on-one script c s line step.Refuse7 new inside = tt
+  on-one script c s line step.InFailedBlock new inside = tt
+  on-one script c s line step.NotInBlock new inside = tt
   on-one script c s line (step.BeginBlock level) new inside = tt
   on-one script c s line step.CommitBlock new inside = none-one (commits c (session_of c s).transaction).marks (commits-none c (session_of c s).transaction)
   on-one script c s line step.RollbackBlock new inside = none-one (release_marks the_coordinator c.locks (session_of c s).transaction) (back-none c.locks (session_of c s).transaction)

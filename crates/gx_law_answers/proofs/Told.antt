@@ -35,13 +35,14 @@ use Rattle.gx_store.specs.Messages.{HasReceived}
 use Rattle.gx_store.specs.Points.{marks_in}
 use Rattle.gx_store.specs.Refusals.{the_coordinator}
 use Rattle.gx_store.specs.View.{image, is_shown_to}
-use Rattle.gx_store.specs.Waits.{claim, holds_at, is_held}
+use Rattle.gx_store.specs.Waits.{holds_at, is_held}
+use Rattle.gx_waits.specs.Claims.{claim}
 use Rattle.gx_store.proofs.Exclusive.{holds_from-append}
 use Rattle.gx_store.specs.Writes.{dist_of}
 use Rattle.gx_rules.specs.AtCoordinator.{nodes_in}
 use Rattle.gx_rules.specs.Machine.{world_of}
 use Rattle.gx_meaning.specs.Merged.{merged_answer}
-use Rattle.gx_law_order.proofs.Lists.{Each}
+use Rattle.gx_law_order.specs.Lists.{Each}
 use Rattle.gx_law_order.specs.Scanned.{began_from}
 use Rattle.gx_law_order.specs.Finish.{point_at}
 use Rattle.gx_law_order.specs.Gathering.{AreAll, AreApart, IsGathered, Taken, nodes_taken, parts_taken}

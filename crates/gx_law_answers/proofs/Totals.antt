@@ -14,7 +14,7 @@ use Rattle.gx_store.specs.declared.mark.Mark.TheVariants as mark
 use Rattle.gx_store.specs.Journals.{is_same_node}
 use Rattle.gx_store.specs.Marks.{is_command_of, write_count}
 use Rattle.gx_rules.specs.AtCoordinator.{nodes_in}
-use Rattle.gx_law_order.proofs.Lists.{Each}
+use Rattle.gx_law_order.specs.Lists.{Each}
 use Rattle.gx_law_order.specs.Gathering.{AreAll, AreApart, Taken, nodes_taken, total}
 use Rattle.gx_law_writes.specs.Says.{count_at}
 

@@ -31,7 +31,8 @@ use Rattle.gx_store.proofs.Marks.{image_after-append, is_aborted-append}
 use Rattle.gx_rules.specs.Locks.{hold_mark}
 use Rattle.gx_rules.specs.Slices.{cause_of, first_fault}
 use Rattle.gx_waits.specs.declared.claim.Claim.{Claim}
-use Rattle.gx_law_order.proofs.Lists.{Each, get_last}
+use Rattle.gx_law_order.proofs.Lists.{get_last}
+use Rattle.gx_law_order.specs.Lists.{Each}
 use Rattle.gx_law_order.proofs.Commits.{take-kept}
 use Rattle.gx_law_writes.proofs.Turns.{NoWrite}
 use Rattle.gx_law_writes.specs.Parts.{IsPartOf, is_home}

@@ -33,7 +33,7 @@ use Rattle.gx_store.specs.View.{image, is_shown_to}
 use Rattle.gx_store.specs.Writes.{dist_of}
 use Rattle.gx_rules.specs.AtCoordinator.{nodes_in, table_of}
 use Rattle.gx_rules.specs.Machine.{world_of}
-use Rattle.gx_law_order.proofs.Lists.{Each}
+use Rattle.gx_law_order.specs.Lists.{Each}
 use Rattle.gx_law_order.specs.Gathering.{AreAll, AreApart, Taken, nodes_taken, total}
 use Rattle.gx_law_order.specs.Orders.{level_of_began}
 use Rattle.gx_law_order.specs.Scanned.{began_from}

@@ -24,7 +24,8 @@ use Rattle.gx_rules.specs.Segments.Phase.{Aborted, Committed, Forgotten, Prepare
 use Rattle.gx_rules.specs.Shown.{shown}
 use Rattle.gx_rules.specs.Slices.{Moved, adds_version, first_fault, inserted, inserts_row, own_lock, selects, starts_from, takes_own, version, writes_row}
 use Rattle.gx_rules.proofs.Moving.{Ends, Keeps, loop-keeps}
-use Rattle.gx_law_order.proofs.Lists.{Each, each_append}
+use Rattle.gx_law_order.proofs.Lists.{each_append}
+use Rattle.gx_law_order.specs.Lists.{Each}
 use Rattle.gx_law_writes.proofs.Comes.{stop-locks}
 use Rattle.gx_law_writes.proofs.Frames.{IsWork}
 use Rattle.gx_law_writes.proofs.Sighted.{locks-work}

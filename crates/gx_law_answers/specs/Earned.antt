@@ -27,8 +27,10 @@ use Rattle.gx_rules.specs.Changes.{end_lock, tuple_lock}
 use Rattle.gx_rules.specs.Machine.{World, found, world_of}
 use Rattle.gx_rules.specs.Segments.{Suspended, after_marks, local_of, reply}
 use Rattle.gx_rules.specs.Locks.{hold_mark}
-use Rattle.gx_rules.specs.Running.{goes_on, is_granted, runs_slice, slice_lock}
-use Rattle.gx_locks.specs.Locks.{Locks, is_free, wait_of}
+use Rattle.gx_rules.specs.Running.{goes_on, is_granted, runs_slice}
+use Rattle.gx_store.specs.Locks.{slice_lock}
+use Rattle.gx_locks.specs.Locks.{Locks, wait_of}
+use Rattle.gx_waits.specs.Claims.{is_free}
 use Rattle.gx_waits.specs.declared.claim.Claim.{Claim}
 use Rattle.gx_law_order.specs.Orders.{IsOrder}
 use Rattle.gx_law_answers.specs.Truth.{IsTruth}

@@ -23,14 +23,12 @@ use Rattle.gx_rules.specs.Rounds.{active_in, is_active, is_live}
 use Rattle.gx_law_order.specs.Numbers.{AreStartsNumbered}
 use Rattle.gx_law_order.proofs.Numbered.{starts-numbered}
 use Rattle.gx_law_order.proofs.Past.{running-drawn}
-use Rattle.gx_law_order.proofs.Sessions.{stage_of}
-use Rattle.gx_law_order.proofs.Stages.{gx}
-use Rattle.gx_law_order.proofs.Statuses.{Stage, is_running, stage, stage_in}
-use Rattle.gx_law_order.proofs.Statuses.Stage.{Absent, Closing, Dropped, Finished, Live}
+use Rattle.gx_law_order.specs.Stages.{Stage, is_running, stage, stage_in, stage_of}
+use Rattle.gx_law_order.specs.Stages.Stage.{Absent, Closing, Dropped, Finished, Live}
 use Rattle.gx_law_order.proofs.World.{Knows}
 use Rattle.gx_law_order.specs.Pairs.{Pair}
 use Rattle.gx_law_order.specs.Said.{Said, SaidIn, gxid_in, segment_of}
-use Rattle.gx_law_order.specs.Standings.{Known, Part, known_at, standing, standing_in}
+use Rattle.gx_law_order.specs.Standings.{Known, Part, gx, known_at, standing, standing_in}
 use Rattle.gx_law_order.specs.Standings.Standing.{One, Over, Preparing, Live as LiveStanding}
 use Rattle.gx_law_order.proofs.Everywhere.{Holds, parts_in}
 use Rattle.gx_law_locks.proofs.Starts.{HasAsked, asks_for, has-asked, started-has, started-within}

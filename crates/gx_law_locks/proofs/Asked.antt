@@ -35,15 +35,17 @@ use Rattle.gx_store.specs.declared.node.NodeEvent.{NodeEvent}
 use Rattle.gx_store.specs.declared.node.NodeEvent.TheVariants as event
 use Rattle.gx_store.specs.Refusals.{the_coordinator}
 use Rattle.gx_store.specs.Writes.{dist_of}
-use Rattle.gx_locks.specs.Locks.{is_free, resumed, wait_of}
+use Rattle.gx_locks.specs.Locks.{resumed, wait_of}
+use Rattle.gx_waits.specs.Claims.{is_free}
 use Rattle.gx_waits.specs.declared.claim.Claim.{Claim}
-use Rattle.gx_rules.specs.AtCoordinator.{Reading, awaited, awaited_collect, begins, behind, cancels, completes, dispatches, ends_in, enlisted_all, fault_mark, follows, goes, goes_on, goes_on_locked, if_granted, is_awaited, is_refused, lock_for, next_cid, next_line, nodes_in, on_answer, on_done, on_event, on_failed, on_line, on_message, on_status, reads_by, reads_for, reason_of, refusal_of, requests, resends, resumes, starts, starts_line, table_of, takes_done, unless_kept, with_done, writers_with}
+use Rattle.gx_rules.specs.AtCoordinator.{Reading, awaited, awaited_collect, begins, behind, cancels, completes, dispatches, ends_in, enlisted_all, fault_mark, follows, goes, goes_on, goes_on_locked, if_granted, is_awaited, is_refused, next_cid, next_line, nodes_in, on_answer, on_done, on_event, on_failed, on_line, on_message, on_status, reads_by, reads_for, reason_of, refusal_of, requests, resends, resumes, starts, starts_line, table_of, takes_done, unless_kept, with_done, writers_with}
+use Rattle.gx_store.specs.Locks.{table_lock}
 use Rattle.gx_rules.specs.AtCoordinator as coordinator
 use Rattle.gx_rules.specs.Coordinators.{Command, Coord, CoordTurn, Work, rests, session_of, with_work, work_of}
 use Rattle.gx_rules.specs.Fits.{fits_part}
 use Rattle.gx_rules.specs.Locks.{hold_mark, with_hold}
 use Rattle.gx_rules.proofs.Rounds.{cancel-ways, graph-ways}
-use Rattle.gx_law_order.proofs.Stages.{IsWhole}
+use Rattle.gx_law_order.specs.Stages.{IsWhole}
 use Rattle.gx_law_locks.proofs.Closing.{Asks, Goes, abort-asks, begun-goes, commit-asks, live-goes, parts-go, reply-asks}
 
 module _ (c : Coord) where
@@ -106,7 +108,7 @@ module _ (c : Coord) where
         by_test false = record { closing = λ h q. inl (e.closing h q) }
 
     dispatch : (d : Coord) (g : Gxid) (line : Stmt) → Still d → Asked (dispatches script d g line)
-    dispatch d g line e = request d g line (lock_for script g line) e
+    dispatch d g line e = request d g line (table_lock script g line) e
 
     resume : (d : Coord) (g : Gxid) (o : Option Claim) (line : Option Stmt) → Still d → Asked (resumes script d g o line)
     resume d g None line e = rest d e
@@ -117,8 +119,8 @@ module _ (c : Coord) where
     -- LINES
     line_done : (d : Coord) (s : SessionId) (line : Stmt) (asked : LineStep) → Still d → Asked (on_line script d s line asked)
     line_done d s line (step.Answer plain) e = rest d e
-    line_done d s line step.Refuse5 e = rest d e
-    line_done d s line step.Refuse7 e = rest d e
+    line_done d s line step.InFailedBlock e = rest d e
+    line_done d s line step.NotInBlock e = rest d e
     line_done d s line (step.BeginBlock level) e = record { closing = λ h q. inl ((begun-goes c.table d.table e).closing h q) }
     line_done d s line step.CommitBlock e = commit d (session_of d s).transaction e
     line_done d s line step.RollbackBlock e = record { closing = (abort-asks c.table d.table (session_of d s).transaction e).closing }

@@ -5,7 +5,7 @@ use Rattle.gx_ids.specs.declared.ids.Node.{Node}
 use Rattle.gx_ids.specs.declared.rid.Rid.{Rid}
 use Rattle.gx_waits.specs.declared.claim.Claim.{Claim}
 use Rattle.gx_script.specs.declared.Script.{Script}
-use Rattle.gx_rules.specs.Running.{slice_lock}
+use Rattle.gx_store.specs.Locks.{slice_lock}
 use Rattle.gx_rules.specs.Segments.{Local, Seg, Suspended, local_of, with_local}
 use Rattle.gx_law_locks.specs.Lasting.{IsLasting}
 use Rattle.gx_law_locks.proofs.Claims.{gxid-of}

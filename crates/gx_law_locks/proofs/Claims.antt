@@ -9,9 +9,8 @@ use Rattle.gx_ids.specs.declared.ids.Gxid.{Gxid}
 use Rattle.gx_waits.specs.Claim.{same_claim, same_object}
 use Rattle.gx_waits.specs.declared.claim.Claim.{Claim}
 use Rattle.gx_locks.proofs.Meets.{same_object-itself}
-use Rattle.gx_locks.specs.Claims.{is_of}
-use Rattle.gx_locks.specs.Locks.{without}
-use Rattle.gx_law_order.proofs.Lists.{Each}
+use Rattle.gx_waits.specs.Claims.{is_of, without}
+use Rattle.gx_law_order.specs.Lists.{Each}
 
 -- LISTS
 pub each-of : {X : Type 0} (P : X → Type 0) → ((x : X) → P x) → (xs : List X) → Each P xs

@@ -19,9 +19,11 @@ use Rattle.gx_rules.specs.Sending.{numbered}
 use Rattle.gx_law_order.proofs.Closings.{kept-stage, live-at, set_live}
 use Rattle.gx_law_order.proofs.Ends.{begun-finds}
 use Rattle.gx_law_order.proofs.Lines.{begun-whole}
-use Rattle.gx_law_order.proofs.Stages.{At, IsWhole, changed-at, gx, left_of, txn-at}
-use Rattle.gx_law_order.proofs.Statuses.{Moves, Stage, Turned, reply-turns, stage}
-use Rattle.gx_law_order.proofs.Statuses.Stage.{Absent, Closing, Live}
+use Rattle.gx_law_order.proofs.Stages.{At, changed-at, left_of, txn-at}
+use Rattle.gx_law_order.specs.Stages.{IsWhole, Stage, stage}
+use Rattle.gx_law_order.specs.Standings.{gx}
+use Rattle.gx_law_order.proofs.Statuses.{Moves, Turned, reply-turns}
+use Rattle.gx_law_order.specs.Stages.Stage.{Absent, Closing, Live}
 
 -- the transaction is on its way to a commit
 abbrev pub IsClosing : Table → ℕ → Type 0

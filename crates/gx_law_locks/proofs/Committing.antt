@@ -13,7 +13,7 @@ use Rattle.gx_dtx.specs.declared.phase.Phase.{Phase as Status}
 use Rattle.gx_dtx.specs.declared.phase.Phase.TheVariants as status
 use Rattle.gx_dtx.specs.declared.txn.Txn.{Txn}
 use Rattle.gx_waits.specs.declared.claim.Claim.{Claim}
-use Rattle.gx_locks.specs.Claims.{is_of}
+use Rattle.gx_waits.specs.Claims.{is_of}
 use Rattle.gx_locks.specs.Locks.{Locks, wait_of}
 use Rattle.gx_msg.specs.declared.message.Message.{Message}
 use Rattle.gx_msg.specs.declared.message.Message.TheVariants as message
@@ -42,23 +42,22 @@ use Rattle.gx_law_order.specs.Moves.{Move, world_by}
 use Rattle.gx_law_order.proofs.AtCoordinators.{CoordStays, cancel_stays, coord_stays}
 use Rattle.gx_law_order.proofs.AtSegments.{PlainAt, seg_stays}
 use Rattle.gx_law_order.proofs.Induction.{after_turn, marks-by-event, marks-by-victim}
-use Rattle.gx_law_order.proofs.Lists.{Each}
+use Rattle.gx_law_order.specs.Lists.{Each}
 use Rattle.gx_law_order.proofs.More.{marks-last}
 use Rattle.gx_law_order.proofs.Moves.{HasNamed}
 use Rattle.gx_law_order.proofs.Ordered.{sends-at}
 use Rattle.gx_law_order.proofs.Past.{aborted-append, committed-append}
 use Rattle.gx_law_order.proofs.Replies.{cancel-good, event-good}
 use Rattle.gx_law_order.proofs.Sent.{at}
-use Rattle.gx_law_order.proofs.Sessions.{Kept, stage_of}
-use Rattle.gx_law_order.proofs.Stages.{gx}
-use Rattle.gx_law_order.proofs.Statuses.{stage, stage_in}
-use Rattle.gx_law_order.proofs.Statuses.Stage.{Live as LiveStage}
+use Rattle.gx_law_order.specs.Sessions.{Kept}
+use Rattle.gx_law_order.specs.Stages.{stage, stage_in, stage_of}
+use Rattle.gx_law_order.specs.Stages.Stage.{Live as LiveStage}
 use Rattle.gx_law_order.proofs.Turns.{Good}
 use Rattle.gx_law_order.proofs.Waiting.{statement-of}
 use Rattle.gx_law_order.proofs.World.{Knows}
 use Rattle.gx_law_order.specs.Pairs.{Pair}
 use Rattle.gx_law_order.specs.Said.{Said, gxid_in, is_answer}
-use Rattle.gx_law_order.specs.Standings.{Known, Part, known_at, standing, standing_in}
+use Rattle.gx_law_order.specs.Standings.{Known, Part, gx, known_at, standing, standing_in}
 use Rattle.gx_law_order.specs.Standings.Standing.{Live, One, Over, Preparing}
 use Rattle.gx_law_order.proofs.Always.{HeardAt, SaidTo}
 use Rattle.gx_law_order.proofs.Dispatching.{live-at-all}

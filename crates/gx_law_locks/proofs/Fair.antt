@@ -4,7 +4,7 @@ use Rattle.gx_store.specs.declared.mark.Mark.{Mark}
 use Rattle.gx_store.specs.declared.mark.Mark.TheVariants as mark
 use Rattle.gx_store.specs.Locks.{AreGranted, IsMomentary, LegalHold}
 use Rattle.gx_store.specs.Marks.{is_ended}
-use Rattle.gx_store.specs.Waits.{claim}
+use Rattle.gx_waits.specs.Claims.{claim}
 use Rattle.gx_law_locks.specs.Late.{AreReleasesLate}
 use Rattle.gx_law_locks.specs.Waiting.{EachBehind, KeepsWhileWaiting, WaitsForEnd}
 use Rattle.gx_law_locks.specs.Committing.{CommitsUnlessWaiting}

@@ -15,7 +15,8 @@ use Rattle.gx_dtx.specs.Nodes.{has}
 use Rattle.gx_dtx.specs.Rules.{awaited_order}
 use Rattle.gx_dtx.specs.declared.order.Order.{Order}
 use Rattle.gx_dtx.specs.declared.order.Order.TheVariants as order
-use Rattle.gx_locks.specs.Locks.{Locks, is_free, wait_of}
+use Rattle.gx_locks.specs.Locks.{Locks, wait_of}
+use Rattle.gx_waits.specs.Claims.{is_free, with_claim, without}
 use Rattle.gx_locks.specs.Locks as locks
 use Rattle.gx_meaning.specs.Constants.{rows_of}
 use Rattle.gx_meaning.specs.Expressions.{and_then}
@@ -23,16 +24,16 @@ use Rattle.gx_meaning.specs.Plan.{insert_pieces, nodes_from, nodes_of, piece, pl
 use Rattle.gx_meaning.specs.Target.{target_of}
 use Rattle.gx_meaning.specs.declared.target.Target.TheVariants.{All as AllOfThem}
 use Rattle.gx_msg.specs.declared.message.Out.{Out}
-use Rattle.gx_store.specs.Waits.{added}
-use Rattle.gx_rules.specs.AtCoordinator.{Reading, awaited, awaited_collect, begins, cancels, command_order, commits, completes, dispatches, ends_in, follows, failure_marks, goes, goes_on, goes_on_locked, if_granted, is_awaited, is_committed, is_refused, lock_for, next_cid, next_line, on_answer, on_done, on_event, on_failed, on_line, on_message, on_status, order_of, order_to, orders_of, reads_by, reads_for, reason_of, requests, resends, resumes, rolls_back, starts, starts_line, status_order, table_of, takes_done, with_done, writers_with, answer_mark}
+use Rattle.gx_rules.specs.AtCoordinator.{Reading, awaited, awaited_collect, begins, cancels, command_order, commits, completes, dispatches, ends_in, follows, failure_marks, goes, goes_on, goes_on_locked, if_granted, is_awaited, is_committed, is_refused, next_cid, next_line, on_answer, on_done, on_event, on_failed, on_line, on_message, on_status, order_of, order_to, orders_of, reads_by, reads_for, reason_of, requests, resends, resumes, rolls_back, starts, starts_line, status_order, table_of, takes_done, with_done, writers_with, answer_mark}
+use Rattle.gx_store.specs.Locks.{slice_lock, table_lock}
 use Rattle.gx_rules.specs.Locks.{with_hold}
 use Rattle.gx_rules.specs.Maps.{with_at}
-use Rattle.gx_rules.specs.Running.{slice_lock}
 use Rattle.gx_rules.specs.Rounds.{awaits_graph}
 use Rattle.gx_rules.proofs.Rounds.{cancel-ways, graph-ways}
 use Rattle.gx_law_order.proofs.Places.{collects-each}
 use Rattle.gx_law_order.proofs.Waiting.{GoesOut}
-use Rattle.gx_law_order.proofs.Lists.{Each, each_flat, each_map, each_weaker}
+use Rattle.gx_law_order.proofs.Lists.{each_flat, each_map, each_weaker}
+use Rattle.gx_law_order.specs.Lists.{Each}
 use Rattle.gx_law_order.proofs.Outs.{IsBare, NoExec, abort-bare, commit-bare, reply-bare}
 use Rattle.gx_law_locks.proofs.Lasting.{IsIn, in-added, in-new, in-released}
 use Rattle.gx_law_order.proofs.Queued.{lock-of}
@@ -91,7 +92,7 @@ OrderLocked script holds g o = Own g o.message × Locked script holds o.message
 
 -- the lock that a statement takes at the coordinator
 abbrev pub HasLock : Script → List Claim → Gxid → Stmt → Type 0
-HasLock script holds g line = (wanted : Claim) → lock_for script g line ≡ Some wanted → IsIn holds wanted
+HasLock script holds g line = (wanted : Claim) → table_lock script g line ≡ Some wanted → IsIn holds wanted
 
 abbrev pub CommandLocked : Script → List Claim → ℕ → Option Command → Type 0
 CommandLocked script holds g None = Unit {0}
@@ -110,7 +111,7 @@ pub record Going (script : Script) (turn : CoordTurn) : Type 0 where
 
 -- LOCKS
 module _ (script : Script) where
-  locked-added : (new : Claim) (holds : List Claim) (m : Message) → Locked script holds m → Locked script (added new holds) m
+  locked-added : (new : Claim) (holds : List Claim) (m : Message) → Locked script holds m → Locked script (with_claim new holds) m
   locked-added new holds (message.Exec g c level x h slice) l = in-added new (slice_lock script g slice) holds l
   locked-added new holds (message.Prepare g) l = tt
   locked-added new holds (message.Commit g) l = tt
@@ -121,7 +122,7 @@ module _ (script : Script) where
   locked-added new holds (message.Answer g r) l = tt
   locked-added new holds (message.Graph round graph) l = tt
 
-  locked-released : (g : Gxid) (holds : List Claim) (j : ℕ) (m : Message) → eqb j g.0 ≡ false → Own j m → Locked script holds m → Locked script (locks.without g holds) m
+  locked-released : (g : Gxid) (holds : List Claim) (j : ℕ) (m : Message) → eqb j g.0 ≡ false → Own j m → Locked script holds m → Locked script (without g holds) m
   locked-released g holds j (message.Exec h c level x y slice) n own l = in-released g (slice_lock script h slice) holds (ap (λ k. eqb k g.0) (ap (λ (k : Gxid). k.0) (own-gxid script h slice) ∙ own) ∙ n) l
   locked-released g holds j (message.Prepare h) n own l = tt
   locked-released g holds j (message.Commit h) n own l = tt
@@ -147,16 +148,16 @@ module _ (script : Script) where
   bare holds outs e = each_weaker IsBare (LockedOut script holds) (λ o h. bare-locked holds o.message h) outs e
 
   -- COMMANDS UNDER WAY
-  command-added : (new : Claim) (holds : List Claim) (g : ℕ) (k : Option Command) → CommandLocked script holds g k → CommandLocked script (added new holds) g k
+  command-added : (new : Claim) (holds : List Claim) (g : ℕ) (k : Option Command) → CommandLocked script holds g k → CommandLocked script (with_claim new holds) g k
   command-added new holds g None e = tt
   command-added new holds g (Some k) e =
-      (λ wanted f. in-added new wanted holds (e.0 wanted f), each_weaker (OrderLocked script holds g) (OrderLocked script (added new holds) g) (λ o h. (h.0, locked-added new holds o.message h.1)) k.orders e.1)
+      (λ wanted f. in-added new wanted holds (e.0 wanted f), each_weaker (OrderLocked script holds g) (OrderLocked script (with_claim new holds) g) (λ o h. (h.0, locked-added new holds o.message h.1)) k.orders e.1)
 
-  command-released : (g : Gxid) (holds : List Claim) (j : ℕ) (k : Option Command) → eqb j g.0 ≡ false → CommandLocked script holds j k → CommandLocked script (locks.without g holds) j k
+  command-released : (g : Gxid) (holds : List Claim) (j : ℕ) (k : Option Command) → eqb j g.0 ≡ false → CommandLocked script holds j k → CommandLocked script (without g holds) j k
   command-released g holds j None n e = tt
   command-released g holds j (Some k) n e = (
     λ wanted f. in-released g wanted holds (ap (λ (h : Gxid). eqb h.0 g.0) (lock-of script (record { 0 = j }) k.stmt wanted f) ∙ n) (e.0 wanted f),
-    each_weaker (OrderLocked script holds j) (OrderLocked script (locks.without g holds) j) (λ o h. (h.0, locked-released g holds j o.message n h.0 h.1)) k.orders e.1,
+    each_weaker (OrderLocked script holds j) (OrderLocked script (without g holds) j) (λ o h. (h.0, locked-released g holds j o.message n h.0 h.1)) k.orders e.1,
   )
 
   with-work : (holds : List Claim) (works : ℕ → Work) (g : ℕ) (w : Work) → AreLocked script holds works → CommandLocked script holds g w.command → AreLocked script holds (with_at works g w)
@@ -166,10 +167,10 @@ module _ (script : Script) where
       by_test true q = subst (λ k. CommandLocked script holds k w.command) (sym (eqb-true j g q)) h
       by_test false q = e j
 
-  closed : (c : Coord) (g : Gxid) → Good script c → AreLocked script (locks.without g c.locks.holds) (with_at c.works g.0 no_work)
+  closed : (c : Coord) (g : Gxid) → Good script c → AreLocked script (without g c.locks.holds) (with_at c.works g.0 no_work)
   closed c g e j = by_test (eqb j g.0) refl
     where
-      by_test : (b : Bool) → eqb j g.0 ≡ b → CommandLocked script (locks.without g c.locks.holds) j (if b then no_work else c.works j).command
+      by_test : (b : Bool) → eqb j g.0 ≡ b → CommandLocked script (without g c.locks.holds) j (if b then no_work else c.works j).command
       by_test true q = tt
       by_test false q = command-released g c.locks.holds j (c.works j).command q (e j)
 
@@ -195,13 +196,13 @@ module _ (script : Script) where
 
   -- PLANS
   abbrev PieceLocked : Gxid → Stmt → Piece → Type 0
-  PieceLocked g line p = lock_for script g line ≡ Some (slice_lock script g p.slice)
+  PieceLocked g line p = table_lock script g line ≡ Some (slice_lock script g p.slice)
 
   abbrev PlanLocked : Gxid → Stmt → Result (List Piece) ArithFault → Type 0
   PlanLocked g line (Ok pieces) = Each (PieceLocked g line) pieces
   PlanLocked g line (Err f) = Unit {0}
 
-  same_pieces : (g : Gxid) (line : Stmt) (x : Slice) (nodes : List Node) → lock_for script g line ≡ Some (slice_lock script g x) → Each (PieceLocked g line) (map (piece x) nodes)
+  same_pieces : (g : Gxid) (line : Stmt) (x : Slice) (nodes : List Node) → table_lock script g line ≡ Some (slice_lock script g x) → Each (PieceLocked g line) (map (piece x) nodes)
   same_pieces g line x nodes e = each_map (PieceLocked g line) (piece x) nodes (each-of (λ node. PieceLocked g line (piece x node)) (λ node. e) nodes)
 
   row_pieces_locked : (g : Gxid) (table : Table) (tuples : List (List Expr)) (node : Node) (rows : List KeyedRow) → Each (PieceLocked g (stmt.Insert table tuples)) (row_pieces table node rows)
@@ -263,7 +264,7 @@ module _ (script : Script) where
       go c.locks g (next_cid (work_of c g)) line (reads_for c g (next_cid (work_of c g)) (work_of c g) line) (plan_of script.segments (dist_of script.tables (table_of line)) g (next_cid (work_of c g)) line)
       (read_for c g (next_cid (work_of c g)) line e) has (plan_locked script.segments (dist_of script.tables (table_of line)) g (next_cid (work_of c g)) line)
 
-  request : (c : Coord) (g : Gxid) (line : Stmt) (o : Option Claim) → lock_for script g line ≡ o → Good script c → Going script (requests script c g line o)
+  request : (c : Coord) (g : Gxid) (line : Stmt) (o : Option Claim) → table_lock script g line ≡ o → Good script c → Going script (requests script c g line o)
   request c g line None is e = go_locked c g line e (λ wanted f. absurd (none (sym is ∙ f)))
     where
       none : {wanted : Claim} → None ≡ Some wanted → ⊥
@@ -273,12 +274,12 @@ module _ (script : Script) where
       by_test : (b : Bool) → Going script (if_granted script c g line wanted b)
       by_test true =
           let x = go_locked (record c { locks = with_hold c.locks wanted }) g line (λ j. command-added wanted c.locks.holds j (c.works j).command (e j))
-          (λ w f. subst (λ v. IsIn (added wanted c.locks.holds) v) (some-same wanted w (sym is ∙ f)) (in-new wanted c.locks.holds)) in
+          (λ w f. subst (λ v. IsIn (with_claim wanted c.locks.holds) v) (some-same wanted w (sym is ∙ f)) (in-new wanted c.locks.holds)) in
           record { coord = x.coord; outs = x.outs }
       by_test false = record { coord = with-work c.locks.holds c.works g.0 _ e (e g.0); outs = tt }
 
   dispatch : (c : Coord) (g : Gxid) (line : Stmt) → Good script c → Going script (dispatches script c g line)
-  dispatch c g line e = request c g line (lock_for script g line) refl e
+  dispatch c g line e = request c g line (table_lock script g line) refl e
 
   -- LINES
   rolled : (c : Coord) (g : Gxid) (marks : List Mark) → Good script c → Going script (rolls_back c g marks (on_abort c.table g))
@@ -289,8 +290,8 @@ module _ (script : Script) where
 
   line_done : (c : Coord) (s : SessionId) (line : Stmt) (asked : LineStep) → Good script c → Going script (on_line script c s line asked)
   line_done c s line (step.Answer plain) e = record { coord = e; outs = tt }
-  line_done c s line step.Refuse5 e = record { coord = e; outs = tt }
-  line_done c s line step.Refuse7 e = record { coord = e; outs = tt }
+  line_done c s line step.InFailedBlock e = record { coord = e; outs = tt }
+  line_done c s line step.NotInBlock e = record { coord = e; outs = tt }
   line_done c s line (step.BeginBlock level) e = record { coord = begun c s level e; outs = tt }
   line_done c s line step.CommitBlock e = commit c (session_of c s).transaction e
   line_done c s line step.RollbackBlock e = rolled c (session_of c s).transaction (answer_mark c s told.Rollback ∷ []) e
@@ -413,13 +414,13 @@ module _ (script : Script) where
       c1 : Coord
       c1 = with_work (record c { locks = locks.resumed c.locks g (Some d.wanted) }) g w
 
-      held : AreLocked script (added d.wanted c.locks.holds) c.works
+      held : AreLocked script (with_claim d.wanted c.locks.holds) c.works
       held j = command-added d.wanted c.locks.holds j (c.works j).command (e j)
 
       x : Going script (goes_on_locked script c1 g d.line)
       x =
-          go_locked c1 g d.line (with-work (added d.wanted c.locks.holds) c.works g.0 w held (held g.0))
-          (λ v f. subst (λ u. IsIn (added d.wanted c.locks.holds) u) (some-same d.wanted v (sym d.lock ∙ f)) (in-new d.wanted c.locks.holds))
+          go_locked c1 g d.line (with-work (with_claim d.wanted c.locks.holds) c.works g.0 w held (held g.0))
+          (λ v f. subst (λ u. IsIn (with_claim d.wanted c.locks.holds) u) (some-same d.wanted v (sym d.lock ∙ f)) (in-new d.wanted c.locks.holds))
 
   pub event-goes : (c : Coord) (e : NodeEvent) (fails : Bool) → GoneOut c e → Good script c → Going script (on_event script c e fails)
   event-goes c (event.Deliver from envelope) fails out e = message_taken c from fails envelope.message e

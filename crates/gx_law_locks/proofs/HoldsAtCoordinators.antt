@@ -18,8 +18,8 @@ use Rattle.gx_dsnap.specs.declared.snapshot.Snapshot.{Snapshot}
 use Rattle.gx_dtx.specs.Rules.{Turn, on_abort, on_commit, on_reply}
 use Rattle.gx_dtx.specs.declared.outcome.Outcome.{Outcome}
 use Rattle.gx_dtx.specs.declared.outcome.Outcome.TheVariants as outcome
-use Rattle.gx_locks.specs.Claims.{is_of}
-use Rattle.gx_locks.specs.Locks.{Locks, is_free, is_ready, resumed, wait_of}
+use Rattle.gx_waits.specs.Claims.{is_free, is_of}
+use Rattle.gx_locks.specs.Locks.{Locks, is_ready, resumed, wait_of}
 use Rattle.gx_meaning.specs.declared.fault.ArithFault.{ArithFault}
 use Rattle.gx_meaning.specs.declared.piece.Piece.{Piece}
 use Rattle.gx_msg.specs.declared.message.Message.{Message}
@@ -44,20 +44,22 @@ use Rattle.gx_store.specs.Marks.{is_aborted, is_ended, is_same_gxid}
 use Rattle.gx_store.specs.Marks as marks
 use Rattle.gx_store.specs.Refusals.{the_coordinator}
 use Rattle.gx_store.specs.Writes.{dist_of}
-use Rattle.gx_rules.specs.AtCoordinator.{Reading, answer_at_commit, answer_mark, awaited, awaited_collect, begins, cancels, behind, commits, completes, coord_can, dispatches, ends_in, failure_marks, fault_mark, follows, goes, goes_on, goes_out, goes_on_locked, if_granted, is_awaited, is_idle, is_committed, is_refused, lock_for, next_cid, next_line, on_answer, on_done, on_event, on_failed, on_line, on_message, on_status, reads_by, reads_for, reason_of, requests, resends, resumes, rolls_back, starts, starts_line, table_of, takes_done, with_done, writers_with}
+use Rattle.gx_rules.specs.AtCoordinator.{Reading, answer_at_commit, answer_mark, awaited, awaited_collect, begins, cancels, behind, commits, completes, coord_can, dispatches, ends_in, failure_marks, fault_mark, follows, goes, goes_on, goes_out, goes_on_locked, if_granted, is_awaited, is_idle, is_committed, is_refused, next_cid, next_line, on_answer, on_done, on_event, on_failed, on_line, on_message, on_status, reads_by, reads_for, reason_of, requests, resends, resumes, rolls_back, starts, starts_line, table_of, takes_done, with_done, writers_with}
+use Rattle.gx_store.specs.Locks.{table_lock}
 use Rattle.gx_meaning.specs.Plan.{plan_of}
 use Rattle.gx_rules.specs.Coordinators.{Command, Coord, CoordTurn, Work, rests, session_of, with_state, with_work, work_of}
 use Rattle.gx_rules.specs.Fits.{fits_part}
 use Rattle.gx_rules.specs.Locks.{hold_mark, release_marks, released, with_hold}
 use Rattle.gx_waits.specs.declared.claim.Claim.{Claim}
 use Rattle.gx_rules.proofs.Rounds.{cancel-ways, graph-ways}
-use Rattle.gx_law_order.proofs.Lists.{Each, each_append}
+use Rattle.gx_law_order.proofs.Lists.{each_append}
+use Rattle.gx_law_order.specs.Lists.{Each}
 use Rattle.gx_law_order.proofs.Lines.{Asks as Admits, asks as admits}
 use Rattle.gx_law_order.proofs.Queued.{lock-of}
-use Rattle.gx_law_order.proofs.Sessions.{is_open_in, stage_of}
-use Rattle.gx_law_order.proofs.Stages.{IsWhole}
-use Rattle.gx_law_order.proofs.Statuses.{Moves, Turned, reply-turns, stage}
-use Rattle.gx_law_order.proofs.Statuses.Stage.{Closing}
+use Rattle.gx_law_order.specs.Sessions.{is_open_in}
+use Rattle.gx_law_order.specs.Stages.{IsWhole, stage, stage_of}
+use Rattle.gx_law_order.proofs.Statuses.{Moves, Turned, reply-turns}
+use Rattle.gx_law_order.specs.Stages.Stage.{Closing}
 use Rattle.gx_law_locks.specs.Waiting.{IsForEnd}
 use Rattle.gx_law_locks.proofs.Marks.{Locking, MayGive, NoLock, aborted-behind, both, ended-behind, grant, no-lock, resumption, wait}
 use Rattle.gx_law_locks.proofs.Marks.{commit as commit-mark}
@@ -181,7 +183,7 @@ go_held script before c d g line wanted e =
     both the_coordinator before c.locks (hold_mark the_coordinator wanted ∷ []) d.locks (goes_on_locked script d g line).marks _ e (go_locked script (before ++ hold_mark the_coordinator wanted ∷ []) d g line)
 
 -- what a statement waits for is its table
-for-table : (script : Script) (g : Gxid) (line : Stmt) (wanted : Claim) → lock_for script g line ≡ Some wanted → IsForEnd wanted.object wanted.mode
+for-table : (script : Script) (g : Gxid) (line : Stmt) (wanted : Claim) → table_lock script g line ≡ Some wanted → IsForEnd wanted.object wanted.mode
 for-table script g (stmt.Select q) wanted e = subst (λ (c : Claim). IsForEnd c.object c.mode) (some-same _ wanted e) tt
 for-table script g (stmt.Insert table tuples) wanted e = subst (λ (c : Claim). IsForEnd c.object c.mode) (some-same _ wanted e) tt
 for-table script g (stmt.Update table assigns cond) wanted e = subst (λ (c : Claim). IsForEnd c.object c.mode) (some-same _ wanted e) tt
@@ -192,7 +194,7 @@ for-table script g stmt.Commit wanted e = absurd (cc)
 for-table script g stmt.Rollback wanted e = absurd (cc)
 
 -- whose transaction has no wait here
-request : (script : Script) (before : List Mark) (c : Coord) (g : Gxid) (line : Stmt) → wait_of c.locks g ≡ None → (o : Option Claim) → lock_for script g line ≡ o
+request : (script : Script) (before : List Mark) (c : Coord) (g : Gxid) (line : Stmt) → wait_of c.locks g ≡ None → (o : Option Claim) → table_lock script g line ≡ o
     → Holding before c (requests script c g line o)
 request script before c g line none None e = go_locked script before c g line
 request script before c g line none (Some wanted) e = by_test (is_free c.locks.holds wanted) refl
@@ -205,7 +207,7 @@ request script before c g line none (Some wanted) e = by_test (is_free c.locks.h
     by_test false f = wait the_coordinator before c.locks wanted (for-table script g line wanted e) f none-own
 
 dispatch : (script : Script) (before : List Mark) (c : Coord) (g : Gxid) (line : Stmt) → wait_of c.locks g ≡ None → Holding before c (dispatches script c g line)
-dispatch script before c g line none = request script before c g line none (lock_for script g line) refl
+dispatch script before c g line none = request script before c g line none (table_lock script g line) refl
 
 -- whose transaction has one wait here
 resume : (script : Script) (before : List Mark) (c : Coord) (g : Gxid) (w : Option Claim) (line : Option Stmt)
@@ -294,8 +296,8 @@ module _ (script : Script) (before : List Mark) (c : Coord) (single : AreSingle 
   line-done : (s : SessionId) → is_idle (session_of c s) ≡ true → (line : Stmt) (asked : LineStep) → Admits (session_of c s).state.block asked
       → Holding before c (on_line script (starts_line c s asked) s line asked)
   line-done s idle line (step.Answer plain) a = no-lock the_coordinator before c.locks _ (tt, tt)
-  line-done s idle line step.Refuse5 a = no-lock the_coordinator before c.locks _ (tt, tt)
-  line-done s idle line step.Refuse7 a = no-lock the_coordinator before c.locks _ (tt, tt)
+  line-done s idle line step.InFailedBlock a = no-lock the_coordinator before c.locks _ (tt, tt)
+  line-done s idle line step.NotInBlock a = no-lock the_coordinator before c.locks _ (tt, tt)
   line-done s idle line (step.BeginBlock level) a = no-lock the_coordinator before c.locks _ (tt, (tt, tt))
   line-done s idle line step.CommitBlock a =
       commit before (starts_line c s step.CommitBlock) (session_of (starts_line c s step.CommitBlock) s).transaction (ap (wait_of c.locks) (transaction-now s step.CommitBlock) ∙ single.idle s idle a)

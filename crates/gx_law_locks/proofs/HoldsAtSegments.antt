@@ -24,10 +24,9 @@ use Rattle.gx_modes.specs.declared.modes.Mode.TheVariants.{Exclusive, RowExclusi
 use Rattle.gx_waits.specs.Claim.{meets, same_claim, same_object}
 use Rattle.gx_waits.specs.declared.claim.Claim.{Claim}
 use Rattle.gx_waits.specs.declared.object.Object.TheVariants.{Relation, Transaction}
-use Rattle.gx_locks.specs.Claims.{is_of}
+use Rattle.gx_waits.specs.Claims.{claim, is_free, is_of, without}
 use Rattle.gx_locks.specs.Graphs.{graph_at}
-use Rattle.gx_locks.specs.Locks.{is_free, wait_of}
-use Rattle.gx_locks.specs.Locks as locks
+use Rattle.gx_locks.specs.Locks.{wait_of}
 use Rattle.gx_meaning.specs.declared.fault.ArithFault.{ArithFault}
 use Rattle.gx_msg.specs.declared.item.JournalItem.{JournalItem}
 use Rattle.gx_msg.specs.declared.message.Message.{Message}
@@ -39,13 +38,14 @@ use Rattle.gx_store.specs.declared.mark.Mark.{Mark}
 use Rattle.gx_store.specs.declared.mark.Mark.TheVariants as mark
 use Rattle.gx_store.specs.Marks.{is_aborted, is_committed, is_ended, is_same_gxid}
 use Rattle.gx_store.specs.Refusals.{the_coordinator}
-use Rattle.gx_store.specs.Waits.{claim, holds_from}
+use Rattle.gx_store.specs.Waits.{holds_from}
 use Rattle.gx_rules.specs.AtSegment.{aborts, commits, ends, finishes, forgets, if_fits, on_abort, on_commit, on_commit_prepared, on_exec, on_forget, on_message, on_prepare, once, promises, raised, repeats, resumes, takes, unless_below, was_prepared}
 use Rattle.gx_rules.specs.Fits.{fits_exec, holds_locks, is_right_slice, is_waiting, reads_nothing}
 use Rattle.gx_rules.specs.Maps.{each_below}
 use Rattle.gx_rules.specs.Locks.{has_there, hold_mark, release_mark, release_marks, released, wait_mark, with_hold, with_wait}
 use Rattle.gx_rules.specs.Changes.{Change, RowTurn, change_of, changes_rows, end_lock, goes_through, suspended_at, suspends_at, tuple_lock, waits}
-use Rattle.gx_rules.specs.Running.{is_granted, runs_locked, runs_slice, slice_lock, starts_slice, suspended_slice, suspends}
+use Rattle.gx_rules.specs.Running.{is_granted, runs_locked, runs_slice, starts_slice, suspended_slice, suspends}
+use Rattle.gx_store.specs.Locks.{slice_lock}
 use Rattle.gx_rules.specs.Segments.{Local, Phase, Seg, SegTurn, Suspended, after_marks, has_ended, local_of, stays, tells, tells_kept, with_local}
 use Rattle.gx_rules.specs.Segments.Phase.{Aborted, Committed, Forgotten, Prepared, Reading, Writing}
 use Rattle.gx_rules.specs.Shown.{shown}
@@ -54,7 +54,8 @@ use Rattle.gx_rules.specs.Visits.{DidStop, WaitsAt}
 use Rattle.gx_rules.proofs.Moving.{Ends, Keeps, loop-keeps}
 use Rattle.gx_rules.proofs.Rounds.{collect-ways}
 use Rattle.gx_law_order.proofs.Changing.{IsAtRow, change-parts, rows-change}
-use Rattle.gx_law_order.proofs.Lists.{Each, each_append, each_weaker}
+use Rattle.gx_law_order.proofs.Lists.{each_append, each_weaker}
+use Rattle.gx_law_order.specs.Lists.{Each}
 use Rattle.gx_law_order.proofs.OwnLocks.{IsOwn, WritersLock, rows-own, slice-rows}
 use Rattle.gx_law_order.proofs.Waiting.{GoesOnSo, HasDone, IsAtARow, IsAtTable, IsWanted, freed, goes-on-ways, is_open_phase}
 use Rattle.gx_law_locks.specs.Lasting.{IsLasting}
@@ -491,21 +492,21 @@ module _ (script : Script) (P : Gxid → Table → Type 0) (here : Node) (before
           lasts = λ h. lasts-so h (eqb h.0 g.0) refl;
           rows = λ h. rows-so h (eqb h.0 g.0) refl;
           writes = releases-writes script P here s.node (has_there s.locks g) s.locks.holds;
-          written = releases-written (locks.without g s.locks.holds) s.node (has_there s.locks g);
+          written = releases-written (without g s.locks.holds) s.node (has_there s.locks g);
         }
       where
         l : Local
         l = record (local_of s g) { phase = p; suspended = None }
 
         lasts-so : (h : Gxid) (b : Bool) → eqb h.0 g.0 ≡ b → has_ended (if b then l else s.locals h.0).phase ≡ false
-            → (has_ended (local_of s h).phase ≡ false) × ((c : Claim) → c.gxid ≡ h → IsLasting here c → IsIn s.locks.holds c → IsIn (locks.without g s.locks.holds) c)
+            → (has_ended (local_of s h).phase ≡ false) × ((c : Claim) → c.gxid ≡ h → IsLasting here c → IsIn s.locks.holds c → IsIn (without g s.locks.holds) c)
         lasts-so h true q f = absurd (false-true (sym f ∙ over))
         lasts-so h false q f = (f, λ c is m i. in-released g c s.locks.holds (ap (λ (k : Gxid). eqb k.0 g.0) is ∙ q) i)
 
-        rows-so : (h : Gxid) (b : Bool) → eqb h.0 g.0 ≡ b → HoldsWaiting script h (locks.without g s.locks.holds) (if b then l else s.locals h.0).suspended
+        rows-so : (h : Gxid) (b : Bool) → eqb h.0 g.0 ≡ b → HoldsWaiting script h (without g s.locks.holds) (if b then l else s.locals h.0).suspended
         rows-so h true q = tt
         rows-so h false q =
-            waiting-later script here h s.locks.holds (locks.without g s.locks.holds) (λ c is m i. in-released g c s.locks.holds (ap (λ (k : Gxid). eqb k.0 g.0) is ∙ q) i)
+            waiting-later script here h s.locks.holds (without g s.locks.holds) (λ c is m i. in-released g c s.locks.holds (ap (λ (k : Gxid). eqb k.0 g.0) is ∙ q) i)
             (local_of s h).suspended (rows h)
 
     dropped : (g : Gxid) → is_aborted before g ≡ true → Goes (aborts s g (local_of s g))

@@ -38,7 +38,8 @@ use Rattle.gx_rules.proofs.Turns.{with_more-last}
 use Rattle.gx_rules.specs.Segments.{Seg, SegTurn, Suspended, local_of}
 use Rattle.gx_rules.specs.Slices.{own_lock}
 use Rattle.gx_rules.specs.Sending.{clock_after, counted, numbered}
-use Rattle.gx_law_order.proofs.Lists.{Each, each_append, each_weaker}
+use Rattle.gx_law_order.proofs.Lists.{each_append, each_weaker}
+use Rattle.gx_law_order.specs.Lists.{Each}
 use Rattle.gx_law_order.proofs.Ordered.{apart-back, apart-two, at-both, at_coordinator, seg_marks, sends-at}
 use Rattle.gx_law_order.proofs.Sent.{at}
 use Rattle.gx_law_order.proofs.Waiting.{GoesOn, goes-on-is, going-on}

@@ -17,15 +17,14 @@ use Rattle.gx_waits.specs.declared.object.Object.{Object}
 use Rattle.gx_waits.specs.declared.object.Object.TheVariants.{Relation, Transaction, Tuple}
 use Rattle.gx_locks.proofs.Filed.{other_claim-turned, same_claim-along}
 use Rattle.gx_locks.proofs.Meets.{same_object-same}
-use Rattle.gx_locks.specs.Claims.{is_of}
-use Rattle.gx_locks.specs.Locks as locks
+use Rattle.gx_waits.specs.Claims.{claim, is_of, with_claim, without, without_claim}
 use Rattle.gx_store.proofs.Exclusive.{holds_from-append}
 use Rattle.gx_store.specs.declared.mark.Mark.{Mark}
 use Rattle.gx_store.specs.declared.mark.Mark.TheVariants as mark
 use Rattle.gx_store.specs.Locks.{IsMomentary}
 use Rattle.gx_store.specs.Marks.{is_ended}
-use Rattle.gx_store.specs.Waits.{added, claim, holds_at, is_held, without}
-use Rattle.gx_law_order.proofs.Lists.{Each}
+use Rattle.gx_store.specs.Waits.{holds_at, is_held}
+use Rattle.gx_law_order.specs.Lists.{Each}
 use Rattle.gx_law_locks.specs.Lasting.{IsLasting}
 use Rattle.gx_law_locks.specs.Late.{AreReleasesLate}
 use Rattle.gx_law_locks.proofs.Claims.{claim-itself}
@@ -45,14 +44,14 @@ in-filter p c (x ∷ xs) f e = by_tests (p x) refl (same_claim c x) refl e (in-f
     by_tests false pe true qe e r = absurd (true-false (p x) (f x qe) pe)
     by_tests false pe false qe e r = r e
 
-pub in-added : (new c : Claim) (xs : List Claim) → IsIn xs c → IsIn (added new xs) c
+pub in-added : (new c : Claim) (xs : List Claim) → IsIn xs c → IsIn (with_claim new xs) c
 in-added new c xs e = by_test (list_any (same_claim new) xs)
   where
     by_test : (b : Bool) → IsIn (if b then xs else xs ++ new ∷ []) c
     by_test true = e
     by_test false = list_any-append (same_claim c) xs (new ∷ []) ∙ or_left (list_any (same_claim c) xs) _ e
 
-pub in-new : (c : Claim) (xs : List Claim) → IsIn (added c xs) c
+pub in-new : (c : Claim) (xs : List Claim) → IsIn (with_claim c xs) c
 in-new c xs = by_test (list_any (same_claim c) xs) refl
   where
     by_test : (b : Bool) → list_any (same_claim c) xs ≡ b → IsIn (if b then xs else xs ++ c ∷ []) c
@@ -62,11 +61,11 @@ in-new c xs = by_test (list_any (same_claim c) xs) refl
 apart : (a b d : ℕ) (r s : Bool) → (a == b) ≡ false → ((a == d) && r) ≡ true → not ((b == d) && s) ≡ true
 apart a b d r s e f = grind (arith, nat_tests)
 
-pub in-without : (old c : Claim) (xs : List Claim) → (c.gxid.0 == old.gxid.0) ≡ false → IsIn xs c → IsIn (without old xs) c
+pub in-without : (old c : Claim) (xs : List Claim) → (c.gxid.0 == old.gxid.0) ≡ false → IsIn xs c → IsIn (without_claim old xs) c
 in-without old c xs e f = in-filter (λ x. not (same_claim old x)) c xs (λ x s. apart c.gxid.0 old.gxid.0 x.gxid.0 _ _ e s) f
 
 -- another claim is taken away
-pub in-less : (old c : Claim) (xs : List Claim) → same_claim old c ≡ false → IsIn xs c → IsIn (without old xs) c
+pub in-less : (old c : Claim) (xs : List Claim) → same_claim old c ≡ false → IsIn xs c → IsIn (without_claim old xs) c
 in-less old c xs e f = in-filter (λ x. not (same_claim old x)) c xs (λ x s. ap not (other_claim-turned x old (sym (same_claim-along c x old s) ∙ other_claim-turned old c e))) f
 
 -- LOCKS THAT LAST
@@ -102,13 +101,13 @@ lasting-apart node old c brief lasts = by_test (same_claim old c) refl
     by_test false e = refl
 
 -- so it stays when such a one is given back
-pub in-given : (node : Node) (old c : Claim) (xs : List Claim) → IsMomentary node old.object old.mode → IsLasting node c → IsIn xs c → IsIn (without old xs) c
+pub in-given : (node : Node) (old c : Claim) (xs : List Claim) → IsMomentary node old.object old.mode → IsLasting node c → IsIn xs c → IsIn (without_claim old xs) c
 in-given node old c xs brief lasts f = in-less old c xs (lasting-apart node old c brief lasts) f
 
 others : (a b d : ℕ) (r : Bool) → (a == b) ≡ false → ((a == d) && r) ≡ true → not (d == b) ≡ true
 others a b d r e f = grind (arith, nat_tests)
 
-pub in-released : (g : Gxid) (c : Claim) (xs : List Claim) → (c.gxid.0 == g.0) ≡ false → IsIn xs c → IsIn (locks.without g xs) c
+pub in-released : (g : Gxid) (c : Claim) (xs : List Claim) → (c.gxid.0 == g.0) ≡ false → IsIn xs c → IsIn (without g xs) c
 in-released g c xs e f = in-filter (λ x. not (is_of g x)) c xs (λ x s. others c.gxid.0 g.0 x.gxid.0 _ e s) f
 
 -- MARKS
@@ -123,7 +122,7 @@ late-behind before (mark.Release n g object mode ∷ xs) ys e = subst (λ b. Are
 late-behind before (m ∷ xs) ys e = subst (λ b. AreReleasesLate b ys) (append_assoc before (m ∷ []) xs) (late-behind (before ++ m ∷ []) xs ys e)
 
 -- behind one mark more
-added-on : (new c : Claim) (xs : List Claim) → IsIn xs c → (b : Bool) → IsIn (if b then added new xs else xs) c
+added-on : (new c : Claim) (xs : List Claim) → IsIn xs c → (b : Bool) → IsIn (if b then with_claim new xs else xs) c
 added-on new c xs f true = in-added new c xs f
 added-on new c xs f false = f
 
@@ -140,13 +139,13 @@ runs-on before ms g h e f = by_test (h.0 == g.0) refl
 -- a release leaves a lasting hold of who hasn't ended
 held-on : (node n : Node) (g : Gxid) (object : Object) (mode : Mode) (c : Claim) (before ms : List Mark) → IsLasting node c
     → IsMomentary n object mode ⊎ (is_ended before g ≡ true) → is_ended (before ++ ms) c.gxid ≡ false → (xs : List Claim) → IsIn xs c
-    → IsIn (if n.0 == node.0 then without (claim g object mode) xs else xs) c
+    → IsIn (if n.0 == node.0 then without_claim (claim g object mode) xs else xs) c
 held-on node n g object mode c before ms lasts late run xs f = by_node (n.0 == node.0) refl late
   where
     same-node : (a b : Node) → (a.0 == b.0) ≡ true → a ≡ b
     same-node a b e = grind (arith, nat_tests)
 
-    by_node : (b : Bool) → (n.0 == node.0) ≡ b → IsMomentary n object mode ⊎ (is_ended before g ≡ true) → IsIn (if b then without (claim g object mode) xs else xs) c
+    by_node : (b : Bool) → (n.0 == node.0) ≡ b → IsMomentary n object mode ⊎ (is_ended before g ≡ true) → IsIn (if b then without_claim (claim g object mode) xs else xs) c
     by_node false e l = f
     by_node true e (inl brief) = in-given node (claim g object mode) c xs (subst (λ (k : Node). IsMomentary k object mode) (same-node n node e) brief) lasts f
     by_node true e (inr over) = in-without (claim g object mode) c xs (runs-on before ms g c.gxid over run) f
@@ -175,10 +174,10 @@ holds-last before later node g object mode lasts e f =
     (still-held node (claim g object mode) lasts (before ++ mark.Hold node g object mode ∷ []) later (late-behind [] before (mark.Hold node g object mode ∷ later) e)
     (subst (λ b. is_ended b g ≡ false) (sym (append_assoc before (mark.Hold node g object mode ∷ []) later)) f)
     (subst (λ xs. IsIn xs (claim g object mode)) (sym (holds_from-append node [] before (mark.Hold node g object mode ∷ [])))
-    (subst (λ b. IsIn (if b then added (claim g object mode) (holds_at before node) else holds_at before node) (claim g object mode)) (sym (node-itself node)) (in-new (claim g object mode) (holds_at before node)))))
+    (subst (λ b. IsIn (if b then with_claim (claim g object mode) (holds_at before node) else holds_at before node) (claim g object mode)) (sym (node-itself node)) (in-new (claim g object mode) (holds_at before node)))))
 
 -- a grant stands behind marks that change no hold
 pub granted-held : (before ms : List Mark) (node : Node) (g : Gxid) (object : Object) (mode : Mode) → Each Quiet ms → is_held (before ++ mark.Hold node g object mode ∷ ms) node g object mode ≡ true
 granted-held before ms node g object mode quiet =
-    subst (λ hs. IsIn hs (claim g object mode)) (sym (holds_from-append node [] before (mark.Hold node g object mode ∷ ms) ∙ quiet-holds node (if node.0 == node.0 then added (claim g object mode) (holds_at before node) else holds_at before node) ms quiet))
-    (subst (λ b. IsIn (if b then added (claim g object mode) (holds_at before node) else holds_at before node) (claim g object mode)) (sym (node-itself node)) (in-new (claim g object mode) (holds_at before node)))
+    subst (λ hs. IsIn hs (claim g object mode)) (sym (holds_from-append node [] before (mark.Hold node g object mode ∷ ms) ∙ quiet-holds node (if node.0 == node.0 then with_claim (claim g object mode) (holds_at before node) else holds_at before node) ms quiet))
+    (subst (λ b. IsIn (if b then with_claim (claim g object mode) (holds_at before node) else holds_at before node) (claim g object mode)) (sym (node-itself node)) (in-new (claim g object mode) (holds_at before node)))

@@ -10,16 +10,15 @@ use Rattle.gx_ids.specs.declared.ids.Node.{Node}
 use Rattle.gx_waits.specs.Claim.{Meets, meets}
 use Rattle.gx_waits.specs.declared.claim.Claim.{Claim}
 use Rattle.gx_locks.proofs.Meets.{Meets_from_test, test_from_Meets}
-use Rattle.gx_locks.specs.Claims.{is_of}
-use Rattle.gx_locks.specs.Locks.{is_free}
+use Rattle.gx_waits.specs.Claims.{claim, is_free, is_of}
 use Rattle.gx_script.specs.declared.Script.{Script}
 use Rattle.gx_store.proofs.Exclusive.{holds_from-append}
 use Rattle.gx_store.specs.declared.mark.Mark.{Mark}
 use Rattle.gx_store.specs.declared.mark.Mark.TheVariants as mark
 use Rattle.gx_store.specs.Locks.{AreGranted, LegalHold}
 use Rattle.gx_store.specs.Ordered.{IsAtNode}
-use Rattle.gx_store.specs.Waits.{claim, holds_at, holds_from, waits_at, waits_from}
-use Rattle.gx_law_order.proofs.Lists.{Each}
+use Rattle.gx_store.specs.Waits.{holds_at, holds_from, waits_at, waits_from}
+use Rattle.gx_law_order.specs.Lists.{Each}
 use Rattle.gx_law_locks.specs.Marked.{AreWaitsLegal, IsWaitLegal}
 use Rattle.gx_law_locks.proofs.Marks.{AreRight, waits_from-append}
 

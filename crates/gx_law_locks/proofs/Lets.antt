@@ -9,7 +9,7 @@ use Rattle.gx_store.specs.Marks.{is_aborted}
 use Rattle.gx_store.specs.Ordered.{IsAtNode}
 use Rattle.gx_store.specs.Refusals.{the_coordinator}
 use Rattle.gx_store.specs.Waits.{waits_at}
-use Rattle.gx_law_order.proofs.Lists.{Each}
+use Rattle.gx_law_order.specs.Lists.{Each}
 use Rattle.gx_law_locks.specs.Waiting.{EachBehind, KeepsWhileWaiting, WaitsForEnd, is_waiting}
 use Rattle.gx_law_locks.proofs.Legal.{none-listed}
 use Rattle.gx_law_locks.proofs.Marks.{AreLet, Lets, MayGive, waits_from-append}

@@ -8,8 +8,10 @@ use Rattle.gx_ids.specs.declared.ids.Gxid.{Gxid}
 use Rattle.gx_dtx.specs.declared.txn.Txn.{Txn}
 use Rattle.gx_waits.proofs.Members.{Has}
 use Rattle.gx_rules.specs.Rounds.{is_active, is_live}
-use Rattle.gx_law_order.proofs.Lists.{Each}
-use Rattle.gx_law_order.proofs.Stages.{Apart, at_gxid, first-at, gx}
+use Rattle.gx_law_order.specs.Lists.{Each}
+use Rattle.gx_law_order.proofs.Stages.{at_gxid, first-at}
+use Rattle.gx_law_order.specs.Stages.{Apart}
+use Rattle.gx_law_order.specs.Standings.{gx}
 
 abbrev pub Txns : Type 0
 Txns = List (Gxid × Txn)

@@ -6,8 +6,8 @@ use Rattle.std.specs.Prelude.{filter, find}
 use Rattle.gx_ids.specs.declared.ids.Gxid.{Gxid}
 use Rattle.gx_ids.specs.declared.ids.Node.{Node}
 use Rattle.gx_waits.specs.declared.claim.Claim.{Claim}
-use Rattle.gx_locks.specs.Claims.{is_of}
-use Rattle.gx_locks.specs.Locks.{Locks, is_free, resumed, wait_of}
+use Rattle.gx_waits.specs.Claims.{claim, is_free, is_of, with_claim, without_claim}
+use Rattle.gx_locks.specs.Locks.{Locks, resumed, wait_of}
 use Rattle.gx_script.specs.declared.Script.{Script}
 use Rattle.gx_store.proofs.Exclusive.{holds_from-append}
 use Rattle.gx_store.specs.declared.mark.Mark.{Mark}
@@ -16,9 +16,10 @@ use Rattle.gx_store.specs.Journals.{is_same_node}
 use Rattle.gx_store.specs.Locks.{IsMomentary}
 use Rattle.gx_store.specs.Marks.{is_aborted, is_committed, is_ended}
 use Rattle.gx_store.specs.Ordered.{IsAtNode}
-use Rattle.gx_store.specs.Waits.{added, claim, holds_from, waits_from, without}
+use Rattle.gx_store.specs.Waits.{holds_from, waits_from}
 use Rattle.gx_rules.specs.Locks.{hold_mark, release_mark, wait_mark, with_hold, with_wait, without_hold}
-use Rattle.gx_law_order.proofs.Lists.{Each, each_weaker}
+use Rattle.gx_law_order.proofs.Lists.{each_weaker}
+use Rattle.gx_law_order.specs.Lists.{Each}
 use Rattle.gx_law_order.proofs.Past.{aborted-append, committed-append}
 use Rattle.gx_law_locks.specs.Late.{AreReleasesLate}
 use Rattle.gx_law_locks.specs.Waiting.{IsForEnd}
@@ -64,9 +65,9 @@ pub record Locking (node : Node) (before : List Mark) (from : Locks) (marks : Li
 -- MARKS IN TWO PARTS
 pub waits_from-append : (node : Node) (waits : List Claim) (xs ys : List Mark) → waits_from node waits (xs ++ ys) ≡ waits_from node (waits_from node waits xs) ys
 waits_from-append node waits [] ys = refl
-waits_from-append node waits (mark.Wait n g object mode ∷ xs) ys = waits_from-append node (if n.0 == node.0 then added (claim g object mode) waits else waits) xs ys
-waits_from-append node waits (mark.Hold n g object mode ∷ xs) ys = waits_from-append node (if n.0 == node.0 then without (claim g object mode) waits else waits) xs ys
-waits_from-append node waits (mark.Release n g object mode ∷ xs) ys = waits_from-append node (if n.0 == node.0 then without (claim g object mode) waits else waits) xs ys
+waits_from-append node waits (mark.Wait n g object mode ∷ xs) ys = waits_from-append node (if n.0 == node.0 then with_claim (claim g object mode) waits else waits) xs ys
+waits_from-append node waits (mark.Hold n g object mode ∷ xs) ys = waits_from-append node (if n.0 == node.0 then without_claim (claim g object mode) waits else waits) xs ys
+waits_from-append node waits (mark.Release n g object mode ∷ xs) ys = waits_from-append node (if n.0 == node.0 then without_claim (claim g object mode) waits else waits) xs ys
 waits_from-append node waits (m ∷ xs) ys = waits_from-append node waits xs ys
 
 right-append : (node : Node) (holds waits : List Claim) (xs ys : List Mark) → AreRight node holds waits xs → AreRight node (holds_from node holds xs) (waits_from node waits xs) ys
@@ -175,8 +176,8 @@ pub grant : (node : Node) (before : List Mark) (l : Locks) (wanted : Claim) → 
     → Locking node before l (hold_mark node wanted ∷ []) (with_hold l wanted)
 grant node before l wanted free e =
     record {
-      holds = ap (λ b. if b then added wanted l.holds else l.holds) (node-itself node);
-      waits = ap (λ b. if b then without wanted l.waits else l.waits) (node-itself node) ∙ without-none wanted l.waits e;
+      holds = ap (λ b. if b then with_claim wanted l.holds else l.holds) (node-itself node);
+      waits = ap (λ b. if b then without_claim wanted l.waits else l.waits) (node-itself node) ∙ without-none wanted l.waits e;
       right = (free, tt);
       late = tt;
       lets = (tt, tt);
@@ -188,7 +189,7 @@ pub wait : (node : Node) (before : List Mark) (l : Locks) (wanted : Claim) → I
 wait node before l wanted end met e =
     record {
       holds = refl;
-      waits = ap (λ b. if b then added wanted l.waits else l.waits) (node-itself node) ∙ ap (λ b. if b then l.waits else l.waits ++ wanted ∷ []) (not-among wanted l.waits e);
+      waits = ap (λ b. if b then with_claim wanted l.waits else l.waits) (node-itself node) ∙ ap (λ b. if b then l.waits else l.waits ++ wanted ∷ []) (not-among wanted l.waits e);
       right = (record { met = met; alone = e }, tt);
       late = tt;
       lets = (end, tt);
@@ -199,8 +200,8 @@ pub give : (node : Node) (before : List Mark) (l : Locks) (old : Claim) → IsMo
     → Locking node before l (release_mark node old ∷ []) (without_hold l old)
 give node before l old brief e =
     record {
-      holds = ap (λ b. if b then without old l.holds else l.holds) (node-itself node);
-      waits = ap (λ b. if b then without old l.waits else l.waits) (node-itself node) ∙ without-none old l.waits e;
+      holds = ap (λ b. if b then without_claim old l.holds else l.holds) (node-itself node);
+      waits = ap (λ b. if b then without_claim old l.waits else l.waits) (node-itself node) ∙ without-none old l.waits e;
       right = tt;
       late = (inl brief, tt);
       lets = (inl e, tt);
@@ -215,8 +216,8 @@ pub resumption : (node : Node) (before : List Mark) (l : Locks) (g : Gxid) (want
     → Locking node before l (hold_mark node wanted ∷ []) (resumed l g (Some wanted))
 resumption node before l g wanted free e =
     record {
-      holds = ap (λ b. if b then added wanted l.holds else l.holds) (node-itself node);
-      waits = ap (λ b. if b then without wanted l.waits else l.waits) (node-itself node) ∙ without-only g wanted l.waits e;
+      holds = ap (λ b. if b then with_claim wanted l.holds else l.holds) (node-itself node);
+      waits = ap (λ b. if b then without_claim wanted l.waits else l.waits) (node-itself node) ∙ without-only g wanted l.waits e;
       right = (free, tt);
       late = tt;
       lets = (tt, tt);
@@ -249,17 +250,17 @@ aborted-more xs ys g e = aborted-append xs ys g ∙ or_left (is_aborted xs g) (i
 pub other-holds : (script : Script) (here other : Node) (holds : List Claim) (ms : List Mark) → is_same_node here other ≡ false → Each (IsAtNode script here) ms → holds_from other holds ms ≡ holds
 other-holds script here other holds [] n e = refl
 other-holds script here other holds (mark.Hold m g object mode ∷ ms) n e =
-    ap (λ b. holds_from other (if b then added (claim g object mode) holds else holds) ms) (ap (λ x. is_same_node x other) e.0 ∙ n) ∙ other-holds script here other holds ms n e.1
+    ap (λ b. holds_from other (if b then with_claim (claim g object mode) holds else holds) ms) (ap (λ x. is_same_node x other) e.0 ∙ n) ∙ other-holds script here other holds ms n e.1
 other-holds script here other holds (mark.Release m g object mode ∷ ms) n e =
-    ap (λ b. holds_from other (if b then without (claim g object mode) holds else holds) ms) (ap (λ x. is_same_node x other) e.0 ∙ n) ∙ other-holds script here other holds ms n e.1
+    ap (λ b. holds_from other (if b then without_claim (claim g object mode) holds else holds) ms) (ap (λ x. is_same_node x other) e.0 ∙ n) ∙ other-holds script here other holds ms n e.1
 other-holds script here other holds (m ∷ ms) n e = other-holds script here other holds ms n e.1
 
 pub other-waits : (script : Script) (here other : Node) (waits : List Claim) (ms : List Mark) → is_same_node here other ≡ false → Each (IsAtNode script here) ms → waits_from other waits ms ≡ waits
 other-waits script here other waits [] n e = refl
 other-waits script here other waits (mark.Wait m g object mode ∷ ms) n e =
-    ap (λ b. waits_from other (if b then added (claim g object mode) waits else waits) ms) (ap (λ x. is_same_node x other) e.0 ∙ n) ∙ other-waits script here other waits ms n e.1
+    ap (λ b. waits_from other (if b then with_claim (claim g object mode) waits else waits) ms) (ap (λ x. is_same_node x other) e.0 ∙ n) ∙ other-waits script here other waits ms n e.1
 other-waits script here other waits (mark.Hold m g object mode ∷ ms) n e =
-    ap (λ b. waits_from other (if b then without (claim g object mode) waits else waits) ms) (ap (λ x. is_same_node x other) e.0 ∙ n) ∙ other-waits script here other waits ms n e.1
+    ap (λ b. waits_from other (if b then without_claim (claim g object mode) waits else waits) ms) (ap (λ x. is_same_node x other) e.0 ∙ n) ∙ other-waits script here other waits ms n e.1
 other-waits script here other waits (mark.Release m g object mode ∷ ms) n e =
-    ap (λ b. waits_from other (if b then without (claim g object mode) waits else waits) ms) (ap (λ x. is_same_node x other) e.0 ∙ n) ∙ other-waits script here other waits ms n e.1
+    ap (λ b. waits_from other (if b then without_claim (claim g object mode) waits else waits) ms) (ap (λ x. is_same_node x other) e.0 ∙ n) ∙ other-waits script here other waits ms n e.1
 other-waits script here other waits (m ∷ ms) n e = other-waits script here other waits ms n e.1

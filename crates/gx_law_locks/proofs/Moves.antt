@@ -15,8 +15,8 @@ use Rattle.gx_waits.specs.Claim.{meets, same_claim}
 use Rattle.gx_waits.specs.declared.claim.Claim.{Claim}
 use Rattle.gx_waits.specs.declared.object.Object.{Object}
 use Rattle.gx_waits.specs.declared.object.Object.TheVariants.{Relation, Transaction, Tuple}
-use Rattle.gx_locks.specs.Claims.{is_of}
-use Rattle.gx_locks.specs.Locks.{Locks, held, is_free, resumed, wait_of}
+use Rattle.gx_waits.specs.Claims.{is_free, is_of, with_claim}
+use Rattle.gx_locks.specs.Locks.{Locks, resumed, wait_of}
 use Rattle.gx_script.specs.declared.Script.{Script}
 use Rattle.gx_store.specs.declared.mark.Mark.{Mark}
 use Rattle.gx_store.specs.declared.mark.Mark.TheVariants as mark
@@ -29,7 +29,8 @@ use Rattle.gx_rules.specs.Segments.{Local, Phase, Seg, has_ended, local_of, with
 use Rattle.gx_rules.specs.Segments.Phase.{Aborted, Committed, Forgotten, Prepared, Reading, Writing}
 use Rattle.gx_rules.specs.Running.{is_granted}
 use Rattle.gx_rules.specs.Slices.{Moved, adds_version, gives_back, noted, own_lock, starts_from, takes_lock, takes_own, version, writes_row}
-use Rattle.gx_law_order.proofs.Lists.{Each, each_append, each_filter, each_weaker}
+use Rattle.gx_law_order.proofs.Lists.{each_append, each_filter, each_weaker}
+use Rattle.gx_law_order.specs.Lists.{Each}
 use Rattle.gx_law_order.proofs.OwnLocks.{IsOwn, IsOwnOn, SaysWritten, WritersLock, each-held, end-back, has_version}
 use Rattle.gx_law_order.proofs.Suspended.{is_open_phase}
 use Rattle.gx_law_order.proofs.Waiting.{freed}
@@ -284,14 +285,14 @@ module _ (script : Script) (P : Gxid → Table → Type 0) (here : Node) (before
       -- its first write takes the lock, which is free
       first : Runs (takes_lock (own_lock g) one)
       first =
-          so (record m.seg.locks { holds = held m.seg.locks.holds (own_lock g) }) (one.marks ++ hold_mark m.seg.node (own_lock g) ∷ [])
-          (both here before s.locks one.marks m.seg.locks (hold_mark m.seg.node (own_lock g) ∷ []) (record m.seg.locks { holds = held m.seg.locks.holds (own_lock g) }) locking
-          (subst (λ k. Locking here (before ++ one.marks) m.seg.locks (hold_mark k (own_lock g) ∷ []) (record m.seg.locks { holds = held m.seg.locks.holds (own_lock g) })) (sym f.node)
+          so (record m.seg.locks { holds = with_claim (own_lock g) m.seg.locks.holds }) (one.marks ++ hold_mark m.seg.node (own_lock g) ∷ [])
+          (both here before s.locks one.marks m.seg.locks (hold_mark m.seg.node (own_lock g) ∷ []) (record m.seg.locks { holds = with_claim (own_lock g) m.seg.locks.holds }) locking
+          (subst (λ k. Locking here (before ++ one.marks) m.seg.locks (hold_mark k (own_lock g) ∷ []) (record m.seg.locks { holds = with_claim (own_lock g) m.seg.locks.holds })) (sym f.node)
           (grant here (before ++ one.marks) m.seg.locks (own_lock g) (own-free g m.seg.locks.holds f.owns) f.alone)))
           (held-append script P here s.locks.holds one.marks (hold_mark m.seg.node (own_lock g) ∷ []) writes tt)
-          (each_append (WritesOwn (held m.seg.locks.holds (own_lock g))) one.marks (hold_mark m.seg.node (own_lock g) ∷ [])
-          (each_append (WritesOwn (held m.seg.locks.holds (own_lock g))) m.marks (write ∷ [])
-          (written-later m.seg.locks.holds (held m.seg.locks.holds (own_lock g)) m.marks (λ h i. in-added (own_lock g) (own_lock h) m.seg.locks.holds i) f.written)
+          (each_append (WritesOwn (with_claim (own_lock g) m.seg.locks.holds)) one.marks (hold_mark m.seg.node (own_lock g) ∷ [])
+          (each_append (WritesOwn (with_claim (own_lock g) m.seg.locks.holds)) m.marks (write ∷ [])
+          (written-later m.seg.locks.holds (with_claim (own_lock g) m.seg.locks.holds) m.marks (λ h i. in-added (own_lock g) (own_lock h) m.seg.locks.holds i) f.written)
           (in-new (own_lock g) m.seg.locks.holds, tt)) (tt, tt))
           (each-held m.seg.locks.holds (own_lock g) f.owns refl) (in-new (own_lock g) m.seg.locks.holds) (λ x i. in-added (own_lock g) x m.seg.locks.holds i) refl
 

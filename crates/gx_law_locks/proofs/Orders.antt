@@ -25,12 +25,12 @@ use Rattle.gx_store.specs.Points.{marks_in}
 use Rattle.gx_store.specs.Refusals.{the_coordinator}
 use Rattle.gx_store.specs.Waits.{holds_at, holds_from}
 use Rattle.gx_rules.specs.AtCoordinator.{cancels, coord_can, coord_sends, coord_turn, on_event}
+use Rattle.gx_store.specs.Locks.{slice_lock}
 use Rattle.gx_rules.specs.AtSegment.{seg_rule}
 use Rattle.gx_rules.specs.AtSegment as segment
 use Rattle.gx_rules.specs.Coordinators.{CoordTurn}
 use Rattle.gx_rules.specs.Machine.{Letter, World, and_cancelled, coord_did, new_world, seg_did, world_of}
 use Rattle.gx_rules.specs.Segments.{SegTurn}
-use Rattle.gx_rules.specs.Running.{slice_lock}
 use Rattle.gx_rules.specs.Sending.{clock_after, counted, numbered}
 use Rattle.gx_law_order.specs.Moves.{Move, world_by}
 use Rattle.gx_law_order.proofs.AtCoordinators.{cancel_stays, coord_stays}
@@ -38,7 +38,8 @@ use Rattle.gx_law_order.proofs.Induction.{after_turn, marks-by-event, marks-by-v
 use Rattle.gx_law_order.proofs.Moves.{HasNamed}
 use Rattle.gx_law_order.proofs.AtSegments.{PlainAt, seg_stays}
 use Rattle.gx_law_order.proofs.Letters.{IsFound, IsLetter}
-use Rattle.gx_law_order.proofs.Lists.{Each, each_weaker}
+use Rattle.gx_law_order.proofs.Lists.{each_weaker}
+use Rattle.gx_law_order.specs.Lists.{Each}
 use Rattle.gx_law_order.proofs.Ordered.{apart-back, at_coordinator, seg_marks, sends-at}
 use Rattle.gx_law_order.proofs.Sent.{at}
 use Rattle.gx_law_order.proofs.More.{marks-last}

@@ -18,7 +18,8 @@ use Rattle.gx_store.specs.Waits.{holds_at}
 use Rattle.gx_rules.specs.Maps.{with_at}
 use Rattle.gx_rules.specs.Segments.{Seg, has_ended, local_of}
 use Rattle.gx_rules.specs.Slices.{own_lock}
-use Rattle.gx_law_order.proofs.Lists.{Each, each_weaker}
+use Rattle.gx_law_order.proofs.Lists.{each_weaker}
+use Rattle.gx_law_order.specs.Lists.{Each}
 use Rattle.gx_law_order.proofs.Sent.{at}
 use Rattle.gx_law_locks.specs.Own.{DoHoldOwn}
 use Rattle.gx_law_locks.proofs.HoldsAtSegments.{Lasts}

@@ -34,7 +34,8 @@ use Rattle.gx_rules.specs.Sending.{clock_after, numbered}
 use Rattle.gx_rules.proofs.Rounds.{collect-ways, graph-ways}
 use Rattle.gx_rules.proofs.Turns.{cancels_all-each}
 use Rattle.gx_law_order.proofs.Induction.{IsThere}
-use Rattle.gx_law_order.proofs.Lists.{Each, each_append}
+use Rattle.gx_law_order.proofs.Lists.{each_append}
+use Rattle.gx_law_order.specs.Lists.{Each}
 use Rattle.gx_law_order.proofs.Ordered.{Well}
 use Rattle.gx_law_order.proofs.World.{world_knows}
 use Rattle.gx_law_order.proofs.Always.{world-holds}

@@ -11,15 +11,15 @@ use Rattle.gx_ids.specs.declared.ids.Gxid.{Gxid}
 use Rattle.gx_ids.specs.declared.ids.Node.{Node}
 use Rattle.gx_waits.specs.Claim.{same_claim}
 use Rattle.gx_waits.specs.declared.claim.Claim.{Claim}
-use Rattle.gx_locks.specs.Claims.{is_of}
+use Rattle.gx_waits.specs.Claims.{is_of, without, without_claim}
 use Rattle.gx_locks.specs.Locks.{Locks}
-use Rattle.gx_locks.specs.Locks as locks
 use Rattle.gx_meaning.specs.Order.{in_order, placed}
 use Rattle.gx_store.specs.declared.mark.Mark.{Mark}
 use Rattle.gx_store.specs.Marks.{is_ended}
-use Rattle.gx_store.specs.Waits.{holds_from, waits_from, without}
+use Rattle.gx_store.specs.Waits.{holds_from, waits_from}
 use Rattle.gx_rules.specs.Locks.{claim_order, has_there, release_mark, release_marks, released}
-use Rattle.gx_law_order.proofs.Lists.{Each, each_append, each_weaker}
+use Rattle.gx_law_order.proofs.Lists.{each_append, each_weaker}
+use Rattle.gx_law_order.specs.Lists.{Each}
 use Rattle.gx_law_locks.specs.Late.{AreReleasesLate}
 use Rattle.gx_law_locks.proofs.Claims.{claim-itself, each-of, each-passes, filter-alike}
 use Rattle.gx_law_locks.proofs.Marks.{AreLet, AreRight, Locking, MayGive, aborted-more, ended-more, node-itself}
@@ -81,18 +81,18 @@ all-stay : (xs : List Claim) → xs ≡ filter (λ x. true) xs
 all-stay [] = refl
 all-stay (x ∷ xs) = ap (λ ys. x ∷ ys) (all-stay xs)
 
-one-less : (c : Claim) (cs claims : List Claim) → filter (λ x. not (among cs x)) (without c claims) ≡ filter (λ x. not (among (c ∷ cs) x)) claims
+one-less : (c : Claim) (cs claims : List Claim) → filter (λ x. not (among cs x)) (without_claim c claims) ≡ filter (λ x. not (among (c ∷ cs) x)) claims
 one-less c cs claims =
     filter-twice (λ x. not (same_claim c x)) (λ x. not (among cs x)) claims
     ∙ filter-alike (λ x. not (same_claim c x) && not (among cs x)) (λ x. not (among (c ∷ cs) x)) claims (each-of (λ x. (not (same_claim c x) && not (among cs x)) ≡ not (among (c ∷ cs) x)) (λ x. nor (same_claim c x) (among cs x)) claims)
 
 holds-less : (node : Node) (cs holds : List Claim) → holds_from node holds (map (release_mark node) cs) ≡ filter (λ x. not (among cs x)) holds
 holds-less node [] holds = all-stay holds
-holds-less node (c ∷ cs) holds = ap (λ b. holds_from node (if b then without c holds else holds) (map (release_mark node) cs)) (node-itself node) ∙ holds-less node cs (without c holds) ∙ one-less c cs holds
+holds-less node (c ∷ cs) holds = ap (λ b. holds_from node (if b then without_claim c holds else holds) (map (release_mark node) cs)) (node-itself node) ∙ holds-less node cs (without_claim c holds) ∙ one-less c cs holds
 
 waits-less : (node : Node) (cs waits : List Claim) → waits_from node waits (map (release_mark node) cs) ≡ filter (λ x. not (among cs x)) waits
 waits-less node [] waits = all-stay waits
-waits-less node (c ∷ cs) waits = ap (λ b. waits_from node (if b then without c waits else waits) (map (release_mark node) cs)) (node-itself node) ∙ waits-less node cs (without c waits) ∙ one-less c cs waits
+waits-less node (c ∷ cs) waits = ap (λ b. waits_from node (if b then without_claim c waits else waits) (map (release_mark node) cs)) (node-itself node) ∙ waits-less node cs (without_claim c waits) ∙ one-less c cs waits
 
 -- the transaction's own, and nobody else's
 own-among : (g : Gxid) (xs : List Claim) → Each (λ x. is_of g x ≡ true → among (filter (is_of g) xs) x ≡ true) xs
@@ -145,7 +145,7 @@ lets-releases node g before waits (c ∷ cs) e f =
     same-gxid : (h k : Gxid) → (h.0 == k.0) ≡ true → h ≡ k
     same-gxid h k e = grind (arith, nat_tests)
 
-    later : (b : Bool) → MayGive before waits g → MayGive (before ++ release_mark node c ∷ []) (if b then without c waits else waits) g
+    later : (b : Bool) → MayGive before waits g → MayGive (before ++ release_mark node c ∷ []) (if b then without_claim c waits else waits) g
     later true (inl none) = inl (find-less (is_of g) (λ x. not (same_claim c x)) waits none)
     later false (inl none) = inl none
     later b (inr over) = inr (aborted-more before (release_mark node c ∷ []) g over)
@@ -158,7 +158,7 @@ module _ (l : Locks) (g : Gxid) where
   in-parts x = list_any-append (λ c. same_claim c x) (filter (is_of g) l.waits) (in_order claim_order (filter (is_of g) l.holds))
 
   -- all that are its own go, of a list whose own are among what it has there
-  all-of : (xs : List Claim) → Each (λ x. is_of g x ≡ true → parted x ≡ true) xs → filter (λ x. not (among (has_there l g) x)) xs ≡ locks.without g xs
+  all-of : (xs : List Claim) → Each (λ x. is_of g x ≡ true → parted x ≡ true) xs → filter (λ x. not (among (has_there l g) x)) xs ≡ without g xs
   all-of xs e =
       filter-alike (λ x. not (among (has_there l g) x)) (λ x. not (is_of g x)) xs
       (each_weaker (λ x. is_of g x ≡ true → parted x ≡ true) (λ x. not (among (has_there l g) x) ≡ not (is_of g x)) (λ x f. ap not (by_test x f (is_of g x) refl)) xs e)

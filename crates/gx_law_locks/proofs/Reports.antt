@@ -32,7 +32,8 @@ use Rattle.gx_rules.specs.Sending.{clock_after, numbered}
 use Rattle.gx_rules.proofs.Rounds.{collect-ways}
 use Rattle.gx_rules.proofs.Turns.{cancels_all-each}
 use Rattle.gx_law_order.proofs.Induction.{IsReceipt, IsThere, from-coordinator}
-use Rattle.gx_law_order.proofs.Lists.{Each, each_append}
+use Rattle.gx_law_order.proofs.Lists.{each_append}
+use Rattle.gx_law_order.specs.Lists.{Each}
 use Rattle.gx_law_order.proofs.Ordered.{Well}
 use Rattle.gx_law_order.proofs.Sent.{at}
 use Rattle.gx_law_locks.specs.Marked.{AreLocksMarked, IsMarked}

@@ -42,17 +42,20 @@ use Rattle.gx_store.specs.declared.node.NodeEvent.{NodeEvent}
 use Rattle.gx_store.specs.declared.node.NodeEvent.TheVariants as event
 use Rattle.gx_store.specs.Refusals.{the_coordinator}
 use Rattle.gx_store.specs.Writes.{dist_of}
-use Rattle.gx_locks.specs.Locks.{Locks, is_free, resumed, wait_of}
+use Rattle.gx_locks.specs.Locks.{Locks, resumed, wait_of}
+use Rattle.gx_waits.specs.Claims.{is_free}
 use Rattle.gx_waits.specs.declared.claim.Claim.{Claim}
 use Rattle.gx_waits.specs.declared.graph.LocalGraph.{LocalGraph}
-use Rattle.gx_rules.specs.AtCoordinator.{answer_mark, answers, answers_at_once, awaited_collect, begins, behind, cancels, command_order, commits, completes, dispatches, ends_in, failure_marks, fault_mark, follows, goes, goes_on, goes_on_locked, if_granted, is_awaited, is_committed, is_refused, lock_for, next_cid, on_answer, on_done, on_event, on_failed, on_line, on_message, on_status, order_to, orders_of, reads_by, reads_for, reason_of, requests, resends, resumes, rolls_back, starts, starts_line, status_order, table_of, takes_done, Reading}
+use Rattle.gx_rules.specs.AtCoordinator.{answer_mark, answers, answers_at_once, awaited_collect, begins, behind, cancels, command_order, commits, completes, dispatches, ends_in, failure_marks, fault_mark, follows, goes, goes_on, goes_on_locked, if_granted, is_awaited, is_committed, is_refused, next_cid, on_answer, on_done, on_event, on_failed, on_line, on_message, on_status, order_to, orders_of, reads_by, reads_for, reason_of, requests, resends, resumes, rolls_back, starts, starts_line, status_order, table_of, takes_done, Reading}
+use Rattle.gx_store.specs.Locks.{table_lock}
 use Rattle.gx_rules.specs.Coordinators.{Command, Coord, CoordTurn, Work, new_work, no_work, rests, session_of, with_state, with_work, work_of}
 use Rattle.gx_rules.specs.Fits.{fits_part}
 use Rattle.gx_rules.specs.Locks.{hold_mark, release_marks, with_hold}
 use Rattle.gx_rules.specs.Maps.{with_at}
 use Rattle.gx_rules.specs.Rounds.{begins_round, on_graph}
 use Rattle.gx_rules.proofs.Rounds.{cancel-ways}
-use Rattle.gx_law_order.proofs.Lists.{Each, each_append}
+use Rattle.gx_law_order.proofs.Lists.{each_append}
+use Rattle.gx_law_order.specs.Lists.{Each}
 use Rattle.gx_law_order.proofs.Releases.{each-released}
 use Rattle.gx_law_locks.proofs.Calls.{abort-own, commit-own, reply-own}
 use Rattle.gx_law_locks.proofs.Silent.{AreOfOne, OfOne, Silent, order-of-one}
@@ -221,7 +224,7 @@ module _ (c : Coord) where
             record { coord = record { rounds = e.rounds; reports = e.reports; place = e.place; works = work_at d.works g.0 _ e.works (e.works g.0) }; marks = (tt, tt); outs = tt }
 
     dispatch : (d : Coord) (g : Gxid) (line : Stmt) → Like d → Quiet (dispatches script d g line)
-    dispatch d g line e = request d g line (lock_for script g line) e
+    dispatch d g line e = request d g line (table_lock script g line) e
 
     resume : (d : Coord) (g : Gxid) (o : Option Claim) (line : Option Stmt) → Like d → Quiet (resumes script d g o line)
     resume d g None line e = rest d e
@@ -239,8 +242,8 @@ module _ (c : Coord) where
 
     line_done : (d : Coord) (s : SessionId) (line : Stmt) (asked : LineStep) → Like d → Quiet (on_line script d s line asked)
     line_done d s line (step.Answer plain) e = at_once d s _ e
-    line_done d s line step.Refuse5 e = at_once d s _ e
-    line_done d s line step.Refuse7 e = at_once d s _ e
+    line_done d s line step.InFailedBlock e = at_once d s _ e
+    line_done d s line step.NotInBlock e = at_once d s _ e
     line_done d s line (step.BeginBlock level) e = record { coord = begin d s level e; marks = (tt, (tt, tt)); outs = tt }
     line_done d s line step.CommitBlock e = commit d (session_of d s).transaction e
     line_done d s line step.RollbackBlock e =

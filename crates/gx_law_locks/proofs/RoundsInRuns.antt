@@ -38,7 +38,8 @@ use Rattle.gx_rules.specs.Sending.{clock_after, numbered}
 use Rattle.gx_rules.proofs.Rounds.{collect-ways}
 use Rattle.gx_law_order.proofs.Induction.{IsReceipt, IsThere, at-events, at-moves, from-coordinator, marks-by-victim}
 use Rattle.gx_law_order.proofs.Letters.{found_is}
-use Rattle.gx_law_order.proofs.Lists.{Each, each_append, each_weaker}
+use Rattle.gx_law_order.proofs.Lists.{each_append, each_weaker}
+use Rattle.gx_law_order.specs.Lists.{Each}
 use Rattle.gx_law_order.proofs.More.{marks-last}
 use Rattle.gx_law_order.proofs.Moves.{HasNamed}
 use Rattle.gx_law_order.proofs.Ordered.{Well, moves_well}

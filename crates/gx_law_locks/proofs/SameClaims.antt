@@ -14,8 +14,7 @@ use Rattle.gx_waits.proofs.Members.{Has}
 use Rattle.gx_waits.specs.Claim.{same_claim, same_object}
 use Rattle.gx_waits.specs.declared.claim.Claim.{Claim}
 use Rattle.gx_locks.proofs.Meets.{same_object-same}
-use Rattle.gx_locks.specs.Claims.{is_of}
-use Rattle.gx_store.specs.Waits.{added, without}
+use Rattle.gx_waits.specs.Claims.{is_of, with_claim, without_claim}
 
 -- ONE CLAIM
 abbrev mode_of : ℕ → Mode
@@ -76,7 +75,7 @@ has-filter p x (y ∷ ys) e h = by_test (p y) refl h (has-filter p x ys e)
     by_test false q (inl s) f = absurd (true-false (p x) e (subst (λ z. p z ≡ false) s q))
     by_test false q (inr h) f = f h
 
-pub has-added : (new c : Claim) (xs : List Claim) → Has c xs → Has c (added new xs)
+pub has-added : (new c : Claim) (xs : List Claim) → Has c xs → Has c (with_claim new xs)
 has-added new c xs h = by_test (list_any (same_claim new) xs)
   where
     by_test : (b : Bool) → Has c (if b then xs else xs ++ new ∷ [])
@@ -84,7 +83,7 @@ has-added new c xs h = by_test (list_any (same_claim new) xs)
     by_test false = has-front c xs (new ∷ []) h
 
 -- another one is taken away
-pub has-without : (old c : Claim) (xs : List Claim) → (old ≡ c → ⊥) → Has c xs → Has c (without old xs)
+pub has-without : (old c : Claim) (xs : List Claim) → (old ≡ c → ⊥) → Has c xs → Has c (without_claim old xs)
 has-without old c xs apart h = has-filter (λ x. not (same_claim old x)) c xs (by_test (same_claim old c) refl) h
   where
     by_test : (b : Bool) → same_claim old c ≡ b → not b ≡ true
@@ -110,7 +109,7 @@ from-filter p x (y ∷ ys) h = by_test (p y) h (from-filter p x ys)
     by_test true (inr h) f = inr (f h)
     by_test false h f = inr (f h)
 
-pub from-added : (new c : Claim) (xs : List Claim) → Has c (added new xs) → Has c xs ⊎ (new ≡ c)
+pub from-added : (new c : Claim) (xs : List Claim) → Has c (with_claim new xs) → Has c xs ⊎ (new ≡ c)
 from-added new c xs h = by_test (list_any (same_claim new) xs) h
   where
     last : (ys : List Claim) → Has c (ys ++ new ∷ []) → Has c ys ⊎ (new ≡ c)

@@ -14,9 +14,10 @@ use Rattle.gx_store.specs.Marks.{answer_count, session_of}
 use Rattle.gx_store.specs.Points.{ends_in, marks_in}
 use Rattle.gx_rules.specs.Coordinators.{Coord, Session, Work, work_of}
 use Rattle.gx_rules.specs.Coordinators as held
-use Rattle.gx_law_order.proofs.Sessions.{Kept, is_live_in, stage_of}
-use Rattle.gx_law_order.proofs.Stages.{gx}
-use Rattle.gx_law_order.proofs.Statuses.Stage.{Live}
+use Rattle.gx_law_order.specs.Sessions.{Kept, is_live_in}
+use Rattle.gx_law_order.specs.Stages.{stage_of}
+use Rattle.gx_law_order.specs.Standings.{gx}
+use Rattle.gx_law_order.specs.Stages.Stage.{Live}
 use Rattle.gx_law_order.specs.Scanned.{began_from}
 use Rattle.gx_law_order.specs.Standing.{IsSession, IsStanding, is_busy}
 

@@ -6,7 +6,8 @@ use Rattle.gx_waits.specs.Claim.{same_claim}
 use Rattle.gx_waits.specs.declared.claim.Claim.{Claim}
 use Rattle.gx_store.specs.declared.mark.Mark.{Mark}
 use Rattle.gx_store.specs.declared.mark.Mark.TheVariants as mark
-use Rattle.gx_store.specs.Waits.{added, claim, waits_at, waits_from, without}
+use Rattle.gx_store.specs.Waits.{waits_at, waits_from}
+use Rattle.gx_waits.specs.Claims.{claim, with_claim, without_claim}
 use Rattle.gx_law_locks.proofs.Marks.{waits_from-append}
 use Rattle.gx_law_locks.specs.Waiting.{EachBehind, IsForEnd, WaitsForEnd}
 use Rattle.gx_law_locks.proofs.Lets.{behind-weaker}
@@ -25,17 +26,17 @@ shared-on before m old e node c h = by_mark m e (subst (Has c) (waits_from-appen
     by_mark : (m : Mark) → WaitsForEnd before m → Has c (waits_from node waits (m ∷ [])) → IsForEnd c.object c.mode
     by_mark (mark.Wait n g object mode) e h = by_node (n.0 == node.0) h
       where
-        by_node : (b : Bool) → Has c (if b then added (claim g object mode) waits else waits) → IsForEnd c.object c.mode
+        by_node : (b : Bool) → Has c (if b then with_claim (claim g object mode) waits else waits) → IsForEnd c.object c.mode
         by_node true h = ⊎_elim (λ (k : Has c waits). old node c k) (λ s. subst (λ (x : Claim). IsForEnd x.object x.mode) s e) (from-added (claim g object mode) c waits h)
         by_node false h = old node c h
     by_mark (mark.Hold n g object mode) e h = by_node (n.0 == node.0) h
       where
-        by_node : (b : Bool) → Has c (if b then without (claim g object mode) waits else waits) → IsForEnd c.object c.mode
+        by_node : (b : Bool) → Has c (if b then without_claim (claim g object mode) waits else waits) → IsForEnd c.object c.mode
         by_node true h = old node c (from-filter (λ x. not (same_claim (claim g object mode) x)) c waits h)
         by_node false h = old node c h
     by_mark (mark.Release n g object mode) e h = by_node (n.0 == node.0) h
       where
-        by_node : (b : Bool) → Has c (if b then without (claim g object mode) waits else waits) → IsForEnd c.object c.mode
+        by_node : (b : Bool) → Has c (if b then without_claim (claim g object mode) waits else waits) → IsForEnd c.object c.mode
         by_node true h = old node c (from-filter (λ x. not (same_claim (claim g object mode) x)) c waits h)
         by_node false h = old node c h
     by_mark m e h = old node c h

@@ -10,7 +10,7 @@ use Rattle.gx_msg.specs.declared.message.Out.{Out}
 use Rattle.gx_store.specs.declared.mark.Mark.{Mark}
 use Rattle.gx_store.specs.declared.mark.Mark.TheVariants as mark
 use Rattle.gx_rules.specs.Sending.{counted, numbered}
-use Rattle.gx_law_order.proofs.Lists.{Each}
+use Rattle.gx_law_order.specs.Lists.{Each}
 
 -- neither a round's end, nor a report, nor a sending
 abbrev pub Silent : Mark → Type 0

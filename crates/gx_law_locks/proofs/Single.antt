@@ -12,9 +12,9 @@ use Rattle.gx_rules.specs.Coordinators.{session_of, work_of}
 use Rattle.gx_rules.specs.Machine.{World}
 use Rattle.gx_rules.specs.Segments.{local_of}
 use Rattle.gx_law_order.proofs.Lines.{undrawn}
-use Rattle.gx_law_order.proofs.Sessions.{is_working_in, stage_of}
-use Rattle.gx_law_order.proofs.Statuses.{Stage}
-use Rattle.gx_law_order.proofs.Statuses.Stage.{Closing, Live}
+use Rattle.gx_law_order.specs.Sessions.{is_working_in}
+use Rattle.gx_law_order.specs.Stages.{Stage, stage_of}
+use Rattle.gx_law_order.specs.Stages.Stage.{Closing, Live}
 use Rattle.gx_law_order.proofs.Waiting.{has-slice, has-statement}
 use Rattle.gx_law_order.proofs.World.{Knows}
 use Rattle.gx_law_order.proofs.Events.{live-stage}

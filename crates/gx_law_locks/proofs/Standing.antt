@@ -23,7 +23,8 @@ use Rattle.gx_store.specs.declared.mark.Mark.{Mark}
 use Rattle.gx_store.specs.declared.mark.Mark.TheVariants as mark
 use Rattle.gx_store.specs.Locks.{IsMomentary, LegalHold}
 use Rattle.gx_store.specs.Marks.{is_aborted, is_committed, is_ended}
-use Rattle.gx_store.specs.Waits.{added, claim, holds_at, holds_from, waits_at, waits_from, without}
+use Rattle.gx_store.specs.Waits.{holds_at, holds_from, waits_at, waits_from}
+use Rattle.gx_waits.specs.Claims.{claim, with_claim, without_claim}
 use Rattle.gx_law_locks.proofs.Marks.{ended-more, waits_from-append}
 use Rattle.gx_law_locks.specs.Waiting.{EachBehind, IsForEnd, is_waiting}
 use Rattle.gx_law_locks.proofs.SameClaims.{has-added, has-without, listed}
@@ -76,7 +77,7 @@ module _ (before : List Mark) (node : Node) where
     pub wait-stays : (m : Mark) → IsFair before m → is_ended before wait.gxid ≡ false → Has wait (waits_from node waits (m ∷ []))
     wait-stays (mark.Wait n g object mode) f runs = by_node (n.0 == node.0)
       where
-        by_node : (b : Bool) → Has wait (if b then added (claim g object mode) waits else waits)
+        by_node : (b : Bool) → Has wait (if b then with_claim (claim g object mode) waits else waits)
         by_node true = has-added (claim g object mode) wait waits waiting
         by_node false = waiting
     wait-stays (mark.Hold n g object mode) f runs = by_node (n.0 == node.0) refl
@@ -84,7 +85,7 @@ module _ (before : List Mark) (node : Node) where
         granted : n ≡ node → claim g object mode ≡ wait → ⊥
         granted same e = subst (λ c. Meets c hold → ⊥) e (All-contains (λ h. Meets (claim g object mode) h → ⊥) holds hold (subst (λ k. LegalHold before k (claim g object mode)) same f.grants) (contains_from_has hold holds held)) met
 
-        by_node : (b : Bool) → (n.0 == node.0) ≡ b → Has wait (if b then without (claim g object mode) waits else waits)
+        by_node : (b : Bool) → (n.0 == node.0) ≡ b → Has wait (if b then without_claim (claim g object mode) waits else waits)
         by_node true e = has-without (claim g object mode) wait waits (granted (same-node n node e)) waiting
         by_node false e = waiting
     wait-stays (mark.Release n g object mode) f runs = by_node (n.0 == node.0) refl
@@ -94,7 +95,7 @@ module _ (before : List Mark) (node : Node) where
             let own : g ≡ wait.gxid = ap (λ (c : Claim). c.gxid) e in
             no-release n g same f.keeps (subst (λ h. is_waiting before node h ≡ true) (sym own) (listed wait waits waiting)) (subst (λ h. is_ended before h ≡ false) (sym own) runs)
 
-        by_node : (b : Bool) → (n.0 == node.0) ≡ b → Has wait (if b then without (claim g object mode) waits else waits)
+        by_node : (b : Bool) → (n.0 == node.0) ≡ b → Has wait (if b then without_claim (claim g object mode) waits else waits)
         by_node true e = has-without (claim g object mode) wait waits (dropped (same-node n node e)) waiting
         by_node false e = waiting
     wait-stays m f runs = waiting
@@ -114,7 +115,7 @@ module _ (before : List Mark) (node : Node) where
       pub hold-stays : (m : Mark) → IsFair before m → Has hold (holds_from node holds (m ∷ []))
       hold-stays (mark.Hold n g object mode) f = by_node (n.0 == node.0)
         where
-          by_node : (b : Bool) → Has hold (if b then added (claim g object mode) holds else holds)
+          by_node : (b : Bool) → Has hold (if b then with_claim (claim g object mode) holds else holds)
           by_node true = has-added (claim g object mode) hold holds held
           by_node false = held
       hold-stays (mark.Release n g object mode) f = by_node (n.0 == node.0) refl
@@ -125,7 +126,7 @@ module _ (before : List Mark) (node : Node) where
               brief n object mode same m (met.same_object ∙ sym (ap (λ (c : Claim). c.object) e)) (ap (λ (c : Claim). c.mode) e)
               (subst (λ h. (is_waiting before n h ≡ false) ⊎ (is_aborted before h ≡ true)) (ap (λ (c : Claim). c.gxid) e) f.keeps)
 
-          by_node : (b : Bool) → (n.0 == node.0) ≡ b → Has hold (if b then without (claim g object mode) holds else holds)
+          by_node : (b : Bool) → (n.0 == node.0) ≡ b → Has hold (if b then without_claim (claim g object mode) holds else holds)
           by_node true e = has-without (claim g object mode) hold holds (λ same. late (same-node n node e) same f.late) held
           by_node false e = held
       hold-stays m f = held

@@ -19,7 +19,7 @@ use Rattle.gx_store.specs.Rounds.{is_committing, is_started}
 use Rattle.gx_rules.specs.Machine.{Letter, posted}
 use Rattle.gx_rules.specs.Sending.{counted, numbered}
 use Rattle.gx_law_order.specs.Numbers.{AreStartsNumbered}
-use Rattle.gx_law_order.proofs.Lists.{Each}
+use Rattle.gx_law_order.specs.Lists.{Each}
 use Rattle.gx_law_order.proofs.Numbers.{NoStart}
 use Rattle.gx_law_order.proofs.Sent.{at}
 

@@ -19,7 +19,7 @@ use Rattle.gx_store.specs.Rounds.{last_report, last_round}
 use Rattle.gx_store.specs.Schedule.{is_graph_of, is_graph_received, is_recheck, is_round, round_count, recheck_count, sent_message}
 use Rattle.gx_rules.specs.Machine.{with_more}
 use Rattle.gx_waits.specs.declared.graph.LocalGraph.{LocalGraph}
-use Rattle.gx_law_order.proofs.Lists.{Each}
+use Rattle.gx_law_order.specs.Lists.{Each}
 use Rattle.gx_law_locks.specs.Held.{first_graph, graph_by, graph_in}
 use Rattle.gx_law_locks.proofs.Silent.{NoRecheck, NoReport}
 

@@ -13,9 +13,9 @@ use Rattle.gx_modes.specs.declared.modes.Mode.TheVariants.{Exclusive, RowExclusi
 use Rattle.gx_waits.specs.declared.claim.Claim.{Claim}
 use Rattle.gx_waits.specs.declared.object.Object.TheVariants.{Relation}
 use Rattle.gx_script.specs.declared.Script.{Script}
-use Rattle.gx_store.specs.Waits.{claim}
+use Rattle.gx_waits.specs.Claims.{claim}
 use Rattle.gx_rules.specs.Changes.{Change, change_of}
-use Rattle.gx_rules.specs.Running.{slice_lock}
+use Rattle.gx_store.specs.Locks.{slice_lock}
 use Rattle.gx_law_locks.specs.Lasting.{IsLasting}
 use Rattle.gx_law_locks.proofs.Lasting.{IsIn}
 

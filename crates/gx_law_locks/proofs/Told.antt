@@ -19,14 +19,14 @@ use Rattle.gx_rules.specs.Coordinators.{CoordTurn}
 use Rattle.gx_rules.specs.Machine.{World, and_cancelled, coord_did, seg_did, world_of}
 use Rattle.gx_rules.specs.Sending.{clock_after, numbered}
 use Rattle.gx_law_order.proofs.Induction.{after_turn, at-events, marks-by-event, marks-by-victim}
-use Rattle.gx_law_order.proofs.Lists.{Each}
+use Rattle.gx_law_order.specs.Lists.{Each}
 use Rattle.gx_law_order.proofs.More.{marks-last}
 use Rattle.gx_law_order.proofs.Numbers.{IsNumbered, NoStart, calm-more, cancel-numbered, event-numbered}
 use Rattle.gx_law_order.proofs.Ordered.{seg_marks}
 use Rattle.gx_law_order.proofs.Sent.{at}
-use Rattle.gx_law_order.proofs.Sessions.{stage_of}
-use Rattle.gx_law_order.proofs.Stages.{gx}
-use Rattle.gx_law_order.proofs.Statuses.Stage.{Closing}
+use Rattle.gx_law_order.specs.Stages.{stage_of}
+use Rattle.gx_law_order.specs.Standings.{gx}
+use Rattle.gx_law_order.specs.Stages.Stage.{Closing}
 use Rattle.gx_law_order.proofs.World.{Knows, moves_knows}
 use Rattle.gx_law_locks.proofs.Asked.{Asked, cancel-asks, event-asks}
 use Rattle.gx_law_locks.proofs.Closing.{AreAsked}

@@ -20,10 +20,12 @@ use Rattle.gx_rules.specs.Locks.{release_marks}
 use Rattle.gx_rules.specs.Rounds.{is_live}
 use Rattle.gx_rules.specs.Sending.{numbered}
 use Rattle.gx_rules.proofs.Rounds.{cancel-ways}
-use Rattle.gx_law_order.proofs.Lists.{Each, each_append}
+use Rattle.gx_law_order.proofs.Lists.{each_append}
+use Rattle.gx_law_order.specs.Lists.{Each}
 use Rattle.gx_law_order.proofs.Past.{aborted-append}
 use Rattle.gx_law_order.proofs.Releases.{each-released}
-use Rattle.gx_law_order.proofs.Stages.{At, IsWhole, changed-at, left_of}
+use Rattle.gx_law_order.proofs.Stages.{At, changed-at, left_of}
+use Rattle.gx_law_order.specs.Stages.{IsWhole}
 use Rattle.gx_law_locks.proofs.Silent.{NoRecheck, sends-no-recheck}
 
 -- no two of them are one

@@ -33,10 +33,10 @@ use Rattle.gx_rules.specs.Machine.{World}
 use Rattle.gx_rules.specs.Rounds.{begins_round, is_active, is_live, is_report, on_graph, once_all, rechecks, verdict_at, victims_at, victims_in, victims_on_graph, victims_on_message, victims_once_all, with_report}
 use Rattle.gx_rules.specs.Sending.{clock_after, numbered}
 use Rattle.gx_rules.proofs.Rounds.{collect-ways}
-use Rattle.gx_law_order.proofs.Lists.{Each, each_append, each_weaker}
-use Rattle.gx_law_order.proofs.Stages.{IsWhole}
-use Rattle.gx_law_order.proofs.Statuses.{stage, stage_in}
-use Rattle.gx_law_order.proofs.Statuses.Stage.{Live}
+use Rattle.gx_law_order.proofs.Lists.{each_append, each_weaker}
+use Rattle.gx_law_order.specs.Lists.{Each}
+use Rattle.gx_law_order.specs.Stages.{IsWhole, stage, stage_in}
+use Rattle.gx_law_order.specs.Stages.Stage.{Live}
 use Rattle.gx_law_order.proofs.World.{Knows}
 use Rattle.gx_law_order.specs.Finish.{IsVerdictLegal, point_at}
 use Rattle.gx_law_order.specs.Rest.{EachMark}

@@ -16,8 +16,8 @@ use Rattle.gx_store.specs.Marks.{is_aborted}
 use Rattle.gx_store.specs.Points.{Point, before}
 use Rattle.gx_store.specs.Rounds.{IsBlocked}
 use Rattle.gx_law_locks.specs.Waiting.{is_waiting}
-use Rattle.gx_law_order.proofs.Lists.{Each}
-use Rattle.gx_law_order.proofs.Stages.{gx}
+use Rattle.gx_law_order.specs.Lists.{Each}
+use Rattle.gx_law_order.specs.Standings.{gx}
 use Rattle.gx_law_locks.proofs.Staying.{active, holder, runs-of, waiter}
 use Rattle.gx_law_locks.proofs.Turns.{AreApart, IsApart}
 

@@ -11,7 +11,7 @@ use Rattle.gx_dtx.specs.Table.{find_txn}
 use Rattle.gx_dtx.specs.declared.phase.Phase.{Phase as Status}
 use Rattle.gx_dtx.specs.declared.phase.Phase.TheVariants as status
 use Rattle.gx_dtx.specs.declared.txn.Txn.{Txn}
-use Rattle.gx_locks.specs.Claims.{is_of}
+use Rattle.gx_waits.specs.Claims.{is_of}
 use Rattle.gx_locks.specs.Locks.{wait_of}
 use Rattle.gx_waits.specs.declared.claim.Claim.{Claim}
 use Rattle.gx_script.specs.declared.Script.{Script}
@@ -23,8 +23,8 @@ use Rattle.gx_rules.specs.Coordinators.{Command, Work, work_of}
 use Rattle.gx_rules.specs.Machine.{World}
 use Rattle.gx_rules.specs.Rounds.{is_active, is_live}
 use Rattle.gx_law_order.proofs.Sent.{at}
-use Rattle.gx_law_order.proofs.Statuses.{stage, stage_in}
-use Rattle.gx_law_order.proofs.Statuses.Stage.{Live as LiveStage}
+use Rattle.gx_law_order.specs.Stages.{stage, stage_in}
+use Rattle.gx_law_order.specs.Stages.Stage.{Live as LiveStage}
 use Rattle.gx_law_order.proofs.Waiting.{has-slice, has-statement}
 use Rattle.gx_law_order.proofs.World.{Knows}
 use Rattle.gx_law_order.specs.Pairs.{Pair}

@@ -9,7 +9,8 @@ use Rattle.gx_store.specs.declared.mark.Mark.{Mark}
 use Rattle.gx_store.specs.declared.mark.Mark.TheVariants.{Hold}
 use Rattle.gx_store.specs.Locks.{IsMomentary}
 use Rattle.gx_store.specs.Marks.{is_ended}
-use Rattle.gx_store.specs.Waits.{claim, is_held}
+use Rattle.gx_store.specs.Waits.{is_held}
+use Rattle.gx_waits.specs.Claims.{claim}
 
 -- a lock that is given back at an end alone: none on a row, nor one on another transaction's end, at a segment
 abbrev pub IsLasting : Node → Claim → Type 0

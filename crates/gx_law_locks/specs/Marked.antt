@@ -3,14 +3,14 @@ use Rattle.std.specs.Prelude.{◌≡◌, ◌≤◌, ℕ, false, List, [], ◌∷
 use Rattle.std.specs.List.{list_any}
 use Rattle.gx_ids.specs.declared.ids.Node.{Node}
 use Rattle.gx_waits.specs.declared.claim.Claim.{Claim}
-use Rattle.gx_locks.specs.Claims.{is_of}
+use Rattle.gx_waits.specs.Claims.{claim, is_of}
 use Rattle.gx_locks.specs.Locks.{Locks}
 use Rattle.gx_store.specs.declared.mark.Mark.{Mark}
 use Rattle.gx_store.specs.declared.mark.Mark.TheVariants.{Wait}
 use Rattle.gx_store.specs.Locks.{LegalWait}
 use Rattle.gx_store.specs.Points.{marks_in}
 use Rattle.gx_store.specs.Refusals.{the_coordinator}
-use Rattle.gx_store.specs.Waits.{claim, holds_at, waits_at}
+use Rattle.gx_store.specs.Waits.{holds_at, waits_at}
 use Rattle.gx_rules.specs.Machine.{World}
 
 -- a node's holds and waits are those that stand by the marks, in order

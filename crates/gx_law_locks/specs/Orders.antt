@@ -12,7 +12,7 @@ use Rattle.gx_store.specs.Points.{marks_in}
 use Rattle.gx_store.specs.Refusals.{the_coordinator}
 use Rattle.gx_store.specs.Waits.{is_held}
 use Rattle.gx_rules.specs.Machine.{Letter, World}
-use Rattle.gx_rules.specs.Running.{slice_lock}
+use Rattle.gx_store.specs.Locks.{slice_lock}
 
 -- at the coordinator the transaction holds what the slice asks for at its segment
 abbrev pub HoldsHere : List Mark → Claim → Type 0

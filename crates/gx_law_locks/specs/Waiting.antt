@@ -7,7 +7,7 @@ use Rattle.gx_modes.specs.declared.modes.Mode.{Mode}
 use Rattle.gx_modes.specs.declared.modes.Mode.TheVariants.{Share}
 use Rattle.gx_waits.specs.declared.object.Object.{Object}
 use Rattle.gx_waits.specs.declared.object.Object.TheVariants.{Transaction}
-use Rattle.gx_locks.specs.Claims.{is_of}
+use Rattle.gx_waits.specs.Claims.{is_of}
 use Rattle.gx_store.specs.declared.mark.Mark.{Mark}
 use Rattle.gx_store.specs.declared.mark.Mark.TheVariants.{Release, Wait}
 use Rattle.gx_store.specs.Marks.{is_aborted}

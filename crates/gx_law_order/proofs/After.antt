@@ -20,7 +20,8 @@ use Rattle.gx_store.specs.Marks.{has_snapshot, is_ended}
 use Rattle.gx_store.specs.Points.{ends_by, ends_in, marks_in, starts_by, starts_in}
 use Rattle.gx_rules.specs.Coordinators.{Coord, CoordTurn, Session, Work, session_of, work_of}
 use Rattle.gx_rules.specs.Sending.{counted, numbered}
-use Rattle.gx_law_order.proofs.Lists.{Each, each_append}
+use Rattle.gx_law_order.proofs.Lists.{each_append}
+use Rattle.gx_law_order.specs.Lists.{Each}
 use Rattle.gx_law_order.specs.Alive.{IsSilent}
 use Rattle.gx_law_order.specs.Standing.{IsSession, IsStanding, is_busy}
 use Rattle.gx_law_order.proofs.Others.{Fresh, IsOf, ended-more, of-calm, of-ended, of-snapshot, of-unstarted, snapshot-more}

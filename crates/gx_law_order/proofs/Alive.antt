@@ -23,10 +23,11 @@ use Rattle.gx_store.specs.Points.{Point, before, marks_in, starts_at, starts_by,
 use Rattle.gx_store.specs.Refusals.{the_coordinator}
 use Rattle.gx_rules.specs.Coordinators.{Command, Coord, Session, session_of, work_of}
 use Rattle.gx_rules.specs.Machine.{Letter, World}
-use Rattle.gx_law_order.proofs.Lists.{Each}
-use Rattle.gx_law_order.proofs.Sessions.{Kept, is_live_in, is_working_in, stage_of}
-use Rattle.gx_law_order.proofs.Stages.{gx}
-use Rattle.gx_law_order.proofs.Statuses.Stage.{Live}
+use Rattle.gx_law_order.specs.Lists.{Each}
+use Rattle.gx_law_order.specs.Sessions.{Kept, is_live_in, is_working_in}
+use Rattle.gx_law_order.specs.Stages.{stage_of}
+use Rattle.gx_law_order.specs.Standings.{gx}
+use Rattle.gx_law_order.specs.Stages.Stage.{Live}
 use Rattle.gx_law_order.specs.Scanned.{command_at, stmt_of_command}
 use Rattle.gx_law_order.specs.Alive.{AreAlive, AreSilent, IsAlive, IsHeard, IsSilent, IsUnderWayBehind}
 use Rattle.gx_store.specs.Language.{AreLinesNumbered}

@@ -20,7 +20,8 @@ use Rattle.gx_store.specs.Marks.{is_aborted, started_after}
 use Rattle.gx_rules.specs.AtCoordinator.{answer_at_commit, answer_mark, answer_of_command, answers, is_committed as is_closed, is_refused, next_line, rolls_back}
 use Rattle.gx_rules.specs.Coordinators.{Coord, CoordTurn, Session, Work, no_work, session_of, work_of}
 use Rattle.gx_rules.specs.Maps.{with_at}
-use Rattle.gx_law_order.proofs.Lists.{Each, each_append}
+use Rattle.gx_law_order.proofs.Lists.{each_append}
+use Rattle.gx_law_order.specs.Lists.{Each}
 use Rattle.gx_law_order.proofs.Numbers.{NoStart}
 use Rattle.gx_law_order.proofs.Past.{aborted-append}
 use Rattle.gx_law_order.specs.Standings.{gx, waits_in}

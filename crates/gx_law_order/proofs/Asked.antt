@@ -39,16 +39,19 @@ use Rattle.gx_store.specs.declared.node.NodeEvent.TheVariants as event
 use Rattle.gx_store.specs.Lines.{BlockState, is_command}
 use Rattle.gx_store.specs.Marks.{started_after}
 use Rattle.gx_store.specs.Writes.{dist_of}
-use Rattle.gx_rules.specs.AtCoordinator.{Reading, kept_at, nodes_in, orders_of, answer_mark, answers_at_once, awaited, awaited_collect, begins, behind, cancels, commits, coord_can, dispatches, ends_in, fault_mark, follows, goes, goes_out, next_cid, next_line, on_event, on_line, plain_answer_of, reads_by, reads_for, refusal_of, resumes, rolls_back, starts, starts_line, table_of, takes_snapshot, goes_on_locked, if_granted, lock_for, requests, waits_for}
+use Rattle.gx_rules.specs.AtCoordinator.{Reading, kept_at, nodes_in, orders_of, answer_mark, answers_at_once, awaited, awaited_collect, begins, behind, cancels, commits, coord_can, dispatches, ends_in, fault_mark, follows, goes, goes_out, next_cid, next_line, on_event, on_line, plain_answer_of, reads_by, reads_for, refusal_of, resumes, rolls_back, starts, starts_line, table_of, takes_snapshot, goes_on_locked, if_granted, requests, waits_for}
+use Rattle.gx_store.specs.Locks.{table_lock}
 use Rattle.gx_rules.specs.Coordinators.{Coord, CoordTurn, Session, new_work, rests, session_of, with_state, with_work, work_of}
 use Rattle.gx_rules.specs.Snapshots.{snapshot_of}
 use Rattle.gx_law_order.proofs.Lines.{Asks, asks, undrawn}
-use Rattle.gx_law_order.proofs.Lists.{Each, each_append}
+use Rattle.gx_law_order.proofs.Lists.{each_append}
+use Rattle.gx_law_order.specs.Lists.{Each}
 use Rattle.gx_law_order.proofs.Numbers.{NoStart}
-use Rattle.gx_law_order.proofs.Past.{Past}
-use Rattle.gx_law_order.proofs.Sessions.{Kept, is_nothing_in, is_open_in}
-use Rattle.gx_law_order.proofs.Statuses.{Closes, Turned, commit-turns, stage}
-use Rattle.gx_law_order.proofs.Tables.{AreIn}
+use Rattle.gx_law_order.specs.Past.{Past}
+use Rattle.gx_law_order.specs.Sessions.{Kept, is_nothing_in, is_open_in}
+use Rattle.gx_law_order.specs.Stages.{stage}
+use Rattle.gx_law_order.proofs.Statuses.{Closes, Turned, commit-turns}
+use Rattle.gx_law_order.specs.Places.{AreIn}
 use Rattle.gx_store.proofs.Marks.{started_after-append}
 use Rattle.gx_law_order.specs.Standings.{Part, gx, standing, waits_in}
 use Rattle.gx_law_order.proofs.Answering.{IsPlain, MayAll, MayAnswer, NoAnswer, Settles, Tidy, WorksGo, closed-tidy, none-may, one-go, refused-tidy, rests-tidy, rolled-tidy}
@@ -57,7 +60,8 @@ use Rattle.gx_law_order.proofs.Events.{idle-first, live-stage, own-idle}
 use Rattle.gx_law_order.proofs.Ways.{Stands}
 use Rattle.gx_law_order.proofs.Waiting.{GoesOut}
 use Rattle.gx_law_order.proofs.Dispatching.{goes-out-is}
-use Rattle.gx_locks.specs.Locks.{Locks, is_free, resumed, wait_of}
+use Rattle.gx_locks.specs.Locks.{Locks, resumed, wait_of}
+use Rattle.gx_waits.specs.Claims.{is_free}
 use Rattle.gx_rules.specs.Locks.{hold_mark, with_hold}
 use Rattle.gx_waits.specs.declared.claim.Claim.{Claim}
 use Rattle.gx_store.specs.Refusals.{the_coordinator}
@@ -194,7 +198,7 @@ module _ (script : Script) (P : ℕ → ℕ → Part) (c : Coord) (ms : List Mar
         by_test false = waits-tidy wanted
 
     dispatch-tidy : TidyIn d.sessions earlier (dispatches script d (gx g) line)
-    dispatch-tidy = request-tidy (lock_for script (gx g) line)
+    dispatch-tidy = request-tidy (table_lock script (gx g) line)
 
   -- A WHOLE EVENT
   pub record Told (count : ℕ → ℕ) (turn : CoordTurn) : Type 0 where
@@ -357,8 +361,8 @@ module _ (script : Script) (P : ℕ → ℕ → Part) (c : Coord) (ms : List Mar
 
     line-all : (line : Stmt) (asked : LineStep) → Asks block asked → (IsPlainStep asked → IsPlain script c ms Gets starting s) → Told one_line (on_line script (starts_line c s asked) s line asked)
     line-all line (step.Answer plain) a q = at-once (step.Answer plain) _ (plain-may plain (q tt))
-    line-all line step.Refuse5 a q = at-once step.Refuse5 _ tt
-    line-all line step.Refuse7 a q = at-once step.Refuse7 _ tt
+    line-all line step.InFailedBlock a q = at-once step.InFailedBlock _ tt
+    line-all line step.NotInBlock a q = at-once step.NotInBlock _ tt
     line-all line (step.BeginBlock level) a q = begin-told level (q tt)
     line-all line step.CommitBlock a q = commit-told a
     line-all line step.RollbackBlock a q = rollback-told a (q tt)

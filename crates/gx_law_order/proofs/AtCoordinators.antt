@@ -47,21 +47,26 @@ use Rattle.gx_store.specs.declared.answer.StmtAnswer.TheVariants as told
 use Rattle.gx_store.specs.declared.node.NodeEvent.TheVariants as event
 use Rattle.gx_store.specs.Refusals.{the_coordinator}
 use Rattle.gx_store.specs.Writes.{dist_of}
-use Rattle.gx_rules.specs.AtCoordinator.{Reading, cancels, answers, answers_at_once, awaited, begins, behind, command_order, commits, completes, dispatches, ends_in, enlisted_all, failure_marks, fault_mark, follows, goes, goes_on, goes_out, is_awaited, is_committed, is_refused, next_cid, nodes_in, on_answer, on_done, on_event, on_failed, on_line, on_message, on_status, order_of, order_to, orders_of, reads_by, reads_for, resends, rolls_back, starts, starts_line, status_order, table_of, takes_done, takes_snapshot, unless_kept, writers_with, goes_on_locked, if_granted, lock_for, requests, resumes, waits_for, answer_mark}
+use Rattle.gx_rules.specs.AtCoordinator.{Reading, cancels, answers, answers_at_once, awaited, begins, behind, command_order, commits, completes, dispatches, ends_in, enlisted_all, failure_marks, fault_mark, follows, goes, goes_on, goes_out, is_awaited, is_committed, is_refused, next_cid, nodes_in, on_answer, on_done, on_event, on_failed, on_line, on_message, on_status, order_of, order_to, orders_of, reads_by, reads_for, resends, rolls_back, starts, starts_line, status_order, table_of, takes_done, takes_snapshot, unless_kept, writers_with, goes_on_locked, if_granted, requests, resumes, waits_for, answer_mark}
+use Rattle.gx_store.specs.Locks.{table_lock}
 use Rattle.gx_rules.specs.Coordinators.{Command, Coord, CoordTurn, Session, Work, new_work, no_work, rests, session_of, with_session, with_state, with_work, work_of}
 use Rattle.gx_rules.specs.Fits.{fits_part}
 use Rattle.gx_rules.specs.Maps.{with_at}
 use Rattle.gx_law_order.proofs.AtSegments.{PlainAt}
-use Rattle.gx_law_order.proofs.Lists.{Each, each_append, each_map}
-use Rattle.gx_law_order.proofs.Places.{IsAtOneOf, IsOneOf, PlanIn, collects-each, plan_in}
-use Rattle.gx_law_order.proofs.Tables.{AreIn, FoundIn, OutIn, PhaseIn, TableIn, TurnIn, begun_in, enlisted_in, find_in, has_in, live_in, on_abort_in, on_commit_in, on_reply_in, with_in, without_in}
+use Rattle.gx_law_order.proofs.Lists.{each_append, each_map}
+use Rattle.gx_law_order.specs.Lists.{Each}
+use Rattle.gx_law_order.proofs.Places.{IsAtOneOf, PlanIn, collects-each, plan_in}
+use Rattle.gx_law_order.specs.Places.{AreIn, IsOneOf, OutIn, PhaseIn, TableIn}
+use Rattle.gx_law_order.proofs.Tables.{FoundIn, TurnIn, begun_in, enlisted_in, find_in, has_in, live_in, on_abort_in, on_commit_in, on_reply_in, with_in, without_in}
 use Rattle.gx_rules.specs.Locks.{hold_mark, release_marks, with_hold}
-use Rattle.gx_locks.specs.Locks.{Locks, is_free, resumed, wait_of}
+use Rattle.gx_locks.specs.Locks.{Locks, resumed, wait_of}
+use Rattle.gx_waits.specs.Claims.{is_free}
 use Rattle.gx_waits.specs.declared.claim.Claim.{Claim}
 use Rattle.gx_waits.specs.declared.graph.LocalGraph.{LocalGraph}
 use Rattle.gx_rules.specs.Rounds.{begins_round, noted_in, on_graph, with_report}
 use Rattle.gx_rules.proofs.Rounds.{cancel-ways, graph-ways}
 use Rattle.gx_law_order.proofs.Releases.{each-released}
+use Rattle.gx_law_order.specs.Places.{CommandIn, CoordIn, UnderWay, WorkIn}
 
 module _ (script : Script) where
   abbrev n : ℕ
@@ -70,60 +75,43 @@ module _ (script : Script) where
   abbrev pub PlainHere : Mark → Type 0
   PlainHere m = PlainAt script the_coordinator m
 
-  pub record CommandIn (k : Command) : Type 0 where
-    pub orders : Each (OutIn n) k.orders
-    pub awaited : AreIn n k.awaited
-
-  abbrev pub UnderWay : Option Command → Type 0
-  UnderWay None = Unit {0}
-  UnderWay (Some k) = CommandIn k
-
-  pub record WorkIn (w : Work) : Type 0 where
-    pub writers : AreIn n w.writers
-    pub command : UnderWay w.command
-
-  pub record CoordIn (c : Coord) : Type 0 where
-    pub table : TableIn n c.table
-    pub works : (g : ℕ) → WorkIn (c.works g)
-    pub reports : AreOfSegments n c.reports
-
   -- what an event keeps, and where what it does stands; `sent` is what was sent before it
   pub record CoordStays (sent : ℕ → ℕ) (turn : CoordTurn) : Type 0 where
-    pub coord : CoordIn turn.coord
+    pub coord : CoordIn script turn.coord
     pub counts : turn.coord.sent ≡ sent
     pub marks : Each PlainHere turn.marks
     pub outs : Each (OutIn n) turn.outs
 
-  none_in : WorkIn no_work
+  none_in : WorkIn n no_work
   none_in = record { writers = tt; command = tt }
 
-  work_at : (works : ℕ → Work) (g j : ℕ) (w : Work) → ((h : ℕ) → WorkIn (works h)) → WorkIn w → WorkIn (with_at works g w j)
+  work_at : (works : ℕ → Work) (g j : ℕ) (w : Work) → ((h : ℕ) → WorkIn n (works h)) → WorkIn n w → WorkIn n (with_at works g w j)
   work_at works g j w f h = at (eqb j g)
     where
-      at : (b : Bool) → WorkIn (if b then w else works j)
+      at : (b : Bool) → WorkIn n (if b then w else works j)
       at true = h
       at false = f j
 
-  pub works_with : (c : Coord) (g : Gxid) (w : Work) → CoordIn c → WorkIn w → CoordIn (with_work c g w)
+  pub works_with : (c : Coord) (g : Gxid) (w : Work) → CoordIn script c → WorkIn n w → CoordIn script (with_work c g w)
   works_with c g w e h = record { table = e.table; works = λ j. work_at c.works g.0 j w e.works h; reports = e.reports }
 
-  pub table_with : (c : Coord) (d : Table) → CoordIn c → TableIn n d → CoordIn (record c { table = d })
+  pub table_with : (c : Coord) (d : Table) → CoordIn script c → TableIn n d → CoordIn script (record c { table = d })
   table_with c d e h = record { table = h; works = e.works; reports = e.reports }
 
-  pub state_with : (c : Coord) (s : SessionId) (x : Session) → CoordIn c → CoordIn (with_session c s x)
+  pub state_with : (c : Coord) (s : SessionId) (x : Session) → CoordIn script c → CoordIn script (with_session c s x)
   state_with c s x e = record { table = e.table; works = e.works; reports = e.reports }
 
-  rest : (c : Coord) → CoordIn c → CoordStays c.sent (rests c)
+  rest : (c : Coord) → CoordIn script c → CoordStays c.sent (rests c)
   rest c e = record { coord = e; counts = refl; marks = tt; outs = tt }
 
   back_here : (locks : Locks) (g : Gxid) → Each PlainHere (release_marks the_coordinator locks g)
   back_here locks g = each-released PlainHere the_coordinator locks g (λ claim. refl)
 
-  committed : (c : Coord) (g : Gxid) (turn : Turn) → CoordIn c → TurnIn n turn → CoordStays c.sent (is_committed c g turn)
+  committed : (c : Coord) (g : Gxid) (turn : Turn) → CoordIn script c → TurnIn n turn → CoordStays c.sent (is_committed c g turn)
   committed c g turn e h =
       record { coord = record { table = h.table; works = λ j. work_at c.works g.0 j no_work e.works none_in; reports = e.reports }; counts = refl; marks = (refl, (refl, back_here c.locks g)); outs = h.outs }
 
-  refused : (c : Coord) (g : Gxid) (turn : Turn) (why : List Mark) (reason : Refused) → CoordIn c → TurnIn n turn → Each PlainHere why → CoordStays c.sent (is_refused c g turn why reason)
+  refused : (c : Coord) (g : Gxid) (turn : Turn) (why : List Mark) (reason : Refused) → CoordIn script c → TurnIn n turn → Each PlainHere why → CoordStays c.sent (is_refused c g turn why reason)
   refused c g turn why reason e h m =
       record { coord = record { table = h.table; works = λ j. work_at c.works g.0 j no_work e.works none_in; reports = e.reports }; counts = refl; marks = each_append PlainHere why _ m (refl, (refl, back_here c.locks g)); outs = h.outs }
 
@@ -134,31 +122,31 @@ module _ (script : Script) where
       at true = (refl, tt)
       at false = tt
 
-  follow : (c : Coord) (g : Gxid) (turn : Turn) (o : Outcome) → CoordIn c → TurnIn n turn → CoordStays c.sent (follows c g turn o)
+  follow : (c : Coord) (g : Gxid) (turn : Turn) (o : Outcome) → CoordIn script c → TurnIn n turn → CoordStays c.sent (follows c g turn o)
   follow c g turn outcome.Pending e h = record { coord = table_with c turn.table e h.table; counts = refl; marks = tt; outs = h.outs }
   follow c g turn outcome.Decided e h = record { coord = table_with c turn.table e h.table; counts = refl; marks = (refl, tt); outs = h.outs }
   follow c g turn outcome.Committed e h = committed c g turn e h
   follow c g turn (outcome.Refused i) e h = refused c g turn (failure_marks i g) _ e h (failure_in i g)
   follow c g turn outcome.Ended e h = record { coord = table_with c turn.table e h.table; counts = refl; marks = tt; outs = h.outs }
 
-  commit : (c : Coord) (g : Gxid) → CoordIn c → CoordStays c.sent (commits c g)
+  commit : (c : Coord) (g : Gxid) → CoordIn script c → CoordStays c.sent (commits c g)
   commit c g e = let h = on_commit_in n c.table g (work_of c g).writers (e.works g.0).writers e.table in follow c g _ _ e h
 
   -- commands
   pub record ReadIn (sent : ℕ → ℕ) (r : Reading) : Type 0 where
-    pub coord : CoordIn r.coord
+    pub coord : CoordIn script r.coord
     pub counts : r.coord.sent ≡ sent
     pub marks : Each PlainHere r.marks
 
-  snapshot_taken : (c : Coord) (g : Gxid) (cid : Cid) (w : Work) → CoordIn c → WorkIn w → ReadIn c.sent (takes_snapshot c g cid w)
+  snapshot_taken : (c : Coord) (g : Gxid) (cid : Cid) (w : Work) → CoordIn script c → WorkIn n w → ReadIn c.sent (takes_snapshot c g cid w)
   snapshot_taken c g cid w e h =
       record { coord = record { table = live_in n c.table g _ e.table; works = λ j. work_at c.works g.0 j _ e.works (record { writers = h.writers; command = h.command }); reports = e.reports }; counts = refl; marks = (refl, tt) }
 
-  read_by : (c : Coord) (g : Gxid) (cid : Cid) (w : Work) (x : Option Snapshot) → CoordIn c → WorkIn w → ReadIn c.sent (reads_by c g cid w x)
+  read_by : (c : Coord) (g : Gxid) (cid : Cid) (w : Work) (x : Option Snapshot) → CoordIn script c → WorkIn n w → ReadIn c.sent (reads_by c g cid w x)
   read_by c g cid w None e h = snapshot_taken c g cid w e h
   read_by c g cid w (Some x) e h = record { coord = e; counts = refl; marks = tt }
 
-  read_for : (c : Coord) (g : Gxid) (cid : Cid) (w : Work) (line : Stmt) → CoordIn c → WorkIn w → ReadIn c.sent (reads_for c g cid w line)
+  read_for : (c : Coord) (g : Gxid) (cid : Cid) (w : Work) (line : Stmt) → CoordIn script c → WorkIn n w → ReadIn c.sent (reads_for c g cid w line)
   read_for c g cid w (stmt.Lock table mode) e h = record { coord = e; counts = refl; marks = tt }
   read_for c g cid w (stmt.Begin level) e h = read_by c g cid w w.snapshot e h
   read_for c g cid w stmt.Commit e h = read_by c g cid w w.snapshot e h
@@ -208,23 +196,23 @@ module _ (script : Script) where
       record { coord = x.coord; counts = e.counts; marks = x.marks; outs = x.outs }
 
   module _ (some : 1 ≤ script.segments) where
-    go_locked : (c : Coord) (g : Gxid) (line : Stmt) → CoordIn c → CoordStays c.sent (goes_on_locked script c g line)
+    go_locked : (c : Coord) (g : Gxid) (line : Stmt) → CoordIn script c → CoordStays c.sent (goes_on_locked script c g line)
     go_locked c g line e =
         go c.sent g (next_cid (work_of c g)) line _ _ (read_for c g (next_cid (work_of c g)) (work_of c g) line e (e.works g.0))
         (plan_in n some (dist_of script.tables (table_of line)) g (next_cid (work_of c g)) line)
 
     -- with its table's lock
-    go_held : (c : Coord) (g : Gxid) (line : Stmt) (locks : Locks) (wanted : Claim) → CoordIn c → CoordStays c.sent (behind (hold_mark the_coordinator wanted ∷ []) (goes_on_locked script (record c { locks = locks }) g line))
+    go_held : (c : Coord) (g : Gxid) (line : Stmt) (locks : Locks) (wanted : Claim) → CoordIn script c → CoordStays c.sent (behind (hold_mark the_coordinator wanted ∷ []) (goes_on_locked script (record c { locks = locks }) g line))
     go_held c g line locks wanted e =
         let x = go_locked (record c { locks = locks }) g line (record { table = e.table; works = e.works; reports = e.reports }) in
         record { coord = x.coord; counts = x.counts; marks = (refl, x.marks); outs = x.outs }
 
     -- or it waits
-    waits_here : (c : Coord) (g : Gxid) (line : Stmt) (wanted : Claim) → CoordIn c → CoordStays c.sent (waits_for c g line wanted)
+    waits_here : (c : Coord) (g : Gxid) (line : Stmt) (wanted : Claim) → CoordIn script c → CoordStays c.sent (waits_for c g line wanted)
     waits_here c g line wanted e =
         record { coord = record { table = e.table; works = λ j. work_at c.works g.0 j _ e.works (record { writers = (e.works g.0).writers; command = (e.works g.0).command }); reports = e.reports }; counts = refl; marks = (refl, tt); outs = tt }
 
-    request : (c : Coord) (g : Gxid) (line : Stmt) (o : Option Claim) → CoordIn c → CoordStays c.sent (requests script c g line o)
+    request : (c : Coord) (g : Gxid) (line : Stmt) (o : Option Claim) → CoordIn script c → CoordStays c.sent (requests script c g line o)
     request c g line None e = go_locked c g line e
     request c g line (Some wanted) e = by_test (is_free c.locks.holds wanted)
       where
@@ -232,11 +220,11 @@ module _ (script : Script) where
         by_test true = go_held c g line (with_hold c.locks wanted) wanted e
         by_test false = waits_here c g line wanted e
 
-    dispatch : (c : Coord) (g : Gxid) (line : Stmt) → CoordIn c → CoordStays c.sent (dispatches script c g line)
-    dispatch c g line e = request c g line (lock_for script g line) e
+    dispatch : (c : Coord) (g : Gxid) (line : Stmt) → CoordIn script c → CoordStays c.sent (dispatches script c g line)
+    dispatch c g line e = request c g line (table_lock script g line) e
 
     -- a statement that has waited goes out with its lock
-    resume : (c : Coord) (g : Gxid) (o : Option Claim) (line : Option Stmt) → CoordIn c → CoordStays c.sent (resumes script c g o line)
+    resume : (c : Coord) (g : Gxid) (o : Option Claim) (line : Option Stmt) → CoordIn script c → CoordStays c.sent (resumes script c g o line)
     resume c g None line e = rest c e
     resume c g (Some wanted) None e = rest c e
     resume c g (Some wanted) (Some line) e =
@@ -244,19 +232,19 @@ module _ (script : Script) where
         go_held (with_work c g w) g line (resumed c.locks g (Some wanted)) wanted (works_with c g w e (record { writers = (e.works g.0).writers; command = (e.works g.0).command }))
 
     -- lines
-    begin : (c : Coord) (s : SessionId) (level : Level) → CoordIn c → CoordIn (begins c s level)
+    begin : (c : Coord) (s : SessionId) (level : Level) → CoordIn script c → CoordIn script (begins c s level)
     begin c s level e = record { table = begun_in n c.table e.table; works = λ j. work_at c.works c.table.next.0 j (new_work s level) e.works (record { writers = tt; command = tt }); reports = e.reports }
 
-    at_once : (c : Coord) (s : SessionId) (a : StmtAnswer) → CoordIn c → CoordStays c.sent (answers_at_once c s a)
+    at_once : (c : Coord) (s : SessionId) (a : StmtAnswer) → CoordIn script c → CoordStays c.sent (answers_at_once c s a)
     at_once c s a e = record { coord = e; counts = refl; marks = (refl, tt); outs = tt }
 
-    back : (c : Coord) (g : Gxid) (marks : List Mark) (turn : Turn) → CoordIn c → TurnIn n turn → Each PlainHere marks → CoordStays c.sent (rolls_back c g marks turn)
+    back : (c : Coord) (g : Gxid) (marks : List Mark) (turn : Turn) → CoordIn script c → TurnIn n turn → Each PlainHere marks → CoordStays c.sent (rolls_back c g marks turn)
     back c g marks turn e h m = record { coord = record { table = h.table; works = λ j. work_at c.works g.0 j no_work e.works none_in; reports = e.reports }; counts = refl; marks = (refl, each_append PlainHere marks _ m (back_here c.locks g)); outs = h.outs }
 
-    line_done : (c : Coord) (s : SessionId) (line : Stmt) (asked : LineStep) → CoordIn c → CoordStays c.sent (on_line script c s line asked)
+    line_done : (c : Coord) (s : SessionId) (line : Stmt) (asked : LineStep) → CoordIn script c → CoordStays c.sent (on_line script c s line asked)
     line_done c s line (step.Answer plain) e = at_once c s _ e
-    line_done c s line step.Refuse5 e = at_once c s _ e
-    line_done c s line step.Refuse7 e = at_once c s _ e
+    line_done c s line step.InFailedBlock e = at_once c s _ e
+    line_done c s line step.NotInBlock e = at_once c s _ e
     line_done c s line (step.BeginBlock level) e = record { coord = begin c s level e; counts = refl; marks = (refl, (refl, tt)); outs = tt }
     line_done c s line step.CommitBlock e = commit c (session_of c s).transaction e
     line_done c s line step.RollbackBlock e = back c (session_of c s).transaction (answer_mark c s told.Rollback ∷ []) _ e (on_abort_in n c.table (session_of c s).transaction e.table) (refl, tt)
@@ -265,13 +253,13 @@ module _ (script : Script) where
         record { coord = x.coord; counts = x.counts; marks = (refl, x.marks); outs = x.outs }
     line_done c s line (step.Command false) e = dispatch c (session_of c s).transaction line e
 
-    start : (c : Coord) (s : SessionId) (line : Option Stmt) → CoordIn c → CoordStays c.sent (starts script c s line)
+    start : (c : Coord) (s : SessionId) (line : Option Stmt) → CoordIn script c → CoordStays c.sent (starts script c s line)
     start c s None e = rest c e
     start c s (Some line) e =
         let asked = line_step (session_of c s).state.block line in
         line_done (starts_line c s asked) s line asked (record { table = e.table; works = e.works; reports = e.reports })
 
-    end : (c : Coord) (s : SessionId) (b : Block) → CoordIn c → CoordStays c.sent (ends_in c s b)
+    end : (c : Coord) (s : SessionId) (b : Block) → CoordIn script c → CoordStays c.sent (ends_in c s b)
     end c s (block.Open level) e =
         back (with_state c s idle_outside) (session_of c s).transaction [] _ (record { table = e.table; works = e.works; reports = e.reports }) (on_abort_in n c.table (session_of c s).transaction e.table) tt
     end c s block.Failed e = record { coord = record { table = e.table; works = e.works; reports = e.reports }; counts = refl; marks = tt; outs = tt }
@@ -286,7 +274,7 @@ module _ (script : Script) where
     kept_table ReadCommitted d g e = live_in n d g None e
     kept_table RepeatableRead d g e = e
 
-    answer : (c : Coord) (g : Gxid) (w : Work) → CoordIn c → WorkIn w → CoordStays c.sent (answers c g w)
+    answer : (c : Coord) (g : Gxid) (w : Work) → CoordIn script c → WorkIn n w → CoordStays c.sent (answers c g w)
     answer c g w e h =
         record {
           coord = record { table = kept_table w.level c.table g e.table; works = λ j. work_at c.works g.0 j _ e.works (record { writers = h.writers; command = tt }); reports = e.reports };
@@ -295,21 +283,21 @@ module _ (script : Script) where
           outs = tt;
         }
 
-    complete : (c : Coord) (g : Gxid) (b : Block) → CoordIn c → CoordStays c.sent (completes c g b)
+    complete : (c : Coord) (g : Gxid) (b : Block) → CoordIn script c → CoordStays c.sent (completes c g b)
     complete c g block.Outside e = commit c g e
     complete c g (block.Open level) e = answer c g (work_of c g) e (e.works g.0)
     complete c g block.Failed e = answer c g (work_of c g) e (e.works g.0)
 
-    go_on : (c : Coord) (g : Gxid) (left : List Node) → CoordIn c → CoordStays c.sent (goes_on c g left)
+    go_on : (c : Coord) (g : Gxid) (left : List Node) → CoordIn script c → CoordStays c.sent (goes_on c g left)
     go_on c g [] e = complete c g _ e
     go_on c g (i ∷ is) e = rest c e
 
-    done_taken : (c : Coord) (g : Gxid) (i : Node) (wrote : Bool) (count : ℕ) (part : Part) (k : Command) → CoordIn c → CommandIn k → IsOneOf n i → CoordStays c.sent (takes_done c g i wrote count part k)
+    done_taken : (c : Coord) (g : Gxid) (i : Node) (wrote : Bool) (count : ℕ) (part : Part) (k : Command) → CoordIn script c → CommandIn n k → IsOneOf n i → CoordStays c.sent (takes_done c g i wrote count part k)
     done_taken c g i wrote count part k e h a =
         go_on _ g _
         (works_with c g _ e (record { writers = writers_in wrote i (work_of c g).writers a (e.works g.0).writers; command = record { orders = h.orders; awaited = without_in n i k.awaited h.awaited } }))
 
-    done : (c : Coord) (g : Gxid) (i : Node) (cid : Cid) (wrote : Bool) (count : ℕ) (part : Part) (k : Option Command) → CoordIn c → UnderWay k → CoordStays c.sent (on_done c g i cid wrote count part k)
+    done : (c : Coord) (g : Gxid) (i : Node) (cid : Cid) (wrote : Bool) (count : ℕ) (part : Part) (k : Option Command) → CoordIn script c → UnderWay n k → CoordStays c.sent (on_done c g i cid wrote count part k)
     done c g i cid wrote count part None e h = rest c e
     done c g i cid wrote count part (Some k) e h = at (is_awaited k i cid && fits_part k.stmt part) refl
       where
@@ -317,7 +305,7 @@ module _ (script : Script) where
         at true f = done_taken c g i wrote count part k e h (has_in n i k.awaited h.awaited (and_parts _ _ (and_parts _ _ f).0).1)
         at false f = rest c e
 
-    failed : (c : Coord) (g : Gxid) (i : Node) (cid : Cid) (cause : Cause) (k : Option Command) → CoordIn c → CoordStays c.sent (on_failed c g i cid cause k)
+    failed : (c : Coord) (g : Gxid) (i : Node) (cid : Cid) (cause : Cause) (k : Option Command) → CoordIn script c → CoordStays c.sent (on_failed c g i cid cause k)
     failed c g i cid cause None e = rest c e
     failed c g i cid cause (Some k) e = at (is_awaited k i cid)
       where
@@ -325,12 +313,12 @@ module _ (script : Script) where
         at true = refused c g _ [] _ e (on_abort_in n c.table g e.table) tt
         at false = rest c e
 
-    status : (c : Coord) (g : Gxid) (i : Node) (r : Reply) (fails : Bool) → CoordIn c → CoordStays c.sent (on_status c g i r fails)
+    status : (c : Coord) (g : Gxid) (i : Node) (r : Reply) (fails : Bool) → CoordIn script c → CoordStays c.sent (on_status c g i r fails)
     status c g i r fails e =
         let x = follow c g (on_reply c.table g i r fails) (on_reply c.table g i r fails).out.outcome e (on_reply_in n c.table g i r fails e.table) in
         record { coord = x.coord; counts = x.counts; marks = x.marks; outs = x.outs }
 
-    answered : (c : Coord) (g : Gxid) (i : Node) (fails : Bool) (r : Reply) → CoordIn c → CoordStays c.sent (on_answer c g i fails r)
+    answered : (c : Coord) (g : Gxid) (i : Node) (fails : Bool) (r : Reply) → CoordIn script c → CoordStays c.sent (on_answer c g i fails r)
     answered c g i fails (reply.Done cid wrote count part) e = done c g i cid wrote count part _ e (e.works g.0).command
     answered c g i fails (reply.Failed cid cause) e = failed c g i cid cause _ e
     answered c g i fails reply.Prepared e = status c g i _ fails e
@@ -345,13 +333,13 @@ module _ (script : Script) where
     noted_of None graph e = tt
     noted_of (Some reports) graph e = length-noted_from 1 reports graph ∙ e
 
-    graph_taken : (c : Coord) (from : Node) (round : ℕ) (graph : LocalGraph) → CoordIn c → CoordStays c.sent (on_graph c from round graph)
+    graph_taken : (c : Coord) (from : Node) (round : ℕ) (graph : LocalGraph) → CoordIn script c → CoordStays c.sent (on_graph c from round graph)
     graph_taken c from round graph e =
         graph-ways (CoordStays c.sent) c from round graph (rest c e)
         (λ r. rest (with_report c graph) (record { table = e.table; works = e.works; reports = noted_of c.reports graph e.reports }))
         (λ r a. record { coord = record { table = e.table; works = e.works; reports = tt }; counts = refl; marks = (refl, tt); outs = tt })
 
-    message_taken : (c : Coord) (from : Node) (fails : Bool) (m : Message) → CoordIn c → CoordStays c.sent (on_message c from fails m)
+    message_taken : (c : Coord) (from : Node) (fails : Bool) (m : Message) → CoordIn script c → CoordStays c.sent (on_message c from fails m)
     message_taken c from fails (message.Answer g r) e = answered c g from fails r e
     message_taken c from fails (message.Exec g cid level x h y) e = rest c e
     message_taken c from fails (message.Prepare g) e = rest c e
@@ -363,7 +351,7 @@ module _ (script : Script) where
     message_taken c from fails (message.Graph round graph) e = graph_taken c from round graph e
 
     -- messages sent again
-    again : (c : Coord) (i : Node) (m : Option Message) → CoordIn c → (is_some m ≡ true → IsOneOf n i) → CoordStays c.sent (resends c i m)
+    again : (c : Coord) (i : Node) (m : Option Message) → CoordIn script c → (is_some m ≡ true → IsOneOf n i) → CoordStays c.sent (resends c i m)
     again c i None e h = rest c e
     again c i (Some told) e h = record { coord = e; counts = refl; marks = tt; outs = (h refl, tt) }
 
@@ -386,7 +374,7 @@ module _ (script : Script) where
     found_has g i None h e = grind arith
     found_has g i (Some t) h e = phase_has g i t.phase h.phase e
 
-    command_has : (k : Option Command) (i : Node) (other : Option Message) → UnderWay k → (is_some other ≡ true → IsOneOf n i) → is_some (command_order k i other) ≡ true → IsOneOf n i
+    command_has : (k : Option Command) (i : Node) (other : Option Message) → UnderWay n k → (is_some other ≡ true → IsOneOf n i) → is_some (command_order k i other) ≡ true → IsOneOf n i
     command_has None i other h f e = f e
     command_has (Some k) i other h f e = at (has i k.awaited) refl e
       where
@@ -394,7 +382,7 @@ module _ (script : Script) where
         at true a d = has_in n i k.awaited h.awaited a
         at false a d = f d
 
-    awaited_has : (c : Coord) (g : Gxid) (i : Node) → CoordIn c → is_some (awaited c g i) ≡ true → IsOneOf n i
+    awaited_has : (c : Coord) (g : Gxid) (i : Node) → CoordIn script c → is_some (awaited c g i) ≡ true → IsOneOf n i
     awaited_has c g i e h = command_has (work_of c g).command i _ (e.works g.0).command (found_has g i (find_txn c.table g) (find_in n c.table g e.table)) h
 
     -- rounds
@@ -423,11 +411,11 @@ module _ (script : Script) where
             within m h = omega arith
         at false q d = absurd (cc)
 
-    round_begun : (c : Coord) → CoordIn c → CoordStays c.sent (begins_round script c)
+    round_begun : (c : Coord) → CoordIn script c → CoordStays c.sent (begins_round script c)
     round_begun c e =
         record { coord = record { table = e.table; works = e.works; reports = length-replicate n None }; counts = refl; marks = tt; outs = collects-each (OutIn n) n (c.rounds + 1) (λ i one within. (one, within)) }
 
-    pub coord_stays : (c : Coord) (e : NodeEvent) (fails : Bool) → CoordIn c → CoordStays c.sent (on_event script c e fails)
+    pub coord_stays : (c : Coord) (e : NodeEvent) (fails : Bool) → CoordIn script c → CoordStays c.sent (on_event script c e fails)
     coord_stays c (event.Deliver from envelope) fails e = message_taken c from fails envelope.message e
     coord_stays c (event.Start s) fails e = start c s _ e
     coord_stays c (event.End s) fails e = end c s _ e
@@ -437,5 +425,5 @@ module _ (script : Script) where
     coord_stays c event.Round fails e = round_begun c e
 
     -- a victim
-    pub cancel_stays : (c : Coord) (g : Gxid) → CoordIn c → CoordStays c.sent (cancels c g)
+    pub cancel_stays : (c : Coord) (g : Gxid) → CoordIn script c → CoordStays c.sent (cancels c g)
     cancel_stays c g e = cancel-ways (CoordStays c.sent) c g (rest c e) (λ live busy. refused c g _ [] _ e (on_abort_in n c.table g e.table) tt)

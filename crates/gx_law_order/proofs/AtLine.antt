@@ -20,7 +20,7 @@ use Rattle.gx_store.specs.Lines.{BlockState, Outside, InBlock, Failed, cid_of, i
 use Rattle.gx_store.specs.Marks.{is_answered, is_ended, start_count, started_after}
 use Rattle.gx_store.specs.Points.{Point, before, marks_in, starts_by, starts_in}
 use Rattle.gx_law_order.specs.Seen.{SeesEnded}
-use Rattle.gx_law_order.proofs.Lists.{Each}
+use Rattle.gx_law_order.specs.Lists.{Each}
 use Rattle.gx_law_order.proofs.Said.{CalmFor, Said, said-answer, said-calm, said-start}
 
 pub record AtLine (script : Script) (steps : List Step) (e : Event) (k : SessionId) (line : Stmt) (n : ℕ) (b : BlockState) (u : Bool) (g : Option Gxid) (earlier : List Mark) : Type 0 where

@@ -16,7 +16,8 @@ use Rattle.gx_store.specs.declared.mark.Mark.{Mark}
 use Rattle.gx_store.specs.Marks.{is_aborted}
 use Rattle.gx_rules.specs.AtCoordinator.{command_order, order_to, status_order}
 use Rattle.gx_rules.specs.Coordinators.{Command, Coord, Work}
-use Rattle.gx_law_order.proofs.Lists.{Each, each_weaker}
+use Rattle.gx_law_order.proofs.Lists.{each_weaker}
+use Rattle.gx_law_order.specs.Lists.{Each}
 use Rattle.gx_law_order.specs.Alive.{HasAnswered}
 use Rattle.gx_law_order.proofs.Outs.{IsBare, NoExec}
 

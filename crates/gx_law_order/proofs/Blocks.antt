@@ -36,9 +36,10 @@ use Rattle.gx_store.specs.Points.{Point, ends_in, marks_in, starts_in}
 use Rattle.gx_rules.specs.AtCoordinator.{answer_at_commit, answer_mark, answers_at_once, begins, behind, commits, dispatches, follows, next_cid, next_line, on_line, rolls_back, starts, starts_line}
 use Rattle.gx_rules.specs.Coordinators.{Command, Coord, Session, Work, no_work, session_of, work_of}
 use Rattle.gx_law_order.proofs.Lines.{idle-none}
-use Rattle.gx_law_order.proofs.Past.{Past}
-use Rattle.gx_law_order.proofs.Sessions.{Kept, is_nothing_in, is_open_in}
-use Rattle.gx_law_order.proofs.Statuses.{Closes, Turned, commit-turns, stage}
+use Rattle.gx_law_order.specs.Past.{Past}
+use Rattle.gx_law_order.specs.Sessions.{Kept, is_nothing_in, is_open_in}
+use Rattle.gx_law_order.specs.Stages.{stage}
+use Rattle.gx_law_order.proofs.Statuses.{Closes, Turned, commit-turns}
 use Rattle.gx_law_order.specs.Scanned.{closes_block}
 use Rattle.gx_law_order.specs.Rest.{EachMark, RestAnswer}
 use Rattle.gx_law_order.specs.Standing.{IsSession, Owns, Roots, Stands, is_alone, is_busy, is_open, is_sound, state_in, under_way}
@@ -325,7 +326,7 @@ module _ (script : Script) (steps : List Step) (c : Coord) (k : Kept script c) (
     line-does block.Outside (stmt.Begin level) eb el = (begin-does script steps c k p fr number s all idle line is_next) level el eb
     line-does block.Outside stmt.Commit eb el = simply block.Outside (step.Answer plain.Commit) told.Commit stmt.Commit eb el refl (λ h. refl) (λ h. absurd (false-true h)) (λ later. tt) refl (λ later. tt)
     line-does block.Outside stmt.Rollback eb el = simply block.Outside (step.Answer plain.Rollback) told.Rollback stmt.Rollback eb el refl (λ h. refl) (λ h. absurd (false-true h)) (λ later. tt) refl (λ later. tt)
-    line-does block.Outside (stmt.Lock t m) eb el = simply block.Outside step.Refuse7 (told.Refused refused.NotInBlock) (stmt.Lock t m) eb el refl (λ h. refl) (λ h. absurd (false-true h)) (λ later. tt) refl (λ later. tt)
+    line-does block.Outside (stmt.Lock t m) eb el = simply block.Outside step.NotInBlock (told.Refused refused.NotInBlock) (stmt.Lock t m) eb el refl (λ h. refl) (λ h. absurd (false-true h)) (λ later. tt) refl (λ later. tt)
     line-does block.Outside (stmt.Select q) eb el = alone-line (stmt.Select q) eb el refl refl
     line-does block.Outside (stmt.Insert t x) eb el = alone-line (stmt.Insert t x) eb el refl refl
     line-does block.Outside (stmt.Update t x z) eb el = alone-line (stmt.Update t x z) eb el refl refl
@@ -338,14 +339,14 @@ module _ (script : Script) (steps : List Step) (c : Coord) (k : Kept script c) (
     line-does (block.Open v) (stmt.Insert t x) eb el = inside-line v (stmt.Insert t x) eb el refl
     line-does (block.Open v) (stmt.Update t x z) eb el = inside-line v (stmt.Update t x z) eb el refl
     line-does (block.Open v) (stmt.Delete t x) eb el = inside-line v (stmt.Delete t x) eb el refl
-    line-does block.Failed (stmt.Begin level) eb el = simply block.Failed step.Refuse5 (told.Refused refused.InFailedBlock) (stmt.Begin level) eb el refl (λ h. refl) (λ h. absurd (false-true h)) (λ later. tt) refl (λ later. tt)
+    line-does block.Failed (stmt.Begin level) eb el = simply block.Failed step.InFailedBlock (told.Refused refused.InFailedBlock) (stmt.Begin level) eb el refl (λ h. refl) (λ h. absurd (false-true h)) (λ later. tt) refl (λ later. tt)
     line-does block.Failed stmt.Commit eb el = simply block.Failed (step.Answer plain.Rollback) told.Rollback stmt.Commit eb el refl (λ h. absurd (false-true h)) (λ h. absurd (false-true h)) (λ later. tt) refl (λ later. tt)
     line-does block.Failed stmt.Rollback eb el = simply block.Failed (step.Answer plain.Rollback) told.Rollback stmt.Rollback eb el refl (λ h. absurd (false-true h)) (λ h. absurd (false-true h)) (λ later. tt) refl (λ later. tt)
-    line-does block.Failed (stmt.Lock t m) eb el = simply block.Failed step.Refuse5 (told.Refused refused.InFailedBlock) (stmt.Lock t m) eb el refl (λ h. refl) (λ h. absurd (false-true h)) (λ later. tt) refl (λ later. tt)
-    line-does block.Failed (stmt.Select q) eb el = simply block.Failed step.Refuse5 (told.Refused refused.InFailedBlock) (stmt.Select q) eb el refl (λ h. refl) (λ h. absurd (false-true h)) (λ later. tt) refl (λ later. tt)
-    line-does block.Failed (stmt.Insert t x) eb el = simply block.Failed step.Refuse5 (told.Refused refused.InFailedBlock) (stmt.Insert t x) eb el refl (λ h. refl) (λ h. absurd (false-true h)) (λ later. tt) refl (λ later. tt)
-    line-does block.Failed (stmt.Update t x z) eb el = simply block.Failed step.Refuse5 (told.Refused refused.InFailedBlock) (stmt.Update t x z) eb el refl (λ h. refl) (λ h. absurd (false-true h)) (λ later. tt) refl (λ later. tt)
-    line-does block.Failed (stmt.Delete t x) eb el = simply block.Failed step.Refuse5 (told.Refused refused.InFailedBlock) (stmt.Delete t x) eb el refl (λ h. refl) (λ h. absurd (false-true h)) (λ later. tt) refl (λ later. tt)
+    line-does block.Failed (stmt.Lock t m) eb el = simply block.Failed step.InFailedBlock (told.Refused refused.InFailedBlock) (stmt.Lock t m) eb el refl (λ h. refl) (λ h. absurd (false-true h)) (λ later. tt) refl (λ later. tt)
+    line-does block.Failed (stmt.Select q) eb el = simply block.Failed step.InFailedBlock (told.Refused refused.InFailedBlock) (stmt.Select q) eb el refl (λ h. refl) (λ h. absurd (false-true h)) (λ later. tt) refl (λ later. tt)
+    line-does block.Failed (stmt.Insert t x) eb el = simply block.Failed step.InFailedBlock (told.Refused refused.InFailedBlock) (stmt.Insert t x) eb el refl (λ h. refl) (λ h. absurd (false-true h)) (λ later. tt) refl (λ later. tt)
+    line-does block.Failed (stmt.Update t x z) eb el = simply block.Failed step.InFailedBlock (told.Refused refused.InFailedBlock) (stmt.Update t x z) eb el refl (λ h. refl) (λ h. absurd (false-true h)) (λ later. tt) refl (λ later. tt)
+    line-does block.Failed (stmt.Delete t x) eb el = simply block.Failed step.InFailedBlock (told.Refused refused.InFailedBlock) (stmt.Delete t x) eb el refl (λ h. refl) (λ h. absurd (false-true h)) (λ later. tt) refl (λ later. tt)
 
     pub start-does : Does script steps c e (starts script c s (Some line))
     start-does = line-does y.state.block line refl refl

@@ -38,7 +38,7 @@ use Rattle.gx_store.specs.Points.{ends_by, ends_in, marks_in, starts_by, starts_
 use Rattle.gx_rules.specs.AtCoordinator.{answer_at_commit, answer_of_command, answers, command_answer, is_committed as is_closed, unless_kept, reason_of}
 use Rattle.gx_rules.specs.Coordinators.{Command, Coord, CoordTurn, Session, Work, session_of, work_of}
 use Rattle.gx_rules.specs.Maps.{with_at}
-use Rattle.gx_law_order.proofs.Lists.{Each}
+use Rattle.gx_law_order.specs.Lists.{Each}
 use Rattle.gx_law_order.specs.Alive.{HasAnswered}
 use Rattle.gx_law_order.specs.Gathering.{IsGathered}
 use Rattle.gx_law_order.specs.Finish.{AreCommandsTold}

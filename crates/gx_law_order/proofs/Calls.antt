@@ -27,9 +27,11 @@ use Rattle.gx_rules.specs.AtCoordinator.{answer_at_commit, answer_mark, commits,
 use Rattle.gx_rules.specs.AtSegment.{was_prepared}
 use Rattle.gx_rules.specs.Coordinators.{Coord, CoordTurn, Work, no_work, session_of, work_of}
 use Rattle.gx_rules.specs.Segments.{Phase, has_committed}
-use Rattle.gx_law_order.proofs.Lists.{Each, each_map, each_weaker}
+use Rattle.gx_law_order.proofs.Lists.{each_map, each_weaker}
+use Rattle.gx_law_order.specs.Lists.{Each}
 use Rattle.gx_law_order.proofs.Past.{aborted-append, committed-append, there-drawn}
-use Rattle.gx_law_order.proofs.Stages.{IsWhole, changed-at, left_of}
+use Rattle.gx_law_order.proofs.Stages.{changed-at, left_of}
+use Rattle.gx_law_order.specs.Stages.{IsWhole}
 use Rattle.gx_law_order.specs.Pairs.{IsVote, Pair, bit}
 use Rattle.gx_law_order.specs.Said.{Said, gxid_in, is_answer}
 use Rattle.gx_law_order.specs.Standings.{Known, Part, Standing, at, gx, is_closing, known_at, known_of, standing, waits_in}

@@ -39,10 +39,10 @@ use Rattle.gx_rules.specs.Rounds.{is_active, is_live}
 use Rattle.gx_rules.specs.Sending.{numbered}
 use Rattle.gx_rules.proofs.Rounds.{cancel-ways}
 use Rattle.gx_law_order.specs.Moves.{names}
-use Rattle.gx_law_order.proofs.Sessions.{Kept, is_live_in, is_working_in}
-use Rattle.gx_law_order.proofs.Stages.{gx}
-use Rattle.gx_law_order.proofs.Statuses.{stage, stage_in}
-use Rattle.gx_law_order.proofs.Statuses.Stage.{Live}
+use Rattle.gx_law_order.specs.Sessions.{Kept, is_live_in, is_working_in}
+use Rattle.gx_law_order.specs.Stages.{stage, stage_in}
+use Rattle.gx_law_order.specs.Standings.{gx}
+use Rattle.gx_law_order.specs.Stages.Stage.{Live}
 use Rattle.gx_law_order.specs.Alive.{IsHeard}
 use Rattle.gx_law_order.specs.Rest.{EachMark}
 use Rattle.gx_law_order.specs.Standing.{IsLineOf, IsSession, Stands, is_alone, is_busy, state_in}

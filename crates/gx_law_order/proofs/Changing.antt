@@ -13,11 +13,10 @@ use Rattle.gx_waits.specs.declared.claim.Claim.{Claim}
 use Rattle.gx_waits.specs.declared.object.Object.TheVariants.{Relation}
 use Rattle.gx_meaning.specs.declared.fault.ArithFault.{ArithFault}
 use Rattle.gx_script.specs.declared.Script.{Script}
-use Rattle.gx_store.specs.Locks.{changing_mode}
+use Rattle.gx_store.specs.Locks.{changing_mode, slice_lock}
 use Rattle.gx_store.specs.Marks.{is_same_gxid}
-use Rattle.gx_store.specs.Waits.{claim}
+use Rattle.gx_waits.specs.Claims.{claim}
 use Rattle.gx_rules.specs.Changes.{Change, RowTurn, change_of, changes_rows, end_lock, goes_on_at, shown_to, tuple_lock, unless_fault, waits}
-use Rattle.gx_rules.specs.Running.{slice_lock}
 use Rattle.gx_rules.specs.Segments.{Seg, SegTurn, Suspended}
 use Rattle.gx_rules.specs.Slices.{Moved, fails_on, first_fault, starts_from, takes_lock}
 use Rattle.gx_rules.specs.Visits.{DidStop, WaitsAt}

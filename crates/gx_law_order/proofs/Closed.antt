@@ -22,7 +22,7 @@ use Rattle.gx_store.specs.Marks.{answer_count, is_ended, started_after, is_abort
 use Rattle.gx_store.specs.Points.{ends_by, ends_in, marks_in, starts_by, starts_in}
 use Rattle.gx_rules.specs.AtCoordinator.{ends_in as ends_session, is_in_block as is_block, next_line, rolls_back}
 use Rattle.gx_rules.specs.Coordinators.{Coord, Session, Work, no_work, session_of, with_state, work_of}
-use Rattle.gx_law_order.proofs.Sessions.{is_nothing_in}
+use Rattle.gx_law_order.specs.Sessions.{is_nothing_in}
 use Rattle.gx_law_order.specs.Standing.{IsOver, IsSession, IsStanding, Owns, Stands, is_busy, state_in}
 use Rattle.gx_law_order.proofs.Awaited.{bare-all, own-none}
 use Rattle.gx_law_order.proofs.Others.{of-fresh}
@@ -32,7 +32,7 @@ use Rattle.gx_law_order.proofs.Outs.{CommandIs, abort-bare, bare-outs}
 use Rattle.gx_law_order.proofs.Said.{Said, said-calm}
 use Rattle.gx_rules.specs.Locks.{release_marks}
 use Rattle.gx_store.specs.Refusals.{the_coordinator}
-use Rattle.gx_law_order.proofs.Lists.{Each}
+use Rattle.gx_law_order.specs.Lists.{Each}
 use Rattle.gx_law_order.proofs.Locked.{LockMark, back-locks, lock-for, lock-given, lock-of, lock-rest}
 
 le-same : (a : ℕ) → a ≤ a
@@ -99,7 +99,7 @@ module _ (script : Script) (steps : List Step) (c : Coord) (s : SessionId) (all 
   ended : ends_in s steps + ends_by s (event.End s) ≡ 1
   ended = ap (λ q. ends_in s steps + (if q then 1 else 0)) (eqb-self s.0) ∙ ap (λ i. i + 1) st.0
 
-  over : (ns : List Mark) → Rattle.gx_law_order.proofs.Lists.Each (Rattle.gx_law_order.proofs.Said.CalmFor s) ns → IsOver script s (ms ++ ns) block.Outside pending.Nothing y.lines
+  over : (ns : List Mark) → Rattle.gx_law_order.specs.Lists.Each (Rattle.gx_law_order.proofs.Said.CalmFor s) ns → IsOver script s (ms ++ ns) block.Outside pending.Nothing y.lines
   over ns calm =
       record {
         outside = refl;

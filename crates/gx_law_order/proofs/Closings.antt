@@ -26,14 +26,17 @@ use Rattle.gx_rules.specs.Maps.{with_at}
 use Rattle.gx_rules.specs.Snapshots.{latest_number}
 use Rattle.gx_law_order.specs.Seen.{AreEndedSeen}
 use Rattle.gx_law_order.proofs.Ends.{at-runs, at-same, past-at}
-use Rattle.gx_law_order.proofs.Lists.{Each}
-use Rattle.gx_law_order.proofs.Past.{Past, Still, seen-append}
+use Rattle.gx_law_order.specs.Lists.{Each}
+use Rattle.gx_law_order.proofs.Past.{Still, seen-append}
+use Rattle.gx_law_order.specs.Past.{Past}
 use Rattle.gx_tree.specs.declared.stmt.Stmt.{Stmt}
 use Rattle.gx_law_order.proofs.Queued.{Queues, queue-stays, queued-by}
-use Rattle.gx_law_order.proofs.Sessions.{Kept, Placed, Tied, is_closing_in, is_live_in, is_nothing_in, is_open_in, is_said, is_working_in, stage_of}
-use Rattle.gx_law_order.proofs.Stages.{At, IsWhole, gx, txn-at}
-use Rattle.gx_law_order.proofs.Statuses.{Closes, Falls, Stage, Turned, abort-turns, commit-turns, is_running, stage}
-use Rattle.gx_law_order.proofs.Statuses.Stage.{Live, Closing, Dropped}
+use Rattle.gx_law_order.specs.Sessions.{Kept, Placed, Tied, is_closing_in, is_live_in, is_nothing_in, is_open_in, is_said, is_working_in}
+use Rattle.gx_law_order.specs.Stages.{IsWhole, Stage, is_running, stage, stage_of}
+use Rattle.gx_law_order.proofs.Stages.{At, txn-at}
+use Rattle.gx_law_order.specs.Standings.{gx}
+use Rattle.gx_law_order.proofs.Statuses.{Closes, Falls, Turned, abort-turns, commit-turns}
+use Rattle.gx_law_order.specs.Stages.Stage.{Closing, Dropped, Live}
 use Rattle.gx_law_order.proofs.Turns.{Base, Good, base-kept, closed-good, falls-is, refused-good, same-sessions, same-works, stage-is, work-is, y-is}
 
 -- sessions' states
@@ -55,7 +58,7 @@ behind-good {script = script} before ms turn late seen good same marks =
 -- a change that keeps the stage
 pub kept-stage : (f : Txn → Txn) → ((t : Txn) → (f t).phase ≡ t.phase) → (o : Option Txn) → stage (option_map f o) ≡ stage o
 kept-stage f e None = refl
-kept-stage f e (Some t) = ap Rattle.gx_law_order.proofs.Statuses.stage_in (e t)
+kept-stage f e (Some t) = ap Rattle.gx_law_order.specs.Stages.stage_in (e t)
 
 abbrev pub set_live : Option Gxid → Txn → Txn
 set_live x t = record t { live = x }

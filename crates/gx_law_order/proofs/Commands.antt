@@ -22,20 +22,24 @@ use Rattle.gx_script.specs.declared.state.Pending.{Pending}
 use Rattle.gx_store.specs.declared.mark.Mark.{Mark}
 use Rattle.gx_store.specs.declared.mark.Mark.TheVariants as mark
 use Rattle.gx_store.specs.Writes.{dist_of}
-use Rattle.gx_rules.specs.AtCoordinator.{Reading, dispatches, enlisted_all, fault_mark, goes, goes_out, is_refused, kept_at, next_cid, nodes_in, reads_by, reads_for, refusal_of, table_of, takes_snapshot, behind, goes_on_locked, if_granted, lock_for, requests, waits_for}
+use Rattle.gx_rules.specs.AtCoordinator.{Reading, dispatches, enlisted_all, fault_mark, goes, goes_out, is_refused, kept_at, next_cid, nodes_in, reads_by, reads_for, refusal_of, table_of, takes_snapshot, behind, goes_on_locked, if_granted, requests, waits_for}
+use Rattle.gx_store.specs.Locks.{table_lock}
 use Rattle.gx_rules.specs.Coordinators.{Command, Coord, Session, Work}
 use Rattle.gx_rules.specs.Snapshots.{snapshot_of}
 use Rattle.gx_law_order.specs.Seen.{AreEndedSeen}
 use Rattle.gx_law_order.proofs.Closings.{behind-good, kept-stage, live-at, past-same, refuses-good, set_live}
-use Rattle.gx_law_order.proofs.Lists.{Each}
-use Rattle.gx_law_order.proofs.Past.{Past, Still, seen-now, still-committed}
-use Rattle.gx_law_order.proofs.Sessions.{Kept, Placed, Tied, is_live_in, is_nothing_in, is_said, is_working_in, stage_of}
-use Rattle.gx_law_order.proofs.Stages.{At, IsWhole, gx, txn-at}
-use Rattle.gx_law_order.proofs.Statuses.{Stage, stage}
-use Rattle.gx_law_order.proofs.Statuses.Stage.{Live, Closing}
+use Rattle.gx_law_order.specs.Lists.{Each}
+use Rattle.gx_law_order.proofs.Past.{Still, seen-now, still-committed}
+use Rattle.gx_law_order.specs.Past.{Past}
+use Rattle.gx_law_order.specs.Sessions.{Kept, Placed, Tied, is_live_in, is_nothing_in, is_said, is_working_in}
+use Rattle.gx_law_order.specs.Stages.{IsWhole, Stage, stage, stage_of}
+use Rattle.gx_law_order.proofs.Stages.{At, txn-at}
+use Rattle.gx_law_order.specs.Standings.{gx}
+use Rattle.gx_law_order.specs.Stages.Stage.{Closing, Live}
 use Rattle.gx_law_order.proofs.Turns.{Base, Good, base-kept, home-is, merged, same-sessions, stage-is, work-is}
 use Rattle.gx_rules.specs.Locks.{hold_mark, wait_mark, with_hold}
-use Rattle.gx_locks.specs.Locks.{Locks, is_free}
+use Rattle.gx_locks.specs.Locks.{Locks}
+use Rattle.gx_waits.specs.Claims.{is_free}
 use Rattle.gx_waits.specs.declared.claim.Claim.{Claim}
 use Rattle.gx_law_order.proofs.Queued.{Queues, queue-stays, queue-waits, queued-by}
 use Rattle.gx_store.specs.Refusals.{the_coordinator}
@@ -201,7 +205,7 @@ module _ (script : Script) (c c1 : Coord) (g s : ℕ) (w1 : Work) (y : Session) 
       (before ++ hold_mark the_coordinator wanted ∷ []) (past-stays (record c1 { locks = locks }) (hold_mark the_coordinator wanted ∷ []) refl (tt, tt)) unqueued live working line) refl refl
 
   -- it waits: its session keeps it as its line under way
-  waits-good : (wanted : Claim) → lock_for script (gx g) line ≡ Some wanted → Good script before (waits_for c1 (gx g) line wanted)
+  waits-good : (wanted : Claim) → table_lock script (gx g) line ≡ Some wanted → Good script before (waits_for c1 (gx g) line wanted)
   waits-good wanted e =
       record {
         kept = base-kept c c1 g s w1 y Live k b (waits_for c1 (gx g) line wanted).coord (find_txn c1.table (gx g)) w y b.whole1 (same-finds c1.table g) (λ j. refl) (same-sessions c c1 g s w1 y Live k b)
@@ -241,7 +245,7 @@ module _ (script : Script) (c c1 : Coord) (g s : ℕ) (w1 : Work) (y : Session) 
             waits = λ o f. (l, no-command, working);
           })
 
-  request-good : (o : Option Claim) → lock_for script (gx g) line ≡ o → Good script before (requests script c1 (gx g) line o)
+  request-good : (o : Option Claim) → table_lock script (gx g) line ≡ o → Good script before (requests script c1 (gx g) line o)
   request-good None e = locked-good c c1 g s w1 y k b before p unqueued live working line
   request-good (Some wanted) e = by_test (is_free c1.locks.holds wanted)
     where
@@ -250,4 +254,4 @@ module _ (script : Script) (c c1 : Coord) (g s : ℕ) (w1 : Work) (y : Session) 
       by_test false = waits-good wanted e
 
   pub dispatch-good : Good script before (dispatches script c1 (gx g) line)
-  dispatch-good = request-good (lock_for script (gx g) line) refl
+  dispatch-good = request-good (table_lock script (gx g) line) refl

@@ -32,9 +32,8 @@ use Rattle.gx_store.specs.declared.node.NodeEvent.{NodeEvent}
 use Rattle.gx_store.specs.declared.node.NodeEvent.TheVariants as here
 use Rattle.gx_store.specs.declared.run.Step.{Step}
 use Rattle.gx_store.specs.Commands.{IsUnderWay, RunsCommand, RunsLine, state_at}
-use Rattle.gx_store.specs.Lines.{BlockState, cid_of, is_command, level_of, may_commit, stmt_of, transaction_of}
+use Rattle.gx_store.specs.Lines.{BlockState, cid_of, is_command, level_of, may_commit, stmt_of, transaction_of, state_of}
 use Rattle.gx_store.specs.Marks.{answer_count, is_aborted, is_begun, is_committed, is_committing, is_ended, started_after}
-use Rattle.gx_store.specs.Lines.{state_of}
 use Rattle.gx_store.specs.Messages.{HasReceived, Receives}
 use Rattle.gx_store.specs.Points.{Point, before, marks_in, starts_by, starts_in}
 use Rattle.gx_store.specs.Protocol.{GoesTo, IsCommitting, IsDispatched, IsReturned, IsSentBy, IsToExecute}
@@ -58,18 +57,19 @@ use Rattle.gx_law_order.proofs.Everywhere.{Holds, does-it, fol-no-sent, follows-
 use Rattle.gx_law_order.proofs.Gathers.{GathersIn, HeardNow, gathered-back, gathered-is, gathers-weaker}
 use Rattle.gx_law_order.proofs.Handled.{Follows, Tells}
 use Rattle.gx_law_order.proofs.Later.{commit-more, each-contained, no-orders}
-use Rattle.gx_law_order.proofs.Lists.{Each, each_append, each_weaker}
+use Rattle.gx_law_order.proofs.Lists.{each_append, each_weaker}
+use Rattle.gx_law_order.specs.Lists.{Each}
 use Rattle.gx_law_order.proofs.Lowered.{NoExec, abort-none}
 use Rattle.gx_law_order.proofs.More.{marks-last}
 use Rattle.gx_law_order.proofs.Past.{aborted-append, committed-append}
 use Rattle.gx_law_order.proofs.Moves.{HasNamed}
 use Rattle.gx_law_order.proofs.Replying.{take-length}
 use Rattle.gx_law_order.proofs.Said.{CalmFor, Said, said-calm}
-use Rattle.gx_law_order.proofs.Sessions.{Tied, is_closing_in, is_live_in, is_working_in, stage_of}
-use Rattle.gx_law_order.proofs.Statuses.{Stage, stage, stage_in}
-use Rattle.gx_law_order.proofs.Statuses.Stage.{Closing, Live as LiveStage}
+use Rattle.gx_law_order.specs.Stages.Stage.{Closing, Live as LiveStage}
 use Rattle.gx_law_order.proofs.Unasked.{ArePosted, committing-append, live-unasked}
 use Rattle.gx_law_order.proofs.Ways.{AsksFor, CommandOf, Led, SaidOut, stands_for}
+use Rattle.gx_law_order.specs.Sessions.{Tied, is_closing_in, is_live_in, is_working_in}
+use Rattle.gx_law_order.specs.Stages.{Stage, stage, stage_in, stage_of}
 use Rattle.gx_law_order.proofs.World.{Knows}
 use Rattle.gx_law_order.specs.Alive.{IsHeard}
 use Rattle.gx_law_order.specs.Followed.{CommitsAt, DoMarksCommit, DoStepsCommit}

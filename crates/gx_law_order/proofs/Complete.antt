@@ -42,7 +42,8 @@ use Rattle.gx_rules.specs.Machine.{World, and_cancelled, coord_did, with_more}
 use Rattle.gx_rules.specs.Sending.{clock_after, counted, numbered}
 use Rattle.gx_rules.proofs.Rounds.{cancel-ways}
 use Rattle.gx_law_order.proofs.Induction.{after_turn, marks-by-event, marks-by-victim}
-use Rattle.gx_law_order.proofs.Lists.{Each, each_append, each_weaker, get_last}
+use Rattle.gx_law_order.proofs.Lists.{each_append, each_weaker, get_last}
+use Rattle.gx_law_order.specs.Lists.{Each}
 use Rattle.gx_law_order.proofs.Past.{aborted-append}
 use Rattle.gx_law_order.proofs.More.{get-more, take-more}
 use Rattle.gx_law_order.proofs.Moves.{HasNamed}

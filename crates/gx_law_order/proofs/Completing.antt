@@ -35,11 +35,12 @@ use Rattle.gx_rules.specs.Fits.{fits_part}
 use Rattle.gx_rules.specs.Rounds.{begins_round, rechecks, with_report}
 use Rattle.gx_rules.proofs.Rounds.{cancel-ways, graph-ways}
 use Rattle.gx_waits.specs.declared.graph.LocalGraph.{LocalGraph}
-use Rattle.gx_law_order.proofs.Lists.{Each}
+use Rattle.gx_law_order.specs.Lists.{Each}
 use Rattle.gx_law_order.proofs.Numbers.{NoStart}
-use Rattle.gx_law_order.proofs.Sessions.{Kept, is_working_in, stage_of}
-use Rattle.gx_law_order.proofs.Statuses.{Closes, Moves, Turned, commit-turns, reply-turns, stage, stage_in}
-use Rattle.gx_law_order.proofs.Statuses.Stage.{Closing, Live as LiveStage}
+use Rattle.gx_law_order.specs.Sessions.{Kept, is_working_in}
+use Rattle.gx_law_order.specs.Stages.{stage, stage_in, stage_of}
+use Rattle.gx_law_order.proofs.Statuses.{Closes, Moves, Turned, commit-turns, reply-turns}
+use Rattle.gx_law_order.specs.Stages.Stage.{Closing, Live as LiveStage}
 use Rattle.gx_store.proofs.Marks.{started_after-append}
 use Rattle.gx_law_order.specs.Standings.{Part, Standing, at, gx, known_at, standing_in, waits_in}
 use Rattle.gx_law_order.specs.Standings.Standing.{Live, Over}

@@ -41,14 +41,17 @@ use Rattle.gx_store.specs.declared.node.NodeEvent.TheVariants as event
 use Rattle.gx_store.specs.Journals.{items_from}
 use Rattle.gx_store.specs.Refusals.{the_coordinator}
 use Rattle.gx_store.specs.Writes.{dist_of}
-use Rattle.gx_rules.specs.AtCoordinator.{Reading, awaited, awaited_collect, begins, cancels, commits, completes, dispatches, ends_in, failure_marks, fault_mark, follows, goes, goes_on, is_awaited, is_refused, next_cid, next_line, on_answer, on_done, on_event, on_failed, on_line, on_message, on_status, reason_of, reads_by, reads_for, refusal_of, resends, starts, starts_line, table_of, takes_done, with_done, writers_with, behind, goes_on_locked, if_granted, lock_for, requests, resumes}
+use Rattle.gx_rules.specs.AtCoordinator.{Reading, awaited, awaited_collect, begins, cancels, commits, completes, dispatches, ends_in, failure_marks, fault_mark, follows, goes, goes_on, is_awaited, is_refused, next_cid, next_line, on_answer, on_done, on_event, on_failed, on_line, on_message, on_status, reason_of, reads_by, reads_for, refusal_of, resends, starts, starts_line, table_of, takes_done, with_done, writers_with, behind, goes_on_locked, if_granted, requests, resumes}
+use Rattle.gx_store.specs.Locks.{table_lock}
 use Rattle.gx_rules.specs.Coordinators.{Command, Coord, CoordTurn, Work, rests, session_of, with_work, work_of}
 use Rattle.gx_rules.specs.Fits.{fits_part}
 use Rattle.gx_rules.specs.Machine.{kept_item}
-use Rattle.gx_law_order.proofs.Lists.{Each, each_append}
+use Rattle.gx_law_order.proofs.Lists.{each_append}
+use Rattle.gx_law_order.specs.Lists.{Each}
 use Rattle.gx_law_order.proofs.SegItems.{Dull, dull-items}
 use Rattle.gx_rules.specs.Locks.{hold_mark, release_marks, with_hold}
-use Rattle.gx_locks.specs.Locks.{Locks, is_free, wait_of, resumed}
+use Rattle.gx_locks.specs.Locks.{Locks, wait_of, resumed}
+use Rattle.gx_waits.specs.Claims.{is_free}
 use Rattle.gx_waits.specs.declared.claim.Claim.{Claim}
 use Rattle.gx_waits.specs.declared.graph.LocalGraph.{LocalGraph}
 use Rattle.gx_rules.specs.Rounds.{begins_round, on_graph, with_report}
@@ -148,7 +151,7 @@ request-dull script c g line (Some wanted) = by_test (is_free c.locks.holds want
     by_test false = record { marks = (tt, tt); item = refl }
 
 dispatch-dull : (script : Script) (c : Coord) (g : Gxid) (line : Stmt) → IsDull (dispatches script c g line)
-dispatch-dull script c g line = request-dull script c g line (lock_for script g line)
+dispatch-dull script c g line = request-dull script c g line (table_lock script g line)
 
 resume-dull : (script : Script) (c : Coord) (g : Gxid) (o : Option Claim) (line : Option Stmt) → IsDull (resumes script c g o line)
 resume-dull script c g None line = rest-dull c
@@ -158,8 +161,8 @@ resume-dull script c g (Some wanted) (Some line) = held-dull script (with_work (
 -- lines
 line-dull : (script : Script) (c : Coord) (s : SessionId) (line : Stmt) (asked : LineStep) → IsDull (on_line script c s line asked)
 line-dull script c s line (step.Answer plain) = record { marks = (tt, tt); item = refl }
-line-dull script c s line step.Refuse5 = record { marks = (tt, tt); item = refl }
-line-dull script c s line step.Refuse7 = record { marks = (tt, tt); item = refl }
+line-dull script c s line step.InFailedBlock = record { marks = (tt, tt); item = refl }
+line-dull script c s line step.NotInBlock = record { marks = (tt, tt); item = refl }
 line-dull script c s line (step.BeginBlock level) = record { marks = (tt, (tt, tt)); item = refl }
 line-dull script c s line step.CommitBlock = commit-dull c (session_of c s).transaction
 line-dull script c s line step.RollbackBlock = record { marks = (tt, (tt, back-dull c.locks (session_of c s).transaction)); item = refl }

@@ -10,7 +10,7 @@ use Rattle.gx_store.specs.Journals.{is_same_node}
 use Rattle.gx_store.specs.Marks.{is_aborted, is_committed, is_same_gxid}
 use Rattle.gx_store.specs.Protocol.{decided_count, is_writer, local_count, prepared_count}
 use Rattle.gx_rules.specs.Sending.{counted, numbered}
-use Rattle.gx_law_order.proofs.Lists.{Each}
+use Rattle.gx_law_order.specs.Lists.{Each}
 
 pub writer-append : (xs ys : List Mark) (g : Gxid) (n : Node) → is_writer (xs ++ ys) g n ≡ is_writer xs g n || is_writer ys g n
 writer-append [] ys g n = refl

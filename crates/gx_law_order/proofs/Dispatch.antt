@@ -45,8 +45,9 @@ use Rattle.gx_store.specs.Writes.{dist_of}
 use Rattle.gx_rules.specs.AtCoordinator.{Reading, behind, dispatches, enlisted_all, fault_mark, faulting_from, goes, goes_out, kept_at, next_cid, nodes_in, orders_of, reads_by, reads_for, refusal_of, table_of, takes_snapshot, goes_on_locked, waits_for}
 use Rattle.gx_rules.specs.Coordinators.{Command, Coord, CoordTurn, Session, Work, work_of}
 use Rattle.gx_rules.specs.Slices.{cause_of}
-use Rattle.gx_law_order.proofs.Lists.{Each, each_append, get_last}
-use Rattle.gx_law_order.proofs.Past.{Past}
+use Rattle.gx_law_order.proofs.Lists.{each_append, get_last}
+use Rattle.gx_law_order.specs.Lists.{Each}
+use Rattle.gx_law_order.specs.Past.{Past}
 use Rattle.gx_law_order.specs.Scanned.{command_at}
 use Rattle.gx_law_order.specs.Orders.{IsReadBy}
 use Rattle.gx_law_order.specs.Rest.{Rest, UnlessStart}

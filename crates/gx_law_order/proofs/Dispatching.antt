@@ -34,12 +34,15 @@ use Rattle.gx_store.specs.declared.mark.Mark.TheVariants as mark
 use Rattle.gx_store.specs.Marks.{is_aborted, is_committed}
 use Rattle.gx_store.specs.Protocol.{decided_count, local_count}
 use Rattle.gx_store.specs.Writes.{dist_of}
-use Rattle.gx_rules.specs.AtCoordinator.{Reading, answer_mark, answer_of_command, answers, completes, dispatches, enlisted_all, fault_mark, goes, goes_on, goes_out, is_refused, kept_at, next_cid, nodes_in, orders_of, reads_by, reads_for, refusal_of, rolls_back, table_of, takes_done, takes_snapshot, unless_kept, with_done, writers_with, behind, goes_on_locked, if_granted, lock_for, requests, resumes}
+use Rattle.gx_rules.specs.AtCoordinator.{Reading, answer_mark, answer_of_command, answers, completes, dispatches, enlisted_all, fault_mark, goes, goes_on, goes_out, is_refused, kept_at, next_cid, nodes_in, orders_of, reads_by, reads_for, refusal_of, rolls_back, table_of, takes_done, takes_snapshot, unless_kept, with_done, writers_with, behind, goes_on_locked, if_granted, requests, resumes}
+use Rattle.gx_store.specs.Locks.{table_lock}
 use Rattle.gx_rules.specs.Coordinators.{Command, Coord, Work, session_of, with_work, work_of}
 use Rattle.gx_rules.specs.Snapshots.{snapshot_of}
 use Rattle.gx_law_order.proofs.Closings.{live-at, set_live}
-use Rattle.gx_law_order.proofs.Lists.{Each, each_append}
-use Rattle.gx_law_order.proofs.Stages.{At, IsWhole, left_of, txn-at}
+use Rattle.gx_law_order.proofs.Lists.{each_append}
+use Rattle.gx_law_order.specs.Lists.{Each}
+use Rattle.gx_law_order.proofs.Stages.{At, left_of, txn-at}
+use Rattle.gx_law_order.specs.Stages.{IsWhole}
 use Rattle.gx_law_order.specs.Said.{IsDone, Said}
 use Rattle.gx_law_order.specs.Standings.{Known, Part, at, gx, is_undecided, known_at, known_of, standing, standing_in, waits_in}
 use Rattle.gx_law_order.specs.Standings.Standing.{Live}
@@ -48,7 +51,8 @@ use Rattle.gx_law_order.proofs.Calls.{Mute, abort-led, becomes-calm, commits-rea
 use Rattle.gx_law_order.proofs.Nodes.{AreApart, apart-with, each-has, has-with, has-without}
 use Rattle.gx_law_order.proofs.Shifts.{Shift, is-sent, learn-shift, send-shift, sending, shift-same}
 use Rattle.gx_law_order.proofs.Ways.{Agrees, AgreesIn, CommandOf, Fol, IsOrderOf, Led, Same, SaidOut, Stands, Way, Working, at-one, fol-no-part, rest-led, same-then, way-same, way-then}
-use Rattle.gx_locks.specs.Locks.{Locks, is_free, resumed, wait_of}
+use Rattle.gx_locks.specs.Locks.{Locks, resumed, wait_of}
+use Rattle.gx_waits.specs.Claims.{is_free}
 use Rattle.gx_rules.specs.Locks.{release_marks, hold_mark, wait_mark, with_hold, with_wait}
 use Rattle.gx_waits.specs.declared.claim.Claim.{Claim}
 use Rattle.gx_store.specs.Refusals.{the_coordinator}
@@ -362,7 +366,7 @@ module _ (script : Script) (P : ℕ → ℕ → Part) (c : Coord) (ms : List Mar
       by_test false = record { way = waiting-led (with_wait c.locks wanted) (Some line) (wait_mark the_coordinator wanted) tt; outs = tt }
 
   pub dispatch-led : (line : Stmt) → Led script P c ms (dispatches script c (gx g) line)
-  dispatch-led line = request-led line (lock_for script (gx g) line)
+  dispatch-led line = request-led line (table_lock script (gx g) line)
 
   -- a statement that has waited goes out
   pub resume-led : (line : Stmt) (wanted : Claim) → Led script P c ms (resumes script c (gx g) (Some wanted) (Some line))

@@ -29,7 +29,7 @@ use Rattle.gx_law_order.proofs.Dispatches.{resume-ways}
 use Rattle.gx_law_order.proofs.Induction.{IsReceipt, IsThere}
 use Rattle.gx_law_order.proofs.Letters.{IsFound, found_is}
 use Rattle.gx_law_order.proofs.Places.{collects-each}
-use Rattle.gx_law_order.proofs.Sessions.{is_nothing_in}
+use Rattle.gx_law_order.specs.Sessions.{is_nothing_in}
 use Rattle.gx_law_order.proofs.World.{Knows}
 use Rattle.gx_law_order.specs.Rest.{StartsNothing}
 use Rattle.gx_law_order.proofs.Awaited.{OutAwaits, resent-awaits}

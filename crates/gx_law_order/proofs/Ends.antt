@@ -12,12 +12,13 @@ use Rattle.gx_store.specs.declared.mark.Mark.{Mark}
 use Rattle.gx_store.specs.Marks.{is_aborted, is_committed, is_ended}
 use Rattle.gx_rules.specs.Coordinators.{Coord}
 use Rattle.gx_rules.specs.Snapshots.{latest_number}
-use Rattle.gx_law_order.proofs.Lists.{Each}
-use Rattle.gx_law_order.proofs.Past.{Past, Still, aborted-append, committed-append, running-drawn, still-committed}
-use Rattle.gx_law_order.proofs.Sessions.{stage_of}
-use Rattle.gx_law_order.proofs.Stages.{IsWhole, append-at, gx}
-use Rattle.gx_law_order.proofs.Statuses.{Stage, is_running, stage}
-use Rattle.gx_law_order.proofs.Statuses.Stage.{Live, Dropped}
+use Rattle.gx_law_order.specs.Lists.{Each}
+use Rattle.gx_law_order.proofs.Past.{Still, aborted-append, committed-append, running-drawn, still-committed}
+use Rattle.gx_law_order.specs.Past.{Past}
+use Rattle.gx_law_order.specs.Stages.{IsWhole, Stage, is_running, stage, stage_of}
+use Rattle.gx_law_order.proofs.Stages.{append-at}
+use Rattle.gx_law_order.specs.Standings.{gx}
+use Rattle.gx_law_order.specs.Stages.Stage.{Dropped, Live}
 
 -- what holds of one transaction after an event, behind marks `ms` and with the event's marks `ns`
 pub record AtOne (next g : ℕ) (b : Stage) (marks : List Mark) (latest : ℕ) : Type 0 where

@@ -47,14 +47,13 @@ use Rattle.gx_rules.specs.Rounds.{awaits_graph, begins_round, is_active, is_live
 use Rattle.gx_rules.proofs.Rounds.{cancel-ways, graph-ways}
 use Rattle.gx_law_order.proofs.Ends.{begun-finds}
 use Rattle.gx_law_order.proofs.Lines.{Asks, asks, begun-whole}
-use Rattle.gx_law_order.proofs.Lists.{Each}
-use Rattle.gx_law_order.proofs.Past.{Past}
+use Rattle.gx_law_order.specs.Lists.{Each}
+use Rattle.gx_law_order.specs.Past.{Past}
 use Rattle.gx_law_order.proofs.Places.{collects-each}
-use Rattle.gx_law_order.proofs.Sessions.{Kept, is_nothing_in, is_open_in, is_working_in, stage_of}
-use Rattle.gx_law_order.proofs.Stages.{IsWhole}
-use Rattle.gx_law_order.proofs.Statuses.{stage, stage_in}
-use Rattle.gx_law_order.proofs.Statuses.Stage.{Live as LiveStage}
-use Rattle.gx_law_order.proofs.Tables.{AreIn}
+use Rattle.gx_law_order.specs.Places.{AreIn}
+use Rattle.gx_law_order.specs.Sessions.{Kept, is_nothing_in, is_open_in, is_working_in}
+use Rattle.gx_law_order.specs.Stages.{IsWhole, stage, stage_in, stage_of}
+use Rattle.gx_law_order.specs.Stages.Stage.{Live as LiveStage}
 use Rattle.gx_law_order.specs.Pairs.{Pair}
 use Rattle.gx_law_order.specs.Said.{Answers, IsDone, Said, gxid_in, is_answer}
 use Rattle.gx_law_order.specs.Standings.{Part, at, gx, is_closing, known_at, standing_in, waits_in}
@@ -368,8 +367,8 @@ module _ (script : Script) (P : ℕ → ℕ → Part) (c : Coord) (ms : List Mar
 
     line-led : (line : Stmt) (asked : LineStep) → Asks block asked → Leads (on_line script (starts_line c s asked) s line asked)
     line-led line (step.Answer plain) a = at-once (step.Answer plain) _
-    line-led line step.Refuse5 a = at-once step.Refuse5 _
-    line-led line step.Refuse7 a = at-once step.Refuse7 _
+    line-led line step.InFailedBlock a = at-once step.InFailedBlock _
+    line-led line step.NotInBlock a = at-once step.NotInBlock _
     line-led line (step.BeginBlock level) a = begin-led level
     line-led line step.CommitBlock a = commit-led a
     line-led line step.RollbackBlock a = rollback-led a

@@ -35,7 +35,8 @@ use Rattle.gx_rules.specs.Machine.{Letter, World, and_cancelled, coord_did, post
 use Rattle.gx_rules.specs.Segments.{Local, Phase, Seg, SegTurn, Suspended, has_committed, local_of}
 use Rattle.gx_rules.specs.Sending.{clock_after, counted, numbered}
 use Rattle.gx_law_order.proofs.Induction.{after_turn, marks-by-event, marks-by-victim}
-use Rattle.gx_law_order.proofs.Lists.{Each, each_weaker}
+use Rattle.gx_law_order.proofs.Lists.{each_weaker}
+use Rattle.gx_law_order.specs.Lists.{Each}
 use Rattle.gx_law_order.proofs.Past.{aborted-append, committed-append}
 use Rattle.gx_law_order.proofs.Waiting.{GoesOn, Waits, going-on, going-out, going-ways}
 use Rattle.gx_law_order.proofs.More.{marks-last}
@@ -55,7 +56,7 @@ use Rattle.gx_law_order.proofs.Following.{AreUnfailed, HasReached, alone-unfaile
 use Rattle.gx_law_order.proofs.Handled.{Does, Follows, HasMark, Tells, after_marks, handled, part-eq, went-on}
 use Rattle.gx_law_order.proofs.Later.{end-more, tell-more}
 use Rattle.gx_law_order.proofs.Parts.{said-grows}
-use Rattle.gx_law_order.proofs.Tables.{AreIn}
+use Rattle.gx_law_order.specs.Places.{AreIn}
 use Rattle.gx_law_order.proofs.RightOrders.{IsRightOrder, live-of, one-of, right-order}
 use Rattle.gx_law_order.proofs.Unfinished.{IsUnfinished, aborted-unfinished}
 use Rattle.gx_law_order.proofs.Ways.{Agrees, Fol, FolAt, Led, SaidOut, Stands, agrees-append, known-eq}

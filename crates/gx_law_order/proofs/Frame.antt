@@ -16,8 +16,8 @@ use Rattle.gx_store.specs.Lines.{state_of}
 use Rattle.gx_store.specs.Marks.{answer_count, has_snapshot, is_begun, is_ended, started_after}
 use Rattle.gx_store.specs.Points.{ends_by, ends_in, marks_in, starts_by, starts_in}
 use Rattle.gx_rules.specs.Coordinators.{Coord, CoordTurn, Session, Work}
-use Rattle.gx_law_order.proofs.Lists.{Each}
-use Rattle.gx_law_order.proofs.Stages.{gx}
+use Rattle.gx_law_order.specs.Lists.{Each}
+use Rattle.gx_law_order.specs.Standings.{gx}
 use Rattle.gx_law_order.specs.Finish.{AreCommandsTold}
 use Rattle.gx_law_order.specs.Rest.{EachMark, Rest}
 use Rattle.gx_law_order.specs.Standing.{IsLineOf, IsOver, IsStanding, Owns, Roots, Stands, is_busy, waits}

@@ -18,7 +18,8 @@ use Rattle.gx_msg.specs.declared.reply.Reply.TheVariants as reply
 use Rattle.gx_law_order.proofs.Closings.{live-at, set_live}
 use Rattle.gx_law_order.proofs.Ends.{begun-finds}
 use Rattle.gx_law_order.proofs.Lines.{undrawn}
-use Rattle.gx_law_order.proofs.Stages.{At, IsWhole, changed-at, left_of, txn-at}
+use Rattle.gx_law_order.proofs.Stages.{At, changed-at, left_of, txn-at}
+use Rattle.gx_law_order.specs.Stages.{IsWhole}
 use Rattle.gx_law_order.specs.Standings.{at, gx}
 use Rattle.gx_law_order.proofs.Nodes.{has-with, has-without}
 

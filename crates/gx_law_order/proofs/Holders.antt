@@ -25,7 +25,8 @@ use Rattle.gx_rules.specs.Segments.{Local, Seg, SegTurn, has_ended}
 use Rattle.gx_rules.specs.Sending.{clock_after}
 use Rattle.gx_law_order.proofs.AtCoordinators.{cancel_stays, coord_stays}
 use Rattle.gx_law_order.proofs.Induction.{after_turn}
-use Rattle.gx_law_order.proofs.Lists.{Each, each_weaker}
+use Rattle.gx_law_order.proofs.Lists.{each_weaker}
+use Rattle.gx_law_order.specs.Lists.{Each}
 use Rattle.gx_law_order.proofs.Waiting.{going-out}
 use Rattle.gx_law_order.proofs.World.{Knows}
 use Rattle.gx_law_order.specs.Said.{gxid_in, is_answer}

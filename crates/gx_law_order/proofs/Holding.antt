@@ -47,7 +47,8 @@ use Rattle.gx_store.specs.declared.node.NodeEvent.{NodeEvent}
 use Rattle.gx_store.specs.declared.node.NodeEvent.TheVariants as event
 use Rattle.gx_store.specs.Writes.{dist_of}
 use Rattle.gx_store.specs.declared.answer.StmtAnswer.TheVariants as told
-use Rattle.gx_rules.specs.AtCoordinator.{Reading, answers, awaited, awaited_collect, begins, behind, cancels, command_order, commits, completes, coord_can, dispatches, ends_in, enlisted_all, fault_mark, follows, goes, goes_on, is_awaited, is_committed as is_closed, is_idle, is_nothing, is_refused, kept_at, next_cid, next_line, nodes_in, on_answer, on_done, on_event, on_failed, on_line, on_message, on_status, order_to, orders_of, reads_by, reads_for, reason_of, refusal_of, resends, resumes, rolls_back, starts, starts_line, status_order, table_of, takes_done, takes_snapshot, unless_kept, with_done, writers_with, goes_on_locked, if_granted, lock_for, requests, answer_mark}
+use Rattle.gx_rules.specs.AtCoordinator.{Reading, answers, awaited, awaited_collect, begins, behind, cancels, command_order, commits, completes, coord_can, dispatches, ends_in, enlisted_all, fault_mark, follows, goes, goes_on, is_awaited, is_committed as is_closed, is_idle, is_nothing, is_refused, kept_at, next_cid, next_line, nodes_in, on_answer, on_done, on_event, on_failed, on_line, on_message, on_status, order_to, orders_of, reads_by, reads_for, reason_of, refusal_of, resends, resumes, rolls_back, starts, starts_line, status_order, table_of, takes_done, takes_snapshot, unless_kept, with_done, writers_with, goes_on_locked, if_granted, requests, answer_mark}
+use Rattle.gx_store.specs.Locks.{table_lock}
 use Rattle.gx_rules.specs.Coordinators.{Command, Coord, CoordTurn, Session, Work, new_work, no_work, rests, session_of, with_session, with_state, with_work, work_of}
 use Rattle.gx_rules.specs.Fits.{fits_part}
 use Rattle.gx_rules.specs.Maps.{with_at}
@@ -57,17 +58,20 @@ use Rattle.gx_rules.specs.Snapshots.{snapshot_of}
 use Rattle.gx_law_order.proofs.Closings.{live-at, set_live}
 use Rattle.gx_law_order.proofs.Ends.{begun-finds}
 use Rattle.gx_law_order.proofs.Lines.{Asks, asks, begun-whole}
-use Rattle.gx_law_order.proofs.Lists.{Each, each_weaker}
+use Rattle.gx_law_order.proofs.Lists.{each_weaker}
+use Rattle.gx_law_order.specs.Lists.{Each}
 use Rattle.gx_law_order.proofs.Places.{collects-each}
-use Rattle.gx_law_order.proofs.Sessions.{Kept, is_nothing_in}
-use Rattle.gx_law_order.proofs.Stages.{IsWhole, txn-at}
+use Rattle.gx_law_order.specs.Sessions.{Kept, is_nothing_in}
+use Rattle.gx_law_order.specs.Stages.{IsWhole}
+use Rattle.gx_law_order.proofs.Stages.{txn-at}
 use Rattle.gx_law_order.specs.Standings.{at, gx}
 use Rattle.gx_law_order.proofs.Dispatching.{IsLive, each-unmap, goes-out-is}
 use Rattle.gx_law_order.proofs.Events.{live-stage}
 use Rattle.gx_law_order.proofs.Held.{ChangeHeld, GoesOn, SaysEnded, abort-held, begun-held, changed-held, commit-held, held_in, is_awaited_at, is_held, live-held, one-held, reply-held}
 use Rattle.gx_law_order.proofs.Lowered.{NoExec, NoneOf, abort-none, commit-none, reply-none}
 use Rattle.gx_law_order.proofs.Nodes.{each-has, has-with}
-use Rattle.gx_locks.specs.Locks.{is_free, resumed, wait_of}
+use Rattle.gx_locks.specs.Locks.{resumed, wait_of}
+use Rattle.gx_waits.specs.Claims.{is_free}
 use Rattle.gx_rules.specs.Locks.{with_hold}
 use Rattle.gx_waits.specs.declared.claim.Claim.{Claim}
 use Rattle.gx_waits.specs.declared.graph.LocalGraph.{LocalGraph}
@@ -386,7 +390,7 @@ module _ (E : ℕ → ℕ → Bool) where
         by_test false = record { table = same-on c.table; orders = work-at c.table c.works g (record (c.works g) { waiting = Some line }) ol (ol g); outs = tt }
 
     dispatch-holds : Holding c (dispatches script c (gx g) line)
-    dispatch-holds = request-holds (lock_for script (gx g) line)
+    dispatch-holds = request-holds (table_lock script (gx g) line)
 
   -- LINES, AND ALL EVENTS
   module _ (script : Script) (c : Coord) (k : Kept script c) (ol : OrdersHeld c.table c.works) where
@@ -411,8 +415,8 @@ module _ (E : ℕ → ℕ → Bool) where
 
       line-holds : (line : Stmt) (asked : LineStep) → Asks block asked → Holding c (on_line script (starts_line c s asked) s line asked)
       line-holds line (step.Answer plain) a = record { table = same-on c.table; orders = ol; outs = tt }
-      line-holds line step.Refuse5 a = record { table = same-on c.table; orders = ol; outs = tt }
-      line-holds line step.Refuse7 a = record { table = same-on c.table; orders = ol; outs = tt }
+      line-holds line step.InFailedBlock a = record { table = same-on c.table; orders = ol; outs = tt }
+      line-holds line step.NotInBlock a = record { table = same-on c.table; orders = ol; outs = tt }
       line-holds line (step.BeginBlock level) a = begins-holds (step.BeginBlock level) level _ (record { table = same-on (begun c.table); orders = begun-orders level; outs = tt })
       line-holds line step.CommitBlock a = moved-holds s _ _ (commit-holds (starts_line c s step.CommitBlock) k.whole ol (session_of (starts_line c s step.CommitBlock) s).transaction)
       line-holds line step.RollbackBlock a = moved-holds s _ _ (rolling-holds (starts_line c s step.RollbackBlock) k.whole ol (session_of (starts_line c s step.RollbackBlock) s).transaction (answer_mark (starts_line c s step.RollbackBlock) s told.Rollback ∷ []))

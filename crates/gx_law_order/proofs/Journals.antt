@@ -32,13 +32,14 @@ use Rattle.gx_law_order.proofs.CoordItems.{Stands, cancel-dull, event-stands}
 use Rattle.gx_law_order.proofs.Letters.{same_node}
 use Rattle.gx_law_order.proofs.AtCoordinators.{CoordStays, cancel_stays, coord_stays}
 use Rattle.gx_law_order.proofs.Induction.{after_turn, at-moves, marks-by-event, marks-by-victim, place-of}
-use Rattle.gx_law_order.proofs.Lists.{Each, each_append}
+use Rattle.gx_law_order.proofs.Lists.{each_append}
+use Rattle.gx_law_order.specs.Lists.{Each}
 use Rattle.gx_law_order.proofs.Moves.{comes, moves_after, world-moves}
 use Rattle.gx_law_order.proofs.More.{marks-last}
 use Rattle.gx_law_order.proofs.Ordered.{Well, at-both, happens_well, moves_well, new_well, rule-at, seg_marks, sends-at}
 use Rattle.gx_law_order.proofs.SegItems.{Bound, Dull, Holds, Items, dull-items, dull-prepared, event_items, items-append, prepared-append, writes-append, writes_at}
 use Rattle.gx_law_order.proofs.Sent.{at}
-use Rattle.gx_law_order.proofs.Stages.{gx}
+use Rattle.gx_law_order.specs.Standings.{gx}
 use Rattle.gx_ids.specs.declared.ids.Gxid.{Gxid}
 
 -- what the segments hold of the marks

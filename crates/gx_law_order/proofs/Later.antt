@@ -29,7 +29,7 @@ use Rattle.gx_store.specs.Protocol.{CommitsAlone, CommitsAsPromised, CommitsTher
 use Rattle.gx_rules.specs.Machine.{with_more}
 use Rattle.gx_rules.specs.Sending.{counted, numbered}
 use Rattle.gx_rules.proofs.Turns.{with_more-last}
-use Rattle.gx_law_order.proofs.Lists.{Each}
+use Rattle.gx_law_order.specs.Lists.{Each}
 use Rattle.gx_law_order.specs.Followed.{AnswersAt, CommitsAt, DoMarksAnswer, DoMarksCommit, DoMarksEnd, DoStepsAnswer, DoStepsCommit, DoStepsEnd, EndsAt}
 use Rattle.gx_law_order.specs.Told.{AreTold, DoStepsTell}
 use Rattle.gx_law_order.proofs.Counts.{NoSent}

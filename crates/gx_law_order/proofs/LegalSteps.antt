@@ -17,7 +17,7 @@ use Rattle.gx_store.specs.Marks.{is_aborted, is_same_session, started_after}
 use Rattle.gx_store.specs.Ordered.{IsAtNode}
 use Rattle.gx_store.proofs.Marks.{is_aborted-append, started_after-append}
 use Rattle.gx_store.specs.Refusals.{the_coordinator}
-use Rattle.gx_law_order.proofs.Lists.{Each}
+use Rattle.gx_law_order.specs.Lists.{Each}
 use Rattle.gx_law_order.proofs.Numbers.{NoStart}
 use Rattle.gx_law_order.proofs.Sent.{at}
 use Rattle.gx_law_order.specs.Rest.{AreEventsLegal, AreRestLegal, EachMark, Rest, StartsNothing, is_going_out, unless}

@@ -14,7 +14,8 @@ use Rattle.gx_store.specs.Journals.{is_same_node}
 use Rattle.gx_store.specs.Messages.{IsSending}
 use Rattle.gx_store.specs.Ordered.{IsAtNode, IsLink}
 use Rattle.gx_rules.specs.Machine.{Letter, found, is_at, posted}
-use Rattle.gx_law_order.proofs.Lists.{Each, get_last}
+use Rattle.gx_law_order.proofs.Lists.{get_last}
+use Rattle.gx_law_order.specs.Lists.{Each}
 
 pub record IsLetter (script : Script) (steps : List Step) (l : Letter) : Type 0 where
   pub link : IsLink script l.from l.to

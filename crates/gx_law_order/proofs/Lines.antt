@@ -29,14 +29,18 @@ use Rattle.gx_rules.specs.Coordinators.{Command, Coord, Session, new_work, rests
 use Rattle.gx_law_order.proofs.Closings.{behind-good, commits-good, past-same}
 use Rattle.gx_law_order.proofs.Commands.{dispatch-good, same-finds}
 use Rattle.gx_law_order.proofs.Ends.{begun-finds, past-begun}
-use Rattle.gx_law_order.proofs.Lists.{Each}
-use Rattle.gx_law_order.proofs.Past.{Past, Still, still-committed}
-use Rattle.gx_law_order.proofs.Sessions.{Kept, Placed, Tied, is_live_in, is_nothing_in, is_open_in, is_working_in, kept-idle, stage_of}
-use Rattle.gx_law_order.proofs.Stages.{Apart, Below, IsWhole, gx, none-at}
-use Rattle.gx_law_order.proofs.Statuses.{Falls, Turned, abort-turns, stage}
-use Rattle.gx_law_order.proofs.Statuses.Stage.{Absent, Live, Closing}
+use Rattle.gx_law_order.specs.Lists.{Each}
+use Rattle.gx_law_order.proofs.Past.{Still, still-committed}
+use Rattle.gx_law_order.specs.Past.{Past}
+use Rattle.gx_law_order.proofs.Sessions.{kept-idle}
+use Rattle.gx_law_order.specs.Sessions.{IsQueued, Kept, Placed, Tied, is_live_in, is_nothing_in, is_open_in, is_working_in}
+use Rattle.gx_law_order.specs.Stages.{Apart, Below, IsWhole, stage, stage_of}
+use Rattle.gx_law_order.proofs.Stages.{none-at}
+use Rattle.gx_law_order.specs.Standings.{gx}
+use Rattle.gx_law_order.proofs.Statuses.{Falls, Turned, abort-turns}
+use Rattle.gx_law_order.specs.Stages.Stage.{Absent, Closing, Live}
 use Rattle.gx_law_order.proofs.Turns.{Base, Good, base-kept, falls-is, merged, rolled-good, same-sessions, same-works, stage-is}
-use Rattle.gx_law_order.proofs.Queued.{IsQueued, Queues, queue-stays, queued-by}
+use Rattle.gx_law_order.proofs.Queued.{Queues, queue-stays, queued-by}
 
 -- marks that tell of no end
 pub past-still : (c d : Coord) (before ns : List Mark) → Past c before → d.table ≡ c.table → Each Still ns → Past d (before ++ ns)
@@ -49,8 +53,8 @@ rest-good c before k p = record { kept = k; past = subst (λ m. Past c m) (sym (
 -- what a line asks for, by the block
 abbrev pub Asks : Block → LineStep → Type 0
 Asks b (step.Answer plain) = is_open_in (block_after b (step.Answer plain)) ≡ is_open_in b
-Asks b step.Refuse5 = Unit {0}
-Asks b step.Refuse7 = Unit {0}
+Asks b step.InFailedBlock = Unit {0}
+Asks b step.NotInBlock = Unit {0}
 Asks b (step.BeginBlock level) = b ≡ Outside
 Asks b step.CommitBlock = is_open_in b ≡ true
 Asks b step.RollbackBlock = is_open_in b ≡ true
@@ -83,15 +87,15 @@ asks Failed (stmt.Insert t x) = tt
 asks Failed (stmt.Update t x y) = tt
 asks Failed (stmt.Delete t x) = tt
 
-same5 : (b : Block) → is_open_in (block_after b step.Refuse5) ≡ is_open_in b
-same5 Outside = refl
-same5 (Open level) = refl
-same5 Failed = refl
+same-failed : (b : Block) → is_open_in (block_after b step.InFailedBlock) ≡ is_open_in b
+same-failed Outside = refl
+same-failed (Open level) = refl
+same-failed Failed = refl
 
-same7 : (b : Block) → is_open_in (block_after b step.Refuse7) ≡ is_open_in b
-same7 Outside = refl
-same7 (Open level) = refl
-same7 Failed = refl
+same-outside : (b : Block) → is_open_in (block_after b step.NotInBlock) ≡ is_open_in b
+same-outside Outside = refl
+same-outside (Open level) = refl
+same-outside Failed = refl
 
 -- A SESSION IN A BLOCK, AND ITS TRANSACTION
 base-own : {script : Script} (c : Coord) (s : SessionId) (y : Session) → Kept script c → is_open_in (session_of c s).state.block ≡ true → is_nothing_in (session_of c s).state.pending ≡ true → y.transaction ≡ (session_of c s).transaction → Base script c (with_session c s y) (session_of c s).transaction.0 s.0 (c.works (session_of c s).transaction.0) y Live
@@ -218,7 +222,7 @@ module _ (script : Script) (c : Coord) (before : List Mark) (k : Kept script c) 
       past-table : Past c before → Past (starts_line c s step.CommitBlock) before
       past-table p = record { committed = p.committed; ended = p.ended; dropped = p.dropped; latest = p.latest; drawn = p.drawn }
 
-      closing : (b : Block) → is_open_in b ≡ true → Rattle.gx_law_order.proofs.Sessions.is_closing_in (block_after b step.CommitBlock) pending.Commit ≡ true
+      closing : (b : Block) → is_open_in b ≡ true → Rattle.gx_law_order.specs.Sessions.is_closing_in (block_after b step.CommitBlock) pending.Commit ≡ true
       closing b e = grind arith
 
   roll-good : (c1 : Coord) (y : Session) (marks : List Mark) → Base script c c1 (session_of c s).transaction.0 s.0 (c.works (session_of c s).transaction.0) y Live → Past c1 before → Each Still marks → is_open_in y.state.block ≡ false → Good script before (rolls_back c1 (session_of c s).transaction marks (on_abort c1.table (session_of c s).transaction))
@@ -329,8 +333,8 @@ module _ (script : Script) (c : Coord) (before : List Mark) (k : Kept script c) 
 
   line-good : (line : Stmt) (asked : LineStep) → Asks block asked → Good script before (on_line script (starts_line c s asked) s line asked)
   line-good line (step.Answer plain) a = at-once-good (step.Answer plain) _ refl a
-  line-good line step.Refuse5 a = at-once-good step.Refuse5 _ refl (same5 block)
-  line-good line step.Refuse7 a = at-once-good step.Refuse7 _ refl (same7 block)
+  line-good line step.InFailedBlock a = at-once-good step.InFailedBlock _ refl (same-failed block)
+  line-good line step.NotInBlock a = at-once-good step.NotInBlock _ refl (same-outside block)
   line-good line (step.BeginBlock level) a = begin-good level a
   line-good line step.CommitBlock a = commit-good a
   line-good line step.RollbackBlock a = rollback-good a

@@ -11,7 +11,7 @@ use Rattle.gx_store.specs.declared.run.Step.{Step}
 use Rattle.gx_store.specs.Refusals.{the_coordinator}
 use Rattle.gx_rules.specs.Locks.{release_marks}
 use Rattle.gx_law_order.proofs.Releases.{each-released}
-use Rattle.gx_law_order.proofs.Lists.{Each}
+use Rattle.gx_law_order.specs.Lists.{Each}
 use Rattle.gx_law_order.specs.Rest.{EachMark, Rest}
 use Rattle.gx_law_order.proofs.Others.{IsOf}
 use Rattle.gx_law_order.proofs.Given.{Given}

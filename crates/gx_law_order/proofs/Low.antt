@@ -26,10 +26,11 @@ use Rattle.gx_rules.specs.Sending.{clock_after}
 use Rattle.gx_law_order.proofs.AtCoordinators.{cancel_stays, coord_stays}
 use Rattle.gx_law_order.proofs.AtSegments.{PlainAt, seg_stays}
 use Rattle.gx_law_order.proofs.Letters.{found_is}
-use Rattle.gx_law_order.proofs.Lists.{Each, each_weaker}
+use Rattle.gx_law_order.proofs.Lists.{each_weaker}
+use Rattle.gx_law_order.specs.Lists.{Each}
 use Rattle.gx_law_order.proofs.Induction.{IsThere, after_turn, at-events}
 use Rattle.gx_law_order.proofs.Sent.{at}
-use Rattle.gx_law_order.proofs.Stages.{IsWhole}
+use Rattle.gx_law_order.specs.Stages.{IsWhole}
 use Rattle.gx_law_order.proofs.World.{Knows, moves_knows}
 use Rattle.gx_store.specs.declared.run.Step.{Step}
 use Rattle.gx_law_order.specs.Horizons.{AreHorizonsLow, AreLowIn, IsLow, IsLowIn}

@@ -43,7 +43,8 @@ use Rattle.gx_store.specs.declared.node.NodeEvent.{NodeEvent}
 use Rattle.gx_store.specs.declared.node.NodeEvent.TheVariants as event
 use Rattle.gx_store.specs.Writes.{dist_of}
 use Rattle.gx_store.specs.declared.answer.StmtAnswer.TheVariants as told
-use Rattle.gx_rules.specs.AtCoordinator.{Reading, answer_mark, answers, answers_at_once, awaited, awaited_collect, begins, cancels, behind, command_order, commits, completes, dispatches, ends_in, fault_mark, follows, goes, goes_on, goes_out, is_awaited, is_committed as is_closed, is_refused, kept_at, next_cid, next_line, nodes_in, on_answer, on_done, on_event, on_failed, on_line, on_message, on_status, order_to, orders_of, reads_by, reads_for, reason_of, refusal_of, resends, rolls_back, starts, starts_line, status_order, table_of, takes_done, takes_snapshot, with_done, writers_with, goes_on_locked, if_granted, lock_for, requests, resumes}
+use Rattle.gx_rules.specs.AtCoordinator.{Reading, answer_mark, answers, answers_at_once, awaited, awaited_collect, begins, cancels, behind, command_order, commits, completes, dispatches, ends_in, fault_mark, follows, goes, goes_on, goes_out, is_awaited, is_committed as is_closed, is_refused, kept_at, next_cid, next_line, nodes_in, on_answer, on_done, on_event, on_failed, on_line, on_message, on_status, order_to, orders_of, reads_by, reads_for, reason_of, refusal_of, resends, rolls_back, starts, starts_line, status_order, table_of, takes_done, takes_snapshot, with_done, writers_with, goes_on_locked, if_granted, requests, resumes}
+use Rattle.gx_store.specs.Locks.{table_lock}
 use Rattle.gx_rules.specs.Coordinators.{Command, Coord, CoordTurn, Session, Work, new_work, no_work, rests, session_of, with_session, with_state, with_work, work_of}
 use Rattle.gx_rules.specs.Fits.{fits_part}
 use Rattle.gx_rules.specs.Maps.{with_at}
@@ -51,11 +52,13 @@ use Rattle.gx_rules.specs.Rounds.{awaits_graph}
 use Rattle.gx_rules.proofs.Rounds.{cancel-ways, graph-ways}
 use Rattle.gx_law_order.proofs.Places.{collects-each}
 use Rattle.gx_store.specs.declared.answer.Refused.TheVariants.{Victim}
-use Rattle.gx_law_order.proofs.Lists.{Each, each_weaker}
-use Rattle.gx_law_order.proofs.Stages.{IsWhole}
+use Rattle.gx_law_order.proofs.Lists.{each_weaker}
+use Rattle.gx_law_order.specs.Lists.{Each}
+use Rattle.gx_law_order.specs.Stages.{IsWhole}
 use Rattle.gx_law_order.specs.Horizons.{IsLow, IsLowIn}
 use Rattle.gx_law_order.proofs.Lows.{Fits, IsDense, all-fits, begun-dense, begun-fits, changed-fits, horizon-fits, live-dense, live-fits, none-fits}
-use Rattle.gx_locks.specs.Locks.{Locks, is_free, resumed, wait_of}
+use Rattle.gx_locks.specs.Locks.{Locks, resumed, wait_of}
+use Rattle.gx_waits.specs.Claims.{is_free}
 use Rattle.gx_rules.specs.Locks.{hold_mark, with_hold}
 use Rattle.gx_waits.specs.declared.claim.Claim.{Claim}
 use Rattle.gx_store.specs.Refusals.{the_coordinator}
@@ -395,7 +398,7 @@ module _ (script : Script) (c : Coord) (whole : IsWhole c.table) (dense : IsDens
       by_test false = record { table = λ n f. f; orders = work-at c.table c.works g.0 (record (work_of c g) { waiting = Some line }) ol (ol g.0); outs = tt }
 
   dispatch-low : (line : Stmt) → Lowered c (dispatches script c g line)
-  dispatch-low line = request-low line (lock_for script g line)
+  dispatch-low line = request-low line (table_lock script g line)
 
 module _ (script : Script) (c : Coord) (whole : IsWhole c.table) (dense : IsDense c.table) (ol : OrdersLow c.table c.works) (g : Gxid) where
   resume-low : (o : Option Claim) (line : Option Stmt) → Lowered c (resumes script c g o line)
@@ -421,8 +424,8 @@ module _ (script : Script) (c : Coord) (whole : IsWhole c.table) (dense : IsDens
 
   line-low : (s : SessionId) (line : Stmt) (asked : LineStep) → Lowered c (on_line script c s line asked)
   line-low s line (step.Answer plain) = record { table = λ n f. f; orders = ol; outs = tt }
-  line-low s line step.Refuse5 = record { table = λ n f. f; orders = ol; outs = tt }
-  line-low s line step.Refuse7 = record { table = λ n f. f; orders = ol; outs = tt }
+  line-low s line step.InFailedBlock = record { table = λ n f. f; orders = ol; outs = tt }
+  line-low s line step.NotInBlock = record { table = λ n f. f; orders = ol; outs = tt }
   line-low s line (step.BeginBlock level) = begins-low s level _ (record { table = λ n f. f; orders = begins-orders s level; outs = tt })
   line-low s line step.CommitBlock = commit-low script c whole ol (session_of c s).transaction
   line-low s line step.RollbackBlock = rolling-low script c whole ol (session_of c s).transaction (answer_mark c s told.Rollback ∷ [])

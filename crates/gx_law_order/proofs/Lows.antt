@@ -25,11 +25,11 @@ use Rattle.gx_rules.specs.Snapshots.{latest_number}
 use Rattle.gx_law_order.proofs.Closings.{live-at, set_live}
 use Rattle.gx_law_order.proofs.Ends.{begun-finds}
 use Rattle.gx_law_order.proofs.Lines.{begun-whole}
-use Rattle.gx_law_order.proofs.Lists.{Each, each_filter, each_map}
-use Rattle.gx_law_order.proofs.Past.{Past}
-use Rattle.gx_law_order.proofs.Sessions.{stage_of}
-use Rattle.gx_law_order.proofs.Stages.{At, IsWhole, at_gxid, changed-at, first-at, left_of, txn-at}
-use Rattle.gx_law_order.proofs.Statuses.{stage}
+use Rattle.gx_law_order.proofs.Lists.{each_filter, each_map}
+use Rattle.gx_law_order.specs.Lists.{Each}
+use Rattle.gx_law_order.specs.Past.{Past}
+use Rattle.gx_law_order.specs.Stages.{IsWhole, stage, stage_of}
+use Rattle.gx_law_order.proofs.Stages.{At, at_gxid, changed-at, first-at, left_of, txn-at}
 use Rattle.gx_law_order.specs.Horizons.{IsLow}
 use Rattle.gx_law_order.specs.Standings.{gx}
 
@@ -175,8 +175,8 @@ past-dense c ms p = record { there = λ h one l m. by_found h (find_txn c.table 
     beyond : (a b : ℕ) → b < a → a ≤ b → ⊥
     beyond a b x y = omega arith
 
-    by_found : (h : ℕ) (o : Option Txn) → find_txn c.table (gx h) ≡ o → (Rattle.gx_law_order.proofs.Statuses.is_running (stage_of c h) ≡ false → ⊥) → (t : Txn) × (find_txn c.table (gx h) ≡ Some t)
-    by_found h None e n = absurd (n (ap (λ o. Rattle.gx_law_order.proofs.Statuses.is_running (stage o)) e))
+    by_found : (h : ℕ) (o : Option Txn) → find_txn c.table (gx h) ≡ o → (Rattle.gx_law_order.specs.Stages.is_running (stage_of c h) ≡ false → ⊥) → (t : Txn) × (find_txn c.table (gx h) ≡ Some t)
+    by_found h None e n = absurd (n (ap (λ o. Rattle.gx_law_order.specs.Stages.is_running (stage o)) e))
     by_found h (Some t) e n = (t, e)
 
 pub begun-dense : (d : Table) → IsWhole d → IsDense d → IsDense (begun d)

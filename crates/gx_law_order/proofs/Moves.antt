@@ -35,7 +35,8 @@ use Rattle.gx_locks.specs.Graphs.{graph_at}
 use Rattle.gx_law_order.specs.Moves.{Move, has_named, moved, moved_by, moves_of, names, victims_there, world_by}
 use Rattle.gx_law_order.specs.Moves.Move.{Turn, Cancel}
 use Rattle.gx_law_order.proofs.Letters.{same_node}
-use Rattle.gx_law_order.proofs.Lists.{Each, each_weaker}
+use Rattle.gx_law_order.proofs.Lists.{each_weaker}
+use Rattle.gx_law_order.specs.Lists.{Each}
 
 -- WHOM A STEP HAS NAMED
 or-before : (a : Bool) {b : Bool} → b ≡ true → (a || b) ≡ true

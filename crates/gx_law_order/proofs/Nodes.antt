@@ -6,7 +6,8 @@ use Rattle.std.specs.Prelude.{filter, nat_lt, not}
 use Rattle.gx_lemmas.proofs.Tests.{or-assoc}
 use Rattle.gx_ids.specs.declared.ids.Node.{Node}
 use Rattle.gx_dtx.specs.Nodes.{has, with_node, without}
-use Rattle.gx_law_order.proofs.Lists.{Each, each_append, each_filter}
+use Rattle.gx_law_order.proofs.Lists.{each_append, each_filter}
+use Rattle.gx_law_order.specs.Lists.{Each}
 
 pub has-append : (i : Node) (xs ys : List Node) → has i (xs ++ ys) ≡ (has i xs || has i ys)
 has-append i [] ys = refl

@@ -21,7 +21,8 @@ use Rattle.gx_waits.specs.declared.claim.Claim.{Claim}
 use Rattle.gx_waits.specs.declared.object.Object.{Object}
 use Rattle.gx_waits.specs.declared.object.Object.TheVariants.{Relation, Transaction, Tuple}
 use Rattle.gx_locks.specs.Graphs.{graph_at}
-use Rattle.gx_locks.specs.Locks.{is_free, wait_of}
+use Rattle.gx_locks.specs.Locks.{wait_of}
+use Rattle.gx_waits.specs.Claims.{is_free}
 use Rattle.gx_meaning.specs.declared.fault.ArithFault.{ArithFault}
 use Rattle.gx_msg.specs.declared.item.JournalItem.{JournalItem}
 use Rattle.gx_msg.specs.declared.message.Message.{Message}
@@ -38,7 +39,8 @@ use Rattle.gx_rules.specs.AtSegment.{commits, ends, finishes, if_fits, on_abort,
 use Rattle.gx_rules.specs.Changes.{Change, RowTurn, change_of, changes_rows, goes_on_at, suspended_at, suspends_at}
 use Rattle.gx_rules.specs.Fits.{fits_exec, is_waiting}
 use Rattle.gx_rules.specs.Locks.{hold_mark, release_marks, wait_mark, with_hold, with_wait}
-use Rattle.gx_rules.specs.Running.{goes_on, is_granted, requests, runs_locked, runs_slice, slice_lock, suspended_slice, suspends, unless_end}
+use Rattle.gx_rules.specs.Running.{goes_on, is_granted, requests, runs_locked, runs_slice, suspended_slice, suspends, unless_end}
+use Rattle.gx_store.specs.Locks.{slice_lock}
 use Rattle.gx_rules.specs.Segments.{Local, Phase, Seg, SegTurn, Suspended, after_marks, local_of, stays, tells, tells_kept, with_local}
 use Rattle.gx_rules.specs.Segments.Phase.{Reading, Writing, Prepared, Committed, Forgotten, Aborted}
 use Rattle.gx_rules.specs.Shown.{shown}
@@ -47,8 +49,8 @@ use Rattle.gx_rules.specs.Visits.{DidStop}
 use Rattle.gx_rules.proofs.Rounds.{collect-ways}
 use Rattle.gx_rules.proofs.Moving.{Ends, Keeps}
 use Rattle.gx_law_order.proofs.Changing.{row-goes-on, rows-change, stop-keeps}
-use Rattle.gx_law_order.proofs.Lists.{Each}
-use Rattle.gx_law_order.proofs.Stages.{gx}
+use Rattle.gx_law_order.specs.Lists.{Each}
+use Rattle.gx_law_order.specs.Standings.{gx}
 use Rattle.gx_law_order.proofs.OrderAnswers.{IsNoted}
 
 abbrev pub IsNotedIn : List Mark → Node → Gxid → Option Reply → Type 0

@@ -19,7 +19,7 @@ use Rattle.gx_rules.specs.Coordinators.{CoordTurn}
 use Rattle.gx_rules.specs.Machine.{World, and_cancelled, coord_did, seg_did, world_of}
 use Rattle.gx_rules.specs.Sending.{clock_after, counted, numbered}
 use Rattle.gx_law_order.specs.Numbers.{AreStartsNumbered}
-use Rattle.gx_law_order.proofs.Lists.{Each}
+use Rattle.gx_law_order.specs.Lists.{Each}
 use Rattle.gx_law_order.proofs.Numbers.{IsNumbered, NoStart, calm-more, calm-numbered, cancel-numbered, event-numbered, numbered-append}
 use Rattle.gx_law_order.proofs.Induction.{after_turn, at-events, marks-by-event, marks-by-victim}
 use Rattle.gx_law_order.proofs.More.{marks-last}

@@ -39,13 +39,16 @@ use Rattle.gx_store.specs.declared.node.NodeEvent.TheVariants as event
 use Rattle.gx_store.specs.Marks.{start_count}
 use Rattle.gx_store.specs.Refusals.{the_coordinator}
 use Rattle.gx_store.specs.Writes.{dist_of}
-use Rattle.gx_rules.specs.AtCoordinator.{Reading, awaited, awaited_collect, begins, cancels, behind, commits, completes, dispatches, ends_in, enlisted_all, failure_marks, fault_mark, follows, goes, goes_on, is_awaited, is_refused, next_cid, next_line, nodes_in, on_answer, on_done, on_event, on_failed, on_line, on_message, on_status, reads_by, reads_for, reason_of, refusal_of, resends, starts, starts_line, table_of, takes_done, unless_kept, with_done, writers_with, goes_on_locked, if_granted, lock_for, requests, resumes}
+use Rattle.gx_rules.specs.AtCoordinator.{Reading, awaited, awaited_collect, begins, cancels, behind, commits, completes, dispatches, ends_in, enlisted_all, failure_marks, fault_mark, follows, goes, goes_on, is_awaited, is_refused, next_cid, next_line, nodes_in, on_answer, on_done, on_event, on_failed, on_line, on_message, on_status, reads_by, reads_for, reason_of, refusal_of, resends, starts, starts_line, table_of, takes_done, unless_kept, with_done, writers_with, goes_on_locked, if_granted, requests, resumes}
+use Rattle.gx_store.specs.Locks.{table_lock}
 use Rattle.gx_rules.specs.Coordinators.{Command, Coord, CoordTurn, Work, rests, session_of, with_work, work_of}
 use Rattle.gx_rules.specs.Fits.{fits_part}
-use Rattle.gx_law_order.proofs.Lists.{Each, each_append}
+use Rattle.gx_law_order.proofs.Lists.{each_append}
+use Rattle.gx_law_order.specs.Lists.{Each}
 use Rattle.gx_law_order.specs.Numbers.{AreStartsNumbered}
 use Rattle.gx_rules.specs.Locks.{hold_mark, release_marks, with_hold}
-use Rattle.gx_locks.specs.Locks.{Locks, is_free, resumed, wait_of}
+use Rattle.gx_locks.specs.Locks.{Locks, resumed, wait_of}
+use Rattle.gx_waits.specs.Claims.{is_free}
 use Rattle.gx_waits.specs.declared.claim.Claim.{Claim}
 use Rattle.gx_rules.specs.Rounds.{begins_round}
 use Rattle.gx_rules.proofs.Rounds.{cancel-ways, graph-ways}
@@ -152,7 +155,7 @@ request-calm script c g line (Some wanted) = by_test (is_free c.locks.holds want
     by_test false = record { marks = (tt, tt); stands = refl }
 
 dispatch-calm : (script : Script) (c : Coord) (g : Gxid) (line : Stmt) → IsCalm c.table.next (dispatches script c g line)
-dispatch-calm script c g line = request-calm script c g line (lock_for script g line)
+dispatch-calm script c g line = request-calm script c g line (table_lock script g line)
 
 resume-calm : (script : Script) (c : Coord) (g : Gxid) (o : Option Claim) (line : Option Stmt) → IsCalm c.table.next (resumes script c g o line)
 resume-calm script c g None line = rest-calm c
@@ -273,8 +276,8 @@ module _ (before : List Mark) where
 
   line-numbered : (script : Script) (c : Coord) (s : SessionId) (line : Stmt) (asked : LineStep) → c.table.next.0 ≡ start_count before + 1 → IsNumbered before (on_line script c s line asked)
   line-numbered script c s line (step.Answer plain) n = calm c.table.next _ n (record { marks = (tt, tt); stands = refl })
-  line-numbered script c s line step.Refuse5 n = calm c.table.next _ n (record { marks = (tt, tt); stands = refl })
-  line-numbered script c s line step.Refuse7 n = calm c.table.next _ n (record { marks = (tt, tt); stands = refl })
+  line-numbered script c s line step.InFailedBlock n = calm c.table.next _ n (record { marks = (tt, tt); stands = refl })
+  line-numbered script c s line step.NotInBlock n = calm c.table.next _ n (record { marks = (tt, tt); stands = refl })
   line-numbered script c s line (step.BeginBlock level) n = begun-numbered c.table.next s _ n (tt, tt) refl
   line-numbered script c s line step.CommitBlock n = calm c.table.next _ n (commit-calm c (session_of c s).transaction)
   line-numbered script c s line step.RollbackBlock n = calm c.table.next _ n (record { marks = (tt, (tt, back-calm c.locks (session_of c s).transaction)); stands = refl })

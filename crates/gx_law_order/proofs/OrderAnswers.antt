@@ -46,11 +46,12 @@ use Rattle.gx_rules.specs.AtCoordinator.{failure_marks, follows, is_awaited, is_
 use Rattle.gx_rules.specs.Coordinators.{Command, Coord, CoordTurn, Session, rests, session_of, work_of}
 use Rattle.gx_rules.specs.Fits.{fits_part}
 use Rattle.gx_rules.proofs.Rounds.{graph-ways}
-use Rattle.gx_law_order.proofs.Lists.{Each}
-use Rattle.gx_law_order.proofs.Sessions.{Kept, is_closing_in, stage_of}
-use Rattle.gx_law_order.proofs.Stages.{gx}
-use Rattle.gx_law_order.proofs.Statuses.{Moves, Turned, reply-turns, stage}
-use Rattle.gx_law_order.proofs.Statuses.Stage.{Live, Closing}
+use Rattle.gx_law_order.specs.Lists.{Each}
+use Rattle.gx_law_order.specs.Sessions.{Kept, is_closing_in}
+use Rattle.gx_law_order.specs.Stages.{stage, stage_of}
+use Rattle.gx_law_order.specs.Standings.{gx}
+use Rattle.gx_law_order.proofs.Statuses.{Moves, Turned, reply-turns}
+use Rattle.gx_law_order.specs.Stages.Stage.{Closing, Live}
 use Rattle.gx_law_order.specs.Rest.{EachMark, Rest, RestAnswer}
 use Rattle.gx_law_order.specs.Standing.{IsLineOf, IsSession, is_alone, state_in}
 use Rattle.gx_law_order.proofs.Answers.{done-outside}
@@ -132,7 +133,7 @@ module _ (script : Script) (steps : List Step) (c : Coord) (k : Kept script c) (
       same : y.transaction ≡ g
       same = same-gxid script steps c k all gath from to number g (its-closing h).0
 
-      not-both : (a : Rattle.gx_law_order.proofs.Statuses.Stage) → a ≡ Live → a ≡ Closing → ⊥
+      not-both : (a : Rattle.gx_law_order.specs.Stages.Stage) → a ≡ Live → a ≡ Closing → ⊥
       not-both a p q = differ (sym p ∙ q)
         where
           differ : Live ≡ Closing → ⊥
@@ -229,7 +230,7 @@ module _ (script : Script) (steps : List Step) (c : Coord) (k : Kept script c) (
         above : (a : ℕ) → 1 ≤ a → (a == 0) ≡ false
         above a l = grind (arith, nat_tests)
 
-    by-outcome : (turn : Turn) (item : Option JournalItem) (a b : Rattle.gx_law_order.proofs.Statuses.Stage) → stage_of c g.0 ≡ a → turn.table.next ≡ c.table.next → Each IsBare turn.out.outs → (o : Outcome) → Moves a b o → ByWord from r o → Effect script steps c e (record (follows c g turn o) { item = item })
+    by-outcome : (turn : Turn) (item : Option JournalItem) (a b : Rattle.gx_law_order.specs.Stages.Stage) → stage_of c g.0 ≡ a → turn.table.next ≡ c.table.next → Each IsBare turn.out.outs → (o : Outcome) → Moves a b o → ByWord from r o → Effect script steps c e (record (follows c g turn o) { item = item })
     by-outcome turn item a b st next outs outcome.Pending h w = inr (record { sessions = λ j. refl; works = λ j. refl; next = ap (λ (z : Gxid). z.0) next; quiet = tt; alone = λ j. (refl, refl); outs = λ o. bare-outs script _ turn.out.outs outs; sent = λ o. bare-all c turn.out.outs outs })
     by-outcome turn item a b st next outs outcome.Decided h w = inr (record { sessions = λ j. refl; works = λ j. refl; next = ap (λ (z : Gxid). z.0) next; quiet = (tt, tt); alone = λ j. (refl, refl); outs = λ o. bare-outs script _ turn.out.outs outs; sent = λ o. bare-all c turn.out.outs outs })
     by-outcome turn item a b st next outs outcome.Ended h w = inr (record { sessions = λ j. refl; works = λ j. refl; next = ap (λ (z : Gxid). z.0) next; quiet = tt; alone = λ j. (refl, refl); outs = λ o. bare-outs script _ turn.out.outs outs; sent = λ o. bare-all c turn.out.outs outs })

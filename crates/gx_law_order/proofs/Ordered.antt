@@ -33,17 +33,18 @@ use Rattle.gx_rules.specs.Segments.{Seg, SegTurn}
 use Rattle.gx_rules.specs.Sending.{clock_after, counted, heard_in, numbered}
 use Rattle.gx_rules.proofs.Turns.{cancels_all-each, with_more-last}
 use Rattle.gx_law_order.specs.Moves.{Move, moved, world_by}
-use Rattle.gx_law_order.proofs.AtCoordinators.{CoordIn, CoordStays, cancel_stays, coord_stays}
+use Rattle.gx_law_order.proofs.AtCoordinators.{CoordStays, cancel_stays, coord_stays}
+use Rattle.gx_law_order.specs.Places.{CoordIn, OutIn}
 use Rattle.gx_law_order.proofs.AtSegments.{PlainAt, SegStays, seg_stays}
 use Rattle.gx_law_order.proofs.Clocks.{clock_after-above, clock_after-hears, clock_after-positive, clock_of-other, clock_of-same}
 use Rattle.gx_law_order.proofs.Letters.{IsFound, IsLetter, found_is, posted_from, posted_letters}
-use Rattle.gx_law_order.proofs.Lists.{Each, each_append, each_weaker}
+use Rattle.gx_law_order.proofs.Lists.{each_append, each_weaker}
+use Rattle.gx_law_order.specs.Lists.{Each}
 use Rattle.gx_law_order.proofs.More.{clock-more, come-more, letter-more, ordered-more, sent-more, sent-other}
 use Rattle.gx_law_order.proofs.Moves.{Comes, HasNamed, all-keep, happens-keeps, moved-ways, moves_after, world-moves}
 use Rattle.gx_law_order.proofs.Sent.{all-counted, at, count-both, counted-all, numbered-ok, plain-count, plain-numbered, sent_count-append, sent_in-last}
 use Rattle.gx_law_order.proofs.Suspended.{AreSuspended, HasCome, IsAmong, among-posted, come-later, come-now, each-both, each-own, suspended-later}
 use Rattle.gx_law_order.proofs.Suspensions.{Arrives, event_suspends}
-use Rattle.gx_law_order.proofs.Tables.{OutIn}
 use Rattle.gx_law_order.proofs.OwnLocks.{WritersLock}
 use Rattle.gx_law_order.proofs.Writers.{event_locks}
 use Rattle.gx_ids.specs.declared.ids.Gxid.{Gxid}

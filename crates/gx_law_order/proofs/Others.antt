@@ -13,7 +13,7 @@ use Rattle.gx_store.specs.declared.mark.Mark.{Mark}
 use Rattle.gx_store.specs.declared.mark.Mark.TheVariants as mark
 use Rattle.gx_store.specs.Marks.{answer_count, has_snapshot, is_aborted, is_committed, is_ended, is_same_gxid, is_snapped, session_of}
 use Rattle.gx_store.proofs.Marks.{has_snapshot-append, is_ended-append, is_snapped-append}
-use Rattle.gx_law_order.proofs.Lists.{Each}
+use Rattle.gx_law_order.specs.Lists.{Each}
 use Rattle.gx_law_order.specs.Scanned.{began_from}
 use Rattle.gx_law_order.specs.Standing.{HasSnapshot, IsTaken}
 use Rattle.gx_law_order.proofs.Said.{CalmFor}

@@ -23,7 +23,8 @@ use Rattle.gx_msg.specs.declared.reply.Reply.TheVariants as reply
 use Rattle.gx_script.specs.declared.Script.{Script}
 use Rattle.gx_store.specs.declared.mark.Mark.{Mark}
 use Rattle.gx_rules.specs.Coordinators.{Command}
-use Rattle.gx_law_order.proofs.Lists.{Each, each_weaker}
+use Rattle.gx_law_order.proofs.Lists.{each_weaker}
+use Rattle.gx_law_order.specs.Lists.{Each}
 use Rattle.gx_law_order.specs.Orders.{IsOrder, IsOrderOf, IsReadBy, IsServed, level_of_began}
 use Rattle.gx_store.specs.Language.{AreLinesNumbered}
 use Rattle.gx_law_order.specs.Scanned.{began_from, command_at, stmt_of_command}

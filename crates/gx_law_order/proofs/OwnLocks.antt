@@ -14,18 +14,18 @@ use Rattle.gx_waits.specs.Claim.{same_claim}
 use Rattle.gx_waits.specs.declared.claim.Claim.{Claim}
 use Rattle.gx_waits.specs.declared.object.Object.{Object}
 use Rattle.gx_waits.specs.declared.object.Object.TheVariants.{Relation, Transaction, Tuple}
-use Rattle.gx_locks.specs.Claims.{is_of}
-use Rattle.gx_locks.specs.Locks.{held, without, without_claim}
+use Rattle.gx_waits.specs.Claims.{is_of, with_claim, without, without_claim}
 use Rattle.gx_locks.proofs.Filed.{list_any-weaker}
 use Rattle.gx_script.specs.declared.Script.{Script}
 use Rattle.gx_store.specs.Marks.{is_same_gxid}
 use Rattle.gx_rules.specs.Changes.{end_lock}
-use Rattle.gx_rules.specs.Running.{slice_lock}
+use Rattle.gx_store.specs.Locks.{slice_lock}
 use Rattle.gx_rules.specs.Segments.{Phase, Seg, Version, has_ended}
 use Rattle.gx_rules.specs.Segments.Phase.{Reading, Writing}
 use Rattle.gx_rules.specs.Slices.{own_lock}
-use Rattle.gx_law_order.proofs.Lists.{Each, each_append}
-use Rattle.gx_law_order.proofs.Stages.{gx}
+use Rattle.gx_law_order.proofs.Lists.{each_append}
+use Rattle.gx_law_order.specs.Lists.{Each}
+use Rattle.gx_law_order.specs.Standings.{gx}
 
 -- WHAT STANDS
 -- a hold on a transaction is that one's own lock
@@ -62,7 +62,7 @@ pub record WritersLock (s : Seg) : Type 0 where
   pub each : (h : ℕ) → LocksIn s h s.locks.holds
 
 -- HOLDS
-pub each-held : (holds : List Claim) (wanted : Claim) → Each IsOwn holds → IsOwn wanted → Each IsOwn (held holds wanted)
+pub each-held : (holds : List Claim) (wanted : Claim) → Each IsOwn holds → IsOwn wanted → Each IsOwn (with_claim wanted holds)
 each-held holds wanted e f = by_test (list_any (same_claim wanted) holds)
   where
     by_test : (b : Bool) → Each IsOwn (if b then holds else holds ++ wanted ∷ [])
@@ -90,14 +90,14 @@ rows-other h wanted e = by_object wanted.object refl e
     by_object (Tuple r) f e = ap (λ o. same_claim (own_lock (gx h)) (record wanted { object = o })) f ∙ and-false _
     by_object (Transaction g) f e = absurd e
 
-pub held-rows : (h : ℕ) (holds : List Claim) (wanted : Claim) → IsOfRows wanted.object → holds_own h (held holds wanted) ≡ holds_own h holds
+pub held-rows : (h : ℕ) (holds : List Claim) (wanted : Claim) → IsOfRows wanted.object → holds_own h (with_claim wanted holds) ≡ holds_own h holds
 held-rows h holds wanted e = by_test (list_any (same_claim wanted) holds)
   where
     by_test : (b : Bool) → holds_own h (if b then holds else holds ++ wanted ∷ []) ≡ holds_own h holds
     by_test true = refl
     by_test false = list_any-append (same_claim (own_lock (gx h))) holds (wanted ∷ []) ∙ ap (λ b. holds_own h holds || (b || false)) (rows-other h wanted e) ∙ or-false (holds_own h holds)
 
-pub held-own : (h g : ℕ) (holds : List Claim) → holds_own h (held holds (own_lock (gx g))) ≡ holds_own h holds || eqb h g
+pub held-own : (h g : ℕ) (holds : List Claim) → holds_own h (with_claim (own_lock (gx g)) holds) ≡ holds_own h holds || eqb h g
 held-own h g holds = by_both (holds_own g holds) (eqb h g) refl refl
   where
     or-true : (a : Bool) → true ≡ (a || true)
@@ -150,7 +150,7 @@ module _ (g writer : Gxid) where
   itself : same_claim (end_lock g writer) (end_lock g writer) ≡ true
   itself = ap (λ b. b && (eqb writer.0 writer.0 && true)) (eqb-self g.0) ∙ ap (λ b. b && true) (eqb-self writer.0)
 
-  pub end-back : (holds : List Claim) → Each IsOwn holds → without_claim (end_lock g writer) (held holds (end_lock g writer)) ≡ holds
+  pub end-back : (holds : List Claim) → Each IsOwn holds → without_claim (end_lock g writer) (with_claim (end_lock g writer) holds) ≡ holds
   end-back holds e =
       ap (λ b. without_claim (end_lock g writer) (if b then holds else holds ++ end_lock g writer ∷ [])) (not-held holds e)
       ∙ filter-append (λ other. not (same_claim (end_lock g writer) other)) holds (end_lock g writer ∷ [])

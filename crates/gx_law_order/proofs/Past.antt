@@ -17,11 +17,13 @@ use Rattle.gx_rules.specs.Coordinators.{Coord}
 use Rattle.gx_rules.specs.Gxids.{gxids_from}
 use Rattle.gx_rules.specs.Snapshots.{latest_number, running_below, snapshot_of}
 use Rattle.gx_law_order.specs.Seen.{AreEndedSeen, SeesEnded}
-use Rattle.gx_law_order.proofs.Lists.{Each}
-use Rattle.gx_law_order.proofs.Sessions.{stage_of}
-use Rattle.gx_law_order.proofs.Stages.{Below, IsWhole, at_gxid, first-at, gx}
-use Rattle.gx_law_order.proofs.Statuses.{is_running, runs-stage, stage}
-use Rattle.gx_law_order.proofs.Statuses.Stage.{Absent, Dropped}
+use Rattle.gx_law_order.specs.Lists.{Each}
+use Rattle.gx_law_order.specs.Stages.{Below, IsWhole, is_running, stage, stage_of}
+use Rattle.gx_law_order.proofs.Stages.{at_gxid, first-at}
+use Rattle.gx_law_order.specs.Standings.{gx}
+use Rattle.gx_law_order.proofs.Statuses.{runs-stage}
+use Rattle.gx_law_order.specs.Stages.Stage.{Absent}
+use Rattle.gx_law_order.specs.Past.{Past}
 
 -- MARKS
 pub committed-append : (xs ys : List Mark) (g : Gxid) → is_committed (xs ++ ys) g ≡ is_committed xs g || is_committed ys g
@@ -60,14 +62,6 @@ pub still-seen : (before ms : List Mark) → Each Still ms → AreEndedSeen befo
 still-seen before [] e = tt
 still-seen before (mark.Snap g c x ∷ ms) e = absurd e.0
 still-seen before (m ∷ ms) e = still-seen (before ++ m ∷ []) ms e.1
-
--- WHAT THE MARKS SAY OF THE STAGES
-pub record Past (c : Coord) (ms : List Mark) : Type 0 where
-  pub committed : (h : ℕ) → is_committed ms (gx h) ≡ true → (1 ≤ h) × (h < c.table.next.0) × (is_running (stage_of c h) ≡ false)
-  pub ended : (h : ℕ) → 1 ≤ h → h < c.table.next.0 → is_running (stage_of c h) ≡ false → is_ended ms (gx h) ≡ true
-  pub dropped : (h : ℕ) → stage_of c h ≡ Dropped → is_aborted ms (gx h) ≡ true
-  pub latest : (h : ℕ) → 1 ≤ h → h < c.table.next.0 → is_running (stage_of c h) ≡ false → h ≤ latest_number c.table.latest_ended
-  pub drawn : latest_number c.table.latest_ended < c.table.next.0
 
 -- a transaction in the table was drawn
 pub there-drawn : (next h : ℕ) (es : List (Gxid × Txn)) (t : Txn) → Below next es → at_gxid h es ≡ Some t → (1 ≤ h) × (h < next)

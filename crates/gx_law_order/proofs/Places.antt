@@ -29,11 +29,9 @@ use Rattle.std.specs.Prelude.{map}
 use Rattle.gx_detect.specs.Rounds.{collects}
 use Rattle.gx_msg.specs.declared.message.Message.TheVariants.{Collect}
 use Rattle.gx_msg.specs.declared.message.Out.{Out}
-use Rattle.gx_law_order.proofs.Lists.{Each, each_flat, each_map, each_weaker}
-
--- one of n segments
-abbrev pub IsOneOf : ℕ → Node → Type 0
-IsOneOf n node = (1 ≤ node.0) × (node.0 ≤ n)
+use Rattle.gx_law_order.proofs.Lists.{each_flat, each_map, each_weaker}
+use Rattle.gx_law_order.specs.Lists.{Each}
+use Rattle.gx_law_order.specs.Places.{IsOneOf}
 
 abbrev pub IsAtOneOf : ℕ → Piece → Type 0
 IsAtOneOf n p = IsOneOf n p.node

@@ -11,24 +11,11 @@ use Rattle.gx_script.specs.declared.Script.{Script}
 use Rattle.gx_tree.specs.declared.stmt.Stmt.{Stmt}
 use Rattle.gx_tree.specs.declared.stmt.Stmt.TheVariants as stmt
 use Rattle.gx_waits.specs.declared.claim.Claim.{Claim}
-use Rattle.gx_locks.specs.Claims.{is_of}
-use Rattle.gx_locks.specs.Locks.{Locks, wait_of, without}
-use Rattle.gx_rules.specs.AtCoordinator.{lock_for}
-use Rattle.gx_law_order.proofs.Stages.{gx}
-
-abbrev pub listed : Option Claim → List Claim
-listed None = []
-listed (Some claim) = claim ∷ []
-
--- what a statement that waits has among the waits
-abbrev pub claims_for : Script → Gxid → Option Stmt → List Claim
-claims_for script g None = []
-claims_for script g (Some line) = listed (lock_for script g line)
-
--- of some-same transaction: the statement of it that waits, and its waits
-pub record IsQueued (script : Script) (g : ℕ) (waiting : Option Stmt) (waits : List Claim) : Type 0 where
-  pub claims : filter (is_of (gx g)) waits ≡ claims_for script (gx g) waiting
-  pub locks : (line : Stmt) → waiting ≡ Some line → is_some (lock_for script (gx g) line) ≡ true
+use Rattle.gx_waits.specs.Claims.{is_of, without}
+use Rattle.gx_locks.specs.Locks.{Locks, wait_of}
+use Rattle.gx_store.specs.Locks.{table_lock}
+use Rattle.gx_law_order.specs.Standings.{gx}
+use Rattle.gx_law_order.specs.Sessions.{IsQueued, claims_for, listed}
 
 -- the waits of some-same transaction have changed
 pub record Queues (script : Script) (old new : List Claim) (g : ℕ) (waiting : Option Stmt) : Type 0 where
@@ -71,13 +58,13 @@ pub queue-released : {script : Script} (waits : List Claim) (g : ℕ) → Queues
 queue-released waits g = record { others = λ j n. others-left g j waits n; here = nothing-waits g (without (gx g) waits) (none-left (gx g) waits) }
 
 -- ONE MORE
-pub lock-of : (script : Script) (g : Gxid) (line : Stmt) (wanted : Claim) → lock_for script g line ≡ Some wanted → wanted.gxid ≡ g
+pub lock-of : (script : Script) (g : Gxid) (line : Stmt) (wanted : Claim) → table_lock script g line ≡ Some wanted → wanted.gxid ≡ g
 lock-of script g line wanted e = by_line line e
   where
     same : (a b : Claim) → Some a ≡ Some b → b.gxid ≡ a.gxid
     same a b q = cc
 
-    by_line : (line : Stmt) → lock_for script g line ≡ Some wanted → wanted.gxid ≡ g
+    by_line : (line : Stmt) → table_lock script g line ≡ Some wanted → wanted.gxid ≡ g
     by_line (stmt.Select query) e = same _ wanted e
     by_line (stmt.Insert table tuples) e = same _ wanted e
     by_line (stmt.Update table assigns cond) e = same _ wanted e
@@ -87,13 +74,13 @@ lock-of script g line wanted e = by_line line e
     by_line stmt.Commit e = absurd (cc)
     by_line stmt.Rollback e = absurd (cc)
 
-pub queue-waits : {script : Script} (waits : List Claim) (g : ℕ) (line : Stmt) (wanted : Claim) → IsQueued script g None waits → lock_for script (gx g) line ≡ Some wanted → Queues script waits (waits ++ wanted ∷ []) g (Some line)
+pub queue-waits : {script : Script} (waits : List Claim) (g : ℕ) (line : Stmt) (wanted : Claim) → IsQueued script g None waits → table_lock script (gx g) line ≡ Some wanted → Queues script waits (waits ++ wanted ∷ []) g (Some line)
 queue-waits {script = script} waits g line wanted q e =
     record {
       others = λ j n. filter-append (is_of (gx j)) waits (wanted ∷ []) ∙ ap (λ b. filter (is_of (gx j)) waits ++ cond b (wanted ∷ []) []) (away j n) ∙ nothing-more (filter (is_of (gx j)) waits);
       here = record {
         claims = filter-append (is_of (gx g)) waits (wanted ∷ []) ∙ ap (λ b. filter (is_of (gx g)) waits ++ cond b (wanted ∷ []) []) mine ∙ ap (λ l. l ++ wanted ∷ []) q.claims ∙ sym (ap listed e);
-        locks = λ other same. subst (λ l. is_some (lock_for script (gx g) l) ≡ true) (some-same line other same) (ap is_some e);
+        locks = λ other same. subst (λ l. is_some (table_lock script (gx g) l) ≡ true) (some-same line other same) (ap is_some e);
       };
     }
   where
@@ -123,13 +110,13 @@ first-wait g (w ∷ ws) = by_test (is_of g w) (first-wait g ws)
     by_test false f = f
 
 -- whose statement waits has its table's lock as its wait, and no other
-pub statement-waits : {script : Script} (g : ℕ) (waiting : Option Stmt) (locks : Locks) → IsQueued script g waiting locks.waits → (line : Stmt) → waiting ≡ Some line → wait_of locks (gx g) ≡ lock_for script (gx g) line
-statement-waits {script = script} g waiting locks q line e = by_lock (lock_for script (gx g) line) refl
+pub statement-waits : {script : Script} (g : ℕ) (waiting : Option Stmt) (locks : Locks) → IsQueued script g waiting locks.waits → (line : Stmt) → waiting ≡ Some line → wait_of locks (gx g) ≡ table_lock script (gx g) line
+statement-waits {script = script} g waiting locks q line e = by_lock (table_lock script (gx g) line) refl
   where
-    claims : filter (is_of (gx g)) locks.waits ≡ listed (lock_for script (gx g) line)
+    claims : filter (is_of (gx g)) locks.waits ≡ listed (table_lock script (gx g) line)
     claims = q.claims ∙ ap (claims_for script (gx g)) e
 
-    by_lock : (o : Option Claim) → lock_for script (gx g) line ≡ o → wait_of locks (gx g) ≡ o
+    by_lock : (o : Option Claim) → table_lock script (gx g) line ≡ o → wait_of locks (gx g) ≡ o
     by_lock None f = (first-wait (gx g) locks.waits).0 (claims ∙ ap listed f)
     by_lock (Some wanted) f = (first-wait (gx g) locks.waits).1 wanted [] (claims ∙ ap listed f)
 
@@ -141,7 +128,7 @@ nothing-queued {script = script} g waiting locks q e = (first-wait (gx g) locks.
 pub record WaitsFor (script : Script) (g : ℕ) (waiting : Option Stmt) (wanted : Claim) : Type 0 where
   pub line : Stmt
   pub is : waiting ≡ Some line
-  pub lock : lock_for script (gx g) line ≡ Some wanted
+  pub lock : table_lock script (gx g) line ≡ Some wanted
 
 pub waits-for : {script : Script} (g : ℕ) (waiting : Option Stmt) (locks : Locks) → IsQueued script g waiting locks.waits → (wanted : Claim) → wait_of locks (gx g) ≡ Some wanted → WaitsFor script g waiting wanted
 waits-for {script = script} g waiting locks q wanted e = by_waiting waiting refl

@@ -18,9 +18,10 @@ use Rattle.gx_rules.specs.AtSegment.{changes, commits, ends, finishes, if_fits, 
 use Rattle.gx_rules.specs.Fits.{fits_exec, is_waiting}
 use Rattle.gx_rules.specs.Segments.{Local, Phase, Seg, SegTurn, Suspended, local_of, stays, tells, tells_kept}
 use Rattle.gx_rules.specs.Segments.Phase.{Aborted, Committed, Forgotten, Prepared, Reading, Writing}
-use Rattle.gx_rules.specs.Running.{slice_lock, starts_slice}
+use Rattle.gx_rules.specs.Running.{starts_slice}
+use Rattle.gx_store.specs.Locks.{slice_lock}
 use Rattle.gx_rules.proofs.Rounds.{collect-ways}
-use Rattle.gx_law_order.proofs.Lists.{Each}
+use Rattle.gx_law_order.specs.Lists.{Each}
 use Rattle.gx_law_order.specs.Said.{is_answer}
 use Rattle.gx_law_order.proofs.Leaving.{Leaves, request-leaves, resumed-leaves}
 

@@ -20,9 +20,9 @@ use Rattle.gx_store.specs.Refusals.{the_coordinator}
 use Rattle.gx_store.proofs.Runs.{marks_in-push, starts_in-push}
 use Rattle.gx_rules.specs.Coordinators.{Coord}
 use Rattle.gx_rules.specs.Machine.{Letter}
-use Rattle.gx_law_order.proofs.Lists.{Each}
-use Rattle.gx_law_order.proofs.Sessions.{Kept}
-use Rattle.gx_law_order.proofs.Stages.{gx}
+use Rattle.gx_law_order.specs.Lists.{Each}
+use Rattle.gx_law_order.specs.Sessions.{Kept}
+use Rattle.gx_law_order.specs.Standings.{gx}
 use Rattle.gx_law_order.specs.Alive.{HasRun, HaveRun, IsHeard, IsUnderWayBehind, WasUnderWay}
 use Rattle.gx_law_order.specs.Scanned.{stmt_of_command}
 use Rattle.gx_law_order.specs.Standing.{IsSession}

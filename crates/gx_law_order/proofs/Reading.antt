@@ -28,8 +28,10 @@ use Rattle.gx_store.specs.Points.{marks_in}
 use Rattle.gx_rules.specs.AtCoordinator.{Reading, kept_at, next_cid, reads_by, reads_for, takes_snapshot}
 use Rattle.gx_rules.specs.Coordinators.{Coord, Session, Work, work_of}
 use Rattle.gx_rules.specs.Snapshots.{snapshot_of}
-use Rattle.gx_law_order.proofs.Lists.{Each, get_last}
-use Rattle.gx_law_order.proofs.Past.{Past, seen-now}
+use Rattle.gx_law_order.proofs.Lists.{get_last}
+use Rattle.gx_law_order.specs.Lists.{Each}
+use Rattle.gx_law_order.proofs.Past.{seen-now}
+use Rattle.gx_law_order.specs.Past.{Past}
 use Rattle.gx_law_order.specs.Orders.{IsReadBy, IsServed}
 use Rattle.gx_law_order.specs.Rest.{EachMark, Rest}
 use Rattle.gx_law_order.specs.Standing.{HasSnapshot, Owns, is_alone, is_busy, level_in, state_in}

@@ -6,7 +6,8 @@ use Rattle.gx_waits.specs.declared.claim.Claim.{Claim}
 use Rattle.gx_locks.specs.Locks.{Locks}
 use Rattle.gx_store.specs.declared.mark.Mark.{Mark}
 use Rattle.gx_rules.specs.Locks.{has_there, release_mark, release_marks}
-use Rattle.gx_law_order.proofs.Lists.{Each, each_map}
+use Rattle.gx_law_order.proofs.Lists.{each_map}
+use Rattle.gx_law_order.specs.Lists.{Each}
 
 each-all : {A : Type 0} (P : A → Type 0) → ((x : A) → P x) → (xs : List A) → Each P xs
 each-all P f [] = tt

@@ -26,7 +26,8 @@ use Rattle.gx_rules.specs.Sending.{counted, numbered}
 use Rattle.gx_rules.proofs.Rounds.{cancel-ways}
 use Rattle.gx_rules.proofs.Turns.{cancels_all-each}
 use Rattle.gx_law_order.proofs.Induction.{IsThere, happens-ways}
-use Rattle.gx_law_order.proofs.Lists.{Each, each_append}
+use Rattle.gx_law_order.proofs.Lists.{each_append}
+use Rattle.gx_law_order.specs.Lists.{Each}
 use Rattle.gx_law_order.proofs.Releases.{each-released}
 use Rattle.gx_law_order.proofs.Sent.{at}
 use Rattle.gx_law_order.proofs.World.{world_knows}

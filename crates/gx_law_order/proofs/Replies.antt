@@ -42,12 +42,15 @@ use Rattle.gx_law_order.proofs.Closings.{answers-good, commits-good, refuses-goo
 use Rattle.gx_law_order.proofs.Commands.{held-good, same-finds}
 use Rattle.gx_law_order.proofs.Ends.{at-falls, at-same, greater-facts, past-at}
 use Rattle.gx_law_order.proofs.Lines.{end-good, past-still, rest-good, start-good}
-use Rattle.gx_law_order.proofs.Lists.{Each}
-use Rattle.gx_law_order.proofs.Past.{Past, Still, running-drawn, still-committed}
-use Rattle.gx_law_order.proofs.Sessions.{IsQuiet, Kept, Tied, is_closing_in, is_live_in, is_nothing_in, is_open_in, is_said, is_working_in, kept-quiet, stage_of}
-use Rattle.gx_law_order.proofs.Stages.{gx}
-use Rattle.gx_law_order.proofs.Statuses.{Moves, Stage, Turned, is_running, reply-turns, stage, stage_in}
-use Rattle.gx_law_order.proofs.Statuses.Stage.{Absent, Live, Closing, Dropped}
+use Rattle.gx_law_order.specs.Lists.{Each}
+use Rattle.gx_law_order.proofs.Past.{Still, running-drawn, still-committed}
+use Rattle.gx_law_order.specs.Past.{Past}
+use Rattle.gx_law_order.proofs.Sessions.{IsQuiet, kept-quiet}
+use Rattle.gx_law_order.specs.Sessions.{Kept, Tied, is_closing_in, is_live_in, is_nothing_in, is_open_in, is_said, is_working_in}
+use Rattle.gx_law_order.specs.Stages.{Stage, is_running, stage, stage_in, stage_of}
+use Rattle.gx_law_order.specs.Standings.{gx}
+use Rattle.gx_law_order.proofs.Statuses.{Moves, Turned, reply-turns}
+use Rattle.gx_law_order.specs.Stages.Stage.{Absent, Closing, Dropped, Live}
 use Rattle.gx_law_order.proofs.Turns.{Base, Good, base-kept, closed-good, refused-good}
 use Rattle.gx_law_order.proofs.Queued.{queue-released, queue-stays, queued-by}
 use Rattle.gx_locks.specs.Locks.{resumed, wait_of}

@@ -29,9 +29,11 @@ use Rattle.gx_rules.specs.AtCoordinator.{answer_mark, failure_marks, follows, on
 use Rattle.gx_rules.specs.AtSegment.{was_prepared}
 use Rattle.gx_rules.specs.Coordinators.{Coord, CoordTurn, work_of}
 use Rattle.gx_rules.specs.Segments.{Phase, has_committed}
-use Rattle.gx_law_order.proofs.Lists.{Each, each_weaker, get_last}
-use Rattle.gx_law_order.proofs.Stages.{IsWhole, left_of}
-use Rattle.gx_law_order.proofs.Tables.{AreIn}
+use Rattle.gx_law_order.proofs.Lists.{each_weaker, get_last}
+use Rattle.gx_law_order.specs.Lists.{Each}
+use Rattle.gx_law_order.proofs.Stages.{left_of}
+use Rattle.gx_law_order.specs.Stages.{IsWhole}
+use Rattle.gx_law_order.specs.Places.{AreIn}
 use Rattle.gx_law_order.specs.Pairs.{IsVote, Pair, bit}
 use Rattle.gx_law_order.specs.Said.{Answers}
 use Rattle.gx_law_order.specs.Standings.{Known, Part, Standing, at, gx, is_closing, is_undecided, known_at, known_of, standing, standing_in}

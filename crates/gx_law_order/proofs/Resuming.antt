@@ -27,10 +27,11 @@ use Rattle.gx_store.specs.Refusals.{the_coordinator}
 use Rattle.gx_rules.specs.AtCoordinator.{next_cid}
 use Rattle.gx_rules.specs.Coordinators.{Command, Coord, Session, Work, session_of, with_work, work_of}
 use Rattle.gx_law_order.proofs.Dispatches.{out_of_wait}
-use Rattle.gx_law_order.proofs.Past.{Past}
-use Rattle.gx_law_order.proofs.Sessions.{Kept, is_live_in, is_working_in, stage_of}
-use Rattle.gx_law_order.proofs.Stages.{gx}
-use Rattle.gx_law_order.proofs.Statuses.Stage.{Live}
+use Rattle.gx_law_order.specs.Past.{Past}
+use Rattle.gx_law_order.specs.Sessions.{Kept, is_live_in, is_working_in}
+use Rattle.gx_law_order.specs.Stages.{stage_of}
+use Rattle.gx_law_order.specs.Standings.{gx}
+use Rattle.gx_law_order.specs.Stages.Stage.{Live}
 use Rattle.gx_law_order.specs.Alive.{IsHeard}
 use Rattle.gx_law_order.specs.Rest.{UnlessStart, unless}
 use Rattle.gx_law_order.specs.Standing.{IsLineOf, IsSession, Owns, Roots, Stands, is_alone, is_busy, state_in}

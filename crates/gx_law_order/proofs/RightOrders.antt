@@ -20,10 +20,10 @@ use Rattle.gx_store.specs.Protocol.{AreSeveral, IsToCommit, IsToFinish, IsToPrep
 use Rattle.gx_rules.specs.Coordinators.{Coord}
 use Rattle.gx_law_order.proofs.Commits.{several}
 use Rattle.gx_law_order.proofs.Counts.{NoEnd, NoPart, decided-append, local-append, no-aborted, no-committed, no-decided, no-local, no-prepared, no-writer, prepared-append, writer-append}
-use Rattle.gx_law_order.proofs.Lists.{Each}
+use Rattle.gx_law_order.specs.Lists.{Each}
 use Rattle.gx_law_order.proofs.Past.{aborted-append, committed-append}
 use Rattle.gx_law_order.proofs.Replying.{two-writers}
-use Rattle.gx_law_order.proofs.Tables.{AreIn}
+use Rattle.gx_law_order.specs.Places.{AreIn}
 use Rattle.gx_law_order.proofs.Ways.{Agrees, AgreesIn, AsksFor, Stands}
 use Rattle.gx_law_order.specs.Pairs.{Pair, bit}
 use Rattle.gx_law_order.specs.Said.{is_answer}

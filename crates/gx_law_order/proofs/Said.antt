@@ -11,7 +11,7 @@ use Rattle.gx_store.specs.Lines.{BlockState, Outside, state_after_line, state_fr
 use Rattle.gx_store.specs.Marks.{answer_count, is_begun, is_begun_after, is_same_session, started_after}
 use Rattle.gx_store.proofs.Lines.{state_from-append}
 use Rattle.gx_store.proofs.Marks.{answer_count-append, is_begun_after-append, started_after-append}
-use Rattle.gx_law_order.proofs.Lists.{Each}
+use Rattle.gx_law_order.specs.Lists.{Each}
 
 pub record Said (script : Script) (k : SessionId) (ms : List Mark) (n : ℕ) (b : BlockState) (u : Bool) (g : Option Gxid) : Type 0 where
   pub answered : answer_count k ms ≡ n

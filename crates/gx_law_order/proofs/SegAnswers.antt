@@ -44,11 +44,12 @@ use Rattle.gx_store.specs.Refusals.{IsCause, is_journal, the_coordinator}
 use Rattle.gx_rules.specs.AtCoordinator.{answers, commits, completes, follows, goes_on, is_refused, reason_of, takes_done, with_done, writers_with}
 use Rattle.gx_rules.specs.Coordinators.{Command, Coord, CoordTurn, Session, Work, rests, session_of, with_work, work_of}
 use Rattle.gx_rules.specs.Fits.{fits_part}
-use Rattle.gx_law_order.proofs.Lists.{Each}
-use Rattle.gx_law_order.proofs.Sessions.{Kept, is_live_in, is_working_in, stage_of}
-use Rattle.gx_law_order.proofs.Stages.{gx}
-use Rattle.gx_law_order.proofs.Statuses.{Closes, Turned, commit-turns, stage}
-use Rattle.gx_law_order.proofs.Statuses.Stage.{Live}
+use Rattle.gx_law_order.specs.Lists.{Each}
+use Rattle.gx_law_order.specs.Sessions.{Kept, is_live_in, is_working_in}
+use Rattle.gx_law_order.specs.Stages.{stage, stage_of}
+use Rattle.gx_law_order.specs.Standings.{gx}
+use Rattle.gx_law_order.proofs.Statuses.{Closes, Turned, commit-turns}
+use Rattle.gx_law_order.specs.Stages.Stage.{Live}
 use Rattle.gx_law_order.specs.Scanned.{command_at}
 use Rattle.gx_law_order.specs.Rest.{IsCaused, RestAnswer}
 use Rattle.gx_law_order.specs.Standing.{IsLineOf, IsSession, IsStanding, Stands, is_alone, is_busy, state_in, under_way}

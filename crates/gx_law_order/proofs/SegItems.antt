@@ -21,7 +21,8 @@ use Rattle.gx_dsnap.specs.declared.snapshot.Snapshot.{Snapshot}
 use Rattle.gx_waits.specs.declared.claim.Claim.{Claim}
 use Rattle.gx_waits.specs.declared.object.Object.{Object}
 use Rattle.gx_waits.specs.declared.object.Object.TheVariants.{Relation, Transaction, Tuple}
-use Rattle.gx_locks.specs.Locks.{Locks, is_free, wait_of}
+use Rattle.gx_locks.specs.Locks.{Locks, wait_of}
+use Rattle.gx_waits.specs.Claims.{is_free}
 use Rattle.gx_meaning.specs.declared.fault.ArithFault.{ArithFault}
 use Rattle.gx_msg.specs.declared.item.JournalItem.{JournalItem}
 use Rattle.gx_msg.specs.declared.item.JournalItem.TheVariants as item
@@ -47,15 +48,16 @@ use Rattle.gx_rules.specs.Maps.{with_at}
 use Rattle.gx_rules.specs.Segments.{Local, Phase, Seg, SegTurn, Suspended, Version, after_marks, has_ended, local_of, stays, tells, tells_kept, with_local}
 use Rattle.gx_rules.specs.Segments.Phase.{Aborted, Committed, Forgotten, Prepared, Reading, Writing}
 use Rattle.gx_rules.specs.Shown.{kept_of, kept_one, last_images, shown}
-use Rattle.gx_rules.specs.Running.{goes_on, is_granted, requests, runs_locked, runs_slice, slice_lock, suspends, unless_end}
+use Rattle.gx_rules.specs.Running.{goes_on, is_granted, requests, runs_locked, runs_slice, suspends, unless_end}
+use Rattle.gx_store.specs.Locks.{slice_lock}
 use Rattle.gx_rules.specs.Slices.{Moved, answers, fails_on, first_fault, gives_back, inserted, inserts_row, own_lock, selects, starts_from, takes_lock, takes_own, writes_row}
 use Rattle.gx_rules.specs.Visits.{DidStop}
 use Rattle.gx_rules.proofs.Moving.{Ends, Keeps}
 use Rattle.gx_rules.proofs.Rounds.{collect-ways}
 use Rattle.gx_law_order.proofs.Changing.{row-goes-on, rows-change, stop-keeps}
 use Rattle.gx_law_order.proofs.Releases.{each-released}
-use Rattle.gx_law_order.proofs.Lists.{Each}
-use Rattle.gx_law_order.proofs.Stages.{gx}
+use Rattle.gx_law_order.specs.Lists.{Each}
+use Rattle.gx_law_order.specs.Standings.{gx}
 use Rattle.gx_law_order.proofs.Suspended.{is_open_phase}
 
 -- WHAT THE MARKS SAY

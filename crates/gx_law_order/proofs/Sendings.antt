@@ -26,7 +26,7 @@ use Rattle.gx_rules.specs.Machine.{Letter, posted}
 use Rattle.gx_rules.specs.Sending.{counted, numbered}
 use Rattle.gx_law_order.proofs.AtSegments.{PlainAt}
 use Rattle.gx_law_order.proofs.Letters.{same_node}
-use Rattle.gx_law_order.proofs.Lists.{Each}
+use Rattle.gx_law_order.specs.Lists.{Each}
 use Rattle.gx_law_order.proofs.Past.{aborted-append}
 use Rattle.gx_law_order.proofs.Sent.{at}
 use Rattle.gx_law_order.specs.Orders.{AreOrders}

@@ -15,7 +15,7 @@ use Rattle.gx_store.specs.Ordered.{AreNumbered, sent_count, sent_in}
 use Rattle.gx_store.specs.Refusals.{the_coordinator}
 use Rattle.gx_rules.specs.Sending.{counted, counted_all, numbered}
 use Rattle.gx_law_order.proofs.AtSegments.{PlainAt}
-use Rattle.gx_law_order.proofs.Lists.{Each}
+use Rattle.gx_law_order.specs.Lists.{Each}
 
 abbrev pub at : ℕ → Node
 at i = record { 0 = i }

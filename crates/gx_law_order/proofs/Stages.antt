@@ -1,5 +1,5 @@
 -- What the coordinator's calls make of a transaction's status, for every gxid.
-use Rattle.std.proofs.Common.{◌≡◌, ◌≤◌, ◌<◌, ℕ, List, [], ◌∷◌, ◌++◌, Option, Some, None, Bool, true, false, refl, sym, subst, ap, ◌∙◌, cond, if◌then◌else◌, arith, eqb, ltb}
+use Rattle.std.proofs.Common.{◌≡◌, ◌≤◌, ◌<◌, ℕ, [], ◌∷◌, ◌++◌, Option, Some, None, Bool, true, false, refl, sym, subst, ap, ◌∙◌, cond, if◌then◌else◌, arith, eqb, ltb}
 use Rattle.std.proofs.lemmas.Bool.{eqb-true, ltb-true}
 use Rattle.std.proofs.lemmas.Bool.Decides.{nat_tests}
 use Rattle.std.specs.Prelude.{option_map}
@@ -16,10 +16,9 @@ use Rattle.gx_dtx.specs.declared.change.Change.{Change}
 use Rattle.gx_dtx.specs.declared.change.Step.{Step}
 use Rattle.gx_dtx.specs.declared.change.Step.TheVariants.{GoesTo, Leaves, Stays}
 use Rattle.gx_dtx.specs.declared.txn.Txn.{Txn}
-use Rattle.gx_law_order.proofs.Lists.{Each}
-
-abbrev pub gx : ℕ → Gxid
-gx h = record { 0 = h }
+use Rattle.gx_law_order.specs.Lists.{Each}
+use Rattle.gx_law_order.specs.Stages.{Apart, Below, IsWhole, Txns}
+use Rattle.gx_law_order.specs.Standings.{gx}
 
 -- one key
 is_eq-same : (a b : ℕ) → eqb a b ≡ true → is_eq (nat_cmp a b) ≡ true
@@ -43,19 +42,8 @@ is_at-eqb a b = by_test (eqb a b) refl
     by_test false h = is_eq-apart a b h
 
 -- THE LIST OF TRANSACTIONS
-abbrev Txns : Type 0
-Txns = List (Gxid × Txn)
-
 abbrev pub at_gxid : ℕ → Txns → Option Txn
 at_gxid h es = lookup (is_at (gxid_cmp (gx h))) es
-
--- each key is another
-abbrev pub Apart : Txns → Type 0
-Apart [] = Unit {0}
-Apart (e ∷ es) = Each (λ (x : Gxid × Txn). eqb e.0.0 x.0.0 ≡ false) es × Apart es
-
-abbrev pub Below : ℕ → Txns → Type 0
-Below next es = Each (λ (x : Gxid × Txn). (1 ≤ x.0.0) × (x.0.0 < next)) es
 
 pub first-at : (h : ℕ) (e : Gxid × Txn) (es : Txns) → at_gxid h (e ∷ es) ≡ (if eqb h e.0.0 then Some e.1 else at_gxid h es)
 first-at h e es = ap (λ b. cond b (Some e.1) (at_gxid h es)) (is_at-eqb h e.0.0)
@@ -128,12 +116,7 @@ append-at h (x ∷ xs) g t e = first-at h x (xs ++ (gx g, t) ∷ []) ∙ ap (λ 
     other : (h g k : ℕ) → k < g → (if eqb h k then Some x.1 else (if eqb h g then Some t else at_gxid h xs)) ≡ (if eqb h g then Some t else (if eqb h k then Some x.1 else at_gxid h xs))
     other h g k e = grind (arith, nat_tests)
 
--- THE TABLE IS WHOLE
-pub record IsWhole (d : Table) : Type 0 where
-  pub first : 1 ≤ d.next.0
-  pub apart : Apart d.txns
-  pub drawn : Below d.next.0 d.txns
-
+-- THE TABLE STAYS WHOLE
 each-set : (P : ℕ → Type 0) (test : Gxid → Bool) (t : Txn) (es : Txns) → Each (λ (x : Gxid × Txn). P x.0.0) es → Each (λ (x : Gxid × Txn). P x.0.0) (set_value test es t)
 each-set P test t [] e = tt
 each-set P test t (x ∷ xs) e = by_test (test x.0) (each-set P test t xs e.1)

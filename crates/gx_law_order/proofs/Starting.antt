@@ -32,9 +32,10 @@ use Rattle.gx_store.specs.Points.{ends_by, ends_in, marks_in, starts_by, starts_
 use Rattle.gx_rules.specs.AtCoordinator.{answer_mark, answers_at_once, begins, behind, dispatches, next_cid, next_line, starts_line}
 use Rattle.gx_rules.specs.Coordinators.{Command, Coord, Session, Work, new_work, session_of, work_of}
 use Rattle.gx_law_order.proofs.Ends.{past-begun}
-use Rattle.gx_law_order.proofs.Past.{Past, running-drawn}
-use Rattle.gx_law_order.proofs.Sessions.{Kept, is_nothing_in}
-use Rattle.gx_law_order.proofs.Statuses.{is_running}
+use Rattle.gx_law_order.proofs.Past.{running-drawn}
+use Rattle.gx_law_order.specs.Past.{Past}
+use Rattle.gx_law_order.specs.Sessions.{Kept, is_nothing_in}
+use Rattle.gx_law_order.specs.Stages.{is_running}
 use Rattle.gx_law_order.proofs.Turns.{merged}
 use Rattle.gx_law_order.specs.Scanned.{began_from, closes_block}
 use Rattle.gx_law_order.specs.Rest.{RestAnswer}

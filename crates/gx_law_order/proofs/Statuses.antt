@@ -12,34 +12,11 @@ use Rattle.gx_dtx.specs.declared.phase.Phase.TheVariants.{Active, Preparing, Com
 use Rattle.gx_dtx.specs.declared.txn.Txn.{Txn}
 use Rattle.gx_msg.specs.declared.reply.Reply.{Reply}
 use Rattle.gx_msg.specs.declared.reply.Reply.TheVariants as reply
-use Rattle.gx_law_order.proofs.Stages.{At, IsWhole, changed-at, gx, left_of}
-
--- unknown or ended, running its commands, on its way to a commit, committed and not forgotten by all, on its way to an abort
-pub data Stage : Type 0 where
-  Absent : Stage
-  Live : Stage
-  Closing : Stage
-  Finished : Stage
-  Dropped : Stage
-
-abbrev pub stage_in : Phase → Stage
-stage_in Active = Live
-stage_in (Preparing a b) = Closing
-stage_in (CommittingOne a) = Closing
-stage_in (CommittingTwo a) = Closing
-stage_in (Ended a) = Finished
-stage_in (Aborting a) = Dropped
-
-abbrev pub stage : Option Txn → Stage
-stage None = Absent
-stage (Some t) = stage_in t.phase
-
-abbrev pub is_running : Stage → Bool
-is_running Absent = false
-is_running Live = true
-is_running Closing = true
-is_running Finished = false
-is_running Dropped = true
+use Rattle.gx_law_order.proofs.Stages.{At, changed-at, left_of}
+use Rattle.gx_law_order.specs.Stages.{IsWhole}
+use Rattle.gx_law_order.specs.Standings.{gx}
+use Rattle.gx_law_order.specs.Stages.{IsWhole, Stage, is_running, stage, stage_in}
+use Rattle.gx_law_order.specs.Stages.Stage.{Absent, Live, Closing, Finished, Dropped}
 
 pub runs-stage : (t : Option Txn) → runs t ≡ is_running (stage t)
 runs-stage None = refl

@@ -31,12 +31,13 @@ use Rattle.gx_law_order.proofs.AtCoordinators.{cancel_stays, coord_stays}
 use Rattle.gx_law_order.proofs.Induction.{after_turn}
 use Rattle.gx_law_order.proofs.Moves.{HasNamed}
 use Rattle.gx_law_order.proofs.AtSegments.{PlainAt, SegStays, seg_stays}
-use Rattle.gx_law_order.proofs.Lists.{Each, each_append, each_weaker}
+use Rattle.gx_law_order.proofs.Lists.{each_append, each_weaker}
+use Rattle.gx_law_order.specs.Lists.{Each}
 use Rattle.gx_law_order.proofs.Numbers.{IsNumbered, calm-more, cancel-numbered, event-numbered}
 use Rattle.gx_law_order.proofs.Past.{aborted-append}
 use Rattle.gx_law_order.proofs.Ordered.{at-both, seg_marks}
 use Rattle.gx_law_order.proofs.Sent.{at}
-use Rattle.gx_law_order.proofs.Stages.{gx}
+use Rattle.gx_law_order.specs.Standings.{gx}
 use Rattle.gx_law_order.proofs.More.{marks-last}
 use Rattle.gx_law_order.proofs.World.{Knows}
 use Rattle.gx_law_order.specs.Rest.{EachMark, StartsNothing, is_going_out}

@@ -15,7 +15,7 @@ use Rattle.gx_rules.specs.Machine.{Letter, World, after, and_cancelled, coord_di
 use Rattle.gx_law_order.specs.Moves.{Move, moved, moved_by, world_by}
 use Rattle.gx_law_order.proofs.Induction.{is-there, place-of}
 use Rattle.gx_law_order.proofs.Letters.{IsFound, found_is}
-use Rattle.gx_law_order.proofs.Lists.{Each}
+use Rattle.gx_law_order.specs.Lists.{Each}
 use Rattle.gx_law_order.proofs.Moves.{HasNamed, all-keep, happens-keeps, moved-ways, moves_after, next-move, world-moves}
 use Rattle.gx_law_order.proofs.Waiting.{going-out}
 use Rattle.gx_law_order.proofs.World.{Knows}

@@ -8,7 +8,7 @@ use Rattle.gx_ids.specs.declared.ids.Node.{Node}
 use Rattle.gx_ids.specs.declared.rid.Rid.{Rid}
 use Rattle.gx_tree.specs.declared.slice.Slice.{Slice}
 use Rattle.gx_waits.specs.declared.claim.Claim.{Claim}
-use Rattle.gx_locks.specs.Claims.{is_of}
+use Rattle.gx_waits.specs.Claims.{is_of}
 use Rattle.gx_locks.specs.Locks.{wait_of}
 use Rattle.gx_msg.specs.declared.message.Envelope.{Envelope}
 use Rattle.gx_msg.specs.declared.message.Message.{Message}
@@ -26,12 +26,13 @@ use Rattle.gx_rules.specs.Fits.{is_right_slice, reads_nothing}
 use Rattle.gx_rules.specs.Machine.{Letter, World, posted}
 use Rattle.gx_rules.specs.Segments.{Local, Phase, Seg, Suspended, local_of}
 use Rattle.gx_rules.specs.Segments.Phase.{Reading, Writing}
-use Rattle.gx_rules.specs.Running.{slice_lock}
+use Rattle.gx_store.specs.Locks.{slice_lock}
 use Rattle.gx_law_order.proofs.Changing.{IsAtRow}
 use Rattle.gx_law_order.proofs.Letters.{IsFound, IsLetter}
-use Rattle.gx_law_order.proofs.Lists.{Each, get_last}
+use Rattle.gx_law_order.proofs.Lists.{get_last}
+use Rattle.gx_law_order.specs.Lists.{Each}
 use Rattle.gx_law_order.proofs.Sent.{at}
-use Rattle.gx_law_order.proofs.Stages.{gx}
+use Rattle.gx_law_order.specs.Standings.{gx}
 
 -- WHAT HAS COME
 -- the letter is one of these

@@ -25,14 +25,18 @@ use Rattle.gx_rules.specs.Maps.{with_at}
 use Rattle.gx_rules.specs.Snapshots.{latest_number}
 use Rattle.gx_law_order.specs.Seen.{AreEndedSeen}
 use Rattle.gx_law_order.proofs.Ends.{AtOne, at-commits, at-falls, at-runs, greater-facts, past-at}
-use Rattle.gx_law_order.proofs.Lists.{Each, each_append}
-use Rattle.gx_law_order.proofs.Past.{Past, Still, aborted-append, committed-append, running-drawn, seen-append, still-committed, still-seen}
-use Rattle.gx_law_order.proofs.Sessions.{Change, Kept, Placed, Tied, is_open_in, is_said, kept-new, kept-own, stage_of}
-use Rattle.gx_locks.specs.Locks.{without}
+use Rattle.gx_law_order.proofs.Lists.{each_append}
+use Rattle.gx_law_order.specs.Lists.{Each}
+use Rattle.gx_law_order.proofs.Past.{Still, aborted-append, committed-append, running-drawn, seen-append, still-committed, still-seen}
+use Rattle.gx_law_order.specs.Past.{Past}
+use Rattle.gx_law_order.proofs.Sessions.{Change, kept-new, kept-own}
+use Rattle.gx_law_order.specs.Sessions.{Kept, Placed, Tied, is_open_in, is_said}
+use Rattle.gx_law_order.specs.Stages.{IsWhole, Stage, is_running, stage, stage_of}
+use Rattle.gx_waits.specs.Claims.{without}
 use Rattle.gx_law_order.proofs.Queued.{Queues, queue-released, queue-then}
-use Rattle.gx_law_order.proofs.Stages.{IsWhole, gx}
-use Rattle.gx_law_order.proofs.Statuses.{Falls, Stage, Turned, is_running, stage}
-use Rattle.gx_law_order.proofs.Statuses.Stage.{Absent, Live, Closing, Finished, Dropped}
+use Rattle.gx_law_order.specs.Standings.{gx}
+use Rattle.gx_law_order.proofs.Statuses.{Falls, Turned}
+use Rattle.gx_law_order.specs.Stages.Stage.{Absent, Closing, Dropped, Finished, Live}
 use Rattle.gx_law_order.proofs.Releases.{each-released}
 use Rattle.gx_rules.specs.Locks.{release_marks}
 use Rattle.gx_store.specs.Refusals.{the_coordinator}

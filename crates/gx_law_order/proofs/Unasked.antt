@@ -15,7 +15,7 @@ use Rattle.gx_rules.specs.AtSegment.{seg_rule}
 use Rattle.gx_rules.specs.Machine.{Letter, World, and_cancelled, coord_did, posted}
 use Rattle.gx_law_order.proofs.Everywhere.{Holds, parts_in}
 use Rattle.gx_law_order.proofs.Induction.{at-moves, marks-by-event, marks-by-victim}
-use Rattle.gx_law_order.proofs.Lists.{Each}
+use Rattle.gx_law_order.specs.Lists.{Each}
 use Rattle.gx_law_order.proofs.More.{marks-last}
 use Rattle.gx_law_order.specs.Moves.{Move, world_by}
 use Rattle.gx_law_order.specs.Pairs.{Pair}

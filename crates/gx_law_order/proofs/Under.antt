@@ -30,7 +30,8 @@ use Rattle.gx_store.specs.Refusals.{IsCause, the_coordinator, may_refuse}
 use Rattle.gx_rules.specs.AtCoordinator.{answer_at_commit, behind, is_committed, is_refused, answer_mark}
 use Rattle.gx_rules.specs.Coordinators.{Coord, CoordTurn, Session, Work, no_work, session_of, work_of}
 use Rattle.gx_rules.specs.Maps.{with_at}
-use Rattle.gx_law_order.proofs.Lists.{Each, each_append}
+use Rattle.gx_law_order.proofs.Lists.{each_append}
+use Rattle.gx_law_order.specs.Lists.{Each}
 use Rattle.gx_law_order.proofs.Past.{aborted-append}
 use Rattle.gx_law_order.specs.Alive.{HasAnswered}
 use Rattle.gx_law_order.specs.Finish.{AreCommandsTold}

@@ -27,12 +27,12 @@ use Rattle.gx_law_order.specs.Standings.Standing.{Live, Unborn}
 use Rattle.gx_law_order.proofs.Always.{Sound, moves-sound}
 use Rattle.gx_law_order.proofs.Events.{live-stage}
 use Rattle.gx_law_order.proofs.Induction.{at-moves, marks-by-event, marks-by-victim}
-use Rattle.gx_law_order.proofs.Lists.{Each}
+use Rattle.gx_law_order.specs.Lists.{Each}
 use Rattle.gx_law_order.proofs.More.{marks-last}
 use Rattle.gx_law_order.proofs.Moves.{moves_after, world-moves}
 use Rattle.gx_law_order.proofs.Past.{there-drawn}
-use Rattle.gx_law_order.proofs.Sessions.{stage_of}
-use Rattle.gx_law_order.proofs.Statuses.Stage.{Live as LiveStage}
+use Rattle.gx_law_order.specs.Stages.{stage_of}
+use Rattle.gx_law_order.specs.Stages.Stage.{Live as LiveStage}
 
 -- a command that runs has a number up to the last
 pub record Unsent (c : Coord) (ms : List Mark) : Type 0 where

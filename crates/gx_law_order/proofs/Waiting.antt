@@ -11,27 +11,29 @@ use Rattle.gx_tree.specs.declared.slice.Slice.{Slice}
 use Rattle.gx_tree.specs.declared.slice.Slice.TheVariants as slice
 use Rattle.gx_tree.specs.declared.stmt.Stmt.{Stmt}
 use Rattle.gx_waits.specs.declared.claim.Claim.{Claim}
-use Rattle.gx_locks.specs.Claims.{is_of}
-use Rattle.gx_locks.specs.Locks.{is_free, is_ready, resumed, wait_of}
+use Rattle.gx_waits.specs.Claims.{is_free, is_of}
+use Rattle.gx_locks.specs.Locks.{is_ready, may_take, resumed, wait_of}
 use Rattle.gx_script.specs.declared.Script.{Script}
 use Rattle.gx_store.specs.declared.node.NodeEvent.TheVariants as event
-use Rattle.gx_rules.specs.AtCoordinator.{coord_can, is_segment, lock_for}
+use Rattle.gx_rules.specs.AtCoordinator.{coord_can, is_segment}
+use Rattle.gx_store.specs.Locks.{slice_lock, table_lock}
 use Rattle.gx_rules.specs.AtSegment.{resumes}
 use Rattle.gx_rules.specs.Changes.{Change, change_of, goes_on_at, goes_through}
 use Rattle.gx_rules.specs.Coordinators.{Coord, session_of, work_of}
 use Rattle.gx_rules.specs.Fits.{holds_locks}
 use Rattle.gx_rules.specs.Locks.{hold_mark}
 use Rattle.gx_rules.specs.Machine.{World, seg_can}
-use Rattle.gx_rules.specs.Running.{goes_on, is_granted, runs_slice, slice_lock}
+use Rattle.gx_rules.specs.Running.{goes_on, is_granted, runs_slice}
 use Rattle.gx_rules.specs.Segments.{Phase, Seg, SegTurn, Suspended, after_marks, has_ended, local_of, with_local}
 use Rattle.gx_rules.specs.Segments.Phase.{Aborted, Committed, Forgotten, Prepared, Reading, Writing}
 use Rattle.gx_rules.specs.Slices.{Moved}
 use Rattle.gx_law_order.proofs.Changing.{IsAtRow}
 use Rattle.gx_law_order.proofs.Ordered.{Well}
-use Rattle.gx_law_order.proofs.Sessions.{is_working_in, stage_of, Kept}
-use Rattle.gx_law_order.proofs.Queued.{WaitsFor, claims_for, listed, waits-for}
-use Rattle.gx_law_order.proofs.Stages.{gx}
-use Rattle.gx_law_order.proofs.Statuses.Stage.{Live}
+use Rattle.gx_law_order.specs.Sessions.{Kept, claims_for, is_working_in, listed}
+use Rattle.gx_law_order.specs.Stages.{stage_of}
+use Rattle.gx_law_order.proofs.Queued.{WaitsFor, waits-for}
+use Rattle.gx_law_order.specs.Standings.{gx}
+use Rattle.gx_law_order.specs.Stages.Stage.{Live}
 use Rattle.gx_law_order.proofs.Suspended.{AreWaits, HasDoneAt, IsWantedAt, find-filter, waits-there}
 use Rattle.gx_law_order.proofs.Suspensions.{closed-rests}
 use Rattle.gx_law_order.proofs.World.{Knows}
@@ -99,7 +101,7 @@ no-slice script w good i g e = closed-rests script (HasCome w i) (w.segs i).hori
 
 -- who is admitted to go on waits, and its lock is free
 pub going-on : (script : Script) (w : World) → Well script w → (i : ℕ) (g : Gxid) → seg_can script (w.segs i) (event.Resume g) ≡ true → GoesOn script w i g
-going-on script w good i g ok = by_wait (wait_of s.locks g) refl (and-second (is_segment script s.node) (is_ready s.locks.holds (wait_of s.locks g)) ok)
+going-on script w good i g ok = by_wait (wait_of s.locks g) refl (and-second (is_segment script s.node) (may_take s.locks g) ok)
   where
     s : Seg
     s = w.segs i
@@ -189,7 +191,7 @@ pub record GoesOut (script : Script) (c : Coord) (g : Gxid) : Type 0 where
   pub is : (work_of c g).waiting ≡ Some line
   pub wanted : Claim
   pub claims : wait_of c.locks g ≡ Some wanted
-  pub lock : lock_for script g line ≡ Some wanted
+  pub lock : table_lock script g line ≡ Some wanted
   pub free : is_free c.locks.holds wanted ≡ true
   pub idle : (work_of c g).command ≡ None
   pub live : stage_of c g.0 ≡ Live
@@ -201,7 +203,7 @@ pub record HasStatement (script : Script) (c : Coord) (g : Gxid) (wanted : Claim
   pub line : Stmt
   pub is : (work_of c g).waiting ≡ Some line
   pub once : filter (is_of g) c.locks.waits ≡ wanted ∷ []
-  pub lock : lock_for script g line ≡ Some wanted
+  pub lock : table_lock script g line ≡ Some wanted
   pub idle : (work_of c g).command ≡ None
   pub live : stage_of c g.0 ≡ Live
   pub home : (session_of c (work_of c g).session).transaction ≡ g

@@ -24,9 +24,10 @@ use Rattle.gx_store.specs.Refusals.{the_coordinator}
 use Rattle.gx_rules.specs.AtCoordinator.{coord_can}
 use Rattle.gx_rules.specs.Coordinators.{Command, Session, Work, session_of, work_of}
 use Rattle.gx_rules.specs.Machine.{World, world_of}
-use Rattle.gx_law_order.proofs.Sessions.{is_working_in, stage_of}
-use Rattle.gx_law_order.proofs.Stages.{gx}
-use Rattle.gx_law_order.proofs.Statuses.Stage.{Live}
+use Rattle.gx_law_order.specs.Sessions.{is_working_in}
+use Rattle.gx_law_order.specs.Stages.{stage_of}
+use Rattle.gx_law_order.specs.Standings.{gx}
+use Rattle.gx_law_order.specs.Stages.Stage.{Live}
 use Rattle.gx_law_order.proofs.Waiting.{GoesOut, going-out}
 use Rattle.gx_law_order.proofs.World.{Knows, world_knows}
 use Rattle.gx_law_order.specs.Orders.{level_by}

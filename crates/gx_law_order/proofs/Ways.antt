@@ -25,9 +25,9 @@ use Rattle.gx_store.specs.Refusals.{the_coordinator}
 use Rattle.gx_rules.specs.Coordinators.{Command, Coord, CoordTurn, Work, rests}
 use Rattle.gx_law_order.proofs.Ends.{begun-finds}
 use Rattle.gx_law_order.proofs.Lines.{undrawn}
-use Rattle.gx_law_order.proofs.Lists.{Each}
+use Rattle.gx_law_order.specs.Lists.{Each}
 use Rattle.gx_law_order.proofs.Past.{aborted-append, committed-append}
-use Rattle.gx_law_order.proofs.Stages.{IsWhole}
+use Rattle.gx_law_order.specs.Stages.{IsWhole}
 use Rattle.gx_law_order.specs.Pairs.{Pair}
 use Rattle.gx_law_order.specs.Said.{Said, gxid_in, is_answer}
 use Rattle.gx_law_order.specs.Standings.{Known, Part, Standing, at, gx, known_at, known_of, standing, waits_in}

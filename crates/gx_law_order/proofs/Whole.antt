@@ -31,12 +31,13 @@ use Rattle.gx_rules.specs.Segments.{SegTurn}
 use Rattle.gx_rules.specs.Sending.{clock_after, counted, numbered}
 use Rattle.gx_law_order.specs.Moves.{Move, world_by}
 use Rattle.gx_law_order.proofs.Induction.{IsThere, at-moves}
-use Rattle.gx_law_order.proofs.Lists.{Each, each_append}
+use Rattle.gx_law_order.proofs.Lists.{each_append}
+use Rattle.gx_law_order.specs.Lists.{Each}
 use Rattle.gx_law_order.proofs.More.{marks-last}
 use Rattle.gx_law_order.proofs.Moves.{moves_after, world-moves}
 use Rattle.gx_law_order.proofs.Numbers.{NoStart}
 use Rattle.gx_law_order.proofs.Past.{aborted-append}
-use Rattle.gx_law_order.proofs.Tables.{AreIn}
+use Rattle.gx_law_order.specs.Places.{AreIn}
 use Rattle.gx_law_order.proofs.Waiting.{going-out}
 use Rattle.gx_law_order.proofs.World.{Knows}
 use Rattle.gx_law_order.specs.Followed.{AnswersAt, CommitsAt, DoMarksAnswer, DoMarksCommit, DoMarksEnd, DoStepsAnswer, DoStepsCommit, DoStepsEnd, EndsAt}

@@ -20,7 +20,7 @@ use Rattle.gx_rules.specs.Coordinators.{Coord, CoordTurn}
 use Rattle.gx_rules.specs.Machine.{World, and_cancelled, coord_did, new_world, seg_did, world_of}
 use Rattle.gx_rules.specs.Sending.{clock_after, counted, numbered}
 use Rattle.gx_law_order.specs.Seen.{AreEndedSeen}
-use Rattle.gx_law_order.proofs.Lists.{Each}
+use Rattle.gx_law_order.specs.Lists.{Each}
 use Rattle.gx_law_order.proofs.Lines.{past-still}
 use Rattle.gx_law_order.specs.Moves.{Move, world_by}
 use Rattle.gx_law_order.proofs.Induction.{after_turn, at-moves, marks-by-event, marks-by-victim}
@@ -28,10 +28,11 @@ use Rattle.gx_law_order.proofs.More.{marks-last}
 use Rattle.gx_law_order.proofs.Moves.{moves_after, world-moves}
 use Rattle.gx_law_order.proofs.Ordered.{Well, moves_well, new_well, seg_marks}
 use Rattle.gx_law_order.proofs.Turns.{Good}
-use Rattle.gx_law_order.proofs.Past.{Past, Still, seen-append, still-seen}
+use Rattle.gx_law_order.proofs.Past.{Still, seen-append, still-seen}
+use Rattle.gx_law_order.specs.Past.{Past}
 use Rattle.gx_law_order.proofs.Replies.{cancel-good, event-good}
 use Rattle.gx_law_order.proofs.Sent.{at}
-use Rattle.gx_law_order.proofs.Sessions.{Kept}
+use Rattle.gx_law_order.specs.Sessions.{Kept}
 
 pub record Knows (script : Script) (w : World) : Type 0 where
   pub well : Well script w

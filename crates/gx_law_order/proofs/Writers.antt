@@ -24,8 +24,8 @@ use Rattle.gx_waits.specs.Claim.{same_claim}
 use Rattle.gx_waits.specs.declared.claim.Claim.{Claim}
 use Rattle.gx_waits.specs.declared.object.Object.{Object}
 use Rattle.gx_waits.specs.declared.object.Object.TheVariants.{Relation, Transaction, Tuple}
-use Rattle.gx_locks.specs.Claims.{is_of}
-use Rattle.gx_locks.specs.Locks.{Locks, held, is_free, wait_of, without}
+use Rattle.gx_waits.specs.Claims.{is_free, is_of, with_claim, without}
+use Rattle.gx_locks.specs.Locks.{Locks, wait_of}
 use Rattle.gx_meaning.specs.declared.fault.ArithFault.{ArithFault}
 use Rattle.gx_msg.specs.declared.message.Message.{Message}
 use Rattle.gx_msg.specs.declared.message.Message.TheVariants as message
@@ -41,7 +41,8 @@ use Rattle.gx_rules.specs.AtSegment.{commits, ends, finishes, if_fits, on_abort,
 use Rattle.gx_rules.specs.Changes.{Change, RowTurn, change_of, changes_rows, end_lock, goes_on_at, suspended_at, suspends_at, tuple_lock, waits}
 use Rattle.gx_rules.specs.Fits.{fits_exec, is_waiting}
 use Rattle.gx_rules.specs.Locks.{with_hold, without_hold}
-use Rattle.gx_rules.specs.Running.{goes_on, is_granted, requests, runs_slice, slice_lock, suspended_slice, unless_end}
+use Rattle.gx_rules.specs.Running.{goes_on, is_granted, requests, runs_slice, suspended_slice, unless_end}
+use Rattle.gx_store.specs.Locks.{slice_lock}
 use Rattle.gx_rules.specs.Segments.{Local, Phase, Seg, SegTurn, Suspended, Version, has_ended, local_of, tells_kept, with_local}
 use Rattle.gx_rules.specs.Segments.Phase.{Aborted, Committed, Forgotten, Prepared, Reading, Writing}
 use Rattle.gx_rules.specs.Shown.{shown}
@@ -51,9 +52,10 @@ use Rattle.gx_rules.proofs.Moving.{Ends}
 use Rattle.gx_rules.proofs.Rounds.{collect-ways}
 use Rattle.gx_rules.proofs.Moving as Loop
 use Rattle.gx_law_order.proofs.Changing.{IsAtRow, row-goes-on, rows-change, stop-keeps}
-use Rattle.gx_law_order.proofs.Lists.{Each, each_filter}
+use Rattle.gx_law_order.proofs.Lists.{each_filter}
+use Rattle.gx_law_order.specs.Lists.{Each}
 use Rattle.gx_law_order.proofs.OwnLocks.{IsOfRows, IsOwn, LocksIn, LocksItself, SaysWritten, WritersLock, each-held, end-back, has_version, held-own, held-rows, holds_own, left-rows, none-left, others-left, rows-own, slice-rows}
-use Rattle.gx_law_order.proofs.Stages.{gx}
+use Rattle.gx_law_order.specs.Standings.{gx}
 use Rattle.gx_law_order.proofs.Suspended.{AreSuspended, AreWaits, IsWanted, IsWantedAt, find-filter, is_open_phase}
 
 -- CHANGES OF A SEGMENT
@@ -162,7 +164,7 @@ write_goes g c table m rid image f = by_phase (local_of m.seg g).phase refl f.op
         record {
           writers = record {
             owns = each-held s.locks.holds (own_lock g) f.writers.owns refl;
-            each = each_by (held s.locks.holds (own_lock g)) (λ h n. held-own h g.0 s.locks.holds ∙ ap (λ b. holds_own h s.locks.holds || b) n ∙ or-false (holds_own h s.locks.holds))
+            each = each_by (with_claim (own_lock g) s.locks.holds) (λ h n. held-own h g.0 s.locks.holds ∙ ap (λ b. holds_own h s.locks.holds || b) n ∙ or-false (holds_own h s.locks.holds))
                 (subst (LocksItself Writing (has_version g.0 s.versions || true)) (sym (held-own g.0 g.0 s.locks.holds ∙ ap (λ b. holds_own g.0 s.locks.holds || b) (eqb-self g.0))) (first _ _ (itself Reading e)));
           };
           opens = opened;

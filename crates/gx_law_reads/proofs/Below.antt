@@ -24,14 +24,12 @@ use Rattle.gx_rules.specs.AtSegment.{raised}
 use Rattle.gx_rules.specs.Coordinators.{Command}
 use Rattle.gx_rules.specs.Machine.{Letter, World}
 use Rattle.gx_rules.specs.Segments.{Suspended}
-use Rattle.gx_law_order.proofs.Lists.{Each}
-use Rattle.gx_law_order.proofs.Sessions.{stage_of}
-use Rattle.gx_law_order.proofs.Stages.{gx}
-use Rattle.gx_law_order.proofs.Statuses.{Stage, is_running, stage, stage_in}
-use Rattle.gx_law_order.proofs.Statuses.Stage.{Live as Running}
+use Rattle.gx_law_order.specs.Lists.{Each}
+use Rattle.gx_law_order.specs.Stages.{Stage, is_running, stage, stage_in, stage_of}
+use Rattle.gx_law_order.specs.Stages.Stage.{Absent, Closing, Dropped, Finished, Live as Running}
 use Rattle.gx_law_order.proofs.World.{Knows}
 use Rattle.gx_law_order.specs.Said.{IsCommand, Said, SaidIn, gxid_in, is_answer}
-use Rattle.gx_law_order.specs.Standings.{Known, known_at, standing, standing_in, waits_in}
+use Rattle.gx_law_order.specs.Standings.{Known, gx, known_at, standing, standing_in, waits_in}
 use Rattle.gx_law_order.specs.Standings.Standing.{Live}
 use Rattle.gx_law_order.proofs.Everywhere.{Holds, parts_in}
 use Rattle.gx_law_order.proofs.WaitingParts.{IsAwaited, awaited}
@@ -43,7 +41,6 @@ use Rattle.gx_law_reads.proofs.Low.{LetterLow, Lows, drawn-is, live-standing, ra
 use Rattle.gx_law_reads.proofs.Taken.{closing-taken}
 use Rattle.gx_law_reads.proofs.Ends.{Facts, TakenAt}
 use Rattle.gx_store.specs.Marks.{is_aborted, is_committed}
-use Rattle.gx_law_order.proofs.Statuses.Stage.{Absent, Closing, Dropped, Finished}
 
 -- a command that its segment has still to run is the one under way, and its snapshot's xmin lives
 module _ (script : Script) (w : World) (k : Knows script w) (v : Holds script w) (facts : Facts w) where

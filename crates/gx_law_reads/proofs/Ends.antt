@@ -41,18 +41,19 @@ use Rattle.gx_rules.specs.Sending.{clock_after, numbered}
 use Rattle.gx_rules.specs.Running.{starts_slice}
 use Rattle.gx_law_order.specs.Moves.{Move, world_by}
 use Rattle.gx_law_order.proofs.Induction.{after_turn, marks-by-event, marks-by-victim}
-use Rattle.gx_law_order.proofs.Lists.{Each, each_append, each_weaker}
+use Rattle.gx_law_order.proofs.Lists.{each_append, each_weaker}
+use Rattle.gx_law_order.specs.Lists.{Each}
 use Rattle.gx_law_order.proofs.Moves.{HasNamed}
-use Rattle.gx_law_order.proofs.Past.{Past, aborted-append, committed-append, running-drawn}
+use Rattle.gx_law_order.proofs.Past.{aborted-append, committed-append, running-drawn}
+use Rattle.gx_law_order.specs.Past.{Past}
 use Rattle.gx_law_order.proofs.Replies.{cancel-good, event-good}
-use Rattle.gx_law_order.proofs.Stages.{IsWhole, gx}
-use Rattle.gx_law_order.proofs.Statuses.{is_running}
+use Rattle.gx_law_order.specs.Stages.{IsWhole, is_running}
 use Rattle.gx_law_order.proofs.Waiting.{each-among}
 use Rattle.gx_law_order.proofs.More.{marks-last}
 use Rattle.gx_law_order.proofs.World.{Knows}
 use Rattle.gx_law_order.specs.Pairs.{bit}
 use Rattle.gx_law_order.specs.Said.{Said, SaidIn, gxid_in, is_answer}
-use Rattle.gx_law_order.specs.Standings.{Known, at, known_at}
+use Rattle.gx_law_order.specs.Standings.{Known, at, gx, known_at}
 use Rattle.gx_law_order.proofs.Counts.{NoEnd, NoPart, NoSent, local-append, no-aborted, no-committed, no-local, no-writer, sent-no-end, sent-no-part, writer-append}
 use Rattle.gx_law_order.proofs.Everywhere.{Holds, IsResumed, does-it, fol-no-sent, parts_in, posted-each, resumed-does, told-answer}
 use Rattle.gx_law_order.proofs.Handled.{Does, Follows, IsExecOf}

@@ -37,15 +37,16 @@ use Rattle.gx_script.specs.declared.state.Block.TheVariants.{Failed, Open, Outsi
 use Rattle.gx_store.specs.Writes.{dist_of}
 use Rattle.gx_store.specs.declared.node.NodeEvent.{NodeEvent}
 use Rattle.gx_store.specs.declared.node.NodeEvent.TheVariants as event
-use Rattle.gx_rules.specs.AtCoordinator.{Reading, awaited, begins, command_order, dispatches, ends_in, enlisted_all, goes, goes_out, kept_at, next_cid, next_line, nodes_in, on_event, on_line, order_to, orders_of, reads_by, reads_for, resends, starts, starts_line, status_order, table_of, takes_snapshot, goes_on_locked, if_granted, lock_for, requests, resumes}
+use Rattle.gx_rules.specs.AtCoordinator.{Reading, awaited, begins, command_order, dispatches, ends_in, enlisted_all, goes, goes_out, kept_at, next_cid, next_line, nodes_in, on_event, on_line, order_to, orders_of, reads_by, reads_for, resends, starts, starts_line, status_order, table_of, takes_snapshot, goes_on_locked, if_granted, requests, resumes}
+use Rattle.gx_store.specs.Locks.{table_lock}
 use Rattle.gx_rules.specs.Coordinators.{with_work, Command, Coord, CoordTurn, Work, new_work, no_work, session_of, work_of}
 use Rattle.gx_rules.specs.Maps.{with_at}
 use Rattle.gx_rules.specs.Rounds.{awaits_graph}
 use Rattle.gx_rules.specs.Snapshots.{snapshot_of}
-use Rattle.gx_law_order.proofs.Lists.{Each}
-use Rattle.gx_law_order.proofs.Stages.{gx}
-use Rattle.gx_law_order.proofs.Statuses.{Stage, stage}
-use Rattle.gx_law_order.proofs.Statuses.Stage.{Live}
+use Rattle.gx_law_order.specs.Lists.{Each}
+use Rattle.gx_law_order.specs.Standings.{gx}
+use Rattle.gx_law_order.specs.Stages.{Stage, stage}
+use Rattle.gx_law_order.specs.Stages.Stage.{Live}
 use Rattle.gx_law_reads.proofs.Heights.{Rises, Sorted, begun-rises, changed-rises, enlisted-rises, live-rises, rises-same, rises-then}
 use Rattle.gx_law_reads.proofs.Held.{Held, Latest, held-now, horizon-xmin}
 use Rattle.gx_law_reads.proofs.Plain.{abort-mild, sent-fine}
@@ -53,7 +54,8 @@ use Rattle.gx_law_reads.proofs.Reading.{CommandLow, CountedIn, Fine, OrderHeld, 
 use Rattle.gx_law_reads.proofs.Turns.{WentBy, begins-round-went, commits-went, counted-by, live-apart, live-here, message-went, rest-went, rolled-went, went-then, work-went}
 use Rattle.gx_rules.specs.Locks.{with_hold}
 use Rattle.gx_waits.specs.declared.claim.Claim.{Claim}
-use Rattle.gx_locks.specs.Locks.{is_free, resumed, wait_of}
+use Rattle.gx_locks.specs.Locks.{resumed, wait_of}
+use Rattle.gx_waits.specs.Claims.{is_free}
 
 -- ENLISTING
 pub record Enlists (d u : Table) (g : ℕ) : Type 0 where
@@ -63,7 +65,7 @@ pub record Enlists (d u : Table) (g : ℕ) : Type 0 where
 
 kept-both : (f : Txn → Txn) → ((t : Txn) → (f t).phase ≡ t.phase) → ((t : Txn) → (f t).live ≡ t.live) → (o : Option Txn) → (stage (option_map f o) ≡ stage o) × (live_of (option_map f o) ≡ live_of o)
 kept-both f p l None = (refl, refl)
-kept-both f p l (Some t) = (ap Rattle.gx_law_order.proofs.Statuses.stage_in (p t), l t)
+kept-both f p l (Some t) = (ap Rattle.gx_law_order.specs.Stages.stage_in (p t), l t)
 
 abbrev joins : Node → Txn → Txn
 joins i t = record t { participants = with_node i t.participants }
@@ -129,7 +131,7 @@ module _ (c : Coord) (g : ℕ) (s : Stood c.table c.works) (latest : Latest c.ta
       absent-live : (o : Option Txn) → stage o ≡ Live → (live_of (option_map (λ (t : Txn). record t { live = Some (xmin_of c.table) }) o) ≡ Some (xmin_of c.table))
       absent-live None e = absurd (differ e)
         where
-          differ : Rattle.gx_law_order.proofs.Statuses.Stage.Absent ≡ Live → ⊥
+          differ : Rattle.gx_law_order.specs.Stages.Stage.Absent ≡ Live → ⊥
           differ e = cc
       absent-live (Some t) e = refl
 
@@ -261,7 +263,7 @@ module _ (c : Coord) (g : ℕ) (s : Stood c.table c.works) (latest : Latest c.ta
   request-went (Some wanted) = granted-went wanted (is_free c.locks.holds wanted)
 
   pub dispatch-went : WentBy c (dispatches script c (gx g) line)
-  dispatch-went = request-went (lock_for script (gx g) line)
+  dispatch-went = request-went (table_lock script (gx g) line)
 
 -- and behind a wait
 resumes-went : (c : Coord) (g : ℕ) → Stood c.table c.works → Latest c.table → (script : Script) (o : Option Claim) (line : Option Stmt) → WentBy c (resumes script c (gx g) o line)
@@ -326,8 +328,8 @@ module _ (script : Script) (c : Coord) (s : Stood c.table c.works) (latest : Lat
 
   line-went : (session : SessionId) (line : Stmt) (asked : LineStep) → WentBy c (on_line script (starts_line c session asked) session line asked)
   line-went session line (step.Answer plain) = let x = rest-went c s in record { went = x.went; outs = tt }
-  line-went session line step.Refuse5 = let x = rest-went c s in record { went = x.went; outs = tt }
-  line-went session line step.Refuse7 = let x = rest-went c s in record { went = x.went; outs = tt }
+  line-went session line step.InFailedBlock = let x = rest-went c s in record { went = x.went; outs = tt }
+  line-went session line step.NotInBlock = let x = rest-went c s in record { went = x.went; outs = tt }
   line-went session line (step.BeginBlock level) = record { went = begins-went c.table c.works session level s; outs = tt }
   line-went session line step.CommitBlock =
       let x = commits-went (starts_line c session step.CommitBlock) (session_of (starts_line c session step.CommitBlock) session).transaction.0 s in record { went = x.went; outs = x.outs }

@@ -20,7 +20,8 @@ use Rattle.gx_dtx.specs.declared.phase.Phase.TheVariants.{Aborting, Active, Comm
 use Rattle.gx_dtx.specs.declared.txn.Txn.{Txn}
 use Rattle.gx_dtx.proofs.Entries.{drawn-push, drawn-remove, drawn-with, risen-push, risen-remove, risen-with}
 use Rattle.gx_dtx.proofs.Least.{least_of-append}
-use Rattle.gx_law_order.proofs.Lists.{Each, each_append}
+use Rattle.gx_law_order.proofs.Lists.{each_append}
+use Rattle.gx_law_order.specs.Lists.{Each}
 use Rattle.gx_rules.specs.AtCoordinator.{enlisted_all}
 
 abbrev pub Txns : Type 0

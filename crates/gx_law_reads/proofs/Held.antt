@@ -11,9 +11,10 @@ use Rattle.gx_dtx.specs.Table.{Table, find_txn, horizon_of, is_running, runs, xm
 use Rattle.gx_dtx.specs.Whole.{AreRisen, IsBelowAll}
 use Rattle.gx_dtx.specs.declared.txn.Txn.{Txn}
 use Rattle.gx_rules.specs.Snapshots.{latest_number, running_below, snapshot_of}
-use Rattle.gx_law_order.proofs.Lists.{Each}
+use Rattle.gx_law_order.specs.Lists.{Each}
 use Rattle.gx_law_order.proofs.Past.{listed-is}
-use Rattle.gx_law_order.proofs.Stages.{at_gxid, first-at, gx}
+use Rattle.gx_law_order.proofs.Stages.{at_gxid, first-at}
+use Rattle.gx_law_order.specs.Standings.{gx}
 use Rattle.gx_law_reads.proofs.Heights.{Above, Bounds, Sorted, Txns, horizon-bounds}
 
 -- a snapshot sees whoever is below the xmin that lives for it

@@ -18,7 +18,8 @@ use Rattle.gx_store.specs.Marks.{is_same_gxid, is_same_rid}
 use Rattle.gx_store.specs.Protocol.{is_writer}
 use Rattle.gx_store.specs.View.{image_after}
 use Rattle.gx_rules.specs.Segments.{Version}
-use Rattle.gx_law_order.proofs.Lists.{Each, each_weaker}
+use Rattle.gx_law_order.proofs.Lists.{each_weaker}
+use Rattle.gx_law_order.specs.Lists.{Each}
 use Rattle.gx_law_order.proofs.SegItems.{writes_at}
 use Rattle.gx_rules.specs.Last.{last_image, row_of}
 use Rattle.gx_law_reads.specs.Sights.{IsOnlyAt}

@@ -29,6 +29,7 @@ use Rattle.gx_store.specs.Points.{marks_in}
 use Rattle.gx_store.specs.Refusals.{the_coordinator}
 use Rattle.gx_rules.specs.AtCoordinator as coordinator
 use Rattle.gx_rules.specs.AtCoordinator.{coord_can, coord_turn}
+use Rattle.gx_store.specs.Locks.{slice_lock}
 use Rattle.gx_rules.specs.AtSegment.{commits, if_fits, on_abort, on_commit, on_commit_prepared, on_event, on_exec, on_forget, on_message, on_prepare, once, promises, raised, repeats, seg_rule, takes, unless_below, was_prepared}
 use Rattle.gx_rules.specs.Coordinators.{CoordTurn, Work, no_work}
 use Rattle.gx_rules.specs.Fits.{fits_exec, is_waiting}
@@ -36,18 +37,19 @@ use Rattle.gx_rules.specs.Machine.{Letter, World, and_cancelled, coord_did, new_
 use Rattle.gx_rules.specs.Segments.{Local, Phase, Seg, SegTurn, local_of, stays, tells_kept}
 use Rattle.gx_rules.specs.Segments.Phase.{Aborted, Committed, Forgotten, Prepared, Reading, Writing}
 use Rattle.gx_rules.specs.Sending.{clock_after}
-use Rattle.gx_rules.specs.Running.{slice_lock, starts_slice}
+use Rattle.gx_rules.specs.Running.{starts_slice}
 use Rattle.gx_rules.proofs.Rounds.{collect-ways}
 use Rattle.gx_law_order.proofs.Induction.{after_turn}
-use Rattle.gx_law_order.proofs.Lists.{Each, each_weaker}
+use Rattle.gx_law_order.proofs.Lists.{each_weaker}
+use Rattle.gx_law_order.specs.Lists.{Each}
 use Rattle.gx_law_order.proofs.Past.{there-drawn}
-use Rattle.gx_law_order.proofs.Stages.{gx}
-use Rattle.gx_law_order.proofs.Statuses.{is_running, runs-stage, stage, stage_in}
-use Rattle.gx_law_order.proofs.Statuses.Stage.{Live as Running}
+use Rattle.gx_law_order.specs.Stages.{is_running, stage, stage_in}
+use Rattle.gx_law_order.proofs.Statuses.{runs-stage}
+use Rattle.gx_law_order.specs.Stages.Stage.{Live as Running}
 use Rattle.gx_law_order.proofs.Waiting.{GoesOn, goes-on-is, going-on}
 use Rattle.gx_law_order.proofs.World.{Knows}
 use Rattle.gx_law_order.specs.Said.{Said, SaidIn, gxid_in, is_answer, segment_of}
-use Rattle.gx_law_order.specs.Standings.{at, known_at, standing, standing_in}
+use Rattle.gx_law_order.specs.Standings.{at, gx, known_at, standing, standing_in}
 use Rattle.gx_law_order.specs.Standings.Standing.{Unborn, Over, Live}
 use Rattle.gx_law_order.proofs.Counts.{NoSent}
 use Rattle.gx_law_order.proofs.Everywhere.{Holds, does-it, fol-no-sent, follows-no-sent, parts_in, posted-each, resumed-does, told-answer}

@@ -22,10 +22,12 @@ use Rattle.gx_msg.specs.declared.message.Message.TheVariants as message
 use Rattle.gx_msg.specs.declared.message.Out.{Out}
 use Rattle.gx_rules.specs.Coordinators.{Command, Work, no_work}
 use Rattle.gx_rules.specs.Maps.{with_at}
-use Rattle.gx_law_order.proofs.Lists.{Each, each_weaker}
-use Rattle.gx_law_order.proofs.Stages.{gx, left_of}
-use Rattle.gx_law_order.proofs.Statuses.{stage}
-use Rattle.gx_law_order.proofs.Statuses.Stage.{Live}
+use Rattle.gx_law_order.proofs.Lists.{each_weaker}
+use Rattle.gx_law_order.specs.Lists.{Each}
+use Rattle.gx_law_order.proofs.Stages.{left_of}
+use Rattle.gx_law_order.specs.Standings.{gx}
+use Rattle.gx_law_order.specs.Stages.{stage}
+use Rattle.gx_law_order.specs.Stages.Stage.{Live}
 use Rattle.gx_law_reads.specs.Horizons.{IsLowIn}
 use Rattle.gx_law_reads.proofs.Heights.{Rises, Sorted, changed-rises}
 use Rattle.gx_law_reads.proofs.Held.{Held}

@@ -30,13 +30,13 @@ use Rattle.gx_rules.specs.Machine.{World, after, and_cancelled, coord_did, seg_d
 use Rattle.gx_rules.specs.Sending.{clock_after, numbered}
 use Rattle.gx_law_order.specs.Moves.{Move, moved_by, world_by}
 use Rattle.gx_law_order.proofs.Induction.{after_turn, marks-by-event, marks-by-victim}
-use Rattle.gx_law_order.proofs.Lists.{Each, each_append, each_weaker}
+use Rattle.gx_law_order.proofs.Lists.{each_append, each_weaker}
+use Rattle.gx_law_order.specs.Lists.{Each}
 use Rattle.gx_law_order.proofs.Moves.{HasNamed}
 use Rattle.gx_law_order.proofs.Past.{committed-append}
-use Rattle.gx_law_order.proofs.Stages.{gx}
 use Rattle.gx_law_order.proofs.More.{marks-last}
 use Rattle.gx_law_order.proofs.World.{Knows}
-use Rattle.gx_law_order.specs.Standings.{at}
+use Rattle.gx_law_order.specs.Standings.{at, gx}
 use Rattle.gx_law_order.proofs.Always.{HeardAt, SaidTo}
 use Rattle.gx_law_order.proofs.Counts.{NoPart, sent-no-part}
 use Rattle.gx_law_order.proofs.Everywhere.{Holds, parts_in}

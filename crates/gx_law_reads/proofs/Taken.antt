@@ -52,23 +52,25 @@ use Rattle.gx_store.specs.Points.{marks_in}
 use Rattle.gx_store.specs.Writes.{dist_of}
 use Rattle.gx_store.specs.declared.answer.StmtAnswer.TheVariants as told
 use Rattle.gx_rules.specs.AtCoordinator as coordinator
-use Rattle.gx_rules.specs.AtCoordinator.{Reading, answer_mark, answers, awaited, begins, command_order, completes, coord_can, dispatches, ends_in, enlisted_all, failure_marks, fault_mark, follows, goes, goes_on, goes_out, is_awaited, is_idle, is_nothing, is_refused, next_cid, next_line, nodes_in, on_answer, on_done, on_failed, on_line, on_message, on_status, order_to, orders_of, reads_by, reads_for, reason_of, refusal_of, resends, rolls_back, starts, starts_line, status_order, table_of, takes_done, takes_snapshot, with_done, goes_on_locked, if_granted, lock_for, requests, resumes}
+use Rattle.gx_rules.specs.AtCoordinator.{Reading, answer_mark, answers, awaited, begins, command_order, completes, coord_can, dispatches, ends_in, enlisted_all, failure_marks, fault_mark, follows, goes, goes_on, goes_out, is_awaited, is_idle, is_nothing, is_refused, next_cid, next_line, nodes_in, on_answer, on_done, on_failed, on_line, on_message, on_status, order_to, orders_of, reads_by, reads_for, reason_of, refusal_of, resends, rolls_back, starts, starts_line, status_order, table_of, takes_done, takes_snapshot, with_done, goes_on_locked, if_granted, requests, resumes}
+use Rattle.gx_store.specs.Locks.{table_lock}
 use Rattle.gx_rules.specs.Coordinators.{Command, Coord, CoordTurn, Session, rests, session_of, with_state, with_work, work_of}
 use Rattle.gx_rules.specs.Fits.{fits_part}
 use Rattle.gx_rules.specs.Machine.{World}
 use Rattle.gx_rules.specs.Rounds.{awaits_graph, begins_round, on_graph, rechecks, with_report}
 use Rattle.gx_rules.proofs.Rounds.{cancel-ways, graph-ways}
-use Rattle.gx_law_order.proofs.Lists.{Each, each_append, each_weaker}
+use Rattle.gx_law_order.proofs.Lists.{each_append, each_weaker}
+use Rattle.gx_law_order.specs.Lists.{Each}
 use Rattle.gx_law_order.proofs.Lines.{asks}
 use Rattle.gx_law_order.proofs.Past.{committed-append}
 use Rattle.gx_law_order.proofs.Places.{collects-each}
-use Rattle.gx_law_order.proofs.Sessions.{is_nothing_in, is_open_in, is_working_in, stage_of}
-use Rattle.gx_law_order.proofs.Stages.{gx}
-use Rattle.gx_law_order.proofs.Statuses.{Moves, Turned, reply-turns, stage, stage_in}
-use Rattle.gx_law_order.proofs.Statuses.Stage.{Closing, Live as Running}
+use Rattle.gx_law_order.specs.Sessions.{is_nothing_in, is_open_in, is_working_in}
+use Rattle.gx_law_order.specs.Stages.{stage, stage_in, stage_of}
+use Rattle.gx_law_order.proofs.Statuses.{Moves, Turned, reply-turns}
+use Rattle.gx_law_order.specs.Stages.Stage.{Closing, Live as Running}
 use Rattle.gx_law_order.proofs.World.{Knows}
 use Rattle.gx_law_order.specs.Said.{Answers, IsCommand, IsDone, Said, gxid_in, is_answer}
-use Rattle.gx_law_order.specs.Standings.{Known, at, is_closing, known_at, standing, standing_in, waits_in}
+use Rattle.gx_law_order.specs.Standings.{Known, at, gx, is_closing, known_at, standing, standing_in, waits_in}
 use Rattle.gx_law_order.specs.Standings.Standing.{Live}
 use Rattle.gx_law_order.proofs.Everywhere.{Holds, parts_in}
 use Rattle.gx_law_order.proofs.Nodes.{has-without}
@@ -80,7 +82,8 @@ use Rattle.gx_law_reads.proofs.Plain.{NoExec, abort-mild, commit-mild, reply-mil
 use Rattle.gx_law_reads.proofs.Reading.{CommandLow, OrderLow, Stood}
 use Rattle.gx_law_order.proofs.Always.{SaidTo}
 use Rattle.gx_rules.specs.Locks.{with_hold, hold_mark, release_marks}
-use Rattle.gx_locks.specs.Locks.{Locks, is_free, resumed, wait_of}
+use Rattle.gx_locks.specs.Locks.{Locks, resumed, wait_of}
+use Rattle.gx_waits.specs.Claims.{is_free}
 use Rattle.gx_waits.specs.declared.claim.Claim.{Claim}
 use Rattle.gx_waits.specs.declared.graph.LocalGraph.{LocalGraph}
 use Rattle.gx_store.specs.Refusals.{the_coordinator}
@@ -336,7 +339,7 @@ module _ (script : Script) (w : World) (k : Knows script w) (v : Holds script w)
     request-pass (Some wanted) = granted-pass wanted (is_free c1.locks.holds wanted)
 
     dispatch-pass : Passes (dispatches script c1 (gx g) line)
-    dispatch-pass = request-pass (lock_for script (gx g) line)
+    dispatch-pass = request-pass (table_lock script (gx g) line)
 
   -- and behind a wait
   resumes-pass : (g : ℕ) → stage_of w.coord g ≡ Running → (o : Option Claim) (line : Option Stmt) → Passes (resumes script w.coord (gx g) o line)
@@ -383,8 +386,8 @@ module _ (script : Script) (w : World) (k : Knows script w) (v : Holds script w)
 
     line-pass : (line : Stmt) (asked : LineStep) → Rattle.gx_law_order.proofs.Lines.Asks (session_of w.coord s).state.block asked → Passes (on_line script (started asked) s line asked)
     line-pass line (step.Answer x) a = plain (on_line script (started (step.Answer x)) s line (step.Answer x)) tt (tt, tt)
-    line-pass line step.Refuse5 a = plain (on_line script (started step.Refuse5) s line step.Refuse5) tt (tt, tt)
-    line-pass line step.Refuse7 a = plain (on_line script (started step.Refuse7) s line step.Refuse7) tt (tt, tt)
+    line-pass line step.InFailedBlock a = plain (on_line script (started step.InFailedBlock) s line step.InFailedBlock) tt (tt, tt)
+    line-pass line step.NotInBlock a = plain (on_line script (started step.NotInBlock) s line step.NotInBlock) tt (tt, tt)
     line-pass line (step.BeginBlock level) a = plain (on_line script (started (step.BeginBlock level)) s line (step.BeginBlock level)) tt (tt, (tt, tt))
     line-pass line step.CommitBlock a = commits-pass (started step.CommitBlock) (session_of (started step.CommitBlock) s).transaction.0 (subst AllTaken (sym (own-same step.CommitBlock)) (idle-taken a))
     line-pass line step.RollbackBlock a = rolled-pass (started step.RollbackBlock) (session_of (started step.RollbackBlock) s).transaction.0 (answer_mark (started step.RollbackBlock) s told.Rollback ∷ []) (tt, tt)

@@ -39,10 +39,10 @@ use Rattle.gx_rules.specs.Maps.{with_at}
 use Rattle.gx_rules.specs.Rounds.{begins_round, on_graph, rechecks, with_report}
 use Rattle.gx_rules.proofs.Rounds.{cancel-ways, graph-ways}
 use Rattle.gx_waits.specs.declared.graph.LocalGraph.{LocalGraph}
-use Rattle.gx_law_order.proofs.Lists.{Each}
+use Rattle.gx_law_order.specs.Lists.{Each}
 use Rattle.gx_law_order.proofs.Places.{collects-each}
-use Rattle.gx_law_order.proofs.Stages.{gx}
-use Rattle.gx_law_order.proofs.Statuses.{stage}
+use Rattle.gx_law_order.specs.Standings.{gx}
+use Rattle.gx_law_order.specs.Stages.{stage}
 use Rattle.gx_law_reads.proofs.Heights.{live-rises, rises-same}
 use Rattle.gx_law_reads.proofs.Plain.{Mild, abort-mild, commit-mild, reply-mild, sent-fine}
 use Rattle.gx_law_reads.proofs.Reading.{CommandLow, CountedIn, Fine, OrderHeld, OutFine, Reads, Stood, Went, Works, apart-same, at-self, le-refl, one-went, over-went, quiet-went, went-same}

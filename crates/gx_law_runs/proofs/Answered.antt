@@ -26,10 +26,10 @@ use Rattle.gx_rules.specs.AtCoordinator.{awaited, follows, goes_on, is_awaited, 
 use Rattle.gx_rules.specs.Coordinators.{Command, Coord, Work, rests, with_work, work_of}
 use Rattle.gx_rules.specs.Fits.{fits_part}
 use Rattle.gx_dtx.specs.Rules.{on_abort}
-use Rattle.gx_law_order.proofs.Sessions.{Kept, stage_of}
-use Rattle.gx_law_order.proofs.Stages.{gx}
-use Rattle.gx_law_order.proofs.Statuses.{stage_in}
-use Rattle.gx_law_order.proofs.Statuses.Stage.{Live}
+use Rattle.gx_law_order.specs.Sessions.{Kept}
+use Rattle.gx_law_order.specs.Stages.{stage_in, stage_of}
+use Rattle.gx_law_order.specs.Standings.{gx}
+use Rattle.gx_law_order.specs.Stages.Stage.{Live}
 use Rattle.gx_law_order.proofs.Dispatching.{IsLive}
 use Rattle.gx_law_order.proofs.Events.{live-stage}
 use Rattle.gx_law_order.proofs.Nodes.{AreApart, apart-with, has-with, has-without}
@@ -154,8 +154,8 @@ module _ {script : Script} (c : Coord) (k : Kept script c) (n : AreNeat c) where
     status-asks : Asks (left g j r) (on_status c (gx g) j r fails)
     status-asks = by_found (find_txn c.table (gx g)) refl
       where
-        not-live : (o : Option Txn) → find_txn c.table (gx g) ≡ o → (Rattle.gx_law_order.proofs.Statuses.stage o ≡ Live → ⊥) → stage_of c g ≡ Live → ⊥
-        not-live o f away e = away (sym (ap Rattle.gx_law_order.proofs.Statuses.stage f) ∙ e)
+        not-live : (o : Option Txn) → find_txn c.table (gx g) ≡ o → (Rattle.gx_law_order.specs.Stages.stage o ≡ Live → ⊥) → stage_of c g ≡ Live → ⊥
+        not-live o f away e = away (sym (ap Rattle.gx_law_order.specs.Stages.stage f) ∙ e)
 
         by_phase : (x : Txn) → find_txn c.table (gx g) ≡ Some x → (p : Phase) → x.phase ≡ p → Asks (left g j r) (on_status c (gx g) j r fails)
         by_phase x f Active e = live-status (record { txn = x; found = f; active = e })
@@ -183,7 +183,7 @@ module _ {script : Script} (c : Coord) (k : Kept script c) (n : AreNeat c) where
         by_found : (o : Option Txn) → find_txn c.table (gx g) ≡ o → Asks (left g j r) (on_status c (gx g) j r fails)
         by_found None f = quiet-status (stage-done g (not-live None f (λ q. absurd (differ q))))
           where
-            differ : Rattle.gx_law_order.proofs.Statuses.stage None ≡ Live → ⊥
+            differ : Rattle.gx_law_order.specs.Stages.stage None ≡ Live → ⊥
             differ q = cc
         by_found (Some x) f = by_phase x f x.phase refl
 

@@ -17,10 +17,9 @@ use Rattle.gx_msg.specs.declared.message.Message.{Message}
 use Rattle.gx_script.specs.declared.Script.{Script}
 use Rattle.gx_rules.specs.AtCoordinator.{awaited, command_order, order_to, status_order}
 use Rattle.gx_rules.specs.Coordinators.{Command, Coord}
-use Rattle.gx_law_order.proofs.AtCoordinators.{CoordIn, UnderWay}
-use Rattle.gx_law_order.proofs.Places.{IsOneOf}
-use Rattle.gx_law_order.proofs.Stages.{gx}
-use Rattle.gx_law_order.proofs.Tables.{FoundIn, PhaseIn, find_in, has_in}
+use Rattle.gx_law_order.specs.Places.{CoordIn, IsOneOf, PhaseIn, UnderWay}
+use Rattle.gx_law_order.specs.Standings.{gx}
+use Rattle.gx_law_order.proofs.Tables.{FoundIn, find_in, has_in}
 use Rattle.gx_law_runs.proofs.Neat.{IsDone, IsExecOf, done-waiting}
 use Rattle.gx_law_runs.proofs.Sparing.{HasWait}
 
@@ -99,7 +98,7 @@ asked-in script c all g i e = by_command (c.works g).command (all.works g).comma
     by_status : is_some (status_order (gx g) (order_found i (find_txn c.table (gx g)))) ≡ true → IsOneOf script.segments i
     by_status e = found-in script.segments (find_txn c.table (gx g)) i (find_in script.segments c.table (gx g) all.table) (order-some (gx g) (order_found i (find_txn c.table (gx g))) e)
 
-    by_command : (o : Option Command) → UnderWay script o → is_some (command_order o i (status_order (gx g) (order_found i (find_txn c.table (gx g))))) ≡ true → IsOneOf script.segments i
+    by_command : (o : Option Command) → UnderWay script.segments o → is_some (command_order o i (status_order (gx g) (order_found i (find_txn c.table (gx g))))) ≡ true → IsOneOf script.segments i
     by_command None w e = by_status e
     by_command (Some m) w e = by_test (has i m.awaited) refl e
       where

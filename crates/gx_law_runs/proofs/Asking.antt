@@ -30,20 +30,24 @@ use Rattle.gx_script.specs.declared.state.Block.TheVariants.{Outside, Open, Fail
 use Rattle.gx_store.specs.declared.answer.Refused.{Refused}
 use Rattle.gx_store.specs.declared.mark.Mark.{Mark}
 use Rattle.gx_store.specs.Schedule.{is_about}
+use Rattle.gx_waits.specs.Claims.{is_free}
 use Rattle.gx_store.specs.Writes.{dist_of}
-use Rattle.gx_rules.specs.AtCoordinator.{Reading, answers, awaited, commits, completes, dispatches, enlisted_all, fault_mark, follows, goes, goes_out, is_refused, kept_at, next_cid, nodes_in, order_to, orders_of, reads_by, reads_for, refusal_of, rolls_back, status_order, table_of, takes_snapshot, unless_kept, goes_on_locked, if_granted, lock_for, requests, resumes}
+use Rattle.gx_rules.specs.AtCoordinator.{Reading, answers, awaited, commits, completes, dispatches, enlisted_all, fault_mark, follows, goes, goes_out, is_refused, kept_at, next_cid, nodes_in, order_to, orders_of, reads_by, reads_for, refusal_of, rolls_back, status_order, table_of, takes_snapshot, unless_kept, goes_on_locked, if_granted, requests, resumes}
+use Rattle.gx_store.specs.Locks.{table_lock}
 use Rattle.gx_rules.specs.Coordinators.{Command, Coord, CoordTurn, Work, no_work, rests, with_work, work_of}
 use Rattle.gx_rules.specs.Snapshots.{snapshot_of}
 use Rattle.gx_law_order.proofs.Closings.{live-at, set_live}
-use Rattle.gx_law_order.proofs.Lists.{Each}
-use Rattle.gx_law_order.proofs.Stages.{At, IsWhole, changed-at, gx, left_of, txn-at}
+use Rattle.gx_law_order.specs.Lists.{Each}
+use Rattle.gx_law_order.proofs.Stages.{At, changed-at, left_of, txn-at}
+use Rattle.gx_law_order.specs.Stages.{IsWhole}
+use Rattle.gx_law_order.specs.Standings.{gx}
 use Rattle.gx_law_order.proofs.Dispatching.{IsLive}
 use Rattle.gx_law_order.proofs.Nodes.{AreApart, apart-with, has-with}
 use Rattle.gx_law_runs.proofs.Neat.{CallAsks, IsDone, IsExecOf, Neat, NeatCommand, NeatPhase, NeatTxn, abort-asks, commit-asks, done-neat, done-waiting, txn-less, waiting}
 use Rattle.gx_law_runs.proofs.Told.{ArePlanApart, orders-other, plan-apart, sends, sends-orders, told-orders, told-other, told_by}
 use Rattle.gx_rules.specs.Locks.{with_hold, with_wait}
 use Rattle.gx_waits.specs.declared.claim.Claim.{Claim}
-use Rattle.gx_locks.specs.Locks.{Locks, is_free, resumed}
+use Rattle.gx_locks.specs.Locks.{Locks, resumed}
 
 -- what was asked before, by node and transaction
 abbrev pub Asked : Type 0
@@ -400,7 +404,7 @@ module _ (c : Coord) (whole : IsWhole c.table) (n : AreNeat c) (g : ℕ) (live :
   request-asks (Some wanted) = granted-asks wanted (is_free c.locks.holds wanted)
 
   pub dispatch-asks : Asks (now_asked c) (dispatches script c (gx g) line)
-  dispatch-asks = request-asks (lock_for script (gx g) line)
+  dispatch-asks = request-asks (table_lock script (gx g) line)
 
   -- behind a wait
   pub resume-asks : (wanted : Claim) → Asks (now_asked c) (resumes script c (gx g) (Some wanted) (Some line))

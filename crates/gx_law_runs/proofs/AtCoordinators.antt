@@ -40,7 +40,8 @@ use Rattle.gx_store.specs.declared.node.NodeEvent.{NodeEvent}
 use Rattle.gx_store.specs.declared.node.NodeEvent.TheVariants as here
 use Rattle.gx_store.specs.Refusals.{the_coordinator}
 use Rattle.gx_store.specs.Writes.{dist_of}
-use Rattle.gx_rules.specs.AtCoordinator.{Reading, awaited, awaited_collect, begins, cancel_turn, cancels, commits, completes, coord_can, coord_rule, coord_turn, dispatches, ends_in, fault_mark, follows, goes, goes_on, is_awaited, is_refused, is_segment, next_cid, next_line, on_answer, on_done, on_event, on_failed, on_line, on_message, on_status, reads_by, reads_for, reason_of, resends, starts, starts_line, table_of, takes_done, with_done, writers_with, goes_on_locked, if_granted, lock_for, requests, resumes}
+use Rattle.gx_rules.specs.AtCoordinator.{Reading, awaited, awaited_collect, begins, cancel_turn, cancels, commits, completes, coord_can, coord_rule, coord_turn, dispatches, ends_in, fault_mark, follows, goes, goes_on, is_awaited, is_refused, is_segment, next_cid, next_line, on_answer, on_done, on_event, on_failed, on_line, on_message, on_status, reads_by, reads_for, reason_of, resends, starts, starts_line, table_of, takes_done, with_done, writers_with, goes_on_locked, if_granted, requests, resumes}
+use Rattle.gx_store.specs.Locks.{table_lock}
 use Rattle.gx_rules.specs.Coordinators.{Command, Coord, CoordTurn, Work, rests, session_of, with_work, work_of}
 use Rattle.gx_rules.specs.Fits.{fits_part}
 use Rattle.gx_rules.specs.Rounds.{victims_at}
@@ -49,7 +50,8 @@ use Rattle.gx_rules.proofs.Turns.{cancels_all-each}
 use Rattle.gx_law_runs.proofs.Marks.{MayFail, NoFailures, may-append, may-none, may-sent, none-append, none-sent}
 use Rattle.gx_rules.specs.Locks.{has_there, release_mark, release_marks, with_hold}
 use Rattle.gx_waits.specs.declared.claim.Claim.{Claim}
-use Rattle.gx_locks.specs.Locks.{Locks, is_free, resumed, wait_of}
+use Rattle.gx_locks.specs.Locks.{Locks, resumed, wait_of}
+use Rattle.gx_waits.specs.Claims.{is_free}
 
 -- WHAT CALLS COME TO
 -- the coordinator's own journal has failed
@@ -176,7 +178,7 @@ module _ (fails : Bool) where
       by false = tt
 
   dispatch-may : (script : Script) (c : Coord) (g : Gxid) (line : Stmt) → May (dispatches script c g line).marks
-  dispatch-may script c g line = request-may script c g line (lock_for script g line)
+  dispatch-may script c g line = request-may script c g line (table_lock script g line)
 
   resume-may : (script : Script) (c : Coord) (g : Gxid) (wait : Option Claim) (line : Option Stmt) → May (resumes script c g wait line).marks
   resume-may script c g (Some wanted) (Some line) =
@@ -187,8 +189,8 @@ module _ (fails : Bool) where
   -- LINES
   line-may : (script : Script) (c : Coord) (s : SessionId) (line : Stmt) (asked : LineStep) → May (on_line script c s line asked).marks
   line-may script c s line (step.Answer plain) = tt
-  line-may script c s line step.Refuse5 = tt
-  line-may script c s line step.Refuse7 = tt
+  line-may script c s line step.InFailedBlock = tt
+  line-may script c s line step.NotInBlock = tt
   line-may script c s line (step.BeginBlock level) = tt
   line-may script c s line step.CommitBlock = commits-may c (session_of c s).transaction
   line-may script c s line step.RollbackBlock = back-may fails c.locks (session_of c s).transaction

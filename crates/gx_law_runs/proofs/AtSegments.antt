@@ -16,7 +16,8 @@ use Rattle.gx_dsnap.specs.declared.snapshot.Snapshot.{Snapshot}
 use Rattle.gx_waits.specs.declared.claim.Claim.{Claim}
 use Rattle.gx_waits.specs.declared.object.Object.{Object}
 use Rattle.gx_waits.specs.declared.object.Object.TheVariants.{Relation, Transaction, Tuple}
-use Rattle.gx_locks.specs.Locks.{is_free, wait_of}
+use Rattle.gx_locks.specs.Locks.{wait_of}
+use Rattle.gx_waits.specs.Claims.{is_free}
 use Rattle.gx_meaning.specs.declared.fault.ArithFault.{ArithFault}
 use Rattle.gx_msg.specs.declared.message.Message.{Message}
 use Rattle.gx_msg.specs.declared.message.Message.TheVariants as message
@@ -33,7 +34,8 @@ use Rattle.gx_rules.specs.Locks.{has_there, release_mark, release_marks, wait_ma
 use Rattle.gx_rules.specs.Segments.{Local, Phase, Seg, SegTurn, Suspended, has_committed, local_of, stays, tells_kept}
 use Rattle.gx_rules.specs.Segments.Phase.{Reading, Writing, Prepared, Committed, Forgotten, Aborted}
 use Rattle.gx_rules.specs.Shown.{shown}
-use Rattle.gx_rules.specs.Running.{goes_on, is_granted, requests, runs_locked, runs_slice, slice_lock, starts_slice, suspends, unless_end}
+use Rattle.gx_rules.specs.Running.{goes_on, is_granted, requests, runs_locked, runs_slice, starts_slice, suspends, unless_end}
+use Rattle.gx_store.specs.Locks.{slice_lock}
 use Rattle.gx_rules.specs.Slices.{Moved, first_fault, inserts_row, selects, starts_from, writes_row}
 use Rattle.gx_rules.specs.Visits.{DidStop}
 use Rattle.gx_rules.proofs.Moving.{Ends, Keeps}

@@ -50,11 +50,10 @@ use Rattle.gx_law_order.proofs.More.{marks-last}
 use Rattle.gx_law_order.proofs.Moves.{HasNamed, moves_after, world-moves}
 use Rattle.gx_law_order.proofs.Past.{running-drawn, there-drawn}
 use Rattle.gx_law_order.proofs.Sent.{at, counted-all}
-use Rattle.gx_law_order.proofs.Stages.{gx}
-use Rattle.gx_law_order.proofs.Statuses.{is_running, stage, stage_in}
+use Rattle.gx_law_order.specs.Stages.{is_running, stage, stage_in}
 use Rattle.gx_law_order.proofs.Waiting.{going-out}
 use Rattle.gx_law_order.proofs.World.{Knows, moves_knows, world_knows}
-use Rattle.gx_law_order.specs.Standings.{standing, standing_in}
+use Rattle.gx_law_order.specs.Standings.{gx, standing, standing_in}
 use Rattle.gx_law_order.specs.Standings.Standing.{Over}
 use Rattle.gx_law_order.proofs.Always.{moves-holds}
 use Rattle.gx_law_order.proofs.Everywhere.{Holds}

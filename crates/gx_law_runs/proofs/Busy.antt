@@ -27,7 +27,8 @@ use Rattle.gx_store.specs.Lines.{stmt_of}
 use Rattle.gx_store.specs.Marks.{is_aborted, is_committed, is_ended, is_same_session}
 use Rattle.gx_store.specs.Points.{ends_in, marks_in}
 use Rattle.gx_store.specs.Refusals.{the_coordinator}
-use Rattle.gx_rules.specs.AtCoordinator.{awaited, awaited_collect, cancels, coord_can, is_idle, is_nothing, lock_for, next_line, on_event, on_message, resends, starts, resumes}
+use Rattle.gx_rules.specs.AtCoordinator.{awaited, awaited_collect, cancels, coord_can, is_idle, is_nothing, next_line, on_event, on_message, resends, starts, resumes}
+use Rattle.gx_store.specs.Locks.{table_lock}
 use Rattle.gx_rules.specs.Coordinators.{Coord, CoordTurn, Session, rests, session_of, work_of}
 use Rattle.gx_rules.specs.Machine.{World, world_of}
 use Rattle.gx_rules.specs.Rounds.{begins_round}
@@ -40,11 +41,12 @@ use Rattle.gx_law_order.specs.Moves.{Move, world_by}
 use Rattle.gx_law_order.proofs.Induction.{IsThere, at-events}
 use Rattle.gx_law_order.proofs.Lines.{asks as admits}
 use Rattle.gx_law_order.proofs.Moves.{HasNamed}
-use Rattle.gx_law_order.proofs.Past.{Past, there-drawn}
-use Rattle.gx_law_order.proofs.Sessions.{Kept, is_nothing_in, stage_of}
-use Rattle.gx_law_order.proofs.Stages.{gx}
-use Rattle.gx_law_order.proofs.Statuses.{Stage, is_running, stage}
-use Rattle.gx_law_order.proofs.Statuses.Stage.{Absent, Live, Closing, Finished, Dropped}
+use Rattle.gx_law_order.proofs.Past.{there-drawn}
+use Rattle.gx_law_order.specs.Past.{Past}
+use Rattle.gx_law_order.specs.Sessions.{Kept, is_nothing_in}
+use Rattle.gx_law_order.specs.Stages.{Stage, is_running, stage, stage_of}
+use Rattle.gx_law_order.specs.Standings.{gx}
+use Rattle.gx_law_order.specs.Stages.Stage.{Absent, Closing, Dropped, Finished, Live}
 use Rattle.gx_law_order.proofs.World.{world_knows}
 use Rattle.gx_law_runs.specs.Awaiting.{IsAwaiting}
 use Rattle.gx_law_runs.proofs.Awaited.{DoAsk, IsKnown, moves-ask, moves-known, undrawn-none}
@@ -65,7 +67,7 @@ use Rattle.gx_law_runs.proofs.Plans.{IsFilled}
 use Rattle.gx_law_runs.proofs.Sparing.{HasWait}
 
 -- a command that takes a lock is filled
-lock-filled : (script : Script) (g : Gxid) (line : Stmt) (wanted : Claim) → lock_for script g line ≡ Some wanted → IsWholeStmt script.tables line → IsFilled line
+lock-filled : (script : Script) (g : Gxid) (line : Stmt) (wanted : Claim) → table_lock script g line ≡ Some wanted → IsWholeStmt script.tables line → IsFilled line
 lock-filled script g (stmt.Select q) wanted e w = tt
 lock-filled script g (stmt.Insert t []) wanted e w = absurd w
 lock-filled script g (stmt.Insert t (x ∷ xs)) wanted e w = tt

@@ -21,7 +21,7 @@ use Rattle.gx_rules.specs.Machine.{World, and_cancelled, coord_did}
 use Rattle.gx_rules.specs.Sending.{clock_after}
 use Rattle.gx_law_order.proofs.Induction.{IsThere}
 use Rattle.gx_law_order.proofs.Moves.{HasNamed}
-use Rattle.gx_law_order.proofs.Stages.{gx}
+use Rattle.gx_law_order.specs.Standings.{gx}
 use Rattle.gx_law_runs.proofs.Awaited.{DoAsk, IsKnown, asked-last, asked-named, coord-asks, left-alike, victim-asked}
 use Rattle.gx_law_runs.proofs.Replies.{answer-other, left_by, no-answer, unanswered}
 use Rattle.gx_law_runs.proofs.Asked.{IsAsked}

@@ -8,7 +8,7 @@ use Rattle.gx_store.specs.declared.mark.Mark.TheVariants as mark
 use Rattle.gx_store.specs.Marks.{is_aborted}
 use Rattle.gx_law_order.specs.Pairs.{bit}
 use Rattle.gx_law_order.proofs.Past.{aborted-append}
-use Rattle.gx_law_order.proofs.Stages.{gx}
+use Rattle.gx_law_order.specs.Standings.{gx}
 
 -- of the first so many
 abbrev pub aborts_in : List Mark → ℕ → ℕ

@@ -22,15 +22,16 @@ use Rattle.gx_store.specs.Marks.{is_same_gxid, is_same_session, start_count}
 use Rattle.gx_store.specs.Ordered.{sent_in}
 use Rattle.gx_store.specs.Points.{marks_in}
 use Rattle.gx_store.specs.Refusals.{the_coordinator}
-use Rattle.gx_store.specs.Schedule.{asked, at_segment, enabled, ends, first_of, gxids_of, is_any_wait, is_exec, is_left, is_next, is_quiet, is_ready as ready, is_round, is_to_end, left_on, may_resend, resends, resumptions, rounds, segments_of, starts, waits_of}
+use Rattle.gx_store.specs.Schedule.{asked, at_segment, enabled, ends, first_of, gxids_of, is_any_wait, is_exec, is_left, is_next, is_quiet, is_round, is_to_end, left_on, may_resend, resends, resumptions, rounds, segments_of, starts, waits_of}
+use Rattle.gx_waits.specs.Claims.{is_free, is_of}
 use Rattle.gx_store.specs.Waits.{holds_at, waits_at}
 use Rattle.gx_waits.specs.declared.claim.Claim.{Claim}
-use Rattle.gx_locks.specs.Claims.{is_of}
-use Rattle.gx_locks.specs.Locks.{Locks, is_ready, wait_of}
+use Rattle.gx_locks.specs.Locks.{Locks, is_ready, may_take, wait_of}
 use Rattle.gx_rules.specs.AtCoordinator.{awaited, coord_can, is_segment}
 use Rattle.gx_rules.specs.Machine.{World, can, can_here, delivered, found, world_of}
 use Rattle.gx_rules.specs.Rounds.{awaits_graph, can_begin}
-use Rattle.gx_law_order.proofs.Lists.{Each, each_append, each_flat, each_map, each_weaker}
+use Rattle.gx_law_order.proofs.Lists.{each_append, each_flat, each_map, each_weaker}
+use Rattle.gx_law_order.specs.Lists.{Each}
 use Rattle.gx_law_order.proofs.World.{Knows, world_knows}
 use Rattle.gx_law_order.proofs.Legality.{sessions-stand, world-holds}
 use Rattle.gx_law_runs.specs.Enabled.{at_segment_by, drawn, enabled_there, ends_by, is_anybody_waiting, is_due, is_next_by, resends_due, resumes_by, rounds_by, sessions_of, starts_by}
@@ -176,12 +177,12 @@ module _ (script : Script) (some : 1 ≤ script.segments) (es : List (Event × B
     own-waits : (g : Gxid) → waits_of ms node g ≡ filter (is_of g) l.waits
     own-waits g = ap (filter (is_of g)) (sym m.waits)
 
-    ready-so : (g : Gxid) → list_any (ready (holds_at ms node)) (waits_of ms node g) ≡ is_ready l.holds (wait_of l g)
-    ready-so g = ap (list_any (ready (holds_at ms node))) (own-waits g) ∙ ap (λ holds. list_any (ready holds) (filter (is_of g) l.waits)) (sym m.holds) ∙ by_wait (wait_of l g) refl
+    ready-so : (g : Gxid) → list_any (is_free (holds_at ms node)) (waits_of ms node g) ≡ may_take l g
+    ready-so g = ap (list_any (is_free (holds_at ms node))) (own-waits g) ∙ ap (λ holds. list_any (is_free holds) (filter (is_of g) l.waits)) (sym m.holds) ∙ by_wait (wait_of l g) refl
       where
-        by_wait : (o : Option Claim) → wait_of l g ≡ o → list_any (ready l.holds) (filter (is_of g) l.waits) ≡ is_ready l.holds o
-        by_wait None e = ap (list_any (ready l.holds)) (filter-unfound (is_of g) l.waits e)
-        by_wait (Some wanted) e = ap (list_any (ready l.holds)) (once g wanted e) ∙ or-false (ready l.holds wanted)
+        by_wait : (o : Option Claim) → wait_of l g ≡ o → list_any (is_free l.holds) (filter (is_of g) l.waits) ≡ is_ready l.holds o
+        by_wait None e = ap (list_any (is_free l.holds)) (filter-unfound (is_of g) l.waits e)
+        by_wait (Some wanted) e = ap (list_any (is_free l.holds)) (once g wanted e) ∙ or-false (is_free l.holds wanted)
 
     count-so : (g : Gxid) → (length (waits_of ms node g) == 0) ≡ not (is_some (wait_of l g))
     count-so g = ap (λ (xs : List Claim). length xs == 0) (own-waits g) ∙ by_wait (wait_of l g) refl
@@ -193,7 +194,7 @@ module _ (script : Script) (some : 1 ≤ script.segments) (es : List (Event × B
     resumes-so : resumptions ms node ≡ resumes_by w.coord node l
     resumes-so =
         ap (λ gs. first_of (map (event.Resume node) gs))
-        (filter-same (λ g. list_any (ready (holds_at ms node)) (waits_of ms node g)) (λ g. is_ready l.holds (wait_of l g)) ready-so (gxids_of ms) ∙ ap (filter (λ g. is_ready l.holds (wait_of l g))) drawn-alike)
+        (filter-same (λ g. list_any (is_free (holds_at ms node)) (waits_of ms node g)) (λ g. may_take l g) ready-so (gxids_of ms) ∙ ap (filter (λ g. may_take l g)) drawn-alike)
 
   resumes-here : resumptions ms the_coordinator ≡ resumes_by w.coord the_coordinator w.coord.locks
   resumes-here = resumes-so the_coordinator w.coord.locks marked.coordinator (single-here script w n).once
@@ -308,15 +309,15 @@ module _ (script : Script) (some : 1 ≤ script.segments) (es : List (Event × B
       up-to k n h = omega arith
 
   -- who is ready may resume
-  resumption-admitted : (node : Node) (l : Locks) → ((g : Gxid) → is_ready l.holds (wait_of l g) ≡ true → Admits (event.Resume node g)) → Each Admits (resumes_by w.coord node l)
+  resumption-admitted : (node : Node) (l : Locks) → ((g : Gxid) → may_take l g ≡ true → Admits (event.Resume node g)) → Each Admits (resumes_by w.coord node l)
   resumption-admitted node l f =
       each-first Admits _
-      (each_map Admits (event.Resume node) (filter (λ g. is_ready l.holds (wait_of l g)) (drawn w.coord))
-      (each-passing (λ g. Admits (event.Resume node g)) (λ g. is_ready l.holds (wait_of l g)) (drawn w.coord) (each-every (λ g. is_ready l.holds (wait_of l g) ≡ true → Admits (event.Resume node g)) f (drawn w.coord))))
+      (each_map Admits (event.Resume node) (filter (λ g. may_take l g) (drawn w.coord))
+      (each-passing (λ g. Admits (event.Resume node g)) (λ g. may_take l g) (drawn w.coord) (each-every (λ g. may_take l g ≡ true → Admits (event.Resume node g)) f (drawn w.coord))))
 
-  resumption-there : (segment : Node) → is_segment script segment ≡ true → (g : Gxid) → is_ready (w.segs segment.0).locks.holds (wait_of (w.segs segment.0).locks g) ≡ true → Admits (event.Resume segment g)
+  resumption-there : (segment : Node) → is_segment script segment ≡ true → (g : Gxid) → may_take (w.segs segment.0).locks g ≡ true → Admits (event.Resume segment g)
   resumption-there segment s g ok =
-      ap (λ (b : Bool). if b then is_ready w.coord.locks.holds (wait_of w.coord.locks g) else is_segment script (w.segs segment.0).node && is_ready (w.segs segment.0).locks.holds (wait_of (w.segs segment.0).locks g)) (away segment.0 script.segments s)
+      ap (λ (b : Bool). if b then may_take w.coord.locks g else is_segment script (w.segs segment.0).node && may_take (w.segs segment.0).locks g) (away segment.0 script.segments s)
       ∙ both (is_segment script (w.segs segment.0).node) _ (ap (is_segment script) (n.well.names segment.0) ∙ s) ok
     where
       away : (a k : ℕ) → (nat_le 1 a && nat_le a k) ≡ true → (a == 0) ≡ false

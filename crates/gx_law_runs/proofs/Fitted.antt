@@ -35,10 +35,11 @@ use Rattle.gx_law_order.proofs.AtSegments.{PlainAt, seg_stays}
 use Rattle.gx_law_order.proofs.Induction.{IsThere, after_turn, from-coordinator}
 use Rattle.gx_law_order.proofs.Letters.{found_is}
 use Rattle.gx_law_order.proofs.Lines.{undrawn}
-use Rattle.gx_law_order.proofs.Lists.{Each, each_append, each_weaker}
+use Rattle.gx_law_order.proofs.Lists.{each_append, each_weaker}
+use Rattle.gx_law_order.specs.Lists.{Each}
 use Rattle.gx_law_order.proofs.Ordered.{at-both}
 use Rattle.gx_law_order.proofs.Sent.{at}
-use Rattle.gx_law_order.proofs.Stages.{IsWhole}
+use Rattle.gx_law_order.specs.Stages.{IsWhole}
 use Rattle.gx_law_order.proofs.Waiting.{GoesOn, each-among, going-on, going-out}
 use Rattle.gx_law_order.proofs.World.{Knows}
 use Rattle.gx_law_order.proofs.Sendings.{SentIs, each-posted, numbered-sent, plain-sent}

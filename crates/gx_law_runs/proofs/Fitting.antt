@@ -17,7 +17,8 @@ use Rattle.gx_dsnap.specs.declared.snapshot.Snapshot.{Snapshot}
 use Rattle.gx_waits.specs.declared.claim.Claim.{Claim}
 use Rattle.gx_waits.specs.declared.object.Object.{Object}
 use Rattle.gx_waits.specs.declared.object.Object.TheVariants.{Relation, Transaction, Tuple}
-use Rattle.gx_locks.specs.Locks.{Locks, is_free}
+use Rattle.gx_locks.specs.Locks.{Locks}
+use Rattle.gx_waits.specs.Claims.{is_free}
 use Rattle.gx_meaning.specs.declared.fault.ArithFault.{ArithFault}
 use Rattle.gx_msg.specs.declared.item.JournalItem.{JournalItem}
 use Rattle.gx_msg.specs.declared.message.Message.{Message}
@@ -31,7 +32,8 @@ use Rattle.gx_rules.specs.AtSegment.{changes, commits, ends, finishes, if_fits, 
 use Rattle.gx_rules.specs.Segments.{Local, Phase, Seg, SegTurn, Suspended, local_of, stays, tells, tells_kept}
 use Rattle.gx_rules.specs.Segments.Phase.{Aborted, Committed, Forgotten, Prepared, Reading, Writing}
 use Rattle.gx_rules.specs.Changes.{Change, RowTurn, change_of, changes_rows, goes_on_at, suspended_at, suspends_at}
-use Rattle.gx_rules.specs.Running.{goes_on, is_granted, requests, runs_slice, slice_lock, unless_end}
+use Rattle.gx_rules.specs.Running.{goes_on, is_granted, requests, runs_slice, unless_end}
+use Rattle.gx_store.specs.Locks.{slice_lock}
 use Rattle.gx_rules.specs.Slices.{Moved, answers, cause_of, first_fault, inserted, inserts, inserts_row, selects, starts_from, takes_own, writes_row}
 use Rattle.gx_rules.specs.Visits.{DidStop}
 use Rattle.gx_rules.proofs.Moving.{Ends, Keeps}
@@ -40,7 +42,7 @@ use Rattle.gx_rules.specs.Shown.{shown}
 use Rattle.gx_rules.specs.Fits.{fits_exec, is_waiting}
 use Rattle.gx_rules.specs.Locks.{with_hold}
 use Rattle.gx_law_order.proofs.Changing.{change-parts, row-goes-on, rows-change, stop-keeps}
-use Rattle.gx_law_order.proofs.Lists.{Each}
+use Rattle.gx_law_order.specs.Lists.{Each}
 use Rattle.gx_tree.specs.declared.part.Part.{Part}
 use Rattle.gx_tree.specs.declared.part.Part.TheVariants.{Rows}
 use Rattle.gx_meaning.specs.Answer.{keeps, part_of}

@@ -16,6 +16,7 @@ use Rattle.gx_store.specs.declared.run.Step.{Step}
 use Rattle.gx_store.specs.Marks.{is_same_session}
 use Rattle.gx_store.specs.Refusals.{the_coordinator}
 use Rattle.gx_store.specs.Schedule.{enabled, first_of, is_exec, is_graph_awaited, is_next, is_quiet, is_round, is_round_running, left_on, segments_of}
+use Rattle.gx_waits.specs.Claims.{is_of}
 use Rattle.gx_rules.specs.AtCoordinator.{awaited, coord_can, is_idle, is_in_block, is_left, is_segment, is_unfinished_there, next_line}
 use Rattle.gx_rules.specs.Coordinators.{Coord, session_of}
 use Rattle.gx_rules.specs.Machine.{World, world_of}
@@ -23,13 +24,13 @@ use Rattle.gx_rules.specs.Rounds.{awaits_graph}
 use Rattle.gx_store.specs.Whole.{AreInsertsWhole}
 use Rattle.gx_law_order.proofs.Legality.{sessions-stand}
 use Rattle.gx_law_order.proofs.Dispatching.{each-unmap}
-use Rattle.gx_law_order.proofs.Lists.{Each, each_weaker}
+use Rattle.gx_law_order.proofs.Lists.{each_weaker}
+use Rattle.gx_law_order.specs.Lists.{Each}
 use Rattle.gx_law_runs.specs.Reached.{IsReached}
 use Rattle.gx_law_runs.specs.Replays.{AreReplayed, coordinator_after, segment_after, world_behind}
 use Rattle.gx_law_runs.proofs.Reaching.{replayed}
 use Rattle.gx_waits.specs.declared.claim.Claim.{Claim}
-use Rattle.gx_locks.specs.Claims.{is_of}
-use Rattle.gx_locks.specs.Locks.{Locks, is_ready, wait_of}
+use Rattle.gx_locks.specs.Locks.{Locks, may_take, wait_of}
 use Rattle.gx_rules.specs.Segments.{Seg}
 use Rattle.gx_law_order.proofs.Past.{there-drawn}
 use Rattle.gx_law_order.proofs.Waiting.{has-statement}
@@ -155,8 +156,8 @@ module _ (script : Script) (some : 1 ≤ script.segments) (inserts : AreInsertsW
       below : (g n : ℕ) → g < n → 1 ≤ g → g < 1 + (n - 1)
       below g n l h = omega arith
 
-  not-ready : (node : Node) (l : Locks) → resumes_by c node l ≡ [] → (g : Gxid) → (1 ≤ g.0) × (g.0 < c.table.next.0) → is_ready l.holds (wait_of l g) ≡ false
-  not-ready node l e = of-drawn (λ g. is_ready l.holds (wait_of l g)) (nil-map (event.Resume node) _ (nil-first _ e))
+  not-ready : (node : Node) (l : Locks) → resumes_by c node l ≡ [] → (g : Gxid) → (1 ≤ g.0) × (g.0 < c.table.next.0) → may_take l g ≡ false
+  not-ready node l e = of-drawn (λ g. may_take l g) (nil-map (event.Resume node) _ (nil-first _ e))
 
   -- what isn't due is an EXEC of who waits there
   held-back : (k : SessionId) (a : IsAwaiting script c k) → is_some (wait_of (w.segs a.at.0).locks a.g) ≡ true
@@ -190,8 +191,8 @@ module _ (script : Script) (some : 1 ≤ script.segments) (inserts : AreInsertsW
             at = a.at;
             node = a.segment.1;
             waits = subst (λ (l : Locks). is_some (wait_of l (session_of c k).transaction) ≡ true) (sym there) (subst (λ g. is_some (wait_of (w.segs a.at.0).locks g) ≡ true) a.own (held-back k a));
-            meets = subst (λ (l : Locks). is_ready l.holds (wait_of l (session_of c k).transaction) ≡ false) (sym there)
-                (subst (λ g. is_ready (w.segs a.at.0).locks.holds (wait_of (w.segs a.at.0).locks g) ≡ false) a.own (not-ready a.at (w.segs a.at.0).locks (nil-left _ _ (none-there a.at a.segment)) a.g a.drawn));
+            meets = subst (λ (l : Locks). may_take l (session_of c k).transaction ≡ false) (sym there)
+                (subst (λ g. may_take (w.segs a.at.0).locks g ≡ false) a.own (not-ready a.at (w.segs a.at.0).locks (nil-left _ _ (none-there a.at a.segment)) a.g a.drawn));
           }
       by_kind (inr x) = record { at = the_coordinator; node = least script.segments; waits = x; meets = not-ready the_coordinator c.locks no-resumption (session_of c k).transaction (drawn-waits (session_of c k).transaction x) }
 
@@ -307,7 +308,7 @@ module _ (script : Script) (steps : List Step) (w : World) (r : AreReplayed scri
         at = b.at;
         node = b.node;
         waits = subst (λ (l : Locks). is_some (wait_of l (session_of (coordinator_after script steps) k).transaction) ≡ true) (locks-alike b.at) (subst (λ (c : Coord). is_some (wait_of (locks_at w b.at) (session_of c k).transaction) ≡ true) r.coordinator b.waits);
-        meets = subst (λ (l : Locks). is_ready l.holds (wait_of l (session_of (coordinator_after script steps) k).transaction) ≡ false) (locks-alike b.at) (subst (λ (c : Coord). is_ready (locks_at w b.at).holds (wait_of (locks_at w b.at) (session_of c k).transaction) ≡ false) r.coordinator b.meets);
+        meets = subst (λ (l : Locks). may_take l (session_of (coordinator_after script steps) k).transaction ≡ false) (locks-alike b.at) (subst (λ (c : Coord). may_take (locks_at w b.at) (session_of c k).transaction ≡ false) r.coordinator b.meets);
       }
 
 pub goes-on-or-blocked : (script : Script) (steps : List Step) (session : SessionId) → 1 ≤ script.segments → AreInsertsWhole script.tables script.lines → (is : IsReached script steps) → session.0 < length script.sessions → is_unfinished_there script (coordinator_after script steps) session ≡ true → list_all is_round (enabled script steps) ≡ true → IsBlocked script (world_behind script steps) session

@@ -25,8 +25,9 @@ use Rattle.gx_msg.specs.declared.reply.Reply.TheVariants as reply
 use Rattle.gx_store.specs.Schedule.{is_about}
 use Rattle.gx_rules.specs.AtCoordinator.{command_order, order_to, status_order}
 use Rattle.gx_rules.specs.Coordinators.{Command, Work}
-use Rattle.gx_law_order.proofs.Lists.{Each}
-use Rattle.gx_law_order.proofs.Stages.{gx, left_of}
+use Rattle.gx_law_order.specs.Lists.{Each}
+use Rattle.gx_law_order.proofs.Stages.{left_of}
+use Rattle.gx_law_order.specs.Standings.{gx}
 use Rattle.gx_law_order.proofs.Nodes.{AreApart, has-without}
 use Rattle.gx_law_runs.proofs.Told.{sends, sends-each, told-each, told_by}
 

@@ -14,7 +14,8 @@ use Rattle.gx_store.specs.Marks.{is_same_session}
 use Rattle.gx_store.specs.Schedule.{is_next}
 use Rattle.gx_rules.specs.AtCoordinator.{next_line}
 use Rattle.gx_rules.specs.Coordinators.{Coord}
-use Rattle.gx_law_order.proofs.Lists.{Each, each_weaker}
+use Rattle.gx_law_order.proofs.Lists.{each_weaker}
+use Rattle.gx_law_order.specs.Lists.{Each}
 use Rattle.gx_store.specs.Language.{AreLinesNumbered, lines_in}
 use Rattle.gx_law_order.specs.Standing.{IsSession}
 use Rattle.gx_law_order.proofs.Always.{each-zip}

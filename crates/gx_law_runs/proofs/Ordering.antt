@@ -34,12 +34,14 @@ use Rattle.gx_store.specs.declared.node.NodeEvent.{NodeEvent}
 use Rattle.gx_store.specs.declared.node.NodeEvent.TheVariants as event
 use Rattle.gx_store.specs.Writes.{dist_of}
 use Rattle.gx_store.specs.declared.answer.StmtAnswer.TheVariants as told
-use Rattle.gx_rules.specs.AtCoordinator.{Reading, awaited, awaited_collect, begins, behind, command_order, coord_can, dispatches, ends_in, fault_mark, goes, goes_out, is_idle, is_nothing, next_cid, next_line, on_event, on_line, order_to, orders_of, reads_by, reads_for, refusal_of, starts, starts_line, status_order, table_of, takes_snapshot, goes_on_locked, if_granted, lock_for, requests, resumes, answer_mark}
+use Rattle.gx_rules.specs.AtCoordinator.{Reading, awaited, awaited_collect, begins, behind, command_order, coord_can, dispatches, ends_in, fault_mark, goes, goes_out, is_idle, is_nothing, next_cid, next_line, on_event, on_line, order_to, orders_of, reads_by, reads_for, refusal_of, starts, starts_line, status_order, table_of, takes_snapshot, goes_on_locked, if_granted, requests, resumes, answer_mark}
+use Rattle.gx_store.specs.Locks.{table_lock}
 use Rattle.gx_rules.specs.Coordinators.{Command, Coord, CoordTurn, new_work, session_of}
 use Rattle.gx_law_order.proofs.Lines.{Asks as Admits, asks as admits}
-use Rattle.gx_law_order.proofs.Lists.{Each, each_weaker}
-use Rattle.gx_law_order.proofs.Sessions.{Kept, is_nothing_in, is_open_in}
-use Rattle.gx_law_order.proofs.Stages.{gx}
+use Rattle.gx_law_order.proofs.Lists.{each_weaker}
+use Rattle.gx_law_order.specs.Lists.{Each}
+use Rattle.gx_law_order.specs.Sessions.{Kept, is_nothing_in, is_open_in}
+use Rattle.gx_law_order.specs.Standings.{gx}
 use Rattle.gx_law_order.proofs.Dispatching.{IsLive}
 use Rattle.gx_law_order.proofs.Events.{live-stage}
 use Rattle.gx_law_runs.proofs.Asking.{with_waiting}
@@ -47,7 +49,8 @@ use Rattle.gx_law_runs.proofs.Neat.{IsExecOf, Neat, NeatCommand}
 use Rattle.gx_law_runs.proofs.Parts.{IsFor, PlanFor, plan-for}
 use Rattle.gx_law_runs.proofs.Serving.{AnyServes, AreFor, ForOut, IsFresh, IsOld, OrdersServe, OutServes, Serves, again, commit, no-command, old-same, order-collect, order-status, received, refused, rest-serves, rolled, round-begun, same, serves-map, some-same}
 use Rattle.gx_rules.specs.Locks.{with_hold, with_wait}
-use Rattle.gx_locks.specs.Locks.{Locks, is_free, resumed, wait_of}
+use Rattle.gx_locks.specs.Locks.{Locks, resumed, wait_of}
+use Rattle.gx_waits.specs.Claims.{is_free}
 use Rattle.gx_waits.specs.declared.claim.Claim.{Claim}
 use Rattle.gx_law_order.proofs.Waiting.{GoesOut}
 
@@ -158,7 +161,7 @@ module _ (g : ℕ) (last : ℕ) where
     request-serves (Some wanted) = granted-serves wanted (is_free c.locks.holds wanted)
 
     pub dispatch-serves : Serves c FreshAt (dispatches script c (gx g) line)
-    dispatch-serves = request-serves (lock_for script (gx g) line)
+    dispatch-serves = request-serves (table_lock script (gx g) line)
 
     -- behind a wait
     pub resume-serves : (wanted : Claim) → Serves c FreshAt (resumes script c (gx g) (Some wanted) (Some line))
@@ -221,8 +224,8 @@ module _ (script : Script) (c : Coord) (k : Kept script c) (own : OrdersServe c)
 
     line-serves : (line : Stmt) (asked : LineStep) → Admits block asked → Done (on_line script (starts_line c s asked) s line asked)
     line-serves line (step.Answer plain) a = same (IsNew c) c _ (λ h. refl) tt
-    line-serves line step.Refuse5 a = same (IsNew c) c _ (λ h. refl) tt
-    line-serves line step.Refuse7 a = same (IsNew c) c _ (λ h. refl) tt
+    line-serves line step.InFailedBlock a = same (IsNew c) c _ (λ h. refl) tt
+    line-serves line step.NotInBlock a = same (IsNew c) c _ (λ h. refl) tt
     line-serves line (step.BeginBlock level) a = begun-serves (step.BeginBlock level) level _
     line-serves line step.CommitBlock a = same-base step.CommitBlock _ (commit (IsNew c) (starts_line c s step.CommitBlock) (session_of (starts_line c s step.CommitBlock) s).transaction)
     line-serves line step.RollbackBlock a = same-base step.RollbackBlock _ (rolled (IsNew c) (starts_line c s step.RollbackBlock) (session_of (starts_line c s step.RollbackBlock) s).transaction (answer_mark (starts_line c s step.RollbackBlock) s told.Rollback ∷ []))

@@ -32,7 +32,8 @@ use Rattle.gx_meaning.specs.declared.piece.Piece.{Piece}
 use Rattle.gx_rules.specs.Fits.{fits_group, fits_part, fits_query, is_no_rows}
 use Rattle.gx_law_locks.proofs.Claims.{each-of}
 use Rattle.gx_law_locks.proofs.Released.{each-in_order}
-use Rattle.gx_law_order.proofs.Lists.{Each, each_filter, each_flat, each_map}
+use Rattle.gx_law_order.proofs.Lists.{each_filter, each_flat, each_map}
+use Rattle.gx_law_order.specs.Lists.{Each}
 
 -- the part is right for a slice
 abbrev pub is_right_part : Slice → Part → Bool

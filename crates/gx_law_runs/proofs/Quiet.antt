@@ -31,12 +31,14 @@ use Rattle.gx_script.specs.declared.state.Block.TheVariants.{Outside, Open, Fail
 use Rattle.gx_store.specs.declared.node.NodeEvent.{NodeEvent}
 use Rattle.gx_store.specs.declared.node.NodeEvent.TheVariants as event
 use Rattle.gx_store.specs.Writes.{dist_of}
-use Rattle.gx_rules.specs.AtCoordinator.{Reading, awaited, awaited_collect, begins, cancels, commits, completes, dispatches, ends_in, enlisted_all, follows, goes, goes_on, is_awaited, is_refused, next_cid, next_line, nodes_in, on_answer, on_done, on_event, on_failed, on_line, on_message, on_status, reads_by, reads_for, reason_of, resends, starts, starts_line, table_of, takes_done, unless_kept, with_done, writers_with, goes_on_locked, if_granted, lock_for, requests, resumes}
+use Rattle.gx_rules.specs.AtCoordinator.{Reading, awaited, awaited_collect, begins, cancels, commits, completes, dispatches, ends_in, enlisted_all, follows, goes, goes_on, is_awaited, is_refused, next_cid, next_line, nodes_in, on_answer, on_done, on_event, on_failed, on_line, on_message, on_status, reads_by, reads_for, reason_of, resends, starts, starts_line, table_of, takes_done, unless_kept, with_done, writers_with, goes_on_locked, if_granted, requests, resumes}
+use Rattle.gx_store.specs.Locks.{table_lock}
 use Rattle.gx_rules.specs.Coordinators.{Command, Coord, CoordTurn, Work, rests, session_of, with_work, work_of}
 use Rattle.gx_rules.specs.Fits.{fits_part}
 use Rattle.gx_rules.specs.Locks.{with_hold}
 use Rattle.gx_waits.specs.declared.claim.Claim.{Claim}
-use Rattle.gx_locks.specs.Locks.{is_free, resumed, wait_of}
+use Rattle.gx_locks.specs.Locks.{resumed, wait_of}
+use Rattle.gx_waits.specs.Claims.{is_free}
 use Rattle.gx_rules.proofs.Rounds.{cancel-ways, graph-ways}
 
 -- gxids stay below this
@@ -94,7 +96,7 @@ module _ (limit : ℕ) where
   request-still script c g line n (Some wanted) = granted-still script c g line n wanted (is_free c.locks.holds wanted)
 
   dispatch-still : (script : Script) (c : Coord) (g : Gxid) (line : Stmt) → c.table.next.0 ≤ limit → IsStill limit (dispatches script c g line)
-  dispatch-still script c g line n = request-still script c g line n (lock_for script g line)
+  dispatch-still script c g line n = request-still script c g line n (table_lock script g line)
 
   resume-still : (script : Script) (c : Coord) (g : Gxid) → c.table.next.0 ≤ limit → (o : Option Claim) (line : Option Stmt) → IsStill limit (resumes script c g o line)
   resume-still script c g n (Some wanted) (Some line) = locked-still script (with_work (record c { locks = resumed c.locks g (Some wanted) }) g (record (work_of c g) { waiting = None })) g line n
@@ -169,8 +171,8 @@ module _ (limit : ℕ) where
   module _ (script : Script) (c : Coord) (n : c.table.next.0 ≤ limit) (more : c.table.next.0 + 1 ≤ limit) where
     line-still : (s : SessionId) (line : Stmt) (asked : LineStep) → IsStill limit (on_line script c s line asked)
     line-still s line (step.Answer plain) = n
-    line-still s line step.Refuse5 = n
-    line-still s line step.Refuse7 = n
+    line-still s line step.InFailedBlock = n
+    line-still s line step.NotInBlock = n
     line-still s line (step.BeginBlock level) = more
     line-still s line step.CommitBlock = commit-still c (session_of c s).transaction n
     line-still s line step.RollbackBlock = n

@@ -17,7 +17,7 @@ use Rattle.gx_rules.specs.Machine.{Letter, World, can, happens, new_world, world
 use Rattle.gx_rules.specs.Segments.{Seg}
 use Rattle.gx_rules.specs.Snapshots.{snapshot_of}
 use Rattle.gx_law_order.proofs.Letters.{found_is}
-use Rattle.gx_law_order.proofs.Lists.{Each}
+use Rattle.gx_law_order.specs.Lists.{Each}
 use Rattle.gx_law_reads.specs.Sights.{AreRowsOf, AreRowsOfAll, IsOnlyAt, shown_to_all}
 use Rattle.gx_law_runs.proofs.Awaited.{sent-room, world-asks}
 use Rattle.gx_law_runs.proofs.Enabled.{all-admitted}

@@ -22,7 +22,7 @@ use Rattle.gx_store.specs.declared.node.NodeEvent.TheVariants as event
 use Rattle.gx_store.specs.Journals.{is_same_node}
 use Rattle.gx_store.specs.Schedule.{is_answer_to, is_reply_to}
 use Rattle.gx_rules.specs.AtCoordinator.{status_order}
-use Rattle.gx_law_order.proofs.Stages.{gx}
+use Rattle.gx_law_order.specs.Standings.{gx}
 use Rattle.gx_law_runs.proofs.Neat.{IsExecOf}
 
 -- what a message leaves of what was asked

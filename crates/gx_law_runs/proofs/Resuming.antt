@@ -10,8 +10,8 @@ use Rattle.std.specs.Prelude.{Contains, find, nat_le, option_map}
 use Rattle.gx_ids.specs.declared.ids.Gxid.{Gxid}
 use Rattle.gx_ids.specs.declared.ids.Node.{Node}
 use Rattle.gx_waits.specs.declared.claim.Claim.{Claim}
-use Rattle.gx_locks.specs.Claims.{is_of}
-use Rattle.gx_locks.specs.Locks.{IsLeast, Locks, is_free, least_with, ready_ones, wait_of}
+use Rattle.gx_waits.specs.Claims.{is_free, is_of}
+use Rattle.gx_locks.specs.Locks.{IsLeast, Locks, next_ready, ready_ones, wait_of}
 use Rattle.gx_locks.proofs.Least.{IsLeast-least_with}
 use Rattle.gx_dtx.specs.Table.{find_txn}
 use Rattle.gx_dtx.specs.declared.txn.Txn.{Txn}
@@ -21,20 +21,19 @@ use Rattle.gx_store.specs.declared.event.Event.TheVariants.{Resume}
 use Rattle.gx_store.specs.declared.run.Step.{Step}
 use Rattle.gx_store.specs.Points.{marks_in}
 use Rattle.gx_store.specs.Refusals.{the_coordinator}
-use Rattle.gx_store.specs.Schedule.{first_of, gxids_of, is_ready, resumptions, waits_of}
+use Rattle.gx_store.specs.Schedule.{first_of, gxids_of, resumptions, waits_of}
 use Rattle.gx_store.specs.Waits.{holds_at}
 use Rattle.gx_rules.specs.Coordinators.{Coord}
 use Rattle.gx_rules.specs.Segments.{Seg}
 use Rattle.gx_rules.specs.Machine.{Letter, World, world_of}
 use Rattle.gx_law_order.proofs.Past.{there-drawn}
 use Rattle.gx_law_order.proofs.Sent.{at}
-use Rattle.gx_law_order.proofs.Stages.{gx}
 use Rattle.gx_law_order.proofs.Waiting.{HasSlice, Waits, each-among, has-slice, has-statement, waiting}
 use Rattle.gx_law_order.proofs.World.{Knows, world_knows}
 use Rattle.gx_law_order.proofs.Always.{world-holds}
 use Rattle.gx_law_order.proofs.Events.{live-stage}
 use Rattle.gx_law_order.proofs.WaitingParts.{awaited}
-use Rattle.gx_law_order.specs.Standings.{standing}
+use Rattle.gx_law_order.specs.Standings.{gx, standing}
 use Rattle.gx_law_order.specs.Standings.Standing.{Unborn}
 use Rattle.gx_law_reads.proofs.Ends.{TakenAt, world-facts}
 use Rattle.gx_law_locks.specs.Marked.{IsMarked}
@@ -141,10 +140,10 @@ module _ (script : Script) (some : 1 ≤ script.segments) (es : List (Event × B
   n = world_knows script some es
 
   module _ (node : Node) (l : Locks) (m : IsMarked (marks_in w.steps) node l) (drawn : (g : Gxid) (wanted : Claim) → wait_of l g ≡ Some wanted → (1 ≤ g.0) × (g.0 < w.coord.table.next.0)) where
-    ready-so : (g : Gxid) → list_any (is_ready (holds_at (marks_in w.steps) node)) (waits_of (marks_in w.steps) node g) ≡ is_among (ready_ones l) g
+    ready-so : (g : Gxid) → list_any (is_free (holds_at (marks_in w.steps) node)) (waits_of (marks_in w.steps) node g) ≡ is_among (ready_ones l) g
     ready-so g =
-        ap (λ ws. list_any (is_ready (holds_at (marks_in w.steps) node)) (filter (is_of g) ws)) (sym m.waits)
-        ∙ ap (λ holds. list_any (is_ready holds) (filter (is_of g) l.waits)) (sym m.holds)
+        ap (λ ws. list_any (is_free (holds_at (marks_in w.steps) node)) (filter (is_of g) ws)) (sym m.waits)
+        ∙ ap (λ holds. list_any (is_free holds) (filter (is_of g) l.waits)) (sym m.holds)
         ∙ any-ready (is_free l.holds) g l.waits
 
     within : (g : Gxid) → is_among (ready_ones l) g ≡ true → (1 ≤ g.0) × (g.0 < 1 + (w.coord.table.next.0 - 1))
@@ -160,12 +159,12 @@ module _ (script : Script) (some : 1 ≤ script.segments) (es : List (Event × B
     filter-same f h e [] = refl
     filter-same f h e (g ∷ gs) = ap (λ b. cond b (g ∷ filter f gs) (filter f gs)) (e g) ∙ ap (λ xs. cond (h g) (g ∷ xs) xs) (filter-same f h e gs)
 
-    resumes-least : resumptions (marks_in w.steps) node ≡ option_to_list (option_map (Resume node) (least_with None (ready_ones l)))
+    resumes-least : resumptions (marks_in w.steps) node ≡ option_to_list (option_map (Resume node) (next_ready l))
     resumes-least =
         ap (λ gs. first_of (map (Resume node) gs))
-        (filter-same (λ g. list_any (is_ready (holds_at (marks_in w.steps) node)) (waits_of (marks_in w.steps) node g)) (is_among (ready_ones l)) ready-so (gxids_of (marks_in w.steps))
+        (filter-same (λ g. list_any (is_free (holds_at (marks_in w.steps) node)) (waits_of (marks_in w.steps) node g)) (is_among (ready_ones l)) ready-so (gxids_of (marks_in w.steps))
         ∙ ap (filter (is_among (ready_ones l))) (drawn-alike script some es))
-        ∙ least-first (Resume node) (ready_ones l) (least_with None (ready_ones l)) (IsLeast-least_with (ready_ones l)) 1 (w.coord.table.next.0 - 1) within
+        ∙ least-first (Resume node) (ready_ones l) (next_ready l) (IsLeast-least_with (ready_ones l)) 1 (w.coord.table.next.0 - 1) within
 
   drawn-here : (g : Gxid) (wanted : Claim) → wait_of w.coord.locks g ≡ Some wanted → (1 ≤ g.0) × (g.0 < w.coord.table.next.0)
   drawn-here g wanted e =
@@ -198,20 +197,20 @@ module _ (script : Script) (some : 1 ≤ script.segments) (es : List (Event × B
           by_test false q born = below w.coord.table.next.0 g.0 q
       by_found (Some t) f born = (there-drawn (world_of script es).coord.table.next.0 g.0 (world_of script es).coord.table.txns t n.kept.whole.drawn f).1
 
-  pub least-here : resumptions (marks_in (world_of script es).steps) the_coordinator ≡ option_to_list (option_map (Resume the_coordinator) (least_with None (ready_ones (world_of script es).coord.locks)))
+  pub least-here : resumptions (marks_in (world_of script es).steps) the_coordinator ≡ option_to_list (option_map (Resume the_coordinator) (next_ready (world_of script es).coord.locks))
   least-here = resumes-least the_coordinator w.coord.locks (world-locked script some es).marked.coordinator drawn-here
 
-  pub least-there : (i : ℕ) → 1 ≤ i → resumptions (marks_in (world_of script es).steps) (at i) ≡ option_to_list (option_map (Resume (at i)) (least_with None (ready_ones ((world_of script es).segs i).locks)))
+  pub least-there : (i : ℕ) → 1 ≤ i → resumptions (marks_in (world_of script es).steps) (at i) ≡ option_to_list (option_map (Resume (at i)) (next_ready ((world_of script es).segs i).locks))
   least-there i one = resumes-least (at i) (w.segs i).locks ((world-locked script some es).marked.segments i one) (drawn-there i)
 
 -- WHERE STEPS HAVE LED
 module _ (script : Script) (some : 1 ≤ script.segments) (steps : List Step) (is : IsReached script steps) where
-  pub reached-here : resumptions (marks_in steps) the_coordinator ≡ option_to_list (option_map (Resume the_coordinator) (least_with None (ready_ones (coordinator_after script steps).locks)))
+  pub reached-here : resumptions (marks_in steps) the_coordinator ≡ option_to_list (option_map (Resume the_coordinator) (next_ready (coordinator_after script steps).locks))
   reached-here =
       ap (λ ss. resumptions (marks_in ss) the_coordinator) (sym is.is) ∙ least-here script some is.events
-      ∙ ap (λ (c : Coord). option_to_list (option_map (Resume the_coordinator) (least_with None (ready_ones c.locks)))) (replayed script steps is).coordinator
+      ∙ ap (λ (c : Coord). option_to_list (option_map (Resume the_coordinator) (next_ready c.locks))) (replayed script steps is).coordinator
 
-  pub reached-there : (i : ℕ) → 1 ≤ i → resumptions (marks_in steps) (at i) ≡ option_to_list (option_map (Resume (at i)) (least_with None (ready_ones (segment_after script (at i) steps).locks)))
+  pub reached-there : (i : ℕ) → 1 ≤ i → resumptions (marks_in steps) (at i) ≡ option_to_list (option_map (Resume (at i)) (next_ready (segment_after script (at i) steps).locks))
   reached-there i one =
       ap (λ ss. resumptions (marks_in ss) (at i)) (sym is.is) ∙ least-there script some is.events i one
-      ∙ ap (λ (s : Seg). option_to_list (option_map (Resume (at i)) (least_with None (ready_ones s.locks)))) ((replayed script steps is).segments i one)
+      ∙ ap (λ (s : Seg). option_to_list (option_map (Resume (at i)) (next_ready s.locks))) ((replayed script steps is).segments i one)

@@ -26,7 +26,8 @@ use Rattle.gx_law_order.specs.Moves.{Move, world_by}
 use Rattle.gx_law_order.proofs.AtSegments.{seg_stays}
 use Rattle.gx_law_order.proofs.Induction.{IsThere, after_turn, at-moves}
 use Rattle.gx_law_order.proofs.Letters.{found_is}
-use Rattle.gx_law_order.proofs.Lists.{Each, each_weaker}
+use Rattle.gx_law_order.proofs.Lists.{each_weaker}
+use Rattle.gx_law_order.specs.Lists.{Each}
 use Rattle.gx_law_order.proofs.Moves.{HasNamed, moves_after, world-moves}
 use Rattle.gx_law_order.proofs.Ordered.{Well, at-both, moves_well}
 use Rattle.gx_law_order.proofs.Sent.{at}

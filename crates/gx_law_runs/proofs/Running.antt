@@ -10,11 +10,11 @@ use Rattle.gx_store.specs.declared.mark.Mark.{Mark}
 use Rattle.gx_store.specs.Marks.{is_committed, is_ended}
 use Rattle.gx_rules.specs.AtCoordinator.{is_in_block, is_left, is_nothing, next_line, is_unfinished_there}
 use Rattle.gx_rules.specs.Coordinators.{Coord, Session, session_of, work_of}
-use Rattle.gx_law_order.proofs.Past.{Past}
-use Rattle.gx_law_order.proofs.Sessions.{Kept, is_closing_in, is_live_in, stage_of}
-use Rattle.gx_law_order.proofs.Stages.{gx}
-use Rattle.gx_law_order.proofs.Statuses.{Stage, is_running}
-use Rattle.gx_law_order.proofs.Statuses.Stage.{Absent, Live, Closing, Finished, Dropped}
+use Rattle.gx_law_order.specs.Past.{Past}
+use Rattle.gx_law_order.specs.Sessions.{Kept, is_closing_in, is_live_in}
+use Rattle.gx_law_order.specs.Stages.{Stage, is_running, stage_of}
+use Rattle.gx_law_order.specs.Standings.{gx}
+use Rattle.gx_law_order.specs.Stages.Stage.{Absent, Closing, Dropped, Finished, Live}
 
 live-unfinished : (b : Block) (p : Pending) (x : Bool) → is_live_in b p ≡ true → (not (is_nothing p) || (is_in_block b || x)) ≡ true
 live-unfinished b p x e = grind arith

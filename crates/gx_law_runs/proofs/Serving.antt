@@ -28,7 +28,8 @@ use Rattle.gx_rules.specs.Coordinators.{Command, Coord, CoordTurn, Work, no_work
 use Rattle.gx_rules.specs.Fits.{fits_part}
 use Rattle.gx_rules.specs.Rounds.{awaits_graph, begins_round, rechecks, with_report}
 use Rattle.gx_rules.proofs.Rounds.{cancel-ways, graph-ways}
-use Rattle.gx_law_order.proofs.Lists.{Each, each_weaker}
+use Rattle.gx_law_order.proofs.Lists.{each_weaker}
+use Rattle.gx_law_order.specs.Lists.{Each}
 use Rattle.gx_law_order.proofs.Places.{collects-each}
 use Rattle.gx_law_order.proofs.Outs.{IsBare, NoExec, abort-bare, commit-bare, reply-bare}
 use Rattle.gx_law_runs.proofs.Parts.{IsFor}

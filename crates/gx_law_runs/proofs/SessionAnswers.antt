@@ -23,10 +23,11 @@ use Rattle.gx_script.specs.declared.state.Block.TheVariants as block
 use Rattle.gx_rules.specs.AtCoordinator.{completes, goes_on, is_awaited, is_refused, item_for, on_answer, on_done, on_failed, on_status, order_to, reason_of, takes_done, with_done, writers_with}
 use Rattle.gx_rules.specs.Coordinators.{Command, Coord, Work, rests, with_work, work_of}
 use Rattle.gx_rules.specs.Fits.{fits_part}
-use Rattle.gx_law_order.proofs.Sessions.{Kept, stage_of}
-use Rattle.gx_law_order.proofs.Stages.{gx, left_of}
-use Rattle.gx_law_order.proofs.Statuses.{Stage, stage, stage_in}
-use Rattle.gx_law_order.proofs.Statuses.Stage.{Finished, Dropped, Live}
+use Rattle.gx_law_order.specs.Sessions.{Kept}
+use Rattle.gx_law_order.specs.Stages.{Stage, stage, stage_in, stage_of}
+use Rattle.gx_law_order.proofs.Stages.{left_of}
+use Rattle.gx_law_order.specs.Standings.{gx}
+use Rattle.gx_law_order.specs.Stages.Stage.{Dropped, Finished, Live}
 use Rattle.gx_law_order.proofs.Dispatching.{IsLive}
 use Rattle.gx_law_order.proofs.Events.{live-stage}
 use Rattle.gx_law_order.proofs.Nodes.{has-without}

@@ -4,11 +4,11 @@ use Rattle.std.proofs.lemmas.Bool.Decides.{nat_tests}
 use Rattle.std.specs.Prelude.{find, is_some}
 use Rattle.gx_lemmas.proofs.Numbers.{eqb-self}
 use Rattle.gx_waits.specs.declared.claim.Claim.{Claim}
-use Rattle.gx_locks.specs.Claims.{is_of}
-use Rattle.gx_locks.specs.Locks.{Locks, resumed, wait_of, without}
+use Rattle.gx_waits.specs.Claims.{is_of, without}
+use Rattle.gx_locks.specs.Locks.{Locks, resumed, wait_of}
 use Rattle.gx_rules.specs.Coordinators.{Coord}
 use Rattle.gx_rules.specs.Locks.{released, with_wait}
-use Rattle.gx_law_order.proofs.Stages.{gx}
+use Rattle.gx_law_order.specs.Standings.{gx}
 
 -- a transaction has a wait at the coordinator
 abbrev pub HasWait : Coord → ℕ → Type 0

@@ -23,13 +23,14 @@ use Rattle.gx_script.specs.declared.state.Block.TheVariants.{Outside, Open, Fail
 use Rattle.gx_script.specs.declared.state.Pending.{Pending}
 use Rattle.gx_store.specs.declared.mark.Mark.TheVariants as mark
 use Rattle.gx_store.specs.Writes.{dist_of}
-use Rattle.gx_rules.specs.AtCoordinator.{Reading, begins, behind, commits, dispatches, ends_in, fault_mark, goes, is_idle, kept_at, next_cid, nodes_in, on_line, order_of, order_to, orders_of, reads_by, reads_for, refusal_of, starts_line, table_of, goes_on_locked, if_granted, lock_for, requests, resumes}
+use Rattle.gx_rules.specs.AtCoordinator.{Reading, begins, behind, commits, dispatches, ends_in, fault_mark, goes, is_idle, kept_at, next_cid, nodes_in, on_line, order_of, order_to, orders_of, reads_by, reads_for, refusal_of, starts_line, table_of, goes_on_locked, if_granted, requests, resumes}
+use Rattle.gx_store.specs.Locks.{table_lock}
 use Rattle.gx_rules.specs.Coordinators.{Command, Coord, CoordTurn, Session, new_work, session_of, work_of}
 use Rattle.gx_rules.specs.Snapshots.{snapshot_of}
 use Rattle.gx_store.specs.Whole.{IsWholeStmt}
 use Rattle.gx_law_order.proofs.Lines.{Asks as Admits}
-use Rattle.gx_law_order.proofs.Sessions.{Kept, is_nothing_in, is_open_in, is_working_in}
-use Rattle.gx_law_order.proofs.Stages.{gx}
+use Rattle.gx_law_order.specs.Sessions.{Kept, is_nothing_in, is_open_in, is_working_in}
+use Rattle.gx_law_order.specs.Standings.{gx}
 use Rattle.gx_law_order.proofs.Dispatching.{IsLive}
 use Rattle.gx_law_order.proofs.Events.{live-stage}
 use Rattle.gx_law_runs.proofs.Asking.{with_waiting}
@@ -39,7 +40,8 @@ use Rattle.gx_law_runs.proofs.Plans.{IsFilled, IsPlanFull, plan-full}
 use Rattle.gx_law_runs.proofs.Turns.{Goes, commits-goes, goes-by, refused-settles}
 use Rattle.gx_rules.specs.Locks.{hold_mark, released, with_hold}
 use Rattle.gx_waits.specs.declared.claim.Claim.{Claim}
-use Rattle.gx_locks.specs.Locks.{Locks, is_free, resumed, wait_of}
+use Rattle.gx_locks.specs.Locks.{Locks, resumed, wait_of}
+use Rattle.gx_waits.specs.Claims.{is_free}
 use Rattle.std.proofs.lemmas.Bool.{eqb-true}
 use Rattle.gx_ids.specs.declared.ids.Gxid.{Gxid}
 use Rattle.gx_law_order.proofs.Queued.{lock-of}
@@ -123,12 +125,12 @@ module _ (script : Script) (some : 1 ≤ script.segments) (c : Coord) (g : ℕ) 
       held-goes d wanted (goes-by (Unit {0}) d c g (goes_on_locked script d (gx g) line) refl refl (λ h e. refl) (locked-goes script some d g line f))
   granted-goes wanted own false = inl (record { sessions = λ j. refl; asked = λ b. inr (waits-own c.locks g wanted own); spares = waits-spares c.locks g wanted own })
 
-  request-goes : (o : Option Claim) → lock_for script (gx g) line ≡ o → Goes (Unit {0}) c g (requests script c (gx g) line o)
+  request-goes : (o : Option Claim) → table_lock script (gx g) line ≡ o → Goes (Unit {0}) c g (requests script c (gx g) line o)
   request-goes None e = locked-goes script some c g line f
   request-goes (Some wanted) e = granted-goes wanted (lock-of script (gx g) line wanted e) (is_free c.locks.holds wanted)
 
   dispatch-goes : Goes (Unit {0}) c g (dispatches script c (gx g) line)
-  dispatch-goes = request-goes (lock_for script (gx g) line) refl
+  dispatch-goes = request-goes (table_lock script (gx g) line) refl
 
   -- and once it has waited
   pub resume-goes : (wanted : Claim) → Goes (Unit {0}) c g (resumes script c (gx g) (Some wanted) (Some line))
@@ -256,8 +258,8 @@ module _ (script : Script) (some : 1 ≤ script.segments) (c : Coord) (k : Kept 
 
   pub line-stays : (line : Stmt) (asked : LineStep) → line_step block line ≡ asked → Admits block asked → IsWholeStmt script.tables line → Stays c s (on_line script (starts_line c s asked) s line asked)
   line-stays line (step.Answer plain) e a w = quiet c s _ (led (step.Answer plain)) (λ j. refl) refl (λ h e n. refl)
-  line-stays line step.Refuse5 e a w = quiet c s _ (led step.Refuse5) (λ j. refl) refl (λ h e n. refl)
-  line-stays line step.Refuse7 e a w = quiet c s _ (led step.Refuse7) (λ j. refl) refl (λ h e n. refl)
+  line-stays line step.InFailedBlock e a w = quiet c s _ (led step.InFailedBlock) (λ j. refl) refl (λ h e n. refl)
+  line-stays line step.NotInBlock e a w = quiet c s _ (led step.NotInBlock) (λ j. refl) refl (λ h e n. refl)
   line-stays line (step.BeginBlock level) e a w = quiet c s _ (record (led (step.BeginBlock level)) { transaction = c.table.next }) (fresh-at (step.BeginBlock level) level) refl (λ h e n. refl)
   line-stays line step.CommitBlock e a w = commit-stays a
   line-stays line step.RollbackBlock e a w = quiet c s _ (led step.RollbackBlock) (λ j. refl) refl (λ h e n. ap (λ (g : Gxid). wait_of (released c.locks g) (gx h)) (transaction-now step.RollbackBlock) ∙ released-spares c.locks own h (own-apart a h e))

@@ -38,7 +38,8 @@ use Rattle.gx_rules.specs.AtCoordinator.{nodes_in, order_to, orders_of}
 use Rattle.gx_rules.specs.Sending.{counted, numbered}
 use Rattle.gx_script.specs.declared.Script.{Script}
 use Rattle.gx_law_order.proofs.AtSegments.{PlainAt}
-use Rattle.gx_law_order.proofs.Lists.{Each, each_weaker}
+use Rattle.gx_law_order.proofs.Lists.{each_weaker}
+use Rattle.gx_law_order.specs.Lists.{Each}
 use Rattle.gx_law_order.proofs.Nodes.{AreApart}
 
 abbrev pub told_by : Node → Gxid → Option Message → List Out → Option Message

@@ -40,10 +40,10 @@ use Rattle.gx_rules.specs.Rounds.{awaits_graph, begins_round, on_graph, rechecks
 use Rattle.gx_rules.proofs.Rounds.{cancel-ways, graph-ways}
 use Rattle.gx_law_order.proofs.Ends.{begun-finds}
 use Rattle.gx_law_order.proofs.Lines.{Asks as Admits, asks as admits, begun-whole, undrawn}
-use Rattle.gx_law_order.proofs.Lists.{Each}
+use Rattle.gx_law_order.specs.Lists.{Each}
 use Rattle.gx_law_order.proofs.Places.{collects-each}
-use Rattle.gx_law_order.proofs.Sessions.{Kept, is_nothing_in, is_open_in, is_working_in}
-use Rattle.gx_law_order.proofs.Stages.{gx}
+use Rattle.gx_law_order.specs.Sessions.{Kept, is_nothing_in, is_open_in, is_working_in}
+use Rattle.gx_law_order.specs.Standings.{gx}
 use Rattle.gx_law_order.proofs.Dispatching.{IsLive}
 use Rattle.gx_law_order.proofs.Events.{live-stage}
 use Rattle.gx_law_runs.proofs.Answered.{FitsIn, answer-asks}
@@ -218,8 +218,8 @@ module _ (script : Script) (c : Coord) (k : Kept script c) (n : AreNeat c) where
 
     line-asks : (line : Stmt) (asked : LineStep) → Admits block asked → Asks (now_asked c) (on_line script (starts_line c s asked) s line asked)
     line-asks line (step.Answer plain) a = quiet (starts_line c s (step.Answer plain)) _ refl refl
-    line-asks line step.Refuse5 a = quiet (starts_line c s step.Refuse5) _ refl refl
-    line-asks line step.Refuse7 a = quiet (starts_line c s step.Refuse7) _ refl refl
+    line-asks line step.InFailedBlock a = quiet (starts_line c s step.InFailedBlock) _ refl refl
+    line-asks line step.NotInBlock a = quiet (starts_line c s step.NotInBlock) _ refl refl
     line-asks line (step.BeginBlock level) a = begun-asks (step.BeginBlock level) level _
     line-asks line step.CommitBlock a = commit-asks a
     line-asks line step.RollbackBlock a = rollback-asks a (answer_mark (starts_line c s step.RollbackBlock) s told.Rollback ∷ [])

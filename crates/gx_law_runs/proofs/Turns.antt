@@ -16,7 +16,9 @@ use Rattle.gx_store.specs.declared.answer.Refused.TheVariants as refused
 use Rattle.gx_store.specs.declared.mark.Mark.{Mark}
 use Rattle.gx_rules.specs.AtCoordinator.{answers, commits, failure_marks, follows, is_committed, is_idle, is_refused}
 use Rattle.gx_rules.specs.Coordinators.{Coord, CoordTurn, Session, work_of}
-use Rattle.gx_law_order.proofs.Stages.{IsWhole, changed-at, gx, left_of}
+use Rattle.gx_law_order.proofs.Stages.{changed-at, left_of}
+use Rattle.gx_law_order.specs.Stages.{IsWhole}
+use Rattle.gx_law_order.specs.Standings.{gx}
 use Rattle.gx_law_order.proofs.Dispatching.{IsLive}
 use Rattle.gx_law_runs.proofs.Neat.{IsDone, clash}
 use Rattle.gx_law_runs.proofs.Asked.{IsBusy, IsOrdered, has-first, ordered-asked}

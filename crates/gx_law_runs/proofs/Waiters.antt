@@ -5,7 +5,7 @@ use Rattle.std.specs.Prelude.{◌==◌, nat_le}
 use Rattle.std.specs.List.{list_any}
 use Rattle.gx_ids.specs.declared.ids.Gxid.{Gxid}
 use Rattle.gx_ids.specs.declared.ids.Node.{Node}
-use Rattle.gx_locks.specs.Locks.{is_ready, wait_of}
+use Rattle.gx_locks.specs.Locks.{may_take}
 use Rattle.gx_script.specs.declared.Script.{Script}
 use Rattle.gx_store.specs.declared.event.Event.{Event}
 use Rattle.gx_store.specs.declared.event.Event.TheVariants.{Resume}
@@ -18,7 +18,8 @@ use Rattle.gx_rules.specs.AtCoordinator.{is_segment}
 use Rattle.gx_rules.specs.Coordinators.{Coord}
 use Rattle.gx_rules.specs.Machine.{can}
 use Rattle.gx_rules.specs.Segments.{Seg}
-use Rattle.gx_law_order.proofs.Lists.{Each, each_weaker}
+use Rattle.gx_law_order.proofs.Lists.{each_weaker}
+use Rattle.gx_law_order.specs.Lists.{Each}
 use Rattle.gx_law_order.proofs.Ordered.{world_well}
 use Rattle.gx_law_runs.proofs.Enabled.{any-each, any-same, resumes-here-admitted, resumes-there-admitted, segments-first}
 use Rattle.gx_law_runs.specs.Reached.{IsReached}
@@ -38,14 +39,14 @@ module _ (script : Script) (steps : List Step) (some : 1 ≤ script.segments) (i
       (λ i one. ap (λ (s : Seg). not (length s.locks.waits == 0)) ((replayed script steps is).segments i.0 one)) (segments_of script) (segments-first script some is.events)))
 
   -- WHO MAY RESUME
-  pub may-resume-here : (g : Gxid) → is_admitted script steps (Resume the_coordinator g) ≡ is_ready (coordinator_after script steps).locks.holds (wait_of (coordinator_after script steps).locks g)
+  pub may-resume-here : (g : Gxid) → is_admitted script steps (Resume the_coordinator g) ≡ may_take (coordinator_after script steps).locks g
   may-resume-here g = refl
 
   pub may-resume-there : (segment : Node) → 1 ≤ segment.0 → (g : Gxid)
-      → is_admitted script steps (Resume segment g) ≡ (is_segment script segment && is_ready (segment_after script segment steps).locks.holds (wait_of (segment_after script segment steps).locks g))
+      → is_admitted script steps (Resume segment g) ≡ (is_segment script segment && may_take (segment_after script segment steps).locks g)
   may-resume-there segment one g =
-      ap (λ (b : Bool). if b then is_ready (coordinator_after script steps).locks.holds (wait_of (coordinator_after script steps).locks g) else is_segment script s.node && is_ready s.locks.holds (wait_of s.locks g)) (away segment.0 one)
-      ∙ ap (λ n. is_segment script n && is_ready s.locks.holds (wait_of s.locks g)) (ap (λ (x : Seg). x.node) (sym ((replayed script steps is).segments segment.0 one)) ∙ (world_well script some is.events).names segment.0)
+      ap (λ (b : Bool). if b then may_take (coordinator_after script steps).locks g else is_segment script s.node && may_take s.locks g) (away segment.0 one)
+      ∙ ap (λ n. is_segment script n && may_take s.locks g) (ap (λ (x : Seg). x.node) (sym ((replayed script steps is).segments segment.0 one)) ∙ (world_well script some is.events).names segment.0)
     where
       s : Seg
       s = segment_after script segment steps

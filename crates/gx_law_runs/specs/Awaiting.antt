@@ -7,7 +7,7 @@ use Rattle.gx_script.specs.declared.Script.{Script}
 use Rattle.gx_rules.specs.AtCoordinator.{awaited}
 use Rattle.gx_rules.specs.Coordinators.{Coord, session_of}
 use Rattle.gx_rules.specs.Machine.{World}
-use Rattle.gx_locks.specs.Locks.{Locks, is_ready, wait_of}
+use Rattle.gx_locks.specs.Locks.{Locks, may_take, wait_of}
 use Rattle.gx_store.specs.Journals.{is_same_node}
 use Rattle.gx_store.specs.Refusals.{the_coordinator}
 
@@ -29,4 +29,4 @@ pub record IsBlocked (script : Script) (w : World) (session : SessionId) : Type 
   pub at : Node
   pub node : at.0 ≤ script.segments
   pub waits : is_some (wait_of (locks_at w at) (session_of w.coord session).transaction) ≡ true
-  pub meets : is_ready (locks_at w at).holds (wait_of (locks_at w at) (session_of w.coord session).transaction) ≡ false
+  pub meets : may_take (locks_at w at) (session_of w.coord session).transaction ≡ false

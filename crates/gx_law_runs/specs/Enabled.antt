@@ -9,7 +9,7 @@ use Rattle.gx_script.specs.declared.Script.{Script}
 use Rattle.gx_store.specs.declared.event.Event.{Event}
 use Rattle.gx_store.specs.declared.event.Event.TheVariants.{End, Resend, Resume, Round, Start}
 use Rattle.gx_store.specs.declared.node.NodeEvent.TheVariants as node
-use Rattle.gx_locks.specs.Locks.{Locks, is_ready, wait_of}
+use Rattle.gx_locks.specs.Locks.{Locks, may_take, wait_of}
 use Rattle.gx_store.specs.Refusals.{the_coordinator}
 use Rattle.gx_store.specs.Schedule.{first_of, is_exec, is_quiet, left_on, segments_of}
 use Rattle.gx_rules.specs.AtCoordinator.{awaited, coord_can, is_idle}
@@ -36,7 +36,7 @@ ends_by script c = map End (filter (λ session. coord_can script c (node.End ses
 
 -- the least transaction whose wait at a node meets no hold resumes
 abbrev pub resumes_by : Coord → Node → Locks → List Event
-resumes_by c node locks = first_of (map (Resume node) (filter (λ g. is_ready locks.holds (wait_of locks g)) (drawn c)))
+resumes_by c node locks = first_of (map (Resume node) (filter (λ g. may_take locks g) (drawn c)))
 
 -- a segment resumes, or else receives
 abbrev pub at_segment_by : Script → World → Node → List Event

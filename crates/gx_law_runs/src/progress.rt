@@ -1,11 +1,11 @@
 //! Laws of every run, whatever the network loses, repeats, delays and reorders, and whichever appends fail.
-ghost use Rattle.std.specs.Prelude.{◌≡◌, ◌≤◌, ◌<◌, ◌⊎◌, Bool, true, false, ℕ, None, option_map, is_some, List, [], length};
+ghost use Rattle.std.specs.Prelude.{◌≡◌, ◌≤◌, ◌<◌, ◌⊎◌, Bool, true, false, ℕ, option_map, is_some, List, [], length};
 ghost use Rattle.std.specs.List.{list_all};
 ghost use Rattle.std.specs.Option.{option_to_list};
 ghost use Rattle.gx_ids.specs.declared.ids.SessionId.{SessionId as OneSession};
 ghost use Rattle.gx_store.specs.Whole.{AreInsertsWhole};
 ghost use Rattle.gx_store.specs.Language.{AreLinesNumbered};
-ghost use Rattle.gx_locks.specs.Locks.{least_with, ready_ones, wait_of};
+ghost use Rattle.gx_locks.specs.Locks.{next_ready, wait_of};
 ghost use Rattle.gx_law_runs.specs.Awaiting.{IsAwaiting, IsBlocked};
 ghost use Rattle.gx_law_runs.specs.Reached.{IsReached};
 ghost use Rattle.gx_law_runs.specs.Replays.{coordinator_after, segment_after, world_behind};
@@ -50,12 +50,12 @@ pub fn busy_sessions_await_an_answer_or_a_lock()
 /// Who resumes at the coordinator is the least of those whose waits in its locks are ready.
 pub fn the_least_ready_wait_resumes_at_the_coordinator()
     ensures { (script : Script) (steps : List OneStep) → 1 ≤ script.segments → IsReached script steps
-        → resumptions (marks_in steps) the_coordinator ≡ option_to_list (option_map (Resume the_coordinator) (least_with None (ready_ones (coordinator_after script steps).locks))) }
+        → resumptions (marks_in steps) the_coordinator ≡ option_to_list (option_map (Resume the_coordinator) (next_ready (coordinator_after script steps).locks)) }
 {}
 
 /// And so it is at a segment.
 pub fn the_least_ready_wait_resumes_at_a_segment()
     ensures { (script : Script) (steps : List OneStep) (i : ℕ) → 1 ≤ script.segments → IsReached script steps → 1 ≤ i
         → resumptions (marks_in steps) (record { 0 = i })
-        ≡ option_to_list (option_map (Resume (record { 0 = i })) (least_with None (ready_ones (segment_after script (record { 0 = i }) steps).locks))) }
+        ≡ option_to_list (option_map (Resume (record { 0 = i })) (next_ready (segment_after script (record { 0 = i }) steps).locks)) }
 {}

@@ -3,7 +3,7 @@ ghost use Rattle.std.specs.Prelude.{◌≡◌, ◌≤◌, ◌==◌, Bool, true, 
 ghost use Rattle.std.specs.List.{list_any};
 ghost use Rattle.gx_ids.specs.declared.ids.Gxid.{Gxid as OneGxid};
 ghost use Rattle.gx_ids.specs.declared.ids.Node.{Node as OneNode};
-ghost use Rattle.gx_locks.specs.Locks.{is_ready, wait_of};
+ghost use Rattle.gx_locks.specs.Locks.{may_take};
 ghost use Rattle.gx_law_runs.specs.Reached.{IsReached};
 ghost use Rattle.gx_law_runs.specs.Replays.{coordinator_after, is_admitted, segment_after};
 ghost use Rattle.gx_rules.specs.AtCoordinator.{is_segment};
@@ -25,7 +25,7 @@ pub fn waits_stand_at_the_nodes()
 pub fn ready_waits_may_resume_at_a_segment()
     ensures { (script : Script) (steps : List OneStep) (segment : OneNode) (g : OneGxid) → 1 ≤ script.segments → IsReached script steps → 1 ≤ segment.0
         → is_admitted script steps (Resume segment g)
-        ≡ (is_segment script segment && is_ready (segment_after script segment steps).locks.holds (wait_of (segment_after script segment steps).locks g)) }
+        ≡ (is_segment script segment && may_take (segment_after script segment steps).locks g) }
 {}
 
 /// Who resumes is admitted.

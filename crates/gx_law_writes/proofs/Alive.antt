@@ -28,7 +28,7 @@ use Rattle.gx_store.specs.Points.{Point, marks_in, starts_by}
 use Rattle.gx_store.specs.Writes.{IsLate}
 use Rattle.gx_store.proofs.Marks.{has_snapshot-append, is_aborted-append, is_snapped-append}
 use Rattle.gx_rules.specs.Machine.{World}
-use Rattle.gx_law_order.proofs.Lists.{Each}
+use Rattle.gx_law_order.specs.Lists.{Each}
 use Rattle.gx_law_order.specs.Alive.{WasUnderWay}
 use Rattle.gx_law_order.specs.Orders.{IsOrder, IsReadBy, IsServed, level_by, level_of_began}
 use Rattle.gx_law_order.specs.Scanned.{began_from, command_at, stmt_of_command}

@@ -6,11 +6,13 @@ use Rattle.gx_msg.specs.declared.message.Out.{Out}
 use Rattle.gx_rules.specs.Sending.{counted, numbered}
 use Rattle.gx_law_order.proofs.Releases.{each-released}
 use Rattle.gx_dtx.specs.Table.{find_txn}
-use Rattle.gx_law_order.proofs.Lists.{Each, each_append}
-use Rattle.gx_law_order.proofs.Sessions.{Kept, is_said, stage_of}
-use Rattle.gx_law_order.proofs.Stages.{gx}
-use Rattle.gx_law_order.proofs.Statuses.{Moves, Stage, Turned, reply-turns, stage}
-use Rattle.gx_law_order.proofs.Statuses.Stage.{Absent, Closing, Dropped, Finished, Live}
+use Rattle.gx_law_order.proofs.Lists.{each_append}
+use Rattle.gx_law_order.specs.Lists.{Each}
+use Rattle.gx_law_order.specs.Sessions.{Kept, is_said}
+use Rattle.gx_law_order.specs.Stages.{Stage, stage, stage_of}
+use Rattle.gx_law_order.specs.Standings.{gx}
+use Rattle.gx_law_order.proofs.Statuses.{Moves, Turned, reply-turns}
+use Rattle.gx_law_order.specs.Stages.Stage.{Absent, Closing, Dropped, Finished, Live}
 use Rattle.gx_law_reads.proofs.Reading.{at-self}
 use Rattle.gx_ids.specs.declared.ids.Cid.{Cid}
 use Rattle.gx_ids.specs.declared.ids.Gxid.{Gxid}
@@ -24,7 +26,8 @@ use Rattle.gx_dsnap.specs.declared.snapshot.Snapshot.{Snapshot}
 use Rattle.gx_dtx.specs.Rules.{Turn, on_abort, on_commit, on_reply}
 use Rattle.gx_dtx.specs.declared.outcome.Outcome.{Outcome}
 use Rattle.gx_dtx.specs.declared.outcome.Outcome.TheVariants as outcome
-use Rattle.gx_locks.specs.Locks.{Locks, is_free, resumed}
+use Rattle.gx_locks.specs.Locks.{Locks, resumed}
+use Rattle.gx_waits.specs.Claims.{is_free}
 use Rattle.gx_meaning.specs.declared.fault.ArithFault.{ArithFault}
 use Rattle.gx_meaning.specs.declared.piece.Piece.{Piece}
 use Rattle.gx_msg.specs.declared.message.Message.{Message}
@@ -42,7 +45,8 @@ use Rattle.gx_store.specs.declared.mark.Mark.{Mark}
 use Rattle.gx_store.specs.declared.mark.Mark.TheVariants as mark
 use Rattle.gx_store.specs.Refusals.{the_coordinator}
 use Rattle.gx_store.specs.Writes.{dist_of}
-use Rattle.gx_rules.specs.AtCoordinator.{Reading, answer_mark, begins, completes, ends_in, failure_marks, fault_mark, follows, goes, goes_on, goes_on_locked, if_granted, is_awaited, is_refused, lock_for, next_cid, on_answer, on_done, on_failed, on_line, on_message, on_status, reads_by, reads_for, reason_of, requests, resumes, table_of, takes_done, with_done, writers_with}
+use Rattle.gx_rules.specs.AtCoordinator.{Reading, answer_mark, begins, completes, ends_in, failure_marks, fault_mark, follows, goes, goes_on, goes_on_locked, if_granted, is_awaited, is_refused, next_cid, on_answer, on_done, on_failed, on_line, on_message, on_status, reads_by, reads_for, reason_of, requests, resumes, table_of, takes_done, with_done, writers_with}
+use Rattle.gx_store.specs.Locks.{table_lock}
 use Rattle.gx_meaning.specs.Plan.{plan_of}
 use Rattle.gx_rules.specs.Coordinators.{Command, Coord, CoordTurn, Work, rests, session_of, with_work, work_of}
 use Rattle.gx_rules.specs.Fits.{fits_part}
@@ -207,7 +211,7 @@ module _ {script : Script} (c : Coord) (kept : Kept script c) where
 -- LINES
 -- the answer is to the line that starts, which takes no lock, or a refusal
 abbrev pub AtOnce : Script → SessionId → Stmt → SessionId → StmtAnswer → Type 0
-AtOnce script s line k a = ((k ≡ s) × ((g : Gxid) → lock_for script g line ≡ None)) ⊎ IsRefusal a
+AtOnce script s line k a = ((k ≡ s) × ((g : Gxid) → table_lock script g line ≡ None)) ⊎ IsRefusal a
 
 abbrev pub Starts : Script → SessionId → Stmt → List Mark → Type 0
 Starts script s line ms = OneAnswer NoAnswer (AtOnce script s line) ms
@@ -278,7 +282,7 @@ module _ (script : Script) (s : SessionId) (line : Stmt) where
   refused_starts : (c : Coord) (g : Gxid) (turn : Turn) (why : List Mark) (reason : Refused) → Each NoAnswer why → Starts script s line (is_refused c g turn why reason).marks
   refused_starts c g turn why reason e = refuses-starts script s line (is_refused c g turn why reason).marks (refused_one c g turn why reason e)
 
-  follow_starts : (c : Coord) (g : Gxid) (turn : Turn) (o : Outcome) → (work_of c g).session ≡ s → ((h : Gxid) → lock_for script h line ≡ None) → Starts script s line (follows c g turn o).marks
+  follow_starts : (c : Coord) (g : Gxid) (turn : Turn) (o : Outcome) → (work_of c g).session ≡ s → ((h : Gxid) → table_lock script h line ≡ None) → Starts script s line (follows c g turn o).marks
   follow_starts c g turn outcome.Pending home free = tt
   follow_starts c g turn outcome.Decided home free = (tt, tt)
   follow_starts c g turn outcome.Committed home free = (tt, (inl (home, free), back-none c.locks g))
@@ -296,8 +300,8 @@ module _ (script : Script) (s : SessionId) (line : Stmt) where
       by_test true = (tt, locked_starts (record c { locks = with_hold c.locks wanted }) g l)
       by_test false = (tt, tt)
 
-  command_starts : (c : Coord) (g : Gxid) → Starts script s line (requests script c g line (lock_for script g line)).marks
-  command_starts c g = dispatch_starts c g line (lock_for script g line)
+  command_starts : (c : Coord) (g : Gxid) → Starts script s line (requests script c g line (table_lock script g line)).marks
+  command_starts c g = dispatch_starts c g line (table_lock script g line)
 
 -- a line that starts, by the block of its session
 abbrev pub IsHome : Coord → SessionId → Block → Type 0

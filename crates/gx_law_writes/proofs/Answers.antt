@@ -41,8 +41,10 @@ use Rattle.gx_store.proofs.Marks.{has_snapshot-append, is_snapped-append}
 use Rattle.gx_rules.specs.AtCoordinator.{command_answer, table_of, with_done}
 use Rattle.gx_rules.specs.Coordinators.{Command, Coord, Work, session_of}
 use Rattle.gx_rules.specs.Machine.{World}
-use Rattle.gx_law_order.proofs.Lists.{Each, each_weaker}
-use Rattle.gx_law_order.proofs.Sessions.{Kept, is_closing_in, stage_of}
+use Rattle.gx_law_order.proofs.Lists.{each_weaker}
+use Rattle.gx_law_order.specs.Lists.{Each}
+use Rattle.gx_law_order.specs.Sessions.{Kept, is_closing_in}
+use Rattle.gx_law_order.specs.Stages.{stage_of}
 use Rattle.gx_store.specs.Language.{AreLinesNumbered}
 use Rattle.gx_law_order.specs.Rest.{EachMark}
 use Rattle.gx_law_order.specs.Standing.{AreSessions, HasSnapshot, Owns, is_busy, level_in, state_in}
@@ -139,7 +141,7 @@ module _ (script : Script) (some : 1 ≤ script.segments) (numbered : AreLinesNu
       (subst (IsProgress script (ms ++ ns) g (c.works g).level) (sym t.now) (λ table tuples e. progress-more script table ms ns g (c.works g).level (with_done t.m t.i t.count t.part) tuples (took-progress g t.m t.i t.count t.part t.has_it t.by table tuples e)))
   goes-progress ns g new (inr (inr (inr t))) = subst (IsProgress script (ms ++ ns) g new.level) (sym t.now) fresh
     where
-      snapped : (table : Table) (tuples : List (List Expr)) → ((has_snapshot ns (gx g) ≡ true) × (is_snapped ns (gx g) t.cid ≡ true)) ⊎ ((stage_of c g ≡ Rattle.gx_law_order.proofs.Statuses.Stage.Live) × ((y : Snapshot) × ((c.works g).snapshot ≡ Some y)) × (new.level ≡ (c.works g).level)) → has_own_snapshot new.level (ms ++ ns) (gx g) t.cid ≡ true
+      snapped : (table : Table) (tuples : List (List Expr)) → ((has_snapshot ns (gx g) ≡ true) × (is_snapped ns (gx g) t.cid ≡ true)) ⊎ ((stage_of c g ≡ Rattle.gx_law_order.specs.Stages.Stage.Live) × ((y : Snapshot) × ((c.works g).snapshot ≡ Some y)) × (new.level ≡ (c.works g).level)) → has_own_snapshot new.level (ms ++ ns) (gx g) t.cid ≡ true
       snapped table tuples (inl z) = own-of new.level ms ns (gx g) t.cid z.0 z.1
       snapped table tuples (inr z) =
           let o = live-owns script w sessions g kept z.0 in
@@ -164,13 +166,13 @@ module _ (script : Script) (some : 1 ≤ script.segments) (numbered : AreLinesNu
       pub number : m.cid ≡ run.command.cid
       pub told : (table : Table) (tuples : List (List Expr)) → m.stmt ≡ stmt.Insert table tuples → Progress script table ms g (c.works g).level m tuples
 
-    live-closing : Rattle.gx_law_order.proofs.Statuses.Stage.Live ≡ Rattle.gx_law_order.proofs.Statuses.Stage.Closing → ⊥
+    live-closing : Rattle.gx_law_order.specs.Stages.Stage.Live ≡ Rattle.gx_law_order.specs.Stages.Stage.Closing → ⊥
     live-closing z = cc
 
     pub answered : (s : SessionId) (a : StmtAnswer) → (q : Completes script c x s a) → Answered q.g q.m
     answered s a q = by_how q.how
       where
-        by_how : (((c.works q.g).command ≡ Some q.m) × (stage_of c q.g ≡ Rattle.gx_law_order.proofs.Statuses.Stage.Closing) × ((session_of c s).state.pending ≡ pending.Command)) ⊎ ((k : Command) × (i : Node) × (count : ℕ) × (part : QueryPart) × ((c.works q.g).command ≡ Some k) × (q.m ≡ with_done k i count part) × IsDoneBy script c x q.g k i count) → Answered q.g q.m
+        by_how : (((c.works q.g).command ≡ Some q.m) × (stage_of c q.g ≡ Rattle.gx_law_order.specs.Stages.Stage.Closing) × ((session_of c s).state.pending ≡ pending.Command)) ⊎ ((k : Command) × (i : Node) × (count : ℕ) × (part : QueryPart) × ((c.works q.g).command ≡ Some k) × (q.m ≡ with_done k i count part) × IsDoneBy script c x q.g k i count) → Answered q.g q.m
         by_how (inl z) =
             let l = (kept.tied q.g).closing z.1 in
             let p : (session_of c (c.works q.g).session).state.pending ≡ pending.Command = subst (λ k. (session_of c k).state.pending ≡ pending.Command) (sym q.home) z.2 in

@@ -28,12 +28,12 @@ use Rattle.gx_store.specs.declared.node.NodeEvent.TheVariants as here
 use Rattle.gx_store.specs.declared.run.Step.{Step}
 use Rattle.gx_store.specs.Commands.{RunsCommand}
 use Rattle.gx_store.specs.Lines.{stmt_of}
-use Rattle.gx_store.specs.Locks.{HoldsAtAnswer}
+use Rattle.gx_store.specs.Locks.{HoldsAtAnswer, table_lock}
 use Rattle.gx_store.specs.Marks.{is_same_session, answer_count}
 use Rattle.gx_store.specs.Ordered.{IsAtNode, IsSegment}
 use Rattle.gx_store.specs.Points.{Point, before, marks_in, starts_by}
 use Rattle.gx_store.specs.Refusals.{the_coordinator}
-use Rattle.gx_rules.specs.AtCoordinator.{is_nothing, awaited, awaited_collect, cancel_turn, cancels, coord_can, coord_turn, lock_for, next_line, on_event, resends, starts, starts_line}
+use Rattle.gx_rules.specs.AtCoordinator.{is_nothing, awaited, awaited_collect, cancel_turn, cancels, coord_can, coord_turn, next_line, on_event, resends, starts, starts_line}
 use Rattle.gx_locks.specs.Locks.{wait_of}
 use Rattle.gx_rules.specs.AtSegment.{seg_rule}
 use Rattle.gx_rules.specs.Coordinators.{CoordTurn, Work, session_of, work_of}
@@ -41,7 +41,8 @@ use Rattle.gx_rules.specs.Machine.{World, and_cancelled, coord_did, seg_did, wit
 use Rattle.gx_rules.proofs.Rounds.{cancel-ways}
 use Rattle.gx_rules.proofs.Turns.{with_more-last}
 use Rattle.gx_rules.specs.Sending.{clock_after, counted, numbered}
-use Rattle.gx_law_order.proofs.Lists.{Each, each_append}
+use Rattle.gx_law_order.proofs.Lists.{each_append}
+use Rattle.gx_law_order.specs.Lists.{Each}
 use Rattle.gx_law_order.specs.Moves.{Move, world_by}
 use Rattle.gx_law_order.proofs.Induction.{IsThere, at-events}
 use Rattle.gx_law_order.proofs.Moves.{HasNamed}
@@ -133,7 +134,7 @@ starts-told script steps e s line is earlier (mark.Answer k n a ∷ ms) later d 
     by_case (inr r) = refused-so script (record { steps = steps; event = e; earlier = earlier; later = ms ++ later }) k a r
     by_case (inl z) =
         told-so script (record { steps = steps; event = e; earlier = earlier; later = ms ++ later }) k a
-        (λ other level g c r wanted takes. absurd (none (sym (z.1 g) ∙ subst (λ l. lock_for script g l ≡ Some wanted)
+        (λ other level g c r wanted takes. absurd (none (sym (z.1 g) ∙ subst (λ l. table_lock script g l ≡ Some wanted)
         (some-same other line (sym r.line.line ∙ ap (λ x. stmt_of k (x + 1) script.lines) (count-append k (marks_in steps) earlier d) ∙ ap (λ (x : SessionId). stmt_of x (answer_count x (marks_in steps) + 1) script.lines) z.0 ∙ is)) takes)))
 starts-told script steps e s line is earlier (m ∷ ms) later d h = (tt, starts-told script steps e s line is (earlier ++ m ∷ []) ms later (each_append NoAnswer earlier (m ∷ []) d (h.0, tt)) h.1)
 

@@ -48,7 +48,8 @@ use Rattle.gx_store.specs.declared.mark.Mark.TheVariants as mark
 use Rattle.gx_store.specs.declared.node.NodeEvent.{NodeEvent}
 use Rattle.gx_store.specs.declared.node.NodeEvent.TheVariants as here
 use Rattle.gx_store.specs.declared.run.Step.{Step}
-use Rattle.gx_rules.specs.AtCoordinator.{Reading, awaited, awaited_collect, begins, behind, completes, coord_can, coord_turn, dispatches, ends_in as ends_session, failure_marks, fault_mark, follows, goes, goes_on, goes_on_locked, is_awaited, is_idle, is_left, is_nothing, is_refused, lock_for, next_cid, next_line, on_answer, on_done, on_event, on_failed, on_line, on_message, on_status, reads_by, reads_for, reason_of, resends, starts, starts_line, table_of, takes_done, with_done, writers_with}
+use Rattle.gx_rules.specs.AtCoordinator.{Reading, awaited, awaited_collect, begins, behind, completes, coord_can, coord_turn, dispatches, ends_in as ends_session, failure_marks, fault_mark, follows, goes, goes_on, goes_on_locked, is_awaited, is_idle, is_left, is_nothing, is_refused, next_cid, next_line, on_answer, on_done, on_event, on_failed, on_line, on_message, on_status, reads_by, reads_for, reason_of, resends, starts, starts_line, table_of, takes_done, with_done, writers_with}
+use Rattle.gx_store.specs.Locks.{table_lock}
 use Rattle.gx_rules.specs.Coordinators.{Command, Coord, CoordTurn, Session, Work, rests, session_of, with_work, work_of}
 use Rattle.gx_rules.specs.Fits.{fits_part}
 use Rattle.gx_rules.specs.Locks.{hold_mark, wait_mark, with_hold}
@@ -58,14 +59,16 @@ use Rattle.gx_law_order.proofs.AtLine.{AtLine, at-start, has_txn, under-way}
 use Rattle.gx_law_order.proofs.Dispatches.{dispatch-ways, out_of_wait, resume-ways, without_wait}
 use Rattle.gx_law_order.proofs.Given.{marks-append}
 use Rattle.gx_law_order.proofs.Induction.{IsThere}
-use Rattle.gx_law_order.proofs.Lists.{Each, each_append}
+use Rattle.gx_law_order.proofs.Lists.{each_append}
+use Rattle.gx_law_order.specs.Lists.{Each}
 use Rattle.gx_law_order.proofs.Others.{ended-more}
 use Rattle.gx_law_order.proofs.Queued.{lock-of, statement-waits}
+use Rattle.gx_law_order.specs.Sessions.{is_live_in, is_nothing_in, is_working_in}
 use Rattle.gx_law_order.proofs.Releases.{each-released}
 use Rattle.gx_law_order.proofs.SegAnswers.{same-gxid, stand}
-use Rattle.gx_law_order.proofs.Sessions.{is_live_in, is_nothing_in, is_working_in, stage_of}
+use Rattle.gx_law_order.specs.Stages.{stage_of}
 use Rattle.gx_law_order.proofs.Starting.{at-zero, session-now, st}
-use Rattle.gx_law_order.proofs.Statuses.Stage.{Live}
+use Rattle.gx_law_order.specs.Stages.Stage.{Live}
 use Rattle.gx_law_order.proofs.Stepping as stepping
 use Rattle.gx_law_order.proofs.World.{Knows}
 use Rattle.gx_law_order.specs.Rest.{EachMark}
@@ -185,12 +188,12 @@ again-quiet c i None = tt
 again-quiet c i (Some m) = tt
 
 -- WHAT A STATEMENT ASKS FOR
-needs-of : (script : Script) (g : Gxid) (line : Stmt) (wanted : Claim) → lock_for script g line ≡ Some wanted → NeedsTable script line wanted.object wanted.mode
-needs-of script g (stmt.Select query) wanted e = subst (λ (c : Claim). NeedsTable script (stmt.Select query) c.object c.mode) (some-same _ wanted e) (refl, refl)
-needs-of script g (stmt.Insert table tuples) wanted e = subst (λ (c : Claim). NeedsTable script (stmt.Insert table tuples) c.object c.mode) (some-same _ wanted e) (refl, refl)
-needs-of script g (stmt.Update table assigns cond) wanted e = subst (λ (c : Claim). NeedsTable script (stmt.Update table assigns cond) c.object c.mode) (some-same _ wanted e) (refl, refl)
-needs-of script g (stmt.Delete table cond) wanted e = subst (λ (c : Claim). NeedsTable script (stmt.Delete table cond) c.object c.mode) (some-same _ wanted e) (refl, refl)
-needs-of script g (stmt.Lock table mode) wanted e = subst (λ (c : Claim). NeedsTable script (stmt.Lock table mode) c.object c.mode) (some-same _ wanted e) (refl, refl)
+needs-of : (script : Script) (g : Gxid) (line : Stmt) (wanted : Claim) → table_lock script g line ≡ Some wanted → NeedsTable script g line wanted.object wanted.mode
+needs-of script g (stmt.Select query) wanted e = subst (λ (c : Claim). NeedsTable script g (stmt.Select query) c.object c.mode) (some-same _ wanted e) refl
+needs-of script g (stmt.Insert table tuples) wanted e = subst (λ (c : Claim). NeedsTable script g (stmt.Insert table tuples) c.object c.mode) (some-same _ wanted e) refl
+needs-of script g (stmt.Update table assigns cond) wanted e = subst (λ (c : Claim). NeedsTable script g (stmt.Update table assigns cond) c.object c.mode) (some-same _ wanted e) refl
+needs-of script g (stmt.Delete table cond) wanted e = subst (λ (c : Claim). NeedsTable script g (stmt.Delete table cond) c.object c.mode) (some-same _ wanted e) refl
+needs-of script g (stmt.Lock table mode) wanted e = subst (λ (c : Claim). NeedsTable script g (stmt.Lock table mode) c.object c.mode) (some-same _ wanted e) refl
 needs-of script g (stmt.Begin level) wanted e = absurd (cc)
 needs-of script g stmt.Commit wanted e = absurd (cc)
 needs-of script g stmt.Rollback wanted e = absurd (cc)
@@ -201,7 +204,7 @@ module _ (script : Script) (steps : List Step) (e : Event) (s : SessionId) (g : 
   abbrev Goes : List Mark → Type 0
   Goes ms = (later : List Mark) → EachMark (IsAsked script) steps e [] (earlier ++ ms) later
 
-  asks : (wanted : Claim) → lock_for script g line ≡ Some wanted → (later : List Mark) → AsksHere script (record { steps = steps; event = e; earlier = earlier; later = later }) the_coordinator wanted.gxid wanted.object wanted.mode
+  asks : (wanted : Claim) → table_lock script g line ≡ Some wanted → (later : List Mark) → AsksHere script (record { steps = steps; event = e; earlier = earlier; later = later }) the_coordinator wanted.gxid wanted.object wanted.mode
   asks wanted is later =
       subst (λ h. AsksHere script (record { steps = steps; event = e; earlier = earlier; later = later }) the_coordinator h wanted.object wanted.mode) (sym (lock-of script g line wanted is))
       (record { here = refl; session = s; line = line; level = level; cid = cid; under_way = runs later; needs = needs-of script g line wanted is })
@@ -209,12 +212,12 @@ module _ (script : Script) (steps : List Step) (e : Event) (s : SessionId) (g : 
   alone : (ms : List Mark) → Each NoAsk ms → Goes ms
   alone ms n later = none-asked script steps e [] (earlier ++ ms) later (each_append NoAsk earlier ms none n)
 
-  granted : (wanted : Claim) (ms : List Mark) → lock_for script g line ≡ Some wanted → Each NoAsk ms → Goes (hold_mark the_coordinator wanted ∷ ms)
+  granted : (wanted : Claim) (ms : List Mark) → table_lock script g line ≡ Some wanted → Each NoAsk ms → Goes (hold_mark the_coordinator wanted ∷ ms)
   granted wanted ms is n later =
       marks-append (IsAsked script) steps e [] earlier (hold_mark the_coordinator wanted ∷ ms) later (none-asked script steps e [] earlier _ none)
       (inl (inl (asks wanted is (ms ++ later))), none-asked script steps e (earlier ++ hold_mark the_coordinator wanted ∷ []) ms later n)
 
-  waiting : (wanted : Claim) → lock_for script g line ≡ Some wanted → Goes (wait_mark the_coordinator wanted ∷ [])
+  waiting : (wanted : Claim) → table_lock script g line ≡ Some wanted → Goes (wait_mark the_coordinator wanted ∷ [])
   waiting wanted is later = marks-append (IsAsked script) steps e [] earlier (wait_mark the_coordinator wanted ∷ []) later (none-asked script steps e [] earlier _ none) (inl (asks wanted is later), tt)
 
   pub dispatched : (c : Coord) → (later : List Mark) → EachMark (IsAsked script) steps e [] (earlier ++ (dispatches script c g line).marks) later
@@ -342,8 +345,8 @@ module _ (script : Script) (w : World) (n : Knows script w) (k : stepping.Holds 
 
     line-turns : (a : LineStep) → asked ≡ a → Turns e (on_line script (starts_line w.coord s a) s line a)
     line-turns (step.Answer plain) is = quiet e (on_line script (starts_line w.coord s (step.Answer plain)) s line (step.Answer plain)) (tt, tt)
-    line-turns step.Refuse5 is = quiet e (on_line script (starts_line w.coord s step.Refuse5) s line step.Refuse5) (tt, tt)
-    line-turns step.Refuse7 is = quiet e (on_line script (starts_line w.coord s step.Refuse7) s line step.Refuse7) (tt, tt)
+    line-turns step.InFailedBlock is = quiet e (on_line script (starts_line w.coord s step.InFailedBlock) s line step.InFailedBlock) (tt, tt)
+    line-turns step.NotInBlock is = quiet e (on_line script (starts_line w.coord s step.NotInBlock) s line step.NotInBlock) (tt, tt)
     line-turns (step.BeginBlock level) is = quiet e (on_line script (starts_line w.coord s (step.BeginBlock level)) s line (step.BeginBlock level)) (tt, (tt, tt))
     line-turns step.CommitBlock is =
         let c : Coord = starts_line w.coord s step.CommitBlock in
@@ -387,7 +390,7 @@ module _ (script : Script) (w : World) (n : Knows script w) (k : stepping.Holds 
         by_pending : (q : Pending) → is_working_in q ≡ true → q ≡ pending.Command
         by_pending q h = grind arith
 
-    lock : lock_for script g line ≡ Some wanted
+    lock : table_lock script g line ≡ Some wanted
     lock = sym (statement-waits g.0 (work_of w.coord g).waiting w.coord.locks (n.kept.queued g.0) line held) ∙ claims
 
     module _ (B : Block) (eb : z.state.block ≡ B) (busy : is_busy B pending.Command ≡ true) (has : (m : ℕ) → has_txn (state_in B m) (is_alone B pending.Command) ≡ true) where

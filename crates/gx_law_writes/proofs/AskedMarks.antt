@@ -9,7 +9,7 @@ use Rattle.gx_store.specs.declared.mark.Mark.TheVariants as mark
 use Rattle.gx_store.specs.declared.run.Step.{Step}
 use Rattle.gx_store.specs.Points.{Point}
 use Rattle.gx_rules.specs.Sending.{counted, numbered}
-use Rattle.gx_law_order.proofs.Lists.{Each}
+use Rattle.gx_law_order.specs.Lists.{Each}
 use Rattle.gx_law_order.specs.Rest.{EachMark}
 use Rattle.gx_law_writes.proofs.Always.{AreAlways, IsOfVictim}
 

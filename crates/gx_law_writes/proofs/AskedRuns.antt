@@ -26,7 +26,8 @@ use Rattle.gx_law_order.proofs.Induction.{IsThere, at-events}
 use Rattle.gx_law_order.proofs.Journals.{Hold, moves-hold}
 use Rattle.gx_law_order.proofs.Legality as histories
 use Rattle.gx_law_order.proofs.Letters.{same_node}
-use Rattle.gx_law_order.proofs.Lists.{Each, each_weaker}
+use Rattle.gx_law_order.proofs.Lists.{each_weaker}
+use Rattle.gx_law_order.specs.Lists.{Each}
 use Rattle.gx_law_order.proofs.More.{marks-last}
 use Rattle.gx_law_order.proofs.SegItems.{writes_at}
 use Rattle.gx_law_order.proofs.Stepping as stepping

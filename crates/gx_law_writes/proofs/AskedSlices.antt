@@ -29,14 +29,16 @@ use Rattle.gx_meaning.specs.declared.fault.ArithFault.{ArithFault}
 use Rattle.gx_script.specs.declared.Script.{Script}
 use Rattle.gx_store.specs.Asking.{GoesThroughRows, HasWritten, LocksItself, Needs, NeedsTable}
 use Rattle.gx_store.specs.Marks.{is_same_gxid, is_same_rid}
-use Rattle.gx_store.specs.Waits.{claim, waits_at}
+use Rattle.gx_store.specs.Waits.{waits_at}
+use Rattle.gx_waits.specs.Claims.{claim}
 use Rattle.gx_store.proofs.Rows.{same_rid}
 use Rattle.gx_store.specs.declared.mark.Mark.{Mark}
 use Rattle.gx_store.specs.declared.mark.Mark.TheVariants as mark
 use Rattle.gx_rules.specs.Changes.{Change, RowTurn, change_of, changes_rows, does_row, end_lock, ended as row_ended, gives_back_if_held, goes_through, selected, shown_to, suspended_at, suspends_at, tuple_lock, unless_fault, waits}
 use Rattle.gx_rules.specs.Changes.RowEnd.{Failing, Skipped, Waiting, Written}
 use Rattle.gx_rules.specs.Locks.{hold_mark, release_mark, wait_mark}
-use Rattle.gx_rules.specs.Running.{is_granted, runs_slice, slice_lock}
+use Rattle.gx_rules.specs.Running.{is_granted, runs_slice}
+use Rattle.gx_store.specs.Locks.{slice_lock}
 use Rattle.gx_rules.specs.Segments.{Phase, Seg, SegTurn, Version, local_of}
 use Rattle.gx_rules.specs.Segments.Phase.{Aborted, Committed, Forgotten, Prepared, Reading, Writing}
 use Rattle.gx_rules.specs.Shown.{current_of, is_current, shown}
@@ -45,7 +47,8 @@ use Rattle.gx_rules.specs.Visits.{DidStop, Does, GoesThrough, IsPath, Visit, Wai
 use Rattle.gx_rules.proofs.Loop.{goes}
 use Rattle.gx_rules.proofs.RowEnds.{does}
 use Rattle.gx_law_order.proofs.Changing.{IsAtRow}
-use Rattle.gx_law_order.proofs.Lists.{Each, each_append, each_weaker}
+use Rattle.gx_law_order.proofs.Lists.{each_append, each_weaker}
+use Rattle.gx_law_order.specs.Lists.{Each}
 use Rattle.gx_law_locks.specs.Waiting.{EachBehind}
 use Rattle.gx_law_locks.proofs.Lets.{behind-append}
 use Rattle.gx_law_writes.proofs.Current.{newest-has}
@@ -59,14 +62,14 @@ IsInsertOf line (slice.Insert table rows) = (tuples : List (List Expr)) × (line
 IsInsertOf line _ = Unit {0}
 
 -- the lock of a slice is the one that its statement needs
-insert-needs : (script : Script) (g : Gxid) (line : Stmt) (t : Table) (rows : List KeyedRow) → IsInsertOf line (slice.Insert t rows) → NeedsTable script line (slice_lock script g (slice.Insert t rows)).object (slice_lock script g (slice.Insert t rows)).mode
-insert-needs script g line t rows e = subst (λ l. NeedsTable script l (slice_lock script g (slice.Insert t rows)).object (slice_lock script g (slice.Insert t rows)).mode) (sym e.1) (refl, refl)
+insert-needs : (script : Script) (g : Gxid) (line : Stmt) (t : Table) (rows : List KeyedRow) → IsInsertOf line (slice.Insert t rows) → NeedsTable script g line (slice_lock script g (slice.Insert t rows)).object (slice_lock script g (slice.Insert t rows)).mode
+insert-needs script g line t rows e = subst (λ l. NeedsTable script g l (slice_lock script g (slice.Insert t rows)).object (slice_lock script g (slice.Insert t rows)).mode) (sym e.1) refl
 
-pub slice-needs : (script : Script) (g : Gxid) (line : Stmt) (x : Slice) → IsSliceOf line x → IsInsertOf line x → NeedsTable script line (slice_lock script g x).object (slice_lock script g x).mode
-slice-needs script g (stmt.Select q) x e i = subst (λ y. NeedsTable script (stmt.Select q) (slice_lock script g y).object (slice_lock script g y).mode) (sym e) (refl, refl)
-slice-needs script g (stmt.Update t a d) x e i = subst (λ y. NeedsTable script (stmt.Update t a d) (slice_lock script g y).object (slice_lock script g y).mode) (sym e) (refl, refl)
-slice-needs script g (stmt.Delete t d) x e i = subst (λ y. NeedsTable script (stmt.Delete t d) (slice_lock script g y).object (slice_lock script g y).mode) (sym e) (refl, refl)
-slice-needs script g (stmt.Lock t m) x e i = subst (λ y. NeedsTable script (stmt.Lock t m) (slice_lock script g y).object (slice_lock script g y).mode) (sym e) (refl, refl)
+pub slice-needs : (script : Script) (g : Gxid) (line : Stmt) (x : Slice) → IsSliceOf line x → IsInsertOf line x → NeedsTable script g line (slice_lock script g x).object (slice_lock script g x).mode
+slice-needs script g (stmt.Select q) x e i = subst (λ y. NeedsTable script g (stmt.Select q) (slice_lock script g y).object (slice_lock script g y).mode) (sym e) refl
+slice-needs script g (stmt.Update t a d) x e i = subst (λ y. NeedsTable script g (stmt.Update t a d) (slice_lock script g y).object (slice_lock script g y).mode) (sym e) refl
+slice-needs script g (stmt.Delete t d) x e i = subst (λ y. NeedsTable script g (stmt.Delete t d) (slice_lock script g y).object (slice_lock script g y).mode) (sym e) refl
+slice-needs script g (stmt.Lock t m) x e i = subst (λ y. NeedsTable script g (stmt.Lock t m) (slice_lock script g y).object (slice_lock script g y).mode) (sym e) refl
 slice-needs script g (stmt.Insert t tuples) (slice.Insert u rows) e i = insert-needs script g (stmt.Insert t tuples) u rows i
 slice-needs script g (stmt.Insert t tuples) (slice.Select q) e i = absurd e
 slice-needs script g (stmt.Insert t tuples) (slice.Update u a d) e i = absurd e

@@ -23,7 +23,7 @@ use Rattle.gx_msg.specs.declared.message.Message.{Message}
 use Rattle.gx_msg.specs.declared.message.Message.TheVariants as message
 use Rattle.gx_msg.specs.declared.reply.Reply.TheVariants as reply
 use Rattle.gx_script.specs.declared.Script.{Script}
-use Rattle.gx_store.specs.Asking.{Asks, AsksThere, GrantsWait, IsAsked, IsAtWork, IsOrWasUnderWay, LocksItself, LocksTable, Needs, NeedsTable, WritesAtWork, has_told, tells, GoesThroughRows}
+use Rattle.gx_store.specs.Asking.{Asks, AsksThere, GrantsWait, IsAsked, IsAtWork, IsOrWasUnderWay, LocksItself, Needs, NeedsTable, WritesAtWork, has_told, tells, GoesThroughRows}
 use Rattle.gx_store.specs.Journals.{is_same_node}
 use Rattle.gx_store.specs.Language.{AreLinesNumbered}
 use Rattle.gx_store.specs.Marks.{is_aborted, is_command_of, is_ended}
@@ -31,7 +31,8 @@ use Rattle.gx_store.specs.Messages.{HasReceived}
 use Rattle.gx_store.specs.Ordered.{IsSegment}
 use Rattle.gx_store.specs.Points.{marks_in, starts_by}
 use Rattle.gx_store.specs.Refusals.{the_coordinator}
-use Rattle.gx_store.specs.Waits.{claim, holds_at, is_held, waits_at, added}
+use Rattle.gx_store.specs.Waits.{holds_at, is_held, waits_at}
+use Rattle.gx_waits.specs.Claims.{claim, with_claim}
 use Rattle.gx_store.proofs.Exclusive.{holds_from-append}
 use Rattle.gx_store.proofs.Marks.{is_aborted-append}
 use Rattle.gx_store.specs.declared.event.Event.{Event}
@@ -41,7 +42,8 @@ use Rattle.gx_store.specs.declared.run.Step.{Step}
 use Rattle.gx_rules.specs.Changes.{Change, change_of, goes_through}
 use Rattle.gx_rules.specs.Locks.{hold_mark, wait_mark}
 use Rattle.gx_rules.specs.Machine.{Letter, World}
-use Rattle.gx_rules.specs.Running.{is_granted, runs_slice, slice_lock}
+use Rattle.gx_rules.specs.Running.{is_granted, runs_slice}
+use Rattle.gx_store.specs.Locks.{slice_lock}
 use Rattle.gx_rules.specs.Segments.{Local, Seg}
 use Rattle.gx_law_order.specs.Alive.{AreSilent, HasAnswered, HasRun, IsAlive, IsHeard, IsUnderWayBehind, WasUnderWay}
 use Rattle.gx_law_order.specs.Orders.{IsOrder}
@@ -49,7 +51,8 @@ use Rattle.gx_law_order.specs.Rest.{EachMark}
 use Rattle.gx_law_order.specs.Standings.{at}
 use Rattle.gx_law_order.proofs.Alive.{alive-now}
 use Rattle.gx_law_order.proofs.Letters.{same_node}
-use Rattle.gx_law_order.proofs.Lists.{Each, each_append, each_weaker}
+use Rattle.gx_law_order.proofs.Lists.{each_append, each_weaker}
+use Rattle.gx_law_order.specs.Lists.{Each}
 use Rattle.gx_law_order.proofs.Outs.{MessageIs}
 use Rattle.gx_law_order.proofs.Ran.{LetterRan, has-run}
 use Rattle.gx_law_order.proofs.Sendings.{IsOrderLetter, LetterState}
@@ -276,11 +279,11 @@ module _ (script : Script) (numbered_lines : AreLinesNumbered [] script.lines) (
         by_slice (slice.Delete t d) o = tt
         by_slice (slice.Lock t m) o = tt
 
-    table-needs : NeedsTable script order.line (slice_lock script g x).object (slice_lock script g x).mode
+    table-needs : NeedsTable script g order.line (slice_lock script g x).object (slice_lock script g x).mode
     table-needs = slice-needs script g order.line x its-slice its-insert
 
-    locks-table : LocksTable script order.line (table_in x) (slice_lock script g x).mode
-    locks-table = subst (λ o. NeedsTable script order.line o (slice_lock script g x).mode) (lock-object script g x) table-needs
+    locks-table : NeedsTable script g order.line (Relation (table_in x)) (slice_lock script g x).mode
+    locks-table = subst (λ o. NeedsTable script g order.line o (slice_lock script g x).mode) (lock-object script g x) table-needs
 
     changes : (q : Change) → change_of c level snapshot x ≡ Some q → GoesThroughRows order.line q.table × (q.cid ≡ c) × (q.table ≡ table_in x)
     changes q is = let z = change-changing c level snapshot x q is in (subst (GoesThroughRows order.line) (sym z.2) (changing-goes order.line x its-slice z.0), z.1, z.2)
@@ -388,7 +391,7 @@ module _ (script : Script) (numbered_lines : AreLinesNumbered [] script.lines) (
         held : IsIn (holds_at (ms ++ hold_mark node (slice_lock script g x) ∷ []) (at i)) (slice_lock script g x)
         held =
             subst (λ q. IsIn q (slice_lock script g x)) (sym (holds_from-append (at i) [] ms (hold_mark node (slice_lock script g x) ∷ [])))
-            (subst (λ b. IsIn (if b then added (slice_lock script g x) (holds_at ms (at i)) else holds_at ms (at i)) (slice_lock script g x)) (sym (ap (λ (q : Node). q.0 == i) at_node ∙ itself i)) (in-new (slice_lock script g x) (holds_at ms (at i))))
+            (subst (λ b. IsIn (if b then with_claim (slice_lock script g x) (holds_at ms (at i)) else holds_at ms (at i)) (slice_lock script g x)) (sym (ap (λ (q : Node). q.0 == i) at_node ∙ itself i)) (in-new (slice_lock script g x) (holds_at ms (at i))))
 
     -- or it waits for it
     pub waits : (node : Node) → node ≡ at i → Goes (wait_mark node (slice_lock script g x) ∷ [])

@@ -7,6 +7,7 @@ use Rattle.gx_ids.specs.declared.ids.Gxid.{Gxid}
 use Rattle.gx_ids.specs.declared.ids.Table.{Table}
 use Rattle.gx_dsnap.specs.Gxids.{is_below}
 use Rattle.gx_waits.specs.Claim.{same_claim}
+use Rattle.gx_waits.specs.Claims.{with_claim}
 use Rattle.gx_waits.specs.declared.claim.Claim.{Claim}
 use Rattle.gx_waits.specs.declared.object.Object.{Object}
 use Rattle.gx_waits.specs.declared.object.Object.TheVariants.{Relation, Transaction, Tuple}
@@ -38,7 +39,7 @@ owner-self claim g e = ap (λ h. is_same_gxid h g) e ∙ self-gxid g
 
 -- a lock of its own more leaves the others' locks
 own-holds : (holds : List Claim) (g : Gxid) (wanted : Claim) → wanted.gxid ≡ g → (h : Gxid) → is_same_gxid h g ≡ false
-    → list_any (same_claim (own_lock h)) (Rattle.gx_locks.specs.Locks.held holds wanted) ≡ list_any (same_claim (own_lock h)) holds
+    → list_any (same_claim (own_lock h)) (with_claim wanted holds) ≡ list_any (same_claim (own_lock h)) holds
 own-holds holds g wanted e h other = held-other wanted (own_lock h) holds (unlike-owner h wanted.gxid g other (owner-self wanted g e))
 
 -- FROM ITS EXEC

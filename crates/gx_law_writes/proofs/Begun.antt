@@ -48,7 +48,8 @@ use Rattle.gx_rules.specs.Slices.{Moved, answers, fails_on, gives_back, has_writ
 use Rattle.gx_rules.specs.Visits.{DidStop}
 use Rattle.gx_rules.proofs.Moving.{Ends, Keeps, loop-keeps}
 use Rattle.gx_law_order.proofs.Changing.{change-parts, rows-change, stop-keeps}
-use Rattle.gx_law_order.proofs.Lists.{Each, each_append, each_weaker}
+use Rattle.gx_law_order.proofs.Lists.{each_append, each_weaker}
+use Rattle.gx_law_order.specs.Lists.{Each}
 use Rattle.gx_law_order.proofs.AtCoordinators.{cancel_stays}
 use Rattle.gx_law_order.proofs.Induction.{after_turn, marks-by-event, marks-by-victim}
 use Rattle.gx_law_order.proofs.Moves.{HasNamed}

@@ -8,7 +8,8 @@ use Rattle.gx_ids.specs.declared.ids.Table.{Table}
 use Rattle.gx_store.specs.declared.mark.Mark.{Mark}
 use Rattle.gx_store.specs.declared.mark.Mark.TheVariants as mark
 use Rattle.gx_rules.specs.Segments.{Local, Seg, SegTurn, Version, after_marks, local_of}
-use Rattle.gx_law_order.proofs.Lists.{Each, each_append, each_weaker}
+use Rattle.gx_law_order.proofs.Lists.{each_append, each_weaker}
+use Rattle.gx_law_order.specs.Lists.{Each}
 use Rattle.gx_law_order.specs.Standings.{gx}
 use Rattle.gx_law_writes.proofs.Frames.{IsWork}
 use Rattle.gx_law_writes.proofs.Half.{IsHalf}

@@ -43,7 +43,8 @@ use Rattle.gx_rules.specs.Shown.{is_current}
 use Rattle.gx_rules.specs.Slices.{Moved, gives_back, noted, own_lock, starts_from, takes_lock, version, writes_row}
 use Rattle.gx_rules.specs.Visits.{WritesIt}
 use Rattle.gx_rules.proofs.Moving.{Keeps}
-use Rattle.gx_law_order.proofs.Lists.{Each, each_append, each_weaker}
+use Rattle.gx_law_order.proofs.Lists.{each_append, each_weaker}
+use Rattle.gx_law_order.specs.Lists.{Each}
 use Rattle.gx_law_order.proofs.Waiting.{freed}
 use Rattle.gx_law_order.specs.Scanned.{stmt_of_command}
 pub use Rattle.gx_law_writes.specs.Says.{changing_stmt, stmt_of_change}

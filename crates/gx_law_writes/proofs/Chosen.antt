@@ -26,7 +26,7 @@ use Rattle.gx_rules.specs.Segments.{Seg, Version}
 use Rattle.gx_rules.specs.Shown.{counts, current_of}
 use Rattle.gx_rules.specs.Slices.{Moved}
 use Rattle.gx_rules.specs.Visits.{IsNow, IsSettled}
-use Rattle.gx_law_order.proofs.Lists.{Each}
+use Rattle.gx_law_order.specs.Lists.{Each}
 use Rattle.gx_law_writes.proofs.Current.{IsAtHome, IsCurrentWrite, current-it, told-it}
 use Rattle.gx_law_writes.proofs.Frames.{Inv, IsWork}
 use Rattle.gx_law_writes.proofs.Newest.{stricter-write}

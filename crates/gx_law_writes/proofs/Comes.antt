@@ -20,7 +20,8 @@ use Rattle.gx_rules.specs.Changes.{Change, RowTurn, goes_through, selected}
 use Rattle.gx_rules.specs.Segments.{Seg, SegTurn}
 use Rattle.gx_rules.specs.Slices.{Moved, fails_on, first_fault}
 use Rattle.gx_rules.specs.Visits.{DidStop, WaitsAt}
-use Rattle.gx_law_order.proofs.Lists.{Each, each_weaker}
+use Rattle.gx_law_order.proofs.Lists.{each_weaker}
+use Rattle.gx_law_order.specs.Lists.{Each}
 use Rattle.gx_law_order.proofs.SegItems.{writes_at}
 use Rattle.gx_law_order.specs.Rest.{EachMark}
 use Rattle.gx_law_writes.specs.Parts.{IsPartOf}

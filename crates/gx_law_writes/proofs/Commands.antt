@@ -24,22 +24,22 @@ use Rattle.gx_store.specs.declared.run.Step.{Step}
 use Rattle.gx_store.proofs.Exclusive.{holds_from-append}
 use Rattle.gx_store.specs.Commands.{RunsCommand}
 use Rattle.gx_store.specs.Lines.{BlockState, Failed, InBlock, Outside, cid_of, is_command, state_of, stmt_of, transaction_of}
-use Rattle.gx_store.specs.Locks.{HoldsTable}
+use Rattle.gx_store.specs.Locks.{HoldsTable, table_lock}
 use Rattle.gx_store.specs.Marks.{answer_count, is_begun, is_snapped, started_after}
 use Rattle.gx_store.specs.Points.{marks_in, starts_by, starts_in}
 use Rattle.gx_store.specs.Refusals.{the_coordinator}
-use Rattle.gx_store.specs.Waits.{added, claim, holds_at, holds_from, is_held, waits_at, waits_from, without}
-use Rattle.gx_rules.specs.AtCoordinator.{lock_for}
+use Rattle.gx_store.specs.Waits.{holds_at, holds_from, is_held, waits_at, waits_from}
+use Rattle.gx_waits.specs.Claims.{claim, is_of, with_claim, without_claim}
 use Rattle.gx_rules.specs.Coordinators.{Command, Coord, Work, session_of, work_of}
 use Rattle.gx_rules.specs.Machine.{World}
-use Rattle.gx_locks.specs.Claims.{is_of}
 use Rattle.gx_locks.specs.Locks.{wait_of}
 use Rattle.gx_locks.proofs.Filed.{same_claim-along, same_claim-itself, same_claim-turned}
 use Rattle.gx_waits.specs.Claim.{same_claim}
-use Rattle.gx_law_order.proofs.Lists.{Each}
+use Rattle.gx_law_order.specs.Lists.{Each}
 use Rattle.gx_law_order.proofs.Queued.{lock-of, statement-waits}
-use Rattle.gx_law_order.proofs.Sessions.{Kept, stage_of}
-use Rattle.gx_law_order.proofs.Statuses.Stage.{Live}
+use Rattle.gx_law_order.specs.Sessions.{Kept}
+use Rattle.gx_law_order.specs.Stages.{stage_of}
+use Rattle.gx_law_order.specs.Stages.Stage.{Live}
 use Rattle.gx_law_locks.proofs.Marks.{waits_from-append}
 use Rattle.gx_law_order.proofs.Said.{CalmFor, Said, said-calm}
 use Rattle.gx_law_order.specs.Standing.{IsLineOf, IsSession, IsStanding, Owns, Stands, is_alone, is_busy, is_sound, state_in}
@@ -50,7 +50,7 @@ use Rattle.gx_law_locks.proofs.Lasting.{IsIn, in-added, in-filter, in-new, in-wi
 -- THE TABLE
 -- the transaction holds at the coordinator the lock that the statement takes on its table
 abbrev pub HoldsTableOf : Script → List Mark → Gxid → Stmt → Type 0
-HoldsTableOf script marks g line = (wanted : Claim) → lock_for script g line ≡ Some wanted → is_held marks the_coordinator wanted.gxid wanted.object wanted.mode ≡ true
+HoldsTableOf script marks g line = (wanted : Claim) → table_lock script g line ≡ Some wanted → is_held marks the_coordinator wanted.gxid wanted.object wanted.mode ≡ true
 
 -- what the rule takes is what is meant
 pub as-meant : (script : Script) (marks : List Mark) (g : Gxid) (line : Stmt) → HoldsTableOf script marks g line → HoldsTable script marks g line
@@ -72,14 +72,14 @@ calm-for k g (m ∷ ms) e = (tt, calm-for k g ms e.1)
 
 stays-in : (k : SessionId) (g : Gxid) (c : Claim) (holds : List Claim) (ms : List Mark) → c.gxid ≡ g → AreLeftAlone k g ms → IsIn holds c → IsIn (holds_from the_coordinator holds ms) c
 stays-in k g c holds [] own e h = h
-stays-in k g c holds (mark.Hold n f object mode ∷ ms) own e h = stays-in k g c (if n.0 == 0 then added (claim f object mode) holds else holds) ms own e.1 (by_test (n.0 == 0))
+stays-in k g c holds (mark.Hold n f object mode ∷ ms) own e h = stays-in k g c (if n.0 == 0 then with_claim (claim f object mode) holds else holds) ms own e.1 (by_test (n.0 == 0))
   where
-    by_test : (b : Bool) → IsIn (if b then added (claim f object mode) holds else holds) c
+    by_test : (b : Bool) → IsIn (if b then with_claim (claim f object mode) holds else holds) c
     by_test true = in-added (claim f object mode) c holds h
     by_test false = h
-stays-in k g c holds (mark.Release n f object mode ∷ ms) own e h = stays-in k g c (if n.0 == 0 then without (claim f object mode) holds else holds) ms own e.1 (by_test (n.0 == 0))
+stays-in k g c holds (mark.Release n f object mode ∷ ms) own e h = stays-in k g c (if n.0 == 0 then without_claim (claim f object mode) holds else holds) ms own e.1 (by_test (n.0 == 0))
   where
-    by_test : (b : Bool) → IsIn (if b then without (claim f object mode) holds else holds) c
+    by_test : (b : Bool) → IsIn (if b then without_claim (claim f object mode) holds else holds) c
     by_test true = in-without (claim f object mode) c holds (ap (λ (x : Gxid). x.0 == f.0) own ∙ e.0) h
     by_test false = h
 stays-in k g c holds (m ∷ ms) own e h = stays-in k g c holds ms own e.1 h
@@ -93,7 +93,7 @@ same-in a b (x ∷ xs) e h = by_test (same_claim a x) (sym (same_claim-along a b
     by_test true f h more = ap (λ q. q || list_any (same_claim b) xs) f
     by_test false f h more = ap (λ q. q || list_any (same_claim b) xs) f ∙ more h
 
-in-apart : (old c : Claim) (xs : List Claim) → same_claim old c ≡ false → IsIn xs c → IsIn (without old xs) c
+in-apart : (old c : Claim) (xs : List Claim) → same_claim old c ≡ false → IsIn xs c → IsIn (without_claim old xs) c
 in-apart old c xs e h = in-filter (λ x. not (same_claim old x)) c xs (λ x s. differs x s (same_claim old x) refl) h
   where
     differs : (x : Claim) → same_claim c x ≡ true → (b : Bool) → same_claim old x ≡ b → not (same_claim old x) ≡ true
@@ -103,29 +103,29 @@ in-apart old c xs e h = in-filter (λ x. not (same_claim old x)) c xs (λ x s. d
 stays-either : (k : SessionId) (g : Gxid) (c : Claim) (holds waits : List Claim) (ms : List Mark) → c.gxid ≡ g → AreLeftAlone k g ms → IsIn holds c ⊎ IsIn waits c → IsIn (holds_from the_coordinator holds ms) c ⊎ IsIn (waits_from the_coordinator waits ms) c
 stays-either k g c holds waits [] own e h = h
 stays-either k g c holds waits (mark.Hold n f object mode ∷ ms) own e h =
-    stays-either k g c (if n.0 == 0 then added (claim f object mode) holds else holds) (if n.0 == 0 then without (claim f object mode) waits else waits) ms own e.1 (by_test (n.0 == 0) h)
+    stays-either k g c (if n.0 == 0 then with_claim (claim f object mode) holds else holds) (if n.0 == 0 then without_claim (claim f object mode) waits else waits) ms own e.1 (by_test (n.0 == 0) h)
   where
-    by_claim : (b : Bool) → same_claim (claim f object mode) c ≡ b → IsIn waits c → IsIn (added (claim f object mode) holds) c ⊎ IsIn (without (claim f object mode) waits) c
-    by_claim true q w = inl (same-in (claim f object mode) c (added (claim f object mode) holds) q (in-new (claim f object mode) holds))
+    by_claim : (b : Bool) → same_claim (claim f object mode) c ≡ b → IsIn waits c → IsIn (with_claim (claim f object mode) holds) c ⊎ IsIn (without_claim (claim f object mode) waits) c
+    by_claim true q w = inl (same-in (claim f object mode) c (with_claim (claim f object mode) holds) q (in-new (claim f object mode) holds))
     by_claim false q w = inr (in-apart (claim f object mode) c waits q w)
 
-    by_test : (b : Bool) → IsIn holds c ⊎ IsIn waits c → IsIn (if b then added (claim f object mode) holds else holds) c ⊎ IsIn (if b then without (claim f object mode) waits else waits) c
+    by_test : (b : Bool) → IsIn holds c ⊎ IsIn waits c → IsIn (if b then with_claim (claim f object mode) holds else holds) c ⊎ IsIn (if b then without_claim (claim f object mode) waits else waits) c
     by_test true (inl x) = inl (in-added (claim f object mode) c holds x)
     by_test true (inr x) = by_claim (same_claim (claim f object mode) c) refl x
     by_test false x = x
-stays-either k g c holds waits (mark.Wait n f object mode ∷ ms) own e h = stays-either k g c holds (if n.0 == 0 then added (claim f object mode) waits else waits) ms own e.1 (by_test (n.0 == 0) h)
+stays-either k g c holds waits (mark.Wait n f object mode ∷ ms) own e h = stays-either k g c holds (if n.0 == 0 then with_claim (claim f object mode) waits else waits) ms own e.1 (by_test (n.0 == 0) h)
   where
-    by_test : (b : Bool) → IsIn holds c ⊎ IsIn waits c → IsIn holds c ⊎ IsIn (if b then added (claim f object mode) waits else waits) c
+    by_test : (b : Bool) → IsIn holds c ⊎ IsIn waits c → IsIn holds c ⊎ IsIn (if b then with_claim (claim f object mode) waits else waits) c
     by_test true (inl x) = inl x
     by_test true (inr x) = inr (in-added (claim f object mode) c waits x)
     by_test false x = x
 stays-either k g c holds waits (mark.Release n f object mode ∷ ms) own e h =
-    stays-either k g c (if n.0 == 0 then without (claim f object mode) holds else holds) (if n.0 == 0 then without (claim f object mode) waits else waits) ms own e.1 (by_test (n.0 == 0) h)
+    stays-either k g c (if n.0 == 0 then without_claim (claim f object mode) holds else holds) (if n.0 == 0 then without_claim (claim f object mode) waits else waits) ms own e.1 (by_test (n.0 == 0) h)
   where
     apart : (c.gxid.0 == f.0) ≡ false
     apart = ap (λ (x : Gxid). x.0 == f.0) own ∙ e.0
 
-    by_test : (b : Bool) → IsIn holds c ⊎ IsIn waits c → IsIn (if b then without (claim f object mode) holds else holds) c ⊎ IsIn (if b then without (claim f object mode) waits else waits) c
+    by_test : (b : Bool) → IsIn holds c ⊎ IsIn waits c → IsIn (if b then without_claim (claim f object mode) holds else holds) c ⊎ IsIn (if b then without_claim (claim f object mode) waits else waits) c
     by_test true (inl x) = inl (in-without (claim f object mode) c holds apart x)
     by_test true (inr x) = inr (in-without (claim f object mode) c waits apart x)
     by_test false x = x
@@ -301,20 +301,20 @@ module _ (script : Script) (w : World) (sessions : (k : SessionId) → IsSession
   waits-or : (earlier : List Mark) (k : SessionId) (line : Stmt) (g : Gxid) (c : Cid) → AreLeftAlone k g earlier → (work_of w.coord g).waiting ≡ Some line → HoldsTableOf script (marks_in w.steps ++ earlier) g line ⊎ AwaitsTable script (marks_in w.steps ++ earlier) g line
   waits-or earlier k line g c alone it = by_either (stays-either k g wanted (holds_at (marks_in w.steps) the_coordinator) (waits_at (marks_in w.steps) the_coordinator) earlier (lock-of script g line wanted takes) alone (inr (subst (λ ws. IsIn ws wanted) queued (wait-in g w.coord.locks.waits wanted stands))))
     where
-      found : (wanted : Claim) × (lock_for script g line ≡ Some wanted)
-      found = some-lock (lock_for script g line) ((kept.queued g.0).locks line it)
+      found : (wanted : Claim) × (table_lock script g line ≡ Some wanted)
+      found = some-lock (table_lock script g line) ((kept.queued g.0).locks line it)
 
       wanted : Claim
       wanted = found.0
 
-      takes : lock_for script g line ≡ Some wanted
+      takes : table_lock script g line ≡ Some wanted
       takes = found.1
 
       stands : wait_of w.coord.locks g ≡ Some wanted
       stands = statement-waits g.0 (work_of w.coord g).waiting w.coord.locks (kept.queued g.0) line it ∙ takes
 
       by_either : IsIn (holds_from the_coordinator (holds_at (marks_in w.steps) the_coordinator) earlier) wanted ⊎ IsIn (waits_from the_coordinator (waits_at (marks_in w.steps) the_coordinator) earlier) wanted → HoldsTableOf script (marks_in w.steps ++ earlier) g line ⊎ AwaitsTable script (marks_in w.steps ++ earlier) g line
-      by_either (inl h) = inl (λ v q. subst (λ hs. IsIn hs v) (sym (holds_from-append the_coordinator [] (marks_in w.steps) earlier)) (subst (λ v. IsIn (holds_from the_coordinator (holds_at (marks_in w.steps) the_coordinator) earlier) v) (same-lock (lock_for script g line) wanted v takes q) h))
+      by_either (inl h) = inl (λ v q. subst (λ hs. IsIn hs v) (sym (holds_from-append the_coordinator [] (marks_in w.steps) earlier)) (subst (λ v. IsIn (holds_from the_coordinator (holds_at (marks_in w.steps) the_coordinator) earlier) v) (same-lock (table_lock script g line) wanted v takes q) h))
       by_either (inr h) = inr (record { wanted = wanted; takes = takes; stands = subst (λ ws. IsIn ws wanted) (sym (waits_from-append the_coordinator [] (marks_in w.steps) earlier)) h })
 
   pub commands-hold : ((g : Gxid) (c : Cid) → stage_of w.coord g.0 ≡ Live → (w.coord.works g.0).last < c.0 → AreUnsent g c (marks_in w.steps)) → DoCommandsHold script w.steps

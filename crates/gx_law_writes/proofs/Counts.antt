@@ -19,7 +19,7 @@ use Rattle.gx_meaning.specs.Place.{hash_of, key_place, remainder, row_place, val
 use Rattle.gx_meaning.specs.Plan.{insert_pieces, nodes_from, row_pieces, rows_at}
 use Rattle.gx_meaning.specs.declared.piece.Piece.{Piece}
 use Rattle.gx_rules.specs.AtCoordinator.{nodes_in}
-use Rattle.gx_law_order.proofs.Lists.{Each}
+use Rattle.gx_law_order.specs.Lists.{Each}
 use Rattle.gx_law_order.proofs.Nodes.{has-append, has-without}
 use Rattle.gx_law_order.specs.Standings.{at}
 

@@ -21,7 +21,8 @@ use Rattle.gx_rules.specs.Changes.{Change, is_settled}
 use Rattle.gx_rules.specs.Segments.{Seg, Version, is_unaborted, local_of}
 use Rattle.gx_rules.specs.Shown.{counts, current_of, is_current}
 use Rattle.gx_rules.specs.Slices.{Moved, is_holding, own_lock}
-use Rattle.gx_law_order.proofs.Lists.{Each, each_append}
+use Rattle.gx_law_order.proofs.Lists.{each_append}
+use Rattle.gx_law_order.specs.Lists.{Each}
 use Rattle.gx_law_order.proofs.SegItems.{writes_at}
 use Rattle.gx_law_order.specs.Pairs.{is_open}
 use Rattle.gx_law_reads.specs.Sights.{IsOnlyAt}

@@ -12,7 +12,7 @@ use Rattle.gx_ids.specs.declared.rid.Rid.{Rid}
 use Rattle.gx_tree.specs.declared.value.Value.{Value}
 use Rattle.gx_waits.specs.Claim.{same_claim}
 use Rattle.gx_waits.specs.declared.claim.Claim.{Claim}
-use Rattle.gx_locks.specs.Locks.{held, without_claim}
+use Rattle.gx_waits.specs.Claims.{with_claim, without_claim}
 use Rattle.gx_lemmas.proofs.Tests.{true-false}
 use Rattle.gx_store.specs.declared.mark.Mark.{Mark}
 use Rattle.gx_store.specs.declared.mark.Mark.TheVariants as mark
@@ -23,7 +23,8 @@ use Rattle.gx_rules.specs.Segments.{Local, Phase, Seg, Version, local_of, with_l
 use Rattle.gx_rules.specs.Segments.Phase.{Aborted, Committed, Forgotten, Prepared, Reading, Writing}
 use Rattle.gx_rules.specs.Slices.{Moved, adds_version, gives_back, is_holding, noted, own_lock, takes_lock, takes_own, version}
 use Rattle.gx_rules.proofs.Moving.{Keeps}
-use Rattle.gx_law_order.proofs.Lists.{Each, each_append}
+use Rattle.gx_law_order.proofs.Lists.{each_append}
+use Rattle.gx_law_order.specs.Lists.{Each}
 use Rattle.gx_law_order.proofs.SegItems.{writes_at, writes-append}
 use Rattle.gx_law_order.specs.Pairs.{is_open}
 
@@ -31,7 +32,7 @@ use Rattle.gx_law_order.specs.Pairs.{is_open}
 other-claim : (own other : Claim) → is_same_gxid other.gxid own.gxid ≡ false → same_claim other own ≡ false
 other-claim own other e = rw e refl
 
-pub held-other : (claim other : Claim) (holds : List Claim) → is_same_gxid other.gxid claim.gxid ≡ false → list_any (same_claim other) (held holds claim) ≡ list_any (same_claim other) holds
+pub held-other : (claim other : Claim) (holds : List Claim) → is_same_gxid other.gxid claim.gxid ≡ false → list_any (same_claim other) (with_claim claim holds) ≡ list_any (same_claim other) holds
 held-other claim other holds e = by_test (list_any (same_claim claim) holds)
   where
     behind : (hs : List Claim) → list_any (same_claim other) (hs ++ claim ∷ []) ≡ list_any (same_claim other) hs

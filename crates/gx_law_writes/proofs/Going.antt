@@ -34,7 +34,8 @@ use Rattle.gx_rules.specs.Running.{is_granted}
 use Rattle.gx_rules.specs.Segments.{Seg, SegTurn, Version, after_marks, local_of}
 use Rattle.gx_rules.specs.Shown.{shown}
 use Rattle.gx_rules.specs.Slices.{first_fault, starts_from}
-use Rattle.gx_law_order.proofs.Lists.{Each, each_append, each_weaker}
+use Rattle.gx_law_order.proofs.Lists.{each_append, each_weaker}
+use Rattle.gx_law_order.specs.Lists.{Each}
 use Rattle.gx_law_order.proofs.SegItems.{writes_at}
 use Rattle.gx_law_order.specs.Orders.{IsServed}
 use Rattle.gx_law_order.specs.Scanned.{stmt_of_command}

@@ -28,7 +28,8 @@ use Rattle.gx_rules.specs.Changes.{Change, change_of, selected, suspended_at, su
 use Rattle.gx_rules.specs.Segments.{Seg, SegTurn, Suspended, Version}
 use Rattle.gx_rules.specs.Slices.{Moved}
 use Rattle.gx_rules.specs.Visits.{DidStop, Visit, WaitsAt, visited}
-use Rattle.gx_law_order.proofs.Lists.{Each, each_append, each_weaker}
+use Rattle.gx_law_order.proofs.Lists.{each_append, each_weaker}
+use Rattle.gx_law_order.specs.Lists.{Each}
 use Rattle.gx_law_order.specs.Orders.{IsServed}
 use Rattle.gx_law_reads.specs.Sights.{IsOnlyAt}
 use Rattle.gx_law_writes.specs.Parts.{IsPartOf}

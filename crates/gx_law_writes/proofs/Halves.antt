@@ -20,7 +20,7 @@ use Rattle.gx_store.specs.View.{image}
 use Rattle.gx_store.proofs.Rows.{same_rid}
 use Rattle.gx_rules.specs.Machine.{World}
 use Rattle.gx_rules.specs.Segments.{Suspended, Version, local_of}
-use Rattle.gx_law_order.proofs.Lists.{Each}
+use Rattle.gx_law_order.specs.Lists.{Each}
 use Rattle.gx_law_order.proofs.Ordered.{Well}
 use Rattle.gx_law_order.proofs.Waiting.{waiting}
 use Rattle.gx_law_order.specs.Standings.{at}

@@ -13,7 +13,7 @@ use Rattle.gx_tree.specs.declared.value.Value.{Value}
 use Rattle.gx_script.specs.declared.Script.{Script}
 use Rattle.gx_store.specs.declared.mark.Mark.{Mark}
 use Rattle.gx_store.specs.declared.mark.Mark.TheVariants as mark
-use Rattle.gx_law_order.proofs.Lists.{Each}
+use Rattle.gx_law_order.specs.Lists.{Each}
 use Rattle.gx_law_order.specs.Scanned.{stmt_of_command}
 use Rattle.gx_law_order.proofs.Outs.{of-more}
 use Rattle.gx_law_writes.specs.Homes.{AreRowsHome, IsHomeMark, IsPlaced, IsPlacedMark, IsRowOf}

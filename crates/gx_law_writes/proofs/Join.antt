@@ -50,7 +50,8 @@ use Rattle.gx_law_order.specs.Moves.{Move, world_by}
 use Rattle.gx_law_order.proofs.Induction.{IsThere, at-moves, from-coordinator}
 use Rattle.gx_law_order.proofs.Letters.{IsLetter, found_is}
 use Rattle.gx_law_order.proofs.Moves.{moves_after, world-moves}
-use Rattle.gx_law_order.proofs.Lists.{Each, each_append}
+use Rattle.gx_law_order.proofs.Lists.{each_append}
+use Rattle.gx_law_order.specs.Lists.{Each}
 use Rattle.gx_law_order.proofs.Ordered.{seg_marks}
 use Rattle.gx_law_order.proofs.Waiting.{GoesOn, each-among, going-on, going-out}
 use Rattle.gx_store.specs.Language.{AreLinesNumbered}

@@ -9,7 +9,7 @@ use Rattle.gx_store.proofs.Runs.{marks_in-push}
 use Rattle.gx_store.specs.Locks.{AreGranted, AreLockedMarks, AreLockedSteps, IsMomentary, LegalHold, LegalWait, LocksAt, LocksWhileReading, WritesUnderLock}
 use Rattle.gx_store.specs.Marks.{is_aborted, is_ended}
 use Rattle.gx_store.specs.Points.{Point, before, marks_in}
-use Rattle.gx_store.specs.Waits.{claim}
+use Rattle.gx_waits.specs.Claims.{claim}
 use Rattle.gx_law_order.specs.Rest.{EachMark}
 use Rattle.gx_law_locks.specs.Late.{AreReleasesLate}
 use Rattle.gx_law_locks.specs.Marked.{AreWaitsLegal}

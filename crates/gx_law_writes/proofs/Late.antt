@@ -35,7 +35,8 @@ use Rattle.gx_rules.specs.Shown.{current_of, is_current}
 use Rattle.gx_rules.specs.Slices.{Moved, adds_version, first_fault, gives_back, own_lock, starts_from, takes_lock, takes_own, version, writes_row}
 use Rattle.gx_rules.specs.Visits.{DidStop, WritesIt}
 use Rattle.gx_rules.proofs.Moving.{Ends, Keeps, loop-keeps}
-use Rattle.gx_law_order.proofs.Lists.{Each, each_append, each_weaker}
+use Rattle.gx_law_order.proofs.Lists.{each_append, each_weaker}
+use Rattle.gx_law_order.specs.Lists.{Each}
 use Rattle.gx_law_order.proofs.SegItems.{writes_at}
 use Rattle.gx_law_order.proofs.Waiting.{freed}
 use Rattle.gx_law_reads.specs.Sights.{IsOnlyAt}

@@ -30,7 +30,8 @@ use Rattle.gx_rules.specs.Segments.{Seg, Version}
 use Rattle.gx_rules.specs.Shown.{counts}
 use Rattle.gx_rules.specs.Slices.{Moved}
 use Rattle.gx_rules.specs.Visits.{FaultsAt, IsLeft, IsNow, IsOvertakenAt, IsSettled, SkipsIt, WritesIt}
-use Rattle.gx_law_order.proofs.Lists.{Each, each_append}
+use Rattle.gx_law_order.proofs.Lists.{each_append}
+use Rattle.gx_law_order.specs.Lists.{Each}
 use Rattle.gx_law_order.proofs.SegItems.{writes_at}
 use Rattle.gx_law_reads.specs.Sights.{IsOnlyAt}
 use Rattle.gx_law_writes.proofs.Chosen.{IsChosen, Sight, current-for, its-told, its-write, selected, told-now}

@@ -17,9 +17,10 @@ use Rattle.gx_store.specs.Marks.{answer_count, is_begun, is_ended, started_after
 use Rattle.gx_store.specs.Points.{Point, before, marks_in, starts_by, starts_in}
 use Rattle.gx_rules.specs.Coordinators.{Command, Session, Work, session_of, work_of}
 use Rattle.gx_rules.specs.Machine.{World}
-use Rattle.gx_law_order.proofs.Lists.{Each}
-use Rattle.gx_law_order.proofs.Sessions.{Kept, is_live_in, is_working_in, stage_of}
-use Rattle.gx_law_order.proofs.Statuses.Stage.{Live as LiveStage}
+use Rattle.gx_law_order.specs.Lists.{Each}
+use Rattle.gx_law_order.specs.Sessions.{Kept, is_live_in, is_working_in}
+use Rattle.gx_law_order.specs.Stages.{stage_of}
+use Rattle.gx_law_order.specs.Stages.Stage.{Live as LiveStage}
 use Rattle.gx_law_order.specs.Standing.{AreSessions, IsLineOf, IsStanding, Owns, Roots, Stands, is_alone, is_busy, state_in}
 use Rattle.gx_law_order.proofs.Others.{ended-more}
 use Rattle.gx_law_order.proofs.Said.{CalmFor, Said, said-calm}

@@ -24,7 +24,8 @@ use Rattle.gx_rules.specs.Locks.{hold_mark}
 use Rattle.gx_rules.specs.Running.{is_granted, unless_end}
 use Rattle.gx_rules.specs.Segments.{Seg}
 use Rattle.gx_rules.specs.Slices.{Moved}
-use Rattle.gx_law_order.proofs.Lists.{Each, each_weaker}
+use Rattle.gx_law_order.proofs.Lists.{each_weaker}
+use Rattle.gx_law_order.specs.Lists.{Each}
 use Rattle.gx_law_order.proofs.SegItems.{writes_at, writes-append}
 use Rattle.gx_law_order.proofs.Waiting.{freed}
 use Rattle.gx_law_writes.proofs.Parts.{node-still}

@@ -45,7 +45,8 @@ use Rattle.gx_rules.specs.Slices.{Moved, answers, cause_of, fails_on, inserted, 
 use Rattle.gx_rules.specs.Visits.{DidStop}
 use Rattle.gx_rules.proofs.Moving.{Ends, loop-keeps}
 use Rattle.gx_law_order.proofs.Changing.{rows-change, stop-keeps}
-use Rattle.gx_law_order.proofs.Lists.{Each, each_append, each_weaker}
+use Rattle.gx_law_order.proofs.Lists.{each_append, each_weaker}
+use Rattle.gx_law_order.specs.Lists.{Each}
 use Rattle.gx_law_order.proofs.Waiting.{freed}
 use Rattle.gx_law_order.specs.Orders.{IsOrder}
 use Rattle.gx_law_order.specs.Scanned.{stmt_of_command}

@@ -17,7 +17,7 @@ use Rattle.gx_store.specs.Journals.{is_same_node}
 use Rattle.gx_store.specs.Marks.{is_same_rid}
 use Rattle.gx_store.specs.Writes.{Written, last_write}
 use Rattle.gx_rules.specs.Segments.{Version}
-use Rattle.gx_law_order.proofs.Lists.{Each}
+use Rattle.gx_law_order.specs.Lists.{Each}
 use Rattle.gx_law_order.proofs.SegItems.{writes_at}
 use Rattle.gx_law_reads.specs.Sights.{IsOnlyAt}
 

@@ -33,7 +33,7 @@ use Rattle.gx_store.specs.View.{image, is_shown_to}
 use Rattle.gx_rules.specs.Changes.{Change, change_of, goes_through, is_done, selected}
 use Rattle.gx_rules.specs.Segments.{Local, Seg, SegTurn, local_of}
 use Rattle.gx_rules.specs.Slices.{Moved, answers, cause_of, fails_on, first_fault, has_written, starts_from}
-use Rattle.gx_law_order.proofs.Lists.{Each}
+use Rattle.gx_law_order.specs.Lists.{Each}
 use Rattle.gx_law_order.proofs.SegItems.{writes_at}
 use Rattle.gx_law_writes.specs.Parts.{IsPartOf}
 use Rattle.gx_law_writes.specs.Says.{SaysDone, SaysFault, SaysOvertaken, changing_stmt, stmt_of_change}

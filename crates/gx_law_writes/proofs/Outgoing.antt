@@ -39,9 +39,8 @@ use Rattle.gx_store.specs.Ordered.{IsSegment}
 use Rattle.gx_store.specs.Points.{Point, before, marks_in, starts_in, starts_by}
 use Rattle.gx_store.specs.Refusals.{the_coordinator}
 use Rattle.gx_store.specs.Writes.{dist_of}
-use Rattle.gx_rules.specs.AtCoordinator.{table_of}
+use Rattle.gx_rules.specs.AtCoordinator.{table_of, cancel_turn, cancels, coord_can, coord_turn, on_event}
 use Rattle.gx_store.specs.Outgoing.{AreMarksWhole, AreSentWhole, IsWhole}
-use Rattle.gx_rules.specs.AtCoordinator.{cancel_turn, cancels, coord_can, coord_turn, on_event}
 use Rattle.gx_rules.specs.AtSegment as segment
 use Rattle.gx_rules.specs.AtSegment.{seg_rule}
 use Rattle.gx_rules.specs.Coordinators.{CoordTurn}
@@ -60,7 +59,7 @@ use Rattle.gx_law_order.proofs.AtSegments.{PlainAt, seg_stays}
 use Rattle.gx_law_order.proofs.Complete.{starts-last}
 use Rattle.gx_law_order.proofs.Induction.{IsThere, at-events}
 use Rattle.gx_law_order.proofs.Legality as histories
-use Rattle.gx_law_order.proofs.Lists.{Each}
+use Rattle.gx_law_order.specs.Lists.{Each}
 use Rattle.gx_law_order.proofs.More.{marks-last}
 use Rattle.gx_law_order.proofs.Moves.{HasNamed}
 use Rattle.gx_law_order.proofs.Raised.{OfHorizon, message_keeps, resume_keeps}

@@ -19,7 +19,8 @@ use Rattle.gx_rules.specs.Changes.RowEnd.{Failing, Skipped, Waiting, Written}
 use Rattle.gx_rules.specs.Segments.{Phase, Version, local_of}
 use Rattle.gx_rules.specs.Segments.Phase.{Aborted, Committed, Forgotten, Prepared, Reading, Writing}
 use Rattle.gx_rules.specs.Slices.{Moved, adds_version, gives_back, is_holding, noted, takes_own, version, writes_row}
-use Rattle.gx_law_order.proofs.Lists.{Each, each_append}
+use Rattle.gx_law_order.proofs.Lists.{each_append}
+use Rattle.gx_law_order.specs.Lists.{Each}
 
 -- ONE ROW'S MARKS
 -- marks of locks alone

@@ -22,7 +22,8 @@ use Rattle.gx_meaning.specs.declared.fault.ArithFault.{ArithFault}
 use Rattle.gx_meaning.specs.Constants.{rows_of}
 use Rattle.gx_meaning.specs.Plan.{insert_pieces, nodes_from, piece, plan_of, row_pieces, rows_at}
 use Rattle.gx_meaning.specs.declared.piece.Piece.{Piece}
-use Rattle.gx_law_order.proofs.Lists.{Each, each_append}
+use Rattle.gx_law_order.proofs.Lists.{each_append}
+use Rattle.gx_law_order.specs.Lists.{Each}
 use Rattle.gx_dsnap.specs.declared.snapshot.Snapshot.{Snapshot}
 use Rattle.gx_script.specs.declared.Script.{Script}
 use Rattle.gx_store.specs.declared.mark.Mark.{Mark}

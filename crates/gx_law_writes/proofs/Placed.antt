@@ -21,7 +21,7 @@ use Rattle.gx_meaning.specs.Plan.{rows_at}
 use Rattle.gx_script.specs.declared.Script.{Script}
 use Rattle.gx_store.specs.declared.mark.Mark.{Mark}
 use Rattle.gx_store.specs.Writes.{dist_of}
-use Rattle.gx_law_order.proofs.Lists.{Each}
+use Rattle.gx_law_order.specs.Lists.{Each}
 use Rattle.gx_law_writes.specs.Homes.{IsPlaced, IsRowOf, IsSameKey}
 use Rattle.gx_law_writes.specs.Rows.{AreRowsOf}
 use Rattle.gx_law_order.specs.Scanned.{stmt_of_command}

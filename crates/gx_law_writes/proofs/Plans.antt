@@ -29,7 +29,8 @@ use Rattle.gx_store.specs.declared.mark.Mark.{Mark}
 use Rattle.gx_store.specs.Writes.{dist_of}
 use Rattle.gx_rules.specs.AtCoordinator.{table_of}
 use Rattle.gx_rules.specs.Machine.{Letter}
-use Rattle.gx_law_order.proofs.Lists.{Each, each_append}
+use Rattle.gx_law_order.proofs.Lists.{each_append}
+use Rattle.gx_law_order.specs.Lists.{Each}
 use Rattle.gx_law_order.specs.Orders.{AreOrders, IsOrder, IsOrderOf}
 use Rattle.gx_law_writes.specs.Rows.{ArePieces, AreRowsOf, IsPiece, IsRowPiece, IsSlicePiece}
 

@@ -22,7 +22,8 @@ use Rattle.gx_rules.specs.Changes.{Change}
 use Rattle.gx_rules.specs.Segments.{Seg}
 use Rattle.gx_rules.specs.Slices.{Moved}
 use Rattle.gx_rules.specs.Visits.{FaultsAt, SkipsIt, WritesIt}
-use Rattle.gx_law_order.proofs.Lists.{Each, each_append}
+use Rattle.gx_law_order.proofs.Lists.{each_append}
+use Rattle.gx_law_order.specs.Lists.{Each}
 use Rattle.gx_law_writes.proofs.Chosen.{IsChosen, Sight}
 use Rattle.gx_law_writes.proofs.Current.{IsAtHome}
 use Rattle.gx_law_writes.proofs.Frames.{Inv, IsWork}

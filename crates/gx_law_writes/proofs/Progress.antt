@@ -32,7 +32,8 @@ use Rattle.gx_store.specs.Commands.{has_own_snapshot}
 use Rattle.gx_store.specs.Writes.{dist_of}
 use Rattle.gx_rules.specs.AtCoordinator.{nodes_in, with_done}
 use Rattle.gx_rules.specs.Coordinators.{Command}
-use Rattle.gx_law_order.proofs.Lists.{Each, each_weaker}
+use Rattle.gx_law_order.proofs.Lists.{each_weaker}
+use Rattle.gx_law_order.specs.Lists.{Each}
 use Rattle.gx_law_order.proofs.Nodes.{has-without}
 use Rattle.gx_law_order.specs.Standings.{at, gx}
 use Rattle.gx_law_writes.specs.Rows.{AreRowsOf, is_own_written}

@@ -15,6 +15,7 @@ use Rattle.gx_ids.specs.declared.ids.SessionId.{SessionId}
 use Rattle.gx_tree.specs.declared.stmt.Stmt.{Stmt}
 use Rattle.gx_waits.specs.declared.claim.Claim.{Claim}
 use Rattle.gx_locks.specs.Locks.{wait_of}
+use Rattle.gx_waits.specs.Claims.{claim, with_claim, without_claim}
 use Rattle.gx_msg.specs.declared.message.Message.{Message}
 use Rattle.gx_msg.specs.declared.message.Message.TheVariants as message
 use Rattle.gx_script.specs.Session.{after_line, line_step}
@@ -27,12 +28,12 @@ use Rattle.gx_store.proofs.Exclusive.{holds_from-append}
 use Rattle.gx_store.proofs.Marks.{is_snapped-append}
 use Rattle.gx_store.proofs.Runs.{marks_in-push, starts_in-push}
 use Rattle.gx_store.specs.Lines.{BlockState, Failed, InBlock, Outside, cid_of, state_of, stmt_of, transaction_of}
-use Rattle.gx_store.specs.Locks.{HasGoneOut, LocksWhileReading}
+use Rattle.gx_store.specs.Locks.{HasGoneOut, LocksWhileReading, table_lock}
 use Rattle.gx_store.specs.Marks.{answer_count, is_begun, is_same_session, is_snapped, started_after}
 use Rattle.gx_store.specs.Ordered.{IsAtNode, IsSegment}
 use Rattle.gx_store.specs.Points.{marks_in, starts_by, starts_in}
 use Rattle.gx_store.specs.Refusals.{the_coordinator}
-use Rattle.gx_store.specs.Waits.{holds_at, holds_from, without, added, claim}
+use Rattle.gx_store.specs.Waits.{holds_at, holds_from}
 use Rattle.gx_store.specs.declared.event.Event.{Event}
 use Rattle.gx_store.specs.declared.event.Event.TheVariants as event
 use Rattle.gx_store.specs.declared.mark.Mark.{Mark}
@@ -40,7 +41,7 @@ use Rattle.gx_store.specs.declared.mark.Mark.TheVariants as mark
 use Rattle.gx_store.specs.declared.node.NodeEvent.{NodeEvent}
 use Rattle.gx_store.specs.declared.node.NodeEvent.TheVariants as here
 use Rattle.gx_store.specs.declared.run.Step.{Step}
-use Rattle.gx_rules.specs.AtCoordinator.{awaited, awaited_collect, cancel_turn, cancels, coord_can, coord_turn, is_nothing, lock_for, next_line, on_event, on_line, resends, resumes, starts, starts_line}
+use Rattle.gx_rules.specs.AtCoordinator.{awaited, awaited_collect, cancel_turn, cancels, coord_can, coord_turn, is_nothing, next_line, on_event, on_line, resends, resumes, starts, starts_line}
 use Rattle.gx_rules.specs.AtSegment.{seg_rule}
 use Rattle.gx_rules.specs.Coordinators.{Coord, CoordTurn, Work, session_of, work_of}
 use Rattle.gx_rules.specs.Locks.{hold_mark}
@@ -50,12 +51,14 @@ use Rattle.gx_rules.specs.Sending.{clock_after, numbered}
 use Rattle.gx_law_order.specs.Moves.{Move, world_by}
 use Rattle.gx_law_order.proofs.Dispatches.{without_wait}
 use Rattle.gx_law_order.proofs.Induction.{IsThere, at-events, marks-by-victim}
-use Rattle.gx_law_order.proofs.Lists.{Each, each_append, each_weaker}
+use Rattle.gx_law_order.proofs.Lists.{each_append, each_weaker}
+use Rattle.gx_law_order.specs.Lists.{Each}
 use Rattle.gx_law_order.proofs.Moves.{HasNamed}
 use Rattle.gx_law_order.proofs.Ordered.{seg_marks}
 use Rattle.gx_law_order.proofs.Sent.{at}
-use Rattle.gx_law_order.proofs.Sessions.{is_nothing_in, is_open_in, stage_of}
-use Rattle.gx_law_order.proofs.Statuses.Stage.{Live}
+use Rattle.gx_law_order.specs.Sessions.{is_nothing_in, is_open_in}
+use Rattle.gx_law_order.specs.Stages.{stage_of}
+use Rattle.gx_law_order.specs.Stages.Stage.{Live}
 use Rattle.gx_law_order.proofs.Waiting.{GoesOut, going-out}
 use Rattle.gx_law_order.proofs.World.{Knows, moves_knows}
 use Rattle.gx_law_order.proofs.Always as always
@@ -155,10 +158,10 @@ any-filter p q (x ∷ xs) e = by_test (q x) e (any-filter p q xs)
 -- what is held behind marks that grant nothing was held before them
 held-back : (k : SessionId) (c : Claim) (ms : List Mark) (holds : List Claim) → Each (Ebbs k) ms → IsIn (holds_from the_coordinator holds ms) c → IsIn holds c
 held-back k c [] holds e h = h
-held-back k c (mark.Hold n g object mode ∷ ms) holds e h = subst (λ b. IsIn (if b then added (claim g object mode) holds else holds) c) e.0 (held-back k c ms _ e.1 h)
+held-back k c (mark.Hold n g object mode ∷ ms) holds e h = subst (λ b. IsIn (if b then with_claim (claim g object mode) holds else holds) c) e.0 (held-back k c ms _ e.1 h)
 held-back k c (mark.Release n g object mode ∷ ms) holds e h = by_test (n.0 == 0) (held-back k c ms _ e.1 h)
   where
-    by_test : (b : Bool) → IsIn (if b then without (claim g object mode) holds else holds) c → IsIn holds c
+    by_test : (b : Bool) → IsIn (if b then without_claim (claim g object mode) holds else holds) c → IsIn holds c
     by_test true i = any-filter _ _ holds i
     by_test false i = i
 held-back k c (mark.Start h s ∷ ms) holds e i = held-back k c ms holds e.1 i
@@ -408,17 +411,17 @@ module _ (script : Script) (some : 1 ≤ script.segments) where
             at-first : Held script w.steps e k (pre ++ [])
             at-first = subst (Held script w.steps e k) (sym (append-nil pre)) (λ line g c r o. absurd ((says line g c r).2 o))
 
-            said-behind : (zs : List Mark) → Each (CalmFor k) zs → (line : Stmt) (g : Gxid) (c : Cid) → Runs script k (marks_in w.steps ++ (pre ++ zs)) (starts_in k w.steps + starts_by k e) line g c → (wanted : Claim) → lock_for script g line ≡ Some wanted → lock_for script h asked ≡ Some wanted
-            said-behind zs calm line g c r wanted takes = subst (λ x. lock_for script x asked ≡ Some wanted) i.0 (subst (λ l. lock_for script g l ≡ Some wanted) i.1 takes)
+            said-behind : (zs : List Mark) → Each (CalmFor k) zs → (line : Stmt) (g : Gxid) (c : Cid) → Runs script k (marks_in w.steps ++ (pre ++ zs)) (starts_in k w.steps + starts_by k e) line g c → (wanted : Claim) → table_lock script g line ≡ Some wanted → table_lock script h asked ≡ Some wanted
+            said-behind zs calm line g c r wanted takes = subst (λ x. table_lock script x asked ≡ Some wanted) i.0 (subst (λ l. table_lock script g l ≡ Some wanted) i.1 takes)
               where
                 i : (g ≡ h) × (line ≡ asked) × (IsOut (marks_in w.steps ++ pre) g c → ⊥)
                 i = says line g c (runs-back script k (marks_in w.steps ++ pre) zs _ line g c calm (subst (λ m. Runs script k m (starts_in k w.steps + starts_by k e) line g c) (sym (append_assoc (marks_in w.steps) pre zs)) r))
 
             behind-free : (zs : List Mark) → Each (Free script h asked) zs → Held script w.steps e k (pre ++ zs)
             behind-free [] f = at-first
-            behind-free (z ∷ zs) f = λ line g c r o wanted takes. absurd (none-some (lock_for script h asked) wanted f.0.1 (said-behind (z ∷ zs) (each_weaker (Free script h asked) (CalmFor k) (λ m q. plain-calm k m q.0) (z ∷ zs) f) line g c r wanted takes))
+            behind-free (z ∷ zs) f = λ line g c r o wanted takes. absurd (none-some (table_lock script h asked) wanted f.0.1 (said-behind (z ∷ zs) (each_weaker (Free script h asked) (CalmFor k) (λ m q. plain-calm k m q.0) (z ∷ zs) f) line g c r wanted takes))
 
-            behind-hold : (own : Claim) → lock_for script h asked ≡ Some own → (zs : List Mark) → Each Plain zs → Held script w.steps e k (pre ++ hold_mark the_coordinator own ∷ zs)
+            behind-hold : (own : Claim) → table_lock script h asked ≡ Some own → (zs : List Mark) → Each Plain zs → Held script w.steps e k (pre ++ hold_mark the_coordinator own ∷ zs)
             behind-hold own takes zs f =
                 λ line g c r o wanted wants.
                 subst (λ (x : Claim). IsIn (holds_at (marks_in w.steps ++ (pre ++ hold_mark the_coordinator own ∷ zs)) the_coordinator) x)

@@ -22,7 +22,7 @@ use Rattle.gx_rules.specs.Slices.{Moved, adds_version, gives_back, is_holding, n
 use Rattle.gx_rules.specs.Visits.{Does, FaultsAt, IsPath, IsUnshown, SkipsIt, Visit, WritesIt, end_of, one_if, visited, written_in}
 use Rattle.gx_rules.proofs.Moving.{row-keeps}
 use Rattle.gx_rules.proofs.RowEnds.{does}
-use Rattle.gx_law_order.proofs.Lists.{Each}
+use Rattle.gx_law_order.specs.Lists.{Each}
 use Rattle.gx_law_writes.proofs.Frames.{Inv, stays-so}
 use Rattle.gx_law_writes.proofs.Path.{Adds, AreApart, IsLock, Legals, adds-legals, adds-processed, note-adds, processes_in, write-adds}
 

@@ -27,7 +27,8 @@ use Rattle.gx_rules.specs.Locks.{hold_mark, release_mark}
 use Rattle.gx_rules.specs.Segments.{Local, Phase, Seg, SegTurn, Suspended, local_of}
 use Rattle.gx_rules.specs.Segments.Phase.{Reading, Writing}
 use Rattle.gx_rules.specs.Slices.{Moved, adds_version, gives_back, inserted, inserts_row, own_lock, starts_from, takes_lock, takes_own, version, writes_row}
-use Rattle.gx_law_order.proofs.Lists.{Each, each_append, each_weaker}
+use Rattle.gx_law_order.proofs.Lists.{each_append, each_weaker}
+use Rattle.gx_law_order.specs.Lists.{Each}
 use Rattle.gx_law_order.proofs.Waiting.{freed}
 use Rattle.gx_law_order.specs.Rest.{EachMark}
 use Rattle.gx_law_order.proofs.Given.{marks-append}

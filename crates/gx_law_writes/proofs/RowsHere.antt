@@ -40,7 +40,8 @@ use Rattle.gx_rules.specs.Shown.{counts, kept_one, last_images, row_in, shown}
 use Rattle.gx_rules.specs.Slices.{Moved, adds_version, answers, cause_of, fails_on, first_fault, gives_back, inserts_row, is_holding, noted, or_fault, own_lock, selects, starts_from, takes_lock, takes_own, version, writes_row}
 use Rattle.gx_rules.specs.Visits.{Does, WaitsAt}
 use Rattle.gx_rules.proofs.RowEnds.{does}
-use Rattle.gx_law_order.proofs.Lists.{Each, each_filter, each_flat, each_map, each_weaker}
+use Rattle.gx_law_order.specs.Lists.{Each}
+use Rattle.gx_law_order.proofs.Lists.{each_filter, each_flat, each_map, each_weaker}
 use Rattle.gx_law_locks.specs.Waiting.{EachBehind}
 use Rattle.gx_law_locks.proofs.Lets.{behind-append}
 

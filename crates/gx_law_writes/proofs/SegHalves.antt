@@ -21,7 +21,8 @@ use Rattle.gx_store.specs.Points.{marks_in}
 use Rattle.gx_store.specs.View.{image, image_after, is_shown_to}
 use Rattle.gx_rules.specs.Machine.{World}
 use Rattle.gx_rules.specs.Segments.{SegTurn, Suspended, Version}
-use Rattle.gx_law_order.proofs.Lists.{Each, each_weaker}
+use Rattle.gx_law_order.proofs.Lists.{each_weaker}
+use Rattle.gx_law_order.specs.Lists.{Each}
 use Rattle.gx_law_order.proofs.Ordered.{Well}
 use Rattle.gx_law_order.specs.Standings.{at, gx}
 use Rattle.gx_law_reads.specs.Sights.{DoViewsStay, IsOnlyAt}

@@ -18,7 +18,7 @@ use Rattle.gx_store.specs.Marks.{is_same_rid}
 use Rattle.gx_store.specs.Rows.{row_at}
 use Rattle.gx_rules.specs.Changes.{Change, selected}
 use Rattle.gx_rules.proofs.RowOrder.{less_apart_back}
-use Rattle.gx_law_order.proofs.Lists.{Each}
+use Rattle.gx_law_order.specs.Lists.{Each}
 use Rattle.gx_law_writes.proofs.Chosen.{IsChosen}
 use Rattle.gx_law_writes.proofs.Path.{AreApart}
 

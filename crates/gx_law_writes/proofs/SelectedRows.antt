@@ -20,7 +20,8 @@ use Rattle.gx_store.specs.Rows.{row_at}
 use Rattle.gx_store.specs.View.{image, image_after, is_shown_to}
 use Rattle.gx_rules.specs.Changes.{Change, selected}
 use Rattle.gx_rules.specs.Segments.{Seg, Version}
-use Rattle.gx_law_order.proofs.Lists.{Each, each_weaker}
+use Rattle.gx_law_order.proofs.Lists.{each_weaker}
+use Rattle.gx_law_order.specs.Lists.{Each}
 use Rattle.gx_law_order.proofs.SegItems.{writes_at}
 use Rattle.gx_law_reads.specs.Sights.{IsOnlyAt}
 use Rattle.gx_law_writes.specs.Parts.{IsPartOf, is_home}

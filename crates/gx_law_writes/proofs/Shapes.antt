@@ -8,7 +8,8 @@ use Rattle.gx_ids.specs.declared.ids.Cid.{Cid}
 use Rattle.gx_ids.specs.declared.ids.Gxid.{Gxid}
 use Rattle.gx_ids.specs.declared.ids.Node.{Node}
 use Rattle.gx_ids.specs.declared.ids.SessionId.{SessionId}
-use Rattle.gx_locks.specs.Locks.{Locks, is_free}
+use Rattle.gx_locks.specs.Locks.{Locks}
+use Rattle.gx_waits.specs.Claims.{is_free}
 use Rattle.gx_meaning.specs.Plan.{plan_of}
 use Rattle.gx_meaning.specs.declared.fault.ArithFault.{ArithFault}
 use Rattle.gx_meaning.specs.declared.piece.Piece.{Piece}
@@ -34,13 +35,15 @@ use Rattle.gx_tree.specs.declared.stmt.Level.TheVariants.{ReadCommitted}
 use Rattle.gx_tree.specs.declared.stmt.Stmt.{Stmt}
 use Rattle.gx_tree.specs.declared.stmt.Stmt.TheVariants as stmt
 use Rattle.gx_waits.specs.declared.claim.Claim.{Claim}
-use Rattle.gx_rules.specs.AtCoordinator.{Reading, begins, completes, ends_in, failure_marks, fault_mark, follows, goes, goes_on, goes_on_locked, if_granted, is_awaited, is_refused, lock_for, next_cid, on_answer, on_done, on_failed, on_line, on_message, on_status, reads_by, reads_for, reason_of, requests, table_of, takes_done, with_done, writers_with, cancels}
+use Rattle.gx_rules.specs.AtCoordinator.{Reading, begins, completes, ends_in, failure_marks, fault_mark, follows, goes, goes_on, goes_on_locked, if_granted, is_awaited, is_refused, next_cid, on_answer, on_done, on_failed, on_line, on_message, on_status, reads_by, reads_for, reason_of, requests, table_of, takes_done, with_done, writers_with, cancels}
+use Rattle.gx_store.specs.Locks.{table_lock}
 use Rattle.gx_rules.specs.Coordinators.{Command, Coord, CoordTurn, Work, new_work, rests, session_of, with_work, work_of}
 use Rattle.gx_rules.specs.Fits.{fits_part}
 use Rattle.gx_rules.specs.Locks.{hold_mark, release_marks, with_hold}
 use Rattle.gx_rules.proofs.Rounds.{cancel-ways, graph-ways}
 use Rattle.gx_rules.specs.Sending.{counted, numbered}
-use Rattle.gx_law_order.proofs.Lists.{Each, each_append}
+use Rattle.gx_law_order.proofs.Lists.{each_append}
+use Rattle.gx_law_order.specs.Lists.{Each}
 use Rattle.gx_law_order.proofs.Releases.{each-released}
 use Rattle.gx_law_reads.proofs.Reading.{at-self}
 use Rattle.gx_law_writes.proofs.Answering.{IsHome}
@@ -267,14 +270,14 @@ module _ (k : SessionId) where
 -- a statement of the transaction goes out behind its lock
 pub record Locking (script : Script) (k : SessionId) (h : Gxid) (line : Stmt) (Q : SessionId → Type 0) (ms : List Mark) : Type 0 where
   pub wanted : Claim
-  pub takes : lock_for script h line ≡ Some wanted
+  pub takes : table_lock script h line ≡ Some wanted
   pub rest : List Mark
   pub is : ms ≡ hold_mark the_coordinator wanted ∷ rest
   pub shape : Shape Plain Q k rest
 
 -- without a lock
 abbrev pub Free : Script → Gxid → Stmt → Mark → Type 0
-Free script h line m = Plain m × (lock_for script h line ≡ None)
+Free script h line m = Plain m × (table_lock script h line ≡ None)
 
 -- a line's marks behind the beginning of its transaction
 abbrev pub Body : Script → SessionId → Gxid → Stmt → (SessionId → Type 0) → List Mark → Type 0
@@ -290,18 +293,18 @@ module _ (k : SessionId) (script : Script) (s : SessionId) where
   abbrev Own : SessionId → Type 0
   Own x = x ≡ s
 
-  free-body : (h : Gxid) (line : Stmt) (B : Mark → Type 0) (ms : List Mark) → ((m : Mark) → B m → Plain m) → lock_for script h line ≡ None → Shape B Own k ms → Body script k h line Own ms
+  free-body : (h : Gxid) (line : Stmt) (B : Mark → Type 0) (ms : List Mark) → ((m : Mark) → B m → Plain m) → table_lock script h line ≡ None → Shape B Own k ms → Body script k h line Own ms
   free-body h line B ms f none (inl e) = inl e
   free-body h line B ms f none (inr e) = inr (inr (ends-weaker B (Free script h line) Own k (λ m b. (f m b, none)) ms e))
 
-  dispatched : (c : Coord) (h : Gxid) (line : Stmt) → (work_of c h).session ≡ s → Body script k h line Own (requests script c h line (lock_for script h line)).marks
-  dispatched c h line home = by_lock (lock_for script h line) refl
+  dispatched : (c : Coord) (h : Gxid) (line : Stmt) → (work_of c h).session ≡ s → Body script k h line Own (requests script c h line (table_lock script h line)).marks
+  dispatched c h line home = by_lock (table_lock script h line) refl
     where
-      by_test : (wanted : Claim) (b : Bool) → lock_for script h line ≡ Some wanted → Body script k h line Own (if_granted script c h line wanted b).marks
+      by_test : (wanted : Claim) (b : Bool) → table_lock script h line ≡ Some wanted → Body script k h line Own (if_granted script c h line wanted b).marks
       by_test wanted true e = inr (inl (record { wanted = wanted; takes = e; rest = _; is = refl; shape = locked-shape k Own script (record c { locks = with_hold c.locks wanted }) h line home }))
       by_test wanted false e = inl (tt, tt)
 
-      by_lock : (o : Option Claim) → lock_for script h line ≡ o → Body script k h line Own (requests script c h line o).marks
+      by_lock : (o : Option Claim) → table_lock script h line ≡ o → Body script k h line Own (requests script c h line o).marks
       by_lock None e = free-body h line Plain _ (λ m b. b) e (locked-shape k Own script c h line home)
       by_lock (Some wanted) e = by_test wanted (is_free c.locks.holds wanted) e
 
@@ -309,7 +312,7 @@ module _ (k : SessionId) (script : Script) (s : SessionId) where
   abbrev pub Opening : Coord → Stmt → List Mark → Type 0
   Opening c line ms = Body script k (session_of c s).transaction line Own ms ⊎ ((body : List Mark) × (ms ≡ mark.Start c.table.next s ∷ body) × Body script k c.table.next line Own body)
 
-  alone : (c : Coord) (line : Stmt) → Opening c line (mark.Start c.table.next s ∷ (requests script (begins c s ReadCommitted) c.table.next line (lock_for script c.table.next line)).marks)
+  alone : (c : Coord) (line : Stmt) → Opening c line (mark.Start c.table.next s ∷ (requests script (begins c s ReadCommitted) c.table.next line (table_lock script c.table.next line)).marks)
   alone c line = inr (_, refl, dispatched (begins c s ReadCommitted) c.table.next line (ap (λ (v : Work). v.session) (at-self c.works c.table.next.0 (new_work s ReadCommitted))))
 
   pub line-opens : (c : Coord) (b : Block) (line : Stmt) → IsHome c s b → Opening c line (on_line script c s line (line_step b line)).marks

@@ -36,7 +36,7 @@ use Rattle.gx_store.proofs.Rows.{is_same_rid-refl, same_rid}
 use Rattle.gx_rules.specs.Segments.{Seg, Version}
 use Rattle.gx_rules.specs.Shown.{counts, last_images, shown}
 use Rattle.gx_rules.specs.Slices.{first_fault, or_fault}
-use Rattle.gx_law_order.proofs.Lists.{Each}
+use Rattle.gx_law_order.specs.Lists.{Each}
 use Rattle.gx_law_order.proofs.SegItems.{writes_at}
 use Rattle.gx_rules.specs.Last.{counting, last_image, row_of}
 use Rattle.gx_rules.proofs.KeptImages.{image_in-last_images, in_order-last_images}

@@ -20,7 +20,8 @@ use Rattle.gx_rules.specs.AtSegment.{raised}
 use Rattle.gx_rules.specs.Changes.{Change}
 use Rattle.gx_rules.specs.Machine.{World}
 use Rattle.gx_rules.specs.Segments.{Seg, Version}
-use Rattle.gx_law_order.proofs.Lists.{Each, each_weaker}
+use Rattle.gx_law_order.proofs.Lists.{each_weaker}
+use Rattle.gx_law_order.specs.Lists.{Each}
 use Rattle.gx_law_order.specs.Standings.{at}
 use Rattle.gx_law_order.specs.Orders.{IsServed}
 use Rattle.gx_law_writes.proofs.Chosen.{Sight}

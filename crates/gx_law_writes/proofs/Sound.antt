@@ -21,7 +21,8 @@ use Rattle.gx_rules.specs.Segments.{Local, Phase, Seg, Version, has_committed, i
 use Rattle.gx_rules.specs.Segments.Phase.{Aborted, Committed, Forgotten, Prepared, Reading, Writing}
 use Rattle.gx_rules.specs.Shown.{counts}
 use Rattle.gx_rules.specs.Slices.{Moved, is_holding, own_lock}
-use Rattle.gx_law_order.proofs.Lists.{Each, each_append}
+use Rattle.gx_law_order.proofs.Lists.{each_append}
+use Rattle.gx_law_order.specs.Lists.{Each}
 use Rattle.gx_law_order.specs.Pairs.{is_open}
 use Rattle.gx_law_writes.proofs.Frames.{AddsOwn, Inv, IsWork}
 

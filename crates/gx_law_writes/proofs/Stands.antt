@@ -46,7 +46,8 @@ use Rattle.gx_law_order.proofs.Everywhere.{parts_in}
 use Rattle.gx_law_order.proofs.Induction.{IsThere, at-moves, marks-by-victim}
 use Rattle.gx_law_order.proofs.Journals.{Hold, moves-hold}
 use Rattle.gx_law_order.proofs.Letters.{same_node}
-use Rattle.gx_law_order.proofs.Lists.{Each, each_weaker}
+use Rattle.gx_law_order.specs.Lists.{Each}
+use Rattle.gx_law_order.proofs.Lists.{each_weaker}
 use Rattle.gx_law_order.proofs.More.{marks-last}
 use Rattle.gx_law_order.proofs.Moves.{HasNamed, moves_after, world-moves}
 use Rattle.gx_law_order.proofs.SegItems.{writes_at}

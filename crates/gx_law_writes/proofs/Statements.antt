@@ -20,7 +20,7 @@ use Rattle.gx_store.specs.Marks.{answer_count, is_begun, is_ended, started_after
 use Rattle.gx_store.specs.Points.{ends_in, marks_in, starts_in, starts_by}
 use Rattle.gx_rules.specs.Coordinators.{Work, session_of, work_of}
 use Rattle.gx_rules.specs.Machine.{World}
-use Rattle.gx_law_order.proofs.Lists.{Each}
+use Rattle.gx_law_order.specs.Lists.{Each}
 use Rattle.gx_law_order.specs.Scanned.{began_from, command_at, stmt_of_command}
 use Rattle.gx_law_order.specs.Finish.{point_at}
 use Rattle.gx_law_order.specs.Orders.{level_by, level_of_began}

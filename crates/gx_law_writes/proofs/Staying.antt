@@ -21,7 +21,8 @@ use Rattle.gx_store.specs.View.{image}
 use Rattle.gx_rules.specs.Changes.{Change, change_of, selected}
 use Rattle.gx_rules.specs.Segments.{Suspended, Version}
 use Rattle.gx_law_order.proofs.Changing.{change-parts}
-use Rattle.gx_law_order.proofs.Lists.{Each, each_weaker}
+use Rattle.gx_law_order.proofs.Lists.{each_weaker}
+use Rattle.gx_law_order.specs.Lists.{Each}
 use Rattle.gx_law_reads.specs.Sights.{IsOnlyAt}
 use Rattle.gx_law_writes.specs.Parts.{IsPartOf, is_home}
 use Rattle.gx_law_writes.proofs.Comes.{each-behind}

@@ -17,7 +17,8 @@ use Rattle.gx_store.specs.Refusals.{the_coordinator}
 use Rattle.gx_rules.specs.Machine.{World, after, coord_did}
 use Rattle.gx_rules.specs.Segments.{Local, Seg}
 use Rattle.gx_rules.specs.Sending.{clock_after}
-use Rattle.gx_law_order.proofs.Lists.{Each, each_append, each_weaker}
+use Rattle.gx_law_order.proofs.Lists.{each_append, each_weaker}
+use Rattle.gx_law_order.specs.Lists.{Each}
 use Rattle.gx_law_order.proofs.Ordered.{Well, at_coordinator}
 use Rattle.gx_law_reads.specs.Sights.{DoViewsStay}
 use Rattle.gx_law_writes.specs.Says.{count_at}

@@ -23,7 +23,8 @@ use Rattle.gx_store.specs.declared.run.Step.{Step}
 use Rattle.gx_store.specs.Messages.{IsSending}
 use Rattle.gx_store.proofs.Marks.{is_processed-append}
 use Rattle.gx_rules.specs.Segments.{Local}
-use Rattle.gx_law_order.proofs.Lists.{Each, each_weaker}
+use Rattle.gx_law_order.proofs.Lists.{each_weaker}
+use Rattle.gx_law_order.specs.Lists.{Each}
 use Rattle.gx_law_order.specs.Orders.{IsOrder}
 use Rattle.gx_store.specs.Language.{AreLinesNumbered}
 use Rattle.gx_law_order.proofs.Outs.{order-more}

@@ -18,7 +18,7 @@ use Rattle.gx_rules.specs.Slices.{Moved, answers, cause_of, noted, takes_lock}
 use Rattle.gx_rules.specs.Visits.{DidStop, Does, FaultsAt, GoesThrough, IsOvertakenAt, Visit, WaitsAt, visited, written_in}
 use Rattle.gx_rules.proofs.Loop.{goes as taken-apart}
 use Rattle.gx_rules.proofs.RowEnds.{does}
-use Rattle.gx_law_order.proofs.Lists.{Each}
+use Rattle.gx_law_order.specs.Lists.{Each}
 use Rattle.gx_law_writes.proofs.Frames.{Inv}
 use Rattle.gx_law_writes.proofs.Path.{AreApart, IsLock, Legals, legals-append, legals-locks}
 use Rattle.gx_law_writes.proofs.RowWalk.{Done, Free, HasGone, Rules, goes, own_count}

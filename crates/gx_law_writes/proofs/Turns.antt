@@ -16,7 +16,8 @@ use Rattle.gx_dsnap.specs.Gxids.{is_below}
 use Rattle.gx_modes.specs.declared.modes.Mode.{Mode}
 use Rattle.gx_dsnap.specs.declared.snapshot.Snapshot.{Snapshot}
 use Rattle.gx_waits.specs.declared.claim.Claim.{Claim}
-use Rattle.gx_locks.specs.Locks.{Locks, is_free, wait_of}
+use Rattle.gx_locks.specs.Locks.{Locks, wait_of}
+use Rattle.gx_waits.specs.Claims.{is_free}
 use Rattle.gx_msg.specs.declared.item.JournalItem.{JournalItem}
 use Rattle.gx_msg.specs.declared.message.Message.{Message}
 use Rattle.gx_msg.specs.declared.message.Message.TheVariants as message
@@ -36,10 +37,11 @@ use Rattle.gx_rules.specs.Segments.{Local, Phase, Seg, SegTurn, Suspended, after
 use Rattle.gx_rules.proofs.Rounds.{collect-ways}
 use Rattle.gx_rules.specs.Segments.Phase.{Reading, Writing, Prepared, Committed, Forgotten, Aborted}
 use Rattle.gx_rules.specs.Shown.{shown}
-use Rattle.gx_rules.specs.Running.{runs_locked, runs_slice, slice_lock, starts_slice, suspends}
+use Rattle.gx_rules.specs.Running.{runs_locked, runs_slice, starts_slice, suspends}
+use Rattle.gx_store.specs.Locks.{slice_lock}
 use Rattle.gx_rules.specs.Slices.{first_fault, inserted, inserts, locks as locks_only, selects}
 use Rattle.gx_law_order.proofs.Releases.{each-released}
-use Rattle.gx_law_order.proofs.Lists.{Each}
+use Rattle.gx_law_order.specs.Lists.{Each}
 use Rattle.gx_law_order.proofs.Suspensions.{wanted-owner}
 use Rattle.gx_law_order.proofs.Waiting.{GoesOn, GoesOnAtRow, GoesOnSo, freed, going-ways}
 use Rattle.gx_law_order.specs.Pairs.{is_open}

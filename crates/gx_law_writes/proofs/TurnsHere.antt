@@ -23,7 +23,8 @@ use Rattle.gx_rules.specs.Running.{is_granted, suspended_slice, unless_end}
 use Rattle.gx_rules.specs.Segments.{Local, Seg, SegTurn, Suspended, Version, after_marks}
 use Rattle.gx_rules.specs.Shown.{shown}
 use Rattle.gx_rules.specs.Slices.{Moved, inserted, inserts, locks as locks_only, starts_from}
-use Rattle.gx_law_order.proofs.Lists.{Each, each_weaker}
+use Rattle.gx_law_order.specs.Lists.{Each}
+use Rattle.gx_law_order.proofs.Lists.{each_weaker}
 use Rattle.gx_law_order.proofs.Waiting.{freed}
 use Rattle.gx_law_order.specs.Pairs.{IsVote}
 use Rattle.gx_law_locks.specs.Waiting.{EachBehind}

@@ -16,7 +16,7 @@ use Rattle.gx_store.specs.Writes.{IsLate}
 use Rattle.gx_rules.specs.Changes.{Change}
 use Rattle.gx_rules.specs.Machine.{World}
 use Rattle.gx_law_order.specs.Scanned.{stmt_of_command}
-use Rattle.gx_law_order.proofs.Lists.{Each}
+use Rattle.gx_law_order.specs.Lists.{Each}
 use Rattle.gx_law_order.proofs.Said.{CalmFor}
 use Rattle.gx_law_writes.proofs.Frames.{IsWork}
 use Rattle.gx_law_writes.proofs.LegalChange.{IsStatement}

@@ -20,9 +20,10 @@ use Rattle.gx_rules.specs.Sending.{clock_after}
 use Rattle.gx_law_order.specs.Moves.{Move, world_by}
 use Rattle.gx_law_order.proofs.Induction.{marks-by-event, marks-by-victim}
 use Rattle.gx_law_order.proofs.Moves.{moves_after, world-moves}
-use Rattle.gx_law_order.proofs.Lists.{Each, each_append, each_weaker}
-use Rattle.gx_law_order.proofs.Sessions.{stage_of}
-use Rattle.gx_law_order.proofs.Statuses.Stage.{Live}
+use Rattle.gx_law_order.proofs.Lists.{each_append, each_weaker}
+use Rattle.gx_law_order.specs.Lists.{Each}
+use Rattle.gx_law_order.specs.Stages.{stage_of}
+use Rattle.gx_law_order.specs.Stages.Stage.{Live}
 use Rattle.gx_law_order.proofs.Waiting.{IsAmong, each-among}
 use Rattle.gx_law_order.proofs.More.{marks-last}
 use Rattle.gx_law_order.proofs.World.{Knows}

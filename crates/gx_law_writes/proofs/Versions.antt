@@ -15,7 +15,8 @@ use Rattle.gx_store.specs.Marks.{is_same_rid, is_written}
 use Rattle.gx_store.proofs.Marks.{is_written-append}
 use Rattle.gx_rules.specs.Segments.{Version}
 use Rattle.gx_law_order.proofs.Letters.{same_node}
-use Rattle.gx_law_order.proofs.Lists.{Each, each_append, each_weaker}
+use Rattle.gx_law_order.proofs.Lists.{each_append, each_weaker}
+use Rattle.gx_law_order.specs.Lists.{Each}
 use Rattle.gx_law_order.proofs.SegItems.{writes_at}
 use Rattle.gx_law_writes.specs.Homes.{IsPlaced, IsPlacedMark}
 use Rattle.gx_law_writes.proofs.Legal.{IsPastMark}

@@ -25,7 +25,8 @@ use Rattle.gx_rules.specs.Segments.{Phase, Seg, Version, has_committed, has_ende
 use Rattle.gx_rules.specs.Shown.{counts}
 use Rattle.gx_rules.specs.Slices.{own_lock}
 use Rattle.gx_law_order.proofs.Journals.{Hold}
-use Rattle.gx_law_order.proofs.Lists.{Each, each_weaker}
+use Rattle.gx_law_order.proofs.Lists.{each_weaker}
+use Rattle.gx_law_order.specs.Lists.{Each}
 use Rattle.gx_law_order.proofs.OwnLocks.{LocksItself, has_version}
 use Rattle.gx_law_order.proofs.SegItems.{writes_at}
 use Rattle.gx_law_order.proofs.World.{Knows}

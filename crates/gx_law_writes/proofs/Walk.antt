@@ -52,20 +52,24 @@ use Rattle.gx_store.specs.declared.node.NodeEvent.TheVariants as event
 use Rattle.gx_store.specs.Marks.{has_snapshot, is_snapped}
 use Rattle.gx_store.specs.Refusals.{the_coordinator}
 use Rattle.gx_store.specs.Writes.{dist_of}
-use Rattle.gx_rules.specs.AtCoordinator.{Reading, answer_at_commit, answer_mark, answer_of_command, answers, answers_at_once, awaited, awaited_collect, begins, behind, cancels, command_answer, commits, completes, coord_can, dispatches, ends_in, failure_marks, fault_mark, follows, goes, goes_on, goes_out, is_awaited, is_committed, is_idle, is_nothing, is_refused, kept_at, next_cid, next_line, nodes_in, on_answer, on_done, on_event, on_failed, on_line, on_message, on_status, orders_of, plain_answer_of, reads_by, reads_for, reason_of, refusal_of, resends, rolls_back, starts, starts_line, table_of, takes_done, takes_snapshot, with_done, writers_with, goes_on_locked, if_granted, lock_for, requests, resumes, waits_for}
+use Rattle.gx_rules.specs.AtCoordinator.{Reading, answer_at_commit, answer_mark, answer_of_command, answers, answers_at_once, awaited, awaited_collect, begins, behind, cancels, command_answer, commits, completes, coord_can, dispatches, ends_in, failure_marks, fault_mark, follows, goes, goes_on, goes_out, is_awaited, is_committed, is_idle, is_nothing, is_refused, kept_at, next_cid, next_line, nodes_in, on_answer, on_done, on_event, on_failed, on_line, on_message, on_status, orders_of, plain_answer_of, reads_by, reads_for, reason_of, refusal_of, resends, rolls_back, starts, starts_line, table_of, takes_done, takes_snapshot, with_done, writers_with, goes_on_locked, if_granted, requests, resumes, waits_for}
+use Rattle.gx_store.specs.Locks.{table_lock}
 use Rattle.gx_rules.specs.Coordinators.{Command, Coord, CoordTurn, Session, Work, new_work, no_work, rests, session_of, with_state, with_work, work_of}
 use Rattle.gx_rules.specs.Fits.{fits_part}
 use Rattle.gx_rules.specs.Maps.{with_at}
 use Rattle.gx_rules.specs.Snapshots.{snapshot_of}
 use Rattle.gx_rules.proofs.Rounds.{cancel-ways, graph-ways}
 use Rattle.gx_law_order.proofs.Lines.{Asks, asks}
-use Rattle.gx_law_order.proofs.Lists.{Each, each_append}
-use Rattle.gx_law_order.proofs.Sessions.{Kept, is_nothing_in, is_open_in, stage_of}
-use Rattle.gx_law_order.proofs.Statuses.Stage.{Closing, Live as LiveStage}
-use Rattle.gx_law_order.proofs.Statuses.{Moves, Turned, reply-turns, stage}
+use Rattle.gx_law_order.proofs.Lists.{each_append}
+use Rattle.gx_law_order.specs.Lists.{Each}
+use Rattle.gx_law_order.specs.Sessions.{Kept, is_nothing_in, is_open_in}
+use Rattle.gx_law_order.specs.Stages.{stage, stage_of}
+use Rattle.gx_law_order.specs.Stages.Stage.{Closing, Live as LiveStage}
+use Rattle.gx_law_order.proofs.Statuses.{Moves, Turned, reply-turns}
 use Rattle.gx_law_order.specs.Standings.{gx}
 use Rattle.gx_rules.specs.Locks.{with_hold, hold_mark, release_marks}
-use Rattle.gx_locks.specs.Locks.{Locks, is_free, resumed, wait_of}
+use Rattle.gx_locks.specs.Locks.{Locks, resumed, wait_of}
+use Rattle.gx_waits.specs.Claims.{is_free}
 use Rattle.gx_waits.specs.declared.claim.Claim.{Claim}
 use Rattle.gx_law_order.proofs.Releases.{each-released}
 use Rattle.gx_law_order.proofs.Waiting.{GoesOut}
@@ -410,7 +414,7 @@ module _ (script : Script) (c : Coord) (x : NodeEvent) where
         by_test false = waits-walk wanted
 
     pub dispatch-walk : Walk earlier (dispatches script c1 (gx g) line)
-    dispatch-walk = request-walk (lock_for script (gx g) line)
+    dispatch-walk = request-walk (table_lock script (gx g) line)
 
   -- A STATEMENT THAT HAS WAITED
   module _ (g : Gxid) (it : IsGoingOut x) (o : GoesOut script c g) where
@@ -637,8 +641,8 @@ module _ (script : Script) (c : Coord) (x : NodeEvent) where
 
       line-walk : (line : Stmt) (asked : LineStep) → Asks block asked → Walk [] (on_line script (starts_line c s asked) s line asked)
       line-walk line (step.Answer p) a = at-once (step.Answer p) _ (plain-ok p)
-      line-walk line step.Refuse5 a = at-once step.Refuse5 _ tt
-      line-walk line step.Refuse7 a = at-once step.Refuse7 _ tt
+      line-walk line step.InFailedBlock a = at-once step.InFailedBlock _ tt
+      line-walk line step.NotInBlock a = at-once step.NotInBlock _ tt
       line-walk line (step.BeginBlock level) a = begin-line level
       line-walk line step.CommitBlock a = commit-line a
       line-walk line step.RollbackBlock a = rollback-line

@@ -16,7 +16,8 @@ use Rattle.gx_rules.specs.Slices.{Moved, answers, fails_on, starts_from}
 use Rattle.gx_rules.specs.Visits.{DidStop}
 use Rattle.gx_rules.proofs.Moving.{Ends, loop-keeps}
 use Rattle.gx_law_order.proofs.Changing.{rows-change, stop-keeps}
-use Rattle.gx_law_order.proofs.Lists.{Each, each_append}
+use Rattle.gx_law_order.proofs.Lists.{each_append}
+use Rattle.gx_law_order.specs.Lists.{Each}
 use Rattle.gx_law_writes.proofs.Frames.{AddsOwn, Inv, IsWork, local-other, local-own, stays-so}
 use Rattle.gx_law_writes.proofs.Undone.{undone, undone_by}
 

@@ -25,7 +25,8 @@ use Rattle.gx_rules.specs.Locks.{wait_mark, with_wait}
 use Rattle.gx_rules.specs.Segments.{Local, Seg, SegTurn, Suspended, Version, after_marks, local_of, reply as reply_out, with_local}
 use Rattle.gx_rules.specs.Running.{suspended_slice}
 use Rattle.gx_rules.specs.Slices.{Moved, answers, inserted, inserts, inserts_row, locks as locks_only, own_lock, selects, starts_from, takes_lock, version}
-use Rattle.gx_law_order.proofs.Lists.{Each, each_append, each_weaker}
+use Rattle.gx_law_order.proofs.Lists.{each_append, each_weaker}
+use Rattle.gx_law_order.specs.Lists.{Each}
 use Rattle.gx_law_writes.proofs.Half.{IsHalf, IsHalfAt}
 use Rattle.gx_law_writes.proofs.Undone.{undone, undone-drops, undone_at, undone_by}
 use Rattle.gx_law_writes.proofs.Moves.{IsBase}

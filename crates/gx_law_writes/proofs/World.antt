@@ -26,7 +26,7 @@ use Rattle.gx_rules.specs.Machine.{Letter, World, after, found, happens, new_wor
 use Rattle.gx_rules.specs.Segments.{SegTurn}
 use Rattle.gx_rules.specs.Sending.{counted}
 use Rattle.gx_law_order.proofs.Letters.{IsFound, IsLetter, found_is}
-use Rattle.gx_law_order.proofs.Lists.{Each}
+use Rattle.gx_law_order.specs.Lists.{Each}
 use Rattle.gx_law_order.proofs.Journals.{Hold}
 use Rattle.gx_law_order.proofs.Waiting.{GoesOn, each-among, freed, going-on}
 use Rattle.gx_law_reads.specs.Horizons.{IsNobodyDropped, IsSeenBelow}

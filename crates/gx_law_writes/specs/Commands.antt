@@ -16,12 +16,11 @@ use Rattle.gx_store.specs.declared.mark.Mark.{Mark}
 use Rattle.gx_store.specs.declared.mark.Mark.TheVariants.{Answer, Release, Sent, Start}
 use Rattle.gx_store.specs.declared.run.Step.{Step}
 use Rattle.gx_store.specs.Commands.{RunsCommand}
-use Rattle.gx_store.specs.Locks.{HoldsAtAnswer, HoldsTable, LocksWhileReading}
+use Rattle.gx_store.specs.Locks.{HoldsAtAnswer, HoldsTable, LocksWhileReading, table_lock}
 use Rattle.gx_store.specs.Marks.{is_same_gxid, is_same_session, is_snapped}
 use Rattle.gx_store.specs.Points.{Point, marks_in, starts_by}
 use Rattle.gx_store.specs.Refusals.{the_coordinator}
 use Rattle.gx_store.specs.Waits.{waits_at}
-use Rattle.gx_rules.specs.AtCoordinator.{lock_for}
 use Rattle.gx_law_order.specs.Rest.{EachMark}
 
 -- the mark starts or answers no line of the session, and gives back nothing of the transaction
@@ -38,7 +37,7 @@ AreLeftAlone session g (m ∷ ms) = LeavesAlone session g m × AreLeftAlone sess
 -- the transaction waits at the coordinator for the lock that the statement takes on its table
 pub record AwaitsTable (script : Script) (marks : List Mark) (g : Gxid) (line : Stmt) : Type 0 where
   pub wanted : Claim
-  pub takes : lock_for script g line ≡ Some wanted
+  pub takes : table_lock script g line ≡ Some wanted
   pub stands : list_any (same_claim wanted) (waits_at marks the_coordinator) ≡ true
 
 -- the message is no sending of the command

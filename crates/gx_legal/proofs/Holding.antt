@@ -18,7 +18,8 @@ use Rattle.gx_waits.specs.Claim.{same_claim}
 use Rattle.gx_store.specs.declared.mark.Mark.{Mark}
 use Rattle.gx_store.specs.declared.mark.Mark.TheVariants as mark
 use Rattle.gx_store.specs.Answers.{Locks}
-use Rattle.gx_store.specs.Waits.{added, claim, holds_at, holds_from, without}
+use Rattle.gx_store.specs.Waits.{holds_at, holds_from}
+use Rattle.gx_waits.specs.Claims.{claim, with_claim, without_claim}
 use Rattle.gx_legal.specs.Told.{has_locked, held_from, is_held_below}
 use Rattle.gx_legal.proofs.Decided.{no_more}
 
@@ -44,7 +45,7 @@ module _ (c : Claim) where
       all false e = e
   there new xs false same among = sym (or-false (list_any (same_claim c) xs))
 
-  added-any : (new : Claim) (xs : List Claim) → list_any (same_claim c) (added new xs) ≡ (list_any (same_claim c) xs || same_claim c new)
+  added-any : (new : Claim) (xs : List Claim) → list_any (same_claim c) (with_claim new xs) ≡ (list_any (same_claim c) xs || same_claim c new)
   added-any new xs = by_test (list_any (same_claim new) xs) refl
     where
       by_test : (b : Bool) → list_any (same_claim new) xs ≡ b → list_any (same_claim c) (if b then xs else xs ++ new ∷ []) ≡ (list_any (same_claim c) xs || same_claim c new)
@@ -52,7 +53,7 @@ module _ (c : Claim) where
       by_test false e = list_any-append (same_claim c) xs (new ∷ []) ∙ ap (λ b. list_any (same_claim c) xs || b) (or-false (same_claim c new))
 
   -- A CLAIM THAT IS TAKEN OUT
-  taken-out : (old x : Claim) (xs : List Claim) (a : Bool) → same_claim c x ≡ a → same_claim old x ≡ true → list_any (same_claim c) (without old xs) ≡ (list_any (same_claim c) xs && not (same_claim old c)) → list_any (same_claim c) (without old xs) ≡ ((a || list_any (same_claim c) xs) && not (same_claim old c))
+  taken-out : (old x : Claim) (xs : List Claim) (a : Bool) → same_claim c x ≡ a → same_claim old x ≡ true → list_any (same_claim c) (without_claim old xs) ≡ (list_any (same_claim c) xs && not (same_claim old c)) → list_any (same_claim c) (without_claim old xs) ≡ ((a || list_any (same_claim c) xs) && not (same_claim old c))
   taken-out old x xs true same gone more = more ∙ none (same_claim old c) (list_any (same_claim c) xs) (near old c x same ∙ gone)
     where
       none : (b d : Bool) → b ≡ true → (d && not b) ≡ (true && not b)
@@ -61,21 +62,21 @@ module _ (c : Claim) where
       none false d e = no_more _ e
   taken-out old x xs false same gone more = more
 
-  left-in : (old x : Claim) (xs : List Claim) (a : Bool) → same_claim c x ≡ a → same_claim old x ≡ false → list_any (same_claim c) (without old xs) ≡ (list_any (same_claim c) xs && not (same_claim old c)) → (a || list_any (same_claim c) (without old xs)) ≡ ((a || list_any (same_claim c) xs) && not (same_claim old c))
+  left-in : (old x : Claim) (xs : List Claim) (a : Bool) → same_claim c x ≡ a → same_claim old x ≡ false → list_any (same_claim c) (without_claim old xs) ≡ (list_any (same_claim c) xs && not (same_claim old c)) → (a || list_any (same_claim c) (without_claim old xs)) ≡ ((a || list_any (same_claim c) xs) && not (same_claim old c))
   left-in old x xs true same stays more = sym (ap not (near old c x same ∙ stays))
   left-in old x xs false same stays more = more
 
-  without-any : (old : Claim) (xs : List Claim) → list_any (same_claim c) (without old xs) ≡ (list_any (same_claim c) xs && not (same_claim old c))
+  without-any : (old : Claim) (xs : List Claim) → list_any (same_claim c) (without_claim old xs) ≡ (list_any (same_claim c) xs && not (same_claim old c))
   without-any old [] = refl
   without-any old (x ∷ xs) = by_test (same_claim old x) refl (without-any old xs)
     where
-      by_test : (b : Bool) → same_claim old x ≡ b → list_any (same_claim c) (without old xs) ≡ (list_any (same_claim c) xs && not (same_claim old c))
-          → list_any (same_claim c) (if not b then x ∷ without old xs else without old xs) ≡ ((same_claim c x || list_any (same_claim c) xs) && not (same_claim old c))
+      by_test : (b : Bool) → same_claim old x ≡ b → list_any (same_claim c) (without_claim old xs) ≡ (list_any (same_claim c) xs && not (same_claim old c))
+          → list_any (same_claim c) (if not b then x ∷ without_claim old xs else without_claim old xs) ≡ ((same_claim c x || list_any (same_claim c) xs) && not (same_claim old c))
       by_test true e more = taken-out old x xs (same_claim c x) refl e more
       by_test false e more = left-in old x xs (same_claim c x) refl e more
 
   -- AT ONE NODE
-  held-more : (b : Bool) (new : Claim) (xs : List Claim) → list_any (same_claim c) (if b then added new xs else xs) ≡ (list_any (same_claim c) xs || (b && same_claim c new))
+  held-more : (b : Bool) (new : Claim) (xs : List Claim) → list_any (same_claim c) (if b then with_claim new xs else xs) ≡ (list_any (same_claim c) xs || (b && same_claim c new))
   held-more true new xs = added-any new xs
   held-more false new xs = sym (or-false (list_any (same_claim c) xs))
 
@@ -83,17 +84,17 @@ module _ (c : Claim) where
   all-of true = refl
   all-of false = refl
 
-  held-less : (b : Bool) (old : Claim) (xs : List Claim) → list_any (same_claim c) (if b then without old xs else xs) ≡ (list_any (same_claim c) xs && not (b && same_claim old c))
+  held-less : (b : Bool) (old : Claim) (xs : List Claim) → list_any (same_claim c) (if b then without_claim old xs else xs) ≡ (list_any (same_claim c) xs && not (b && same_claim old c))
   held-less true old xs = without-any old xs
   held-less false old xs = all-of (list_any (same_claim c) xs)
 
   held-same : (node : Node) (xs : List Claim) (ms : List Mark) → list_any (same_claim c) (holds_from node xs ms) ≡ held_from node.0 c (list_any (same_claim c) xs) ms
   held-same node xs [] = refl
   held-same node xs (mark.Hold n g object mode ∷ ms) =
-      held-same node (if n.0 == node.0 then added (claim g object mode) xs else xs) ms
+      held-same node (if n.0 == node.0 then with_claim (claim g object mode) xs else xs) ms
       ∙ ap (λ b. held_from node.0 c b ms) (held-more (n.0 == node.0) (claim g object mode) xs)
   held-same node xs (mark.Release n g object mode ∷ ms) =
-      held-same node (if n.0 == node.0 then without (claim g object mode) xs else xs) ms
+      held-same node (if n.0 == node.0 then without_claim (claim g object mode) xs else xs) ms
       ∙ ap (λ b. held_from node.0 c b ms) (held-less (n.0 == node.0) (claim g object mode) xs)
   held-same node xs (mark.Start g s ∷ ms) = held-same node xs ms
   held-same node xs (mark.Snap g d s ∷ ms) = held-same node xs ms

@@ -13,7 +13,7 @@ use Rattle.gx_store.specs.declared.mark.Mark.TheVariants.{Hold, Release, Write}
 use Rattle.gx_store.specs.Marks.{has_snapshot, is_aborted, is_committed, is_same_rid, is_snapped}
 use Rattle.gx_store.specs.View.{image_after}
 use Rattle.gx_store.specs.Writes.{Written, last_write}
-use Rattle.gx_store.specs.Waits.{claim}
+use Rattle.gx_waits.specs.Claims.{claim}
 use Rattle.gx_waits.specs.Claim.{same_claim}
 use Rattle.gx_waits.specs.declared.claim.Claim.{Claim}
 use Rattle.gx_legal.specs.Places.{places_from}

@@ -31,7 +31,7 @@ use Rattle.gx_store.specs.declared.mark.Mark.{Mark}
 use Rattle.gx_store.specs.declared.mark.Mark.TheVariants.{Hold, Release}
 use Rattle.gx_store.specs.Commands.{condition_on, has_own_snapshot}
 use Rattle.gx_store.specs.Marks.{is_processed}
-use Rattle.gx_store.specs.Waits.{claim}
+use Rattle.gx_waits.specs.Claims.{claim}
 use Rattle.gx_legal.specs.RowsDone.{faults_on_none, has_changed}
 use Rattle.gx_legal.specs.Faulted.{are_whole}
 use Rattle.gx_legal.specs.Places.{snapshots}

@@ -1,6 +1,6 @@
 // Whether a lock is held at every node.
 ghost use Rattle.std.specs.Prelude.{◌≡◌, ◌+◌, false};
-ghost use Rattle.gx_store.specs.Waits.{claim as claim_on};
+ghost use Rattle.gx_waits.specs.Claims.{claim as claim_on};
 ghost use Rattle.gx_legal.specs.Told.{has_locked as did_lock, held_by as is_held_by, held_from, is_held_below as are_held};
 
 use gx_ids::{Gxid, Table};

@@ -11,11 +11,10 @@ use Rattle.gx_locks.specs.declared.key.Key.{Key}
 use Rattle.gx_locks.specs.declared.key.Key.TheVariants.{On, Of}
 use Rattle.gx_locks.specs.Book.{IsFiled, claims_in}
 use Rattle.gx_waits.specs.Claim.{same_claim}
-use Rattle.gx_locks.specs.Claims.{is_of}
+use Rattle.gx_waits.specs.Claims.{is_of, without}
 use Rattle.gx_locks.specs.Holds.{is_under, same_hold, claims_of}
 use Rattle.gx_locks.specs.Index.{holds_at, places_at}
 use Rattle.gx_locks.specs.Kept.{AreOnce}
-use Rattle.gx_locks.specs.Locks.{without}
 use Rattle.gx_locks.proofs.Filed.{claims_of-filter, filter-swapped, filter-untouched, filter-none, passes-first, filter-first_alone, is_of-same}
 use Rattle.gx_locks.proofs.Found.{is_under-same}
 use Rattle.gx_locks.proofs.Keys.{stands, on_isnt_of, of_isnt_on}

@@ -11,7 +11,7 @@ use Rattle.gx_waits.specs.declared.claim.Claim.{Claim}
 use Rattle.gx_waits.specs.declared.object.Object.{Object}
 use Rattle.gx_locks.specs.declared.hold.Hold.{Hold}
 use Rattle.gx_waits.specs.Claim.{same_claim, same_object}
-use Rattle.gx_locks.specs.Claims.{is_of}
+use Rattle.gx_waits.specs.Claims.{is_of}
 use Rattle.gx_locks.specs.Holds.{same_hold, claims_of}
 use Rattle.gx_locks.specs.Kept.{AreOnce}
 use Rattle.gx_locks.proofs.Meets.{same_object-same, same_object-itself}

@@ -10,7 +10,7 @@ use Rattle.gx_locks.specs.declared.hold.Hold.{Hold}
 use Rattle.gx_locks.specs.declared.key.Key.{Key}
 use Rattle.gx_locks.specs.declared.key.Key.TheVariants.{On, Of}
 use Rattle.gx_waits.specs.Claim.{meets, same_claim, same_object}
-use Rattle.gx_locks.specs.Claims.{is_of}
+use Rattle.gx_waits.specs.Claims.{is_of}
 use Rattle.gx_locks.specs.Holds.{same_hold, claims_of, is_under}
 use Rattle.gx_locks.specs.Locks.{blockers}
 use Rattle.gx_locks.proofs.Filed.{claims_of-filter, list_any-weaker, filter-weaker, find-weaker, filter-swapped, filter-untouched, same_on, is_of-same, on-same}

@@ -7,7 +7,7 @@ use Rattle.gx_waits.specs.declared.claim.Claim.{Claim}
 use Rattle.gx_locks.specs.declared.key.Key.{Key}
 use Rattle.gx_locks.specs.declared.key.Key.TheVariants.{On, Of}
 use Rattle.gx_waits.specs.Claim.{same_object}
-use Rattle.gx_locks.specs.Claims.{is_of}
+use Rattle.gx_waits.specs.Claims.{is_of}
 use Rattle.gx_locks.specs.Holds.{is_under}
 use Rattle.gx_locks.specs.Room.{bit}
 use Rattle.gx_locks.proofs.Meets.{same_object-same, same_object-itself}

@@ -6,9 +6,9 @@ use Rattle.std.specs.Prelude.{All, Contains, filter, find, map, Option, None, So
 use Rattle.std.specs.List.{list_any}
 use Rattle.gx_ids.specs.declared.ids.Gxid.{Gxid}
 use Rattle.gx_waits.specs.declared.claim.Claim.{Claim}
-use Rattle.gx_locks.specs.Claims.{is_of}
+use Rattle.gx_waits.specs.Claims.{is_free, is_of}
 use Rattle.gx_locks.specs.Kept.{WaitOnce}
-use Rattle.gx_locks.specs.Locks.{is_free, is_ready, IsLeast}
+use Rattle.gx_locks.specs.Locks.{is_ready, IsLeast}
 
 once_tail : (w : Claim) (ws : List Claim) → WaitOnce (w ∷ ws) → WaitOnce ws
 once_tail w ws once i j d before inside = once (suc i) (suc j) d (omega arith) (omega arith)

@@ -10,9 +10,9 @@ use Rattle.gx_waits.specs.declared.claim.Claim.{Claim}
 use Rattle.gx_locks.specs.declared.answer.LockAnswer.{LockAnswer}
 use Rattle.gx_locks.specs.declared.answer.LockAnswer.TheVariants.{Granted, Waits}
 use Rattle.gx_waits.specs.Claim.{meets, same_claim}
-use Rattle.gx_locks.specs.Claims.{is_of}
+use Rattle.gx_waits.specs.Claims.{is_free, is_of, with_claim, without}
 use Rattle.gx_locks.specs.Kept.{AreExclusive, AreOnce}
-use Rattle.gx_locks.specs.Locks.{Locks, IsAnswer, is_free, is_ready, held, wait_of, resumed, without}
+use Rattle.gx_locks.specs.Locks.{Locks, IsAnswer, is_ready, wait_of, resumed}
 use Rattle.gx_locks.specs.Runs.{Call, Request, Resume, Release, ReleaseAll, IsStep, IsRun, IsSound}
 use Rattle.gx_locks.proofs.Whole.{none_passes, free_is}
 
@@ -31,7 +31,7 @@ module _ (locks : Locks) (claim : Claim) (sound : IsSound locks) (free : is_free
   more true is = record { exclusive = sound.exclusive; held_once = sound.held_once; wait_once = sound.wait_once }
   more false isnt = record { exclusive = exclusive_more; held_once = once_more isnt; wait_once = sound.wait_once }
 
-  pub IsSound-held : IsSound (record locks { holds = held locks.holds claim })
+  pub IsSound-held : IsSound (record locks { holds = with_claim claim locks.holds })
   IsSound-held = more (list_any (same_claim claim) locks.holds) refl
 
 -- one wait more, of a transaction that doesn't wait
@@ -64,7 +64,7 @@ answered old new claim (Waits gxids) sound none is = subst IsSound (sym is.1.1) 
 went_on : (old new : Locks) (g : Gxid) (o : Option Claim) → IsSound old → is_ready old.holds o ≡ true → new ≡ resumed old g o → IsSound new
 went_on old new g None sound ready is = absurd (cc)
 went_on old new g (Some wait) sound ready is =
-    subst IsSound (sym is) (IsSound-fewer_waits (λ claim. not (is_of g claim)) (record old { holds = held old.holds wait }) (IsSound-held old wait sound ready))
+    subst IsSound (sym is) (IsSound-fewer_waits (λ claim. not (is_of g claim)) (record old { holds = with_claim wait old.holds }) (IsSound-held old wait sound ready))
 
 pub IsSound-step : (old new : Locks) (call : Call) → IsSound old → IsStep old call new → IsSound new
 IsSound-step old new (Request claim answer) sound is = answered old new claim answer sound is.0 is.1

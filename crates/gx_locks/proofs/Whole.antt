@@ -13,11 +13,11 @@ use Rattle.gx_locks.specs.declared.key.Key.{Key}
 use Rattle.gx_locks.specs.declared.key.Key.TheVariants.{On, Of}
 use Rattle.gx_locks.specs.Book.{IsFiled, IsWhole, claims_in, HasSameHolds, HasSamePlaces, HasPlaceLess, HasPlace}
 use Rattle.gx_waits.specs.Claim.{meets, same_claim}
-use Rattle.gx_locks.specs.Claims.{is_of}
+use Rattle.gx_waits.specs.Claims.{is_free, is_of, without}
 use Rattle.gx_locks.specs.Holds.{is_under, claims_of}
 use Rattle.gx_locks.specs.Index.{places_at}
 use Rattle.gx_locks.specs.Kept.{AreExclusive, AreOnce, WaitOnce}
-use Rattle.gx_locks.specs.Locks.{is_free, is_ready, without}
+use Rattle.gx_locks.specs.Locks.{is_ready}
 use Rattle.gx_locks.specs.Room.{bit, awaited}
 use Rattle.gx_locks.proofs.Filed.{filter-unfound, filter-none}
 

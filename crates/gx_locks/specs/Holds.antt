@@ -6,7 +6,7 @@ use Rattle.gx_locks.specs.declared.slot.Slot.{Slot}
 use Rattle.gx_locks.specs.declared.key.Key.{Key}
 use Rattle.gx_locks.specs.declared.key.Key.TheVariants.{On, Of}
 use Rattle.gx_waits.specs.Claim.{same_claim, same_object}
-use Rattle.gx_locks.specs.Claims.{is_of}
+use Rattle.gx_waits.specs.Claims.{is_of}
 
 -- whether two holds are one
 abbrev pub same_hold : Hold → Hold → Bool

@@ -1,13 +1,13 @@
 -- The locks at one node: who holds what, and who waits for what (PostgreSQL manual, 13.3).
-use Rattle.std.specs.Prelude.{◌≡◌, ◌≤◌, Bool, false, true, List, [], ◌∷◌, ◌++◌, not, filter, map, if◌then◌else◌, find, Option, None, Some, Contains, All, nat_lt}
-use Rattle.std.specs.List.{list_any}
+use Rattle.std.specs.Prelude.{◌≡◌, ◌≤◌, Bool, false, true, List, [], ◌∷◌, ◌++◌, filter, map, if◌then◌else◌, find, Option, None, Some, Contains, All, nat_lt}
 use Rattle.gx_ids.specs.declared.ids.Gxid.{Gxid}
 use Rattle.gx_ids.specs.declared.ids.Node.{Node}
 use Rattle.gx_waits.specs.declared.claim.Claim.{Claim}
 use Rattle.gx_locks.specs.declared.answer.LockAnswer.{LockAnswer}
 use Rattle.gx_locks.specs.declared.answer.LockAnswer.TheVariants.{Granted, Waits}
-use Rattle.gx_waits.specs.Claim.{meets, same_claim}
-use Rattle.gx_locks.specs.Claims.{is_of, gxid_cmp}
+use Rattle.gx_waits.specs.Claim.{meets}
+use Rattle.gx_waits.specs.Claims.{is_free, is_of, with_claim, without}
+use Rattle.gx_locks.specs.Claims.{gxid_cmp}
 use Rattle.std.specs.List.Sorted.{IsStrictlySortedBy}
 
 -- the holds and the standing waits, each in the order in which they came
@@ -16,25 +16,9 @@ pub record Locks : Type 0 where
   pub holds : List Claim
   pub waits : List Claim
 
--- whether a claim meets no hold
-abbrev pub is_free : List Claim → Claim → Bool
-is_free holds claim = not (list_any (meets claim) holds)
-
 -- the transactions whose holds a claim meets, by hold
 abbrev pub blockers : List Claim → Claim → List Gxid
 blockers holds claim = map (λ hold. hold.gxid) (filter (meets claim) holds)
-
--- the holds with one more; a claim that is held already is held once
-abbrev pub held : List Claim → Claim → List Claim
-held holds claim = if list_any (same_claim claim) holds then holds else holds ++ claim ∷ []
-
--- without the claims of a transaction
-abbrev pub without : Gxid → List Claim → List Claim
-without g claims = filter (λ claim. not (is_of g claim)) claims
-
--- without one claim
-abbrev pub without_claim : Claim → List Claim → List Claim
-without_claim claim claims = filter (λ other. not (same_claim claim other)) claims
 
 -- the transactions whose waits are ready, by wait
 abbrev pub ready_ones : Locks → List Gxid
@@ -69,10 +53,18 @@ abbrev pub is_ready : List Claim → Option Claim → Bool
 is_ready holds None = false
 is_ready holds (Some wait) = is_free holds wait
 
+-- a transaction may take what it waits for
+abbrev pub may_take : Locks → Gxid → Bool
+may_take locks g = is_ready locks.holds (wait_of locks g)
+
+-- the least transaction that may, where there is one
+abbrev pub next_ready : Locks → Option Gxid
+next_ready locks = least_with None (ready_ones locks)
+
 -- the wait of a transaction is held, where it has one
 abbrev pub resumed : Locks → Gxid → Option Claim → Locks
 resumed locks g None = locks
-resumed locks g (Some wait) = record locks { holds = held locks.holds wait; waits = without g locks.waits }
+resumed locks g (Some wait) = record locks { holds = with_claim wait locks.holds; waits = without g locks.waits }
 
 -- the gxids rise and are those of the list
 pub record AreRisen (gxids all : List Gxid) : Type 0 where
@@ -82,5 +74,5 @@ pub record AreRisen (gxids all : List Gxid) : Type 0 where
 
 -- what came of a request: it is granted exactly where it meets no hold; else it stands as the last wait
 abbrev pub IsAnswer : Locks → Claim → LockAnswer → Locks → Type 0
-IsAnswer old claim Granted new = (is_free old.holds claim ≡ true) × (new ≡ record old { holds = held old.holds claim })
+IsAnswer old claim Granted new = (is_free old.holds claim ≡ true) × (new ≡ record old { holds = with_claim claim old.holds })
 IsAnswer old claim (Waits gxids) new = (is_free old.holds claim ≡ false) × (AreRisen gxids (blockers old.holds claim) × (new ≡ record old { waits = old.waits ++ claim ∷ [] }))

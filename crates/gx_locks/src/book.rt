@@ -2,11 +2,11 @@ ghost use Rattle.std.specs.Prelude.{◌≡◌, ◌≢◌, ◌+◌, ◌∷◌, �
 ghost use Rattle.std.specs.List.{list_any};
 ghost use Rattle.gx_waits.specs.declared.claim.Claim.{Claim};
 ghost use Rattle.gx_waits.specs.Claim.{same_claim};
-ghost use Rattle.gx_locks.specs.Claims.{is_of};
+ghost use Rattle.gx_waits.specs.Claims.{is_free, is_of, without};
 ghost use Rattle.gx_locks.specs.Holds.{same_hold, claims_of, is_under};
 ghost use Rattle.gx_locks.specs.HoldLists.{held};
 ghost use Rattle.gx_locks.specs.Kept.{AreOnce};
-ghost use Rattle.gx_locks.specs.Locks.{is_free, without, blockers, AreRisen};
+ghost use Rattle.gx_locks.specs.Locks.{blockers, AreRisen};
 
 use crate::claims::{copy_claims, find_same, is_any_met, is_any_same, risen_blockers};
 use crate::hold::Hold;

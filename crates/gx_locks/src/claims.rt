@@ -2,9 +2,9 @@ ghost use Rattle.std.specs.Prelude.{◌≡◌, ◌<◌, ◌++◌, ◌∷◌, [],
 ghost use Rattle.std.specs.Vec.{vec_capacity};
 ghost use Rattle.std.specs.List.{list_any};
 ghost use Rattle.gx_waits.specs.Claim.{meets, same_claim, same_object};
-ghost use Rattle.gx_locks.specs.Claims.{is_of};
+ghost use Rattle.gx_waits.specs.Claims.{is_of, without};
 ghost use Rattle.gx_locks.specs.Holds.{claims_of, same_hold};
-ghost use Rattle.gx_locks.specs.Locks.{without, AreRisen};
+ghost use Rattle.gx_locks.specs.Locks.{AreRisen};
 
 use crate::hold::Hold;
 use gx_ids::{Gxid, Mem};

@@ -2,11 +2,11 @@ ghost use Rattle.std.specs.Prelude.{◌≡◌, [], ◌∷◌, false, true, None,
 ghost use Rattle.std.specs.List.{list_any};
 ghost use Rattle.gx_ids.specs.declared.ids.Gxid.{Gxid};
 ghost use Rattle.gx_waits.specs.Claim.{AreEdges, same_claim};
-ghost use Rattle.gx_locks.specs.Claims.{is_of};
+ghost use Rattle.gx_waits.specs.Claims.{is_free, is_of, without, without_claim};
 ghost use Rattle.gx_locks.specs.Graphs.{graph_at};
 ghost use Rattle.gx_locks.specs.HoldLists.{held};
 ghost use Rattle.gx_locks.specs.Holds.{claims_of};
-ghost use Rattle.gx_locks.specs.Locks.{IsAnswer, blockers, is_free, ready_ones, least_with, IsLeast, wait_of, is_ready, resumed, without, without_claim};
+ghost use Rattle.gx_locks.specs.Locks.{IsAnswer, IsLeast, blockers, is_ready, least_with, may_take, next_ready, ready_ones, resumed, wait_of};
 ghost use Rattle.gx_locks.specs.Kept.{AreExclusive, AreOnce, WaitOnce};
 ghost use Rattle.gx_locks.specs.Book.{IsFiled, claims_in};
 
@@ -124,16 +124,16 @@ impl LockTable {
 
     /// The least transaction whose wait is ready: no other transaction holds a conflicting mode any more.
     pub fn ready(&self) -> Option<Gxid>
-        ensures value { result ≡ least_with None (ready_ones self.now) }
+        ensures value { result ≡ next_ready self.now }
         ensures least { IsLeast result (ready_ones self.now) }
-        ensures ready { IfSome result (λ g. is_ready self.now.holds (wait_of self.now g) ≡ true) }
+        ensures ready { IfSome result (λ g. may_take self.now g ≡ true) }
     {
         least_ready(self.waits.as_slice(), &self.book)
     }
 
     /// Whether a transaction waits here and its wait is ready.
     pub fn is_ready(&self, gxid: Gxid) -> bool
-        ensures { result ≡ is_ready self.now.holds (wait_of self.now gxid) }
+        ensures { result ≡ may_take self.now gxid }
     {
         match find_of(self.waits.as_slice(), gxid) {
             Some(wait) => self.book.is_free(&wait),
@@ -143,7 +143,7 @@ impl LockTable {
 
     /// Makes the ready wait of a transaction a hold. It takes no memory: `request` made the room.
     pub fn resume(&mut self, gxid: Gxid)
-        requires { is_ready self.old.holds (wait_of self.old gxid) ≡ true }
+        requires { may_take self.old gxid ≡ true }
         ensures { self.new ≡ resumed self.old gxid (wait_of self.old gxid) }
     {
         if let Some(wait) = find_of(self.waits.as_slice(), gxid) {

@@ -5,10 +5,16 @@ use Rattle.gx_ids.specs.declared.ids.Gxid.{Gxid}
 use Rattle.gx_ids.specs.declared.ids.Node.{Node}
 use Rattle.gx_waits.specs.declared.claim.Claim.{Claim}
 use Rattle.gx_waits.specs.declared.object.Object.{Object}
-use Rattle.gx_waits.specs.declared.object.Object.TheVariants.{Transaction}
+use Rattle.gx_waits.specs.declared.object.Object.TheVariants.{Relation, Transaction, Tuple}
 use Rattle.gx_locks.specs.Locks.{Locks, resumed}
 use Rattle.gx_store.specs.declared.mark.Mark.{Mark}
 use Rattle.gx_rules.specs.Locks.{hold_mark, release_mark, wait_mark, with_hold, with_wait, without_hold}
+
+-- a table or a row is claimed, and no transaction
+abbrev pub is_on_transaction : Object → Bool
+is_on_transaction (Relation table) = false
+is_on_transaction (Tuple rid) = false
+is_on_transaction (Transaction other) = true
 
 -- a request that is granted or not
 abbrev pub asked_locks : Locks → Claim → Bool → Locks

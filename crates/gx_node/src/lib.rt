@@ -17,17 +17,18 @@ mod probe;
 mod query;
 mod rows;
 pub mod slices;
+pub mod tables;
 pub mod taken;
 pub mod written;
 
 pub use laws::orders_follow_the_rule;
 pub use local::{Local, Phase, Suspended, Vote};
 pub use locking::{
-    ask_for, changing_mode, claim_on, give_back, give_back_one, is_held, take_free, take_granted,
-    take_ready, wait_for,
+    ask_for, give_back, give_back_one, is_held, take_free, take_granted, take_ready, wait_for,
 };
 pub use orders::take_order;
 pub use parts::fits_part;
 pub use slices::{is_right_slice, reads_nothing};
+pub use tables::{slice_lock, table_lock};
 pub use taken::{Noted, Taken, Told};
 pub use written::Written;

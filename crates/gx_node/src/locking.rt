@@ -1,21 +1,17 @@
 ghost use Rattle.std.specs.Prelude.{◌≡◌, ◌++◌, ◌∷◌, [], filter, length, map, IfOk, OnOk, false, true, find};
 ghost use Rattle.std.specs.Cmp.{IsTotalOrder};
 ghost use Rattle.std.specs.List.{list_any};
-ghost use Rattle.gx_locks.specs.Claims.{is_of};
+ghost use Rattle.gx_waits.specs.Claims.{is_free, is_of};
 ghost use Rattle.gx_locks.specs.HoldLists.{held};
 ghost use Rattle.gx_locks.specs.Holds.{claims_of};
-ghost use Rattle.gx_locks.specs.Locks.{is_free, is_ready, resumed, wait_of};
+ghost use Rattle.gx_locks.specs.Locks.{may_take, resumed, wait_of};
 ghost use Rattle.gx_meaning.specs.Order.{in_order};
 ghost use Rattle.gx_rules.specs.Locks as rule;
-ghost use Rattle.gx_store.specs.Locks as legal;
-ghost use Rattle.gx_waits.specs.declared.object.Object.TheVariants as object;
 ghost use Rattle.gx_waits.specs.Claim.{same_claim};
 ghost use Rattle.gx_node.specs.Locking.{asked_locks, asked_mark, end_marks, granted_locks, granted_marks, resumed_marks, without_end};
 
-use gx_ids::{Gxid, Mem, Node, Table};
+use gx_ids::{Gxid, Mem, Node};
 use gx_locks::{Hold, HoldList, LockAnswer, LockTable, Pair, is_same_claim};
-use gx_modes::Mode;
-use gx_script::Script;
 use gx_store::Mark;
 use gx_waits::{Claim, Object};
 use std::alloc::Global;
@@ -179,29 +175,6 @@ pub fn is_held(locks: &LockTable, claim: &Claim) -> Mem<bool>
 }
 
 // ASKED FOR
-/// A transaction's claim on a table.
-pub fn claim_on(gxid: Gxid, table: Table, mode: Mode) -> Claim
-    ensures { result ≡ record { gxid = gxid; object = object.Relation table; mode = mode } }
-{
-    Claim {
-        gxid,
-        object: Object::Relation(table),
-        mode,
-    }
-}
-
-/// The mode in which UPDATE and DELETE lock their table. Where no detector finds deadlocks, one transaction at a time changes a
-/// table's rows.
-pub fn changing_mode(script: &Script) -> Mode
-    ensures { result ≡ legal.changing_mode script.now }
-{
-    if script.detector {
-        Mode::RowExclusive
-    } else {
-        Mode::Exclusive
-    }
-}
-
 fn hold_mark(node: Node, claim: Claim) -> Mark
     ensures { result ≡ rule.hold_mark node claim }
 {
@@ -304,7 +277,7 @@ fn push_resumed(marks: &mut Vec<Mark>, node: Node, wait: Option<Claim>) -> Mem<(
 
 /// The ready wait of a transaction at a node is a hold from now on, with its mark.
 pub fn take_ready(node: Node, locks: &mut LockTable, gxid: Gxid, marks: &mut Vec<Mark>) -> Mem<()>
-    requires { is_ready locks.old.holds (wait_of locks.old gxid) ≡ true }
+    requires { may_take locks.old gxid ≡ true }
     ensures locks { OnOk result (locks.new ≡ resumed locks.old gxid (wait_of locks.old gxid)) }
     ensures marks { OnOk result (marks.new.items ≡ marks.old.items ++ resumed_marks node (wait_of locks.old gxid)) }
 {
@@ -335,7 +308,7 @@ fn give_back_end(
 
 /// What a transaction has waited for at a node is granted, with its mark; where that is another's end, it is given back at once.
 pub fn take_granted(node: Node, locks: &mut LockTable, gxid: Gxid, marks: &mut Vec<Mark>) -> Mem<()>
-    requires { is_ready locks.old.holds (wait_of locks.old gxid) ≡ true }
+    requires { may_take locks.old gxid ≡ true }
     ensures locks { OnOk result (locks.new ≡ granted_locks locks.old gxid (wait_of locks.old gxid)) }
     ensures marks { OnOk result (marks.new.items ≡ marks.old.items ++ granted_marks node (wait_of locks.old gxid)) }
 {

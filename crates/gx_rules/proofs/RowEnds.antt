@@ -14,7 +14,7 @@ use Rattle.gx_rules.specs.Changes.RowEnd.{Failing, Waiting, Written}
 use Rattle.gx_rules.specs.Segments.{Version}
 use Rattle.gx_rules.specs.Shown.{counts, current_of}
 use Rattle.gx_rules.specs.Slices.{Moved, cause_of, is_holding, noted, takes_lock, writes_row}
-use Rattle.gx_locks.specs.Locks.{is_free}
+use Rattle.gx_waits.specs.Claims.{is_free}
 use Rattle.gx_rules.specs.Visits.{Does, FaultsAt, IsNow, IsOvertakenAt, IsSettled, IsUnshown, SkipsIt, WaitsAt, WritesIt}
 
 -- what may have come of a row that is looked at

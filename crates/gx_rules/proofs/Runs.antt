@@ -29,7 +29,7 @@ use Rattle.gx_rules.specs.Rows.{between_commits, drives, insert, kept_snapshot, 
 use Rattle.gx_waits.specs.declared.claim.Claim.{Claim}
 use Rattle.gx_waits.specs.declared.object.Object.TheVariants.{Relation}
 use Rattle.gx_modes.specs.declared.modes.Mode.TheVariants.{RowExclusive}
-use Rattle.gx_store.specs.Waits.{claim}
+use Rattle.gx_waits.specs.Claims.{claim}
 use Rattle.gx_rules.specs.Locks.{hold_mark, with_hold}
 use Rattle.gx_store.specs.Refusals.{the_coordinator}
 
@@ -55,16 +55,16 @@ plan-two_rows =
     (each-next g1 c1 1 (tuple 0 1) (tuple 1 1 ∷ []) _ (row_of 2 1 1 ∷ []) (values_of-tuple 0 1) (each-next g1 c1 2 (tuple 1 1) [] _ [] (values_of-tuple 1 1) refl))
 
 -- the table's lock of an INSERT
-abbrev pub table_lock : Gxid → Claim
-table_lock g = claim g (Relation the_table) RowExclusive
+abbrev pub insert_lock : Gxid → Claim
+insert_lock g = claim g (Relation the_table) RowExclusive
 
 abbrev with_table : Coord → Gxid → Coord
-with_table c g = record c { locks = with_hold c.locks (table_lock g) }
+with_table c g = record c { locks = with_hold c.locks (insert_lock g) }
 
 -- the world after the line has started, with its plan in its place
 abbrev pub started : World → Coord → Gxid → Cid → SessionId → Stmt → List Mark → Result (List Piece) ArithFault → World
 started w c g cid s line begun plan =
-    coord_did w (event.Start s) (coord_sends (w.coord.clock + 1) (behind begun (behind (hold_mark the_coordinator (table_lock g) ∷ []) (goes g cid line (reads_for (with_table c g) g cid (work_of (with_table c g) g) line) plan))))
+    coord_did w (event.Start s) (coord_sends (w.coord.clock + 1) (behind begun (behind (hold_mark the_coordinator (insert_lock g) ∷ []) (goes g cid line (reads_for (with_table c g) g cid (work_of (with_table c g) g) line) plan))))
 
 -- an INSERT alone is the first line
 abbrev first_coord : Coord

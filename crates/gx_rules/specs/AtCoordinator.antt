@@ -54,14 +54,12 @@ use Rattle.gx_store.specs.declared.mark.Mark.TheVariants as mark
 use Rattle.gx_store.specs.declared.node.NodeEvent.{NodeEvent}
 use Rattle.gx_store.specs.declared.node.NodeEvent.TheVariants as node
 use Rattle.gx_store.specs.Lines.{stmt_of}
-use Rattle.gx_store.specs.Locks.{changing_mode}
+use Rattle.gx_store.specs.Locks.{table_lock}
 use Rattle.gx_store.specs.Refusals.{the_coordinator}
-use Rattle.gx_store.specs.Waits.{claim}
 use Rattle.gx_store.specs.Writes.{dist_of}
-use Rattle.gx_locks.specs.Locks.{is_free, is_ready, resumed, wait_of}
-use Rattle.gx_modes.specs.declared.modes.Mode.TheVariants.{AccessShare, RowExclusive}
+use Rattle.gx_locks.specs.Locks.{may_take, resumed, wait_of}
+use Rattle.gx_waits.specs.Claims.{is_free}
 use Rattle.gx_waits.specs.declared.claim.Claim.{Claim}
-use Rattle.gx_waits.specs.declared.object.Object.TheVariants.{Relation}
 use Rattle.gx_rules.specs.Coordinators.{Command, Coord, CoordTurn, Session, Work, joined, new_work, no_work, rests, session_of, with_session, with_state, with_work, work_of}
 use Rattle.gx_rules.specs.Fits.{fits_part}
 use Rattle.gx_rules.specs.Locks.{hold_mark, release_marks, released, wait_mark, with_hold, with_wait}
@@ -230,15 +228,6 @@ goes_on_locked script c g line =
     let cid = next_cid (work_of c g) in
     goes g cid line (reads_for c g cid (work_of c g) line) (plan_of script.segments (dist_of script.tables (table_of line)) g cid line)
 
--- the lock that it takes on its table
-abbrev pub lock_for : Script → Gxid → Stmt → Option Claim
-lock_for script g (stmt.Select query) = Some (claim g (Relation query.table) AccessShare)
-lock_for script g (stmt.Insert table tuples) = Some (claim g (Relation table) RowExclusive)
-lock_for script g (stmt.Update table assigns cond) = Some (claim g (Relation table) (changing_mode script))
-lock_for script g (stmt.Delete table cond) = Some (claim g (Relation table) (changing_mode script))
-lock_for script g (stmt.Lock table mode) = Some (claim g (Relation table) mode)
-lock_for script g _ = None
-
 abbrev pub waits_for : Coord → Gxid → Stmt → Claim → CoordTurn
 waits_for c g line wanted =
     record {
@@ -257,7 +246,7 @@ requests script c g line None = goes_on_locked script c g line
 requests script c g line (Some wanted) = if_granted script c g line wanted (is_free c.locks.holds wanted)
 
 abbrev pub dispatches : Script → Coord → Gxid → Stmt → CoordTurn
-dispatches script c g line = requests script c g line (lock_for script g line)
+dispatches script c g line = requests script c g line (table_lock script g line)
 
 -- LINES
 -- a transaction of a session begins
@@ -286,8 +275,8 @@ rolls_back c g marks turn =
 -- by what the line asks for; the session stands where the line has led it
 abbrev pub on_line : Script → Coord → SessionId → Stmt → LineStep → CoordTurn
 on_line script c s line (step.Answer plain) = answers_at_once c s (plain_answer_of plain)
-on_line script c s line step.Refuse5 = answers_at_once c s (told.Refused refused.InFailedBlock)
-on_line script c s line step.Refuse7 = answers_at_once c s (told.Refused refused.NotInBlock)
+on_line script c s line step.InFailedBlock = answers_at_once c s (told.Refused refused.InFailedBlock)
+on_line script c s line step.NotInBlock = answers_at_once c s (told.Refused refused.NotInBlock)
 on_line script c s line (step.BeginBlock level) = behind (mark.Start c.table.next s ∷ []) (answers_at_once (begins c s level) s told.Begin)
 on_line script c s line step.CommitBlock = commits c (session_of c s).transaction
 on_line script c s line step.RollbackBlock =
@@ -498,7 +487,7 @@ is_segment script i = nat_le 1 i.0 && nat_le i.0 script.segments
 -- detector is on and none runs.
 abbrev pub coord_can : Script → Coord → NodeEvent → Bool
 coord_can script c (node.Deliver from envelope) = is_segment script from
-coord_can script c (node.Resume g) = is_ready c.locks.holds (wait_of c.locks g)
+coord_can script c (node.Resume g) = may_take c.locks g
 coord_can script c (node.Start s) = is_idle (session_of c s) && is_left (next_line script c s)
 coord_can script c (node.End s) = is_idle (session_of c s) && (not (is_left (next_line script c s)) && is_in_block (session_of c s).state.block)
 coord_can script c (node.Resend i (Some g)) = is_some (awaited c g i)

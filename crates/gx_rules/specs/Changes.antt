@@ -18,7 +18,7 @@ use Rattle.gx_dsnap.specs.declared.snapshot.Snapshot.{Snapshot}
 use Rattle.gx_modes.specs.declared.modes.Mode.TheVariants.{Exclusive, Share}
 use Rattle.gx_waits.specs.declared.claim.Claim.{Claim}
 use Rattle.gx_waits.specs.declared.object.Object.TheVariants.{Transaction, Tuple}
-use Rattle.gx_locks.specs.Locks.{is_free}
+use Rattle.gx_waits.specs.Claims.{claim, is_free}
 use Rattle.gx_meaning.specs.Answer.{keeps}
 use Rattle.gx_meaning.specs.Expressions.{and_then}
 use Rattle.gx_meaning.specs.declared.fault.ArithFault.{ArithFault}
@@ -28,7 +28,6 @@ use Rattle.gx_msg.specs.declared.reply.Reply.TheVariants.{Done, Failed}
 use Rattle.gx_store.specs.declared.mark.Mark.TheVariants.{Fault, Skip}
 use Rattle.gx_store.specs.Commands.{condition_on}
 use Rattle.gx_store.specs.Marks.{is_same_gxid}
-use Rattle.gx_store.specs.Waits.{claim}
 use Rattle.gx_store.specs.Writes.{set_row}
 use Rattle.gx_rules.specs.Locks.{wait_mark, with_wait}
 use Rattle.gx_rules.specs.Segments.{Seg, SegTurn, Suspended, Version, after_marks, local_of, stays, with_local}

@@ -7,8 +7,8 @@ use Rattle.gx_ids.specs.declared.ids.Node.{Node}
 use Rattle.gx_modes.specs.Table.{number_of}
 use Rattle.gx_waits.specs.contracts.object.ObjectOrd.TheImpl as object
 use Rattle.gx_waits.specs.declared.claim.Claim.{Claim}
-use Rattle.gx_locks.specs.Claims.{is_of}
-use Rattle.gx_locks.specs.Locks.{Locks, held, without, without_claim}
+use Rattle.gx_waits.specs.Claims.{is_of, with_claim, without, without_claim}
+use Rattle.gx_locks.specs.Locks.{Locks}
 use Rattle.gx_meaning.specs.Order.{in_order}
 use Rattle.gx_store.specs.declared.mark.Mark.{Mark}
 use Rattle.gx_store.specs.declared.mark.Mark.TheVariants as mark
@@ -24,7 +24,7 @@ release_mark node claim = mark.Release node claim.gxid claim.object claim.mode
 
 -- a request that is granted, and one that stands as a wait
 abbrev pub with_hold : Locks → Claim → Locks
-with_hold locks claim = record locks { holds = held locks.holds claim }
+with_hold locks claim = record locks { holds = with_claim claim locks.holds }
 
 abbrev pub with_wait : Locks → Claim → Locks
 with_wait locks claim = record locks { waits = locks.waits ++ claim ∷ [] }

@@ -17,7 +17,7 @@ use Rattle.gx_store.specs.declared.run.Run.{Run}
 use Rattle.gx_store.specs.declared.run.Step.{Step}
 use Rattle.gx_store.specs.Journals.{is_same_node}
 use Rattle.gx_store.specs.Refusals.{the_coordinator}
-use Rattle.gx_locks.specs.Locks.{is_ready, wait_of}
+use Rattle.gx_locks.specs.Locks.{may_take}
 use Rattle.gx_rules.specs.AtCoordinator.{cancel_turn, coord_can, coord_rule, is_segment}
 use Rattle.gx_rules.specs.AtSegment.{seg_rule}
 use Rattle.gx_rules.specs.Coordinators.{Coord, CoordTurn, new_coordinator}
@@ -83,7 +83,7 @@ at_node w event.Round = Some node.Round
 -- coordinator admits, it says itself.
 abbrev pub seg_can : Script → Seg → NodeEvent → Bool
 seg_can script s (node.Deliver from envelope) = true
-seg_can script s (node.Resume g) = is_segment script s.node && is_ready s.locks.holds (wait_of s.locks g)
+seg_can script s (node.Resume g) = is_segment script s.node && may_take s.locks g
 seg_can script s _ = false
 
 abbrev pub can_here : Script → World → Node → Option NodeEvent → Bool

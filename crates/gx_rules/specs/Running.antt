@@ -8,14 +8,13 @@ use Rattle.gx_tree.specs.declared.slice.Slice.{Slice}
 use Rattle.gx_tree.specs.declared.slice.Slice.TheVariants as slice
 use Rattle.gx_tree.specs.declared.stmt.Level.{Level}
 use Rattle.gx_dsnap.specs.declared.snapshot.Snapshot.{Snapshot}
-use Rattle.gx_modes.specs.declared.modes.Mode.TheVariants.{AccessShare, RowExclusive}
 use Rattle.gx_waits.specs.declared.claim.Claim.{Claim}
 use Rattle.gx_waits.specs.declared.object.Object.{Object}
-use Rattle.gx_waits.specs.declared.object.Object.TheVariants.{Relation, Transaction}
-use Rattle.gx_locks.specs.Locks.{is_free, resumed}
+use Rattle.gx_waits.specs.declared.object.Object.TheVariants.{Transaction}
+use Rattle.gx_locks.specs.Locks.{resumed}
+use Rattle.gx_waits.specs.Claims.{is_free}
 use Rattle.gx_script.specs.declared.Script.{Script}
-use Rattle.gx_store.specs.Locks.{changing_mode}
-use Rattle.gx_store.specs.Waits.{claim}
+use Rattle.gx_store.specs.Locks.{slice_lock}
 use Rattle.gx_rules.specs.Changes.{change_of, changes_rows, goes_on_at}
 use Rattle.gx_rules.specs.Locks.{hold_mark, wait_mark, with_hold, with_wait}
 use Rattle.gx_rules.specs.Segments.{Seg, SegTurn, Suspended, after_marks, local_of, with_local}
@@ -30,14 +29,6 @@ runs_slice s g c level snapshot (slice.Delete table cond) = changes_rows s g (ch
 runs_slice s g c level snapshot (slice.Lock table mode) = locks s g c
 
 -- THE TABLE'S LOCK
--- the lock that a slice takes on its table
-abbrev pub slice_lock : Script → Gxid → Slice → Claim
-slice_lock script g (slice.Select query) = claim g (Relation query.table) AccessShare
-slice_lock script g (slice.Insert table rows) = claim g (Relation table) RowExclusive
-slice_lock script g (slice.Update table assigns cond) = claim g (Relation table) (changing_mode script)
-slice_lock script g (slice.Delete table cond) = claim g (Relation table) (changing_mode script)
-slice_lock script g (slice.Lock table mode) = claim g (Relation table) mode
-
 -- it waits for the lock: the command has come, and isn't answered yet
 abbrev pub suspended_slice : Cid → Level → Option Snapshot → Slice → Suspended
 suspended_slice c level snapshot slice = record { cid = c; level = level; snapshot = snapshot; slice = slice; count = 0; row = None; rows = [] }

@@ -26,7 +26,7 @@ use Rattle.gx_msg.specs.declared.reply.Reply.TheVariants.{Done, Failed}
 use Rattle.gx_store.specs.declared.mark.Mark.{Mark}
 use Rattle.gx_store.specs.declared.mark.Mark.TheVariants.{Write, Fault}
 use Rattle.gx_store.specs.Commands.{condition_on}
-use Rattle.gx_store.specs.Waits.{claim}
+use Rattle.gx_waits.specs.Claims.{claim}
 use Rattle.gx_rules.specs.Locks.{hold_mark, release_mark, with_hold, without_hold}
 use Rattle.gx_rules.specs.Segments.{Phase, Seg, SegTurn, Version, local_of, reply, stays, with_local}
 use Rattle.gx_rules.specs.Segments.Phase.{Reading, Writing}

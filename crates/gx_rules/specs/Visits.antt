@@ -10,7 +10,7 @@ use Rattle.gx_meaning.specs.declared.fault.ArithFault.{ArithFault}
 use Rattle.gx_msg.specs.declared.reply.Cause.{Cause}
 use Rattle.gx_msg.specs.declared.reply.Cause.TheVariants.{Serialization}
 use Rattle.gx_msg.specs.declared.reply.Reply.TheVariants as reply
-use Rattle.gx_locks.specs.Locks.{is_free}
+use Rattle.gx_waits.specs.Claims.{is_free}
 use Rattle.gx_store.specs.declared.mark.Mark.TheVariants as mark
 use Rattle.gx_store.specs.Commands.{condition_on}
 use Rattle.gx_rules.specs.Changes.{Change, RowEnd, RowTurn, does_row, end_lock, ended, gives_back_if_held, is_done, is_settled, new_image, suspended_at, suspends_at, tuple_lock, waits}

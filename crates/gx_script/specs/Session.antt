@@ -3,7 +3,7 @@ use Rattle.std.specs.Prelude.{◌≡◌, true, false}
 use Rattle.gx_tree.specs.declared.stmt.Stmt.{Stmt}
 use Rattle.gx_tree.specs.declared.stmt.Stmt.TheVariants as stmt
 use Rattle.gx_script.specs.declared.line_step.LineStep.{LineStep}
-use Rattle.gx_script.specs.declared.line_step.LineStep.TheVariants.{Answer, Refuse5, Refuse7, BeginBlock, CommitBlock, RollbackBlock, Command}
+use Rattle.gx_script.specs.declared.line_step.LineStep.TheVariants.{Answer, InFailedBlock, NotInBlock, BeginBlock, CommitBlock, RollbackBlock, Command}
 use Rattle.gx_script.specs.declared.line_step.Plain.TheVariants as plain
 use Rattle.gx_script.specs.declared.state.Block.{Block}
 use Rattle.gx_script.specs.declared.state.Block.TheVariants.{Outside, Open, Failed}
@@ -25,7 +25,7 @@ abbrev pub line_step : Block → Stmt → LineStep
 line_step Outside (stmt.Begin level) = BeginBlock level
 line_step Outside stmt.Commit = Answer plain.Commit
 line_step Outside stmt.Rollback = Answer plain.Rollback
-line_step Outside (stmt.Lock table mode) = Refuse7
+line_step Outside (stmt.Lock table mode) = NotInBlock
 line_step Outside _ = Command true
 line_step (Open level) (stmt.Begin other) = Answer plain.Begin
 line_step (Open level) stmt.Commit = CommitBlock
@@ -33,7 +33,7 @@ line_step (Open level) stmt.Rollback = RollbackBlock
 line_step (Open level) _ = Command false
 line_step Failed stmt.Commit = Answer plain.Rollback
 line_step Failed stmt.Rollback = Answer plain.Rollback
-line_step Failed _ = Refuse5
+line_step Failed _ = InFailedBlock
 
 -- the block after a line has asked for this: a commit closes it when it has ended
 abbrev pub block_after : Block → LineStep → Block

@@ -14,9 +14,9 @@ pub enum LineStep {
     /// The line is answered at once.
     Answer(Plain),
     /// The block has failed.
-    Refuse5,
+    InFailedBlock,
     /// The line has to stand in a block.
-    Refuse7,
+    NotInBlock,
     /// A block opens, whose transaction has this level.
     BeginBlock(Level),
     /// The block's transaction commits. The session waits for that.

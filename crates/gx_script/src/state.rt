@@ -99,7 +99,7 @@ fn outside_step(stmt: &Stmt) -> LineStep
         Stmt::Begin(level) => LineStep::BeginBlock(*level),
         Stmt::Commit => LineStep::Answer(Plain::Commit),
         Stmt::Rollback => LineStep::Answer(Plain::Rollback),
-        Stmt::Lock(_, _) => LineStep::Refuse7,
+        Stmt::Lock(_, _) => LineStep::NotInBlock,
         _ => LineStep::Command { alone: true },
     }
 }
@@ -121,7 +121,7 @@ fn failed_step(stmt: &Stmt) -> LineStep
     match stmt {
         Stmt::Commit => LineStep::Answer(Plain::Rollback),
         Stmt::Rollback => LineStep::Answer(Plain::Rollback),
-        _ => LineStep::Refuse5,
+        _ => LineStep::InFailedBlock,
     }
 }
 

@@ -12,10 +12,10 @@ use Rattle.gx_dsnap.specs.declared.snapshot.Snapshot.{Snapshot}
 use Rattle.gx_waits.specs.declared.claim.Claim.{Claim}
 use Rattle.gx_waits.specs.declared.object.Object.{Object}
 use Rattle.gx_waits.specs.declared.object.Object.TheVariants.{Relation, Transaction, Tuple}
-use Rattle.gx_locks.specs.Claims.{is_of}
-use Rattle.gx_locks.specs.Locks.{Locks, is_free, is_ready, resumed, wait_of}
+use Rattle.gx_waits.specs.Claims.{is_free, is_of}
+use Rattle.gx_locks.specs.Locks.{Locks, is_ready, may_take, resumed, wait_of}
 use Rattle.gx_node.specs.Locking as code_of
-use Rattle.gx_node.specs.Locking.{asked_locks, asked_mark, granted_locks, granted_marks, marks_on_end}
+use Rattle.gx_node.specs.Locking.{asked_locks, asked_mark, granted_locks, granted_marks, is_on_transaction, marks_on_end}
 use Rattle.gx_node.specs.Phases.{suspended_of}
 use Rattle.gx_node.specs.declared.local.Suspended as code
 use Rattle.gx_store.specs.declared.mark.Mark.{Mark}
@@ -27,7 +27,7 @@ use Rattle.gx_rules.specs.Slices.{Moved}
 use Rattle.gx_slices.specs.Agrees.{AreWriters, IsHeld}
 use Rattle.gx_slices.specs.Ran.{MayGoOn, MayRun}
 use Rattle.gx_slices.specs.Suspensions.{HasSuspended, HasWoken}
-use Rattle.gx_slices.specs.Owning.{is_on_transaction, is_own}
+use Rattle.gx_slices.specs.Owning.{is_own}
 use Rattle.gx_slices.specs.Waiting.{AreWaits}
 use Rattle.gx_slices.specs.declared.held.Held.{Held}
 use Rattle.gx_slices.proofs.OwnMoves.{AreWriters-held}
@@ -146,9 +146,9 @@ module _ (s : Seg) (g : Gxid) where
   by-wait w None e = absurd (cc)
   by-wait w (Some wanted) e = ap (λ (m : Moved). goes_on m g w w.row) (by-object wanted wanted.object)
 
-module _ (tables : List Schema) (held woke : Held) (s : Seg) (g : Gxid) (found : Option code.Suspended) (is : IsHeld tables held s) (ready : is_ready s.locks.holds (wait_of s.locks g) ≡ true) (did : HasWoken held woke g found) where
-  pub ready-still : is_ready woke.locks.holds (wait_of woke.locks g) ≡ true
-  ready-still = ap (λ (l : Locks). is_ready l.holds (wait_of l g)) (did.locks ∙ is.locks) ∙ ready
+module _ (tables : List Schema) (held woke : Held) (s : Seg) (g : Gxid) (found : Option code.Suspended) (is : IsHeld tables held s) (ready : may_take s.locks g ≡ true) (did : HasWoken held woke g found) where
+  pub ready-still : may_take woke.locks g ≡ true
+  ready-still = ap (λ (l : Locks). may_take l g) (did.locks ∙ is.locks) ∙ ready
 
   pub turn-resumed : (w : code.Suspended) → found ≡ Some w → (node : Node) (marks : List Mark) → node ≡ s.node → marks ≡ [] ++ granted_marks node (wait_of woke.locks g) → goes_on (record { seg = awakened s g; marks = marks }) g (suspended_of w) w.row ≡ resumes s g (wait_of s.locks g) (local_of s g).suspended
   turn-resumed w some node marks n told =

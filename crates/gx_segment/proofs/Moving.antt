@@ -12,7 +12,7 @@ use Rattle.gx_dsnap.specs.Gxids.{gxid_cmp, is_below}
 use Rattle.gx_slices.specs.Store.{Write, is_by, passes, status_of, with_status, writes_of}
 use Rattle.gx_waits.specs.Claim.{same_claim}
 use Rattle.gx_waits.specs.declared.claim.Claim.{Claim}
-use Rattle.gx_locks.specs.Claims.{is_of}
+use Rattle.gx_waits.specs.Claims.{is_of}
 use Rattle.gx_locks.specs.Locks.{Locks, wait_of}
 use Rattle.gx_node.specs.Changes.{Change, Makes, left_locks}
 use Rattle.gx_node.specs.Outcomes.{Outcome}

@@ -17,14 +17,16 @@ use Rattle.gx_dsnap.specs.declared.snapshot.Snapshot.{Snapshot}
 use Rattle.gx_waits.specs.declared.claim.Claim.{Claim}
 use Rattle.gx_waits.specs.declared.object.Object.{Object}
 use Rattle.gx_waits.specs.declared.object.Object.TheVariants.{Relation, Transaction, Tuple}
-use Rattle.gx_locks.specs.Locks.{is_free, resumed}
+use Rattle.gx_locks.specs.Locks.{resumed}
+use Rattle.gx_waits.specs.Claims.{is_free}
 use Rattle.gx_meaning.specs.declared.fault.ArithFault.{ArithFault}
 use Rattle.gx_script.specs.declared.Script.{Script}
 use Rattle.gx_store.specs.declared.mark.Mark.TheVariants as mark
 use Rattle.gx_rules.specs.AtSegment.{resumes}
 use Rattle.gx_rules.specs.Changes.{Change, change_of, changes_rows, goes_on_at, goes_through, selected, shown_to, unless_fault}
 use Rattle.gx_rules.specs.Locks.{hold_mark, with_hold}
-use Rattle.gx_rules.specs.Running.{goes_on, is_granted, runs_locked, runs_slice, slice_lock, starts_slice, suspends, unless_end}
+use Rattle.gx_rules.specs.Running.{goes_on, is_granted, runs_locked, runs_slice, starts_slice, suspends, unless_end}
+use Rattle.gx_store.specs.Locks.{slice_lock}
 use Rattle.gx_rules.specs.Segments.{Phase, Reading, Writing, Prepared, Committed, Forgotten, Aborted, Seg, Suspended, local_of, with_local}
 use Rattle.gx_rules.specs.Shown.{shown}
 use Rattle.gx_rules.specs.Slices.{Moved, adds_version, first_fault, inserts_row, selects, starts_from, takes_own, version, writes_row}

@@ -1,15 +1,14 @@
 // A slice takes its table's lock and runs, or waits for it; and one that has waited, there or at a row, goes on.
 ghost use Rattle.std.specs.Prelude.{[], ◌∷◌, ◌≡◌, true, false, None, IfOk, OnOk};
 ghost use Rattle.std.specs.List.{list_any};
-ghost use Rattle.gx_locks.specs.Claims.{is_of};
-ghost use Rattle.gx_locks.specs.Locks.{is_free, is_ready, wait_of};
-ghost use Rattle.gx_node.specs.Locking.{asked_locks, asked_mark, granted_locks, granted_marks};
+ghost use Rattle.gx_waits.specs.Claims.{is_free, is_of};
+ghost use Rattle.gx_locks.specs.Locks.{may_take, wait_of};
+ghost use Rattle.gx_node.specs.Locking.{asked_locks, asked_mark, granted_locks, granted_marks, is_on_transaction};
 ghost use Rattle.gx_rules.specs.AtSegment.{resumes};
 ghost use Rattle.gx_rules.specs.Segments.{local_of};
 ghost use Rattle.gx_node.specs.Phases.{suspended_of};
-ghost use Rattle.gx_rules.specs.Running.{goes_on, requests, slice_lock, suspended_slice};
+ghost use Rattle.gx_rules.specs.Running.{goes_on, requests, suspended_slice};
 ghost use Rattle.gx_slices.specs.Agrees.{IsHeld};
-ghost use Rattle.gx_slices.specs.Owning.{is_on_transaction};
 ghost use Rattle.gx_slices.specs.Ran.{MayGoOn, MayRun};
 ghost use Rattle.gx_segment.specs.Before.{Before};
 ghost use Rattle.gx_segment.specs.Done.{HasDone, IsQuiet, came, answer_of};
@@ -17,31 +16,14 @@ ghost use Rattle.gx_segment.specs.Ways.{starts};
 
 use crate::done::{Done, nothing, tell};
 use gx_ids::{Gxid, Mem, Node};
-use gx_modes::Mode;
-use gx_node::{Suspended, ask_for, changing_mode, claim_on, take_granted};
+use gx_node::{Suspended, ask_for, slice_lock, take_granted};
 use gx_outside::{Gate, pass};
 use gx_script::Script;
 use gx_slices::{Held, Progress, go_on, suspend, wake};
 use gx_store::Mark;
-use gx_tree::Slice;
 use gx_waits::Claim;
 use std::alloc::Global;
 use std::mem;
-
-// The lock that a slice takes on its table.
-fn lock_of(script: &Script, gxid: Gxid, slice: &Slice) -> Claim
-    ensures value { result ≡ slice_lock script.now gxid slice.now }
-    ensures own { result.gxid ≡ gxid }
-    ensures on_table { is_on_transaction result.object ≡ false }
-{
-    match slice {
-        Slice::Select(query) => claim_on(gxid, query.get().table, Mode::AccessShare),
-        Slice::Insert(table, _) => claim_on(gxid, *table, Mode::RowExclusive),
-        Slice::Update(table, _, _) => claim_on(gxid, *table, changing_mode(script)),
-        Slice::Delete(table, _) => claim_on(gxid, *table, changing_mode(script)),
-        Slice::Lock(table, mode) => claim_on(gxid, *table, *mode),
-    }
-}
 
 // The slice of a new command.
 pub(crate) fn start<G: Gate>(
@@ -64,7 +46,7 @@ pub(crate) fn start<G: Gate>(
     ensures done { IfOk result (λ done. HasDone was.script.tables held.new was.seg.horizon (came marks.new.items done) (starts was.script was.seg gxid command)) }
     ensures quiet { IfOk result (λ done. IsQuiet done.fails (starts was.script was.seg gxid command)) }
 {
-    let wanted = lock_of(script, gxid, &command.slice);
+    let wanted = slice_lock(script, gxid, &command.slice);
     request(
         alloc, node, script, held, gxid, command, wanted, gate, marks,
     )
@@ -161,7 +143,7 @@ pub(crate) fn resume<G: Gate>(
     ghost was: { Before }
     requires script { script.now ≡ was.script }
     requires held { IsHeld was.script.tables held.old was.seg }
-    requires ready { is_ready was.seg.locks.holds (wait_of was.seg.locks gxid) ≡ true }
+    requires ready { may_take was.seg.locks gxid ≡ true }
     requires node { node ≡ was.seg.node }
     requires blank { marks.old.items ≡ [] }
     ensures done { IfOk result (λ done. HasDone was.script.tables held.new was.seg.horizon (came marks.new.items done)

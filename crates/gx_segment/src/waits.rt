@@ -1,9 +1,9 @@
 // Who waits at a segment.
-ghost use Rattle.std.specs.Prelude.{◌≡◌, ◌==◌, not, length, None, IfOk};
+ghost use Rattle.std.specs.Prelude.{◌≡◌, ◌==◌, not, length, IfOk};
 ghost use Rattle.std.specs.List.{list_any};
-ghost use Rattle.gx_locks.specs.Claims.{is_of};
+ghost use Rattle.gx_waits.specs.Claims.{is_of};
 ghost use Rattle.gx_locks.specs.Graphs.{graph_at};
-ghost use Rattle.gx_locks.specs.Locks.{is_ready, least_with, ready_ones, wait_of};
+ghost use Rattle.gx_locks.specs.Locks.{may_take, next_ready};
 ghost use Rattle.gx_rules.specs.Segments.{Seg};
 ghost use Rattle.gx_segment.specs.Steps.{IsSegment};
 
@@ -16,7 +16,7 @@ impl Segment {
     pub fn ready(&self) -> Option<Gxid>
         ghost s: { Seg }
         requires { IsSegment self.now s }
-        ensures { result ≡ least_with None (ready_ones s.locks) }
+        ensures { result ≡ next_ready s.locks }
     {
         self.held.locks.ready()
     }
@@ -25,7 +25,7 @@ impl Segment {
     pub fn can_resume(&self, gxid: Gxid) -> bool
         ghost s: { Seg }
         requires { IsSegment self.now s }
-        ensures { result ≡ is_ready s.locks.holds (wait_of s.locks gxid) }
+        ensures { result ≡ may_take s.locks gxid }
     {
         self.held.locks.is_ready(gxid)
     }

@@ -6,7 +6,7 @@ use Rattle.std.proofs.lemmas.Option.{unwrap_or-slice_get}
 use Rattle.std.specs.List.{list_any}
 use Rattle.gx_ids.specs.declared.ids.Gxid.{Gxid}
 use Rattle.gx_ids.specs.declared.rid.Rid.{Rid}
-use Rattle.gx_locks.specs.Claims.{is_of}
+use Rattle.gx_waits.specs.Claims.{is_of}
 use Rattle.gx_msg.specs.declared.reply.Cause.{Cause}
 use Rattle.gx_store.specs.declared.mark.Mark.{Mark}
 use Rattle.gx_gather.proofs.Steps.{drop_next}

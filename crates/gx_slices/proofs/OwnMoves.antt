@@ -9,13 +9,14 @@ use Rattle.gx_waits.specs.Claim.{same_claim, same_object}
 use Rattle.gx_waits.specs.declared.claim.Claim.{Claim}
 use Rattle.gx_waits.specs.declared.object.Object.{Object}
 use Rattle.gx_waits.specs.declared.object.Object.TheVariants.{Relation, Transaction, Tuple}
-use Rattle.gx_locks.specs.Locks.{Locks, held, resumed, wait_of, without, without_claim}
-use Rattle.gx_node.specs.Locking.{granted_locks, unless_end}
+use Rattle.gx_locks.specs.Locks.{Locks, resumed, wait_of}
+use Rattle.gx_waits.specs.Claims.{with_claim, without, without_claim}
+use Rattle.gx_node.specs.Locking.{granted_locks, is_on_transaction, unless_end}
 use Rattle.gx_rules.specs.Segments.{Phase, Reading, Writing, Prepared, Committed, Forgotten, Aborted, Seg}
 use Rattle.gx_rules.specs.Slices.{own_lock}
 use Rattle.gx_slices.specs.Agrees.{AreWriters}
 use Rattle.gx_slices.specs.Apart.{IsApart}
-use Rattle.gx_slices.specs.Owning.{AreOwn, is_on_transaction, own_locks}
+use Rattle.gx_slices.specs.Owning.{AreOwn, own_locks}
 use Rattle.gx_slices.specs.declared.held.Entry.{Entry}
 use Rattle.gx_slices.specs.declared.held.Held.{Held}
 use Rattle.gx_slices.proofs.Owning.{without-held}
@@ -34,7 +35,7 @@ not-own h (Transaction other) a b e = absurd (cc)
 unowned : (h : Gxid) (claim : Claim) → is_on_transaction claim.object ≡ false → same_claim (own_lock h) claim ≡ false
 unowned h claim e = not-own h claim.object (eqb h.0 claim.gxid.0) (eqb (number_of Exclusive) (number_of claim.mode)) e
 
-any-held : (p : Claim → Bool) (holds : List Claim) (claim : Claim) → p claim ≡ false → list_any p (held holds claim) ≡ list_any p holds
+any-held : (p : Claim → Bool) (holds : List Claim) (claim : Claim) → p claim ≡ false → list_any p (with_claim claim holds) ≡ list_any p holds
 any-held p holds claim e = either (list_any (same_claim claim) holds)
   where
     or-no : (b : Bool) → (b || (false || false)) ≡ b
@@ -83,9 +84,9 @@ AreWriters-waits s was waits = AreWriters-locks s was (record s.locks { waits = 
 
 -- a lock on no transaction is taken, and a lock is given back
 module _ (s : Seg) (was : AreWriters s) (claim : Claim) (waits : List Claim) where
-  pub AreWriters-held : is_on_transaction claim.object ≡ false → AreWriters (record s { locks = record s.locks { holds = held s.locks.holds claim; waits = waits } })
+  pub AreWriters-held : is_on_transaction claim.object ≡ false → AreWriters (record s { locks = record s.locks { holds = with_claim claim s.locks.holds; waits = waits } })
   AreWriters-held on_none =
-      AreWriters-locks s was (record s.locks { holds = held s.locks.holds claim; waits = waits })
+      AreWriters-locks s was (record s.locks { holds = with_claim claim s.locks.holds; waits = waits })
       (λ h e. sym (any-held (same_claim (own_lock h)) s.locks.holds claim (unowned h claim on_none)) ∙ e)
 
   pub AreWriters-without : AreWriters (record s { locks = record s.locks { holds = without_claim claim s.locks.holds; waits = waits } })

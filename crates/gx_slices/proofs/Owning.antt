@@ -11,12 +11,13 @@ use Rattle.gx_waits.specs.Claim.{meets, same_claim, same_object}
 use Rattle.gx_waits.specs.declared.claim.Claim.{Claim}
 use Rattle.gx_waits.specs.declared.object.Object.{Object}
 use Rattle.gx_waits.specs.declared.object.Object.TheVariants.{Relation, Transaction, Tuple}
-use Rattle.gx_locks.specs.Locks.{Locks, held, is_free, resumed, without_claim}
-use Rattle.gx_node.specs.Locking.{granted_locks, unless_end}
+use Rattle.gx_locks.specs.Locks.{Locks, resumed}
+use Rattle.gx_waits.specs.Claims.{is_free, with_claim, without_claim}
+use Rattle.gx_node.specs.Locking.{granted_locks, is_on_transaction, unless_end}
 use Rattle.gx_store.specs.declared.mark.Mark.{Mark}
 use Rattle.gx_rules.specs.Segments.{Phase, Reading, Writing, Prepared, Committed, Forgotten, Aborted}
 use Rattle.gx_rules.specs.Slices.{Moved, own_lock, takes_own}
-use Rattle.gx_slices.specs.Owning.{AreOwn, is_on_transaction, is_own, is_own_on, own_locks, own_marks}
+use Rattle.gx_slices.specs.Owning.{AreOwn, is_own, is_own_on, own_locks, own_marks}
 use Rattle.gx_slices.proofs.Gxids.{itself}
 use Rattle.gx_slices.proofs.Lists.{and_parts}
 
@@ -47,7 +48,7 @@ pub free-own : (g : Gxid) (holds : List Claim) → AreOwn holds → is_free hold
 free-own g holds own = ap not (none-met g holds own)
 
 -- IT STAYS SO
-pub AreOwn-held : (holds : List Claim) (claim : Claim) → is_own claim ≡ true → AreOwn holds → AreOwn (held holds claim)
+pub AreOwn-held : (holds : List Claim) (claim : Claim) → is_own claim ≡ true → AreOwn holds → AreOwn (with_claim claim holds)
 AreOwn-held holds claim own all = either (list_any (same_claim claim) holds)
   where
     one_more : (a b : Bool) → a ≡ true → b ≡ true → (a && (b && true)) ≡ true
@@ -89,7 +90,7 @@ same_claim-itself : (claim : Claim) → same_claim claim claim ≡ true
 same_claim-itself claim = all-three _ _ _ (itself claim.gxid.0) (same_object-itself claim.object) (itself (number_of claim.mode))
 
 -- a claim that is granted and given back at once
-pub without-held : (claim : Claim) (holds : List Claim) → without_claim claim (held holds claim) ≡ without_claim claim holds
+pub without-held : (claim : Claim) (holds : List Claim) → without_claim claim (with_claim claim holds) ≡ without_claim claim holds
 without-held claim holds = either (list_any (same_claim claim) holds)
   where
     either : (b : Bool) → without_claim claim (if b then holds else holds ++ claim ∷ []) ≡ without_claim claim holds

@@ -11,8 +11,8 @@ use Rattle.gx_modes.specs.declared.modes.Mode.TheVariants.{AccessShare, RowShare
 use Rattle.gx_waits.specs.Claim.{meets, same_claim, same_object}
 use Rattle.gx_waits.specs.declared.claim.Claim.{Claim}
 use Rattle.gx_waits.specs.declared.object.Object.TheVariants.{Transaction}
-use Rattle.gx_locks.specs.Claims.{is_of}
-use Rattle.gx_locks.specs.Locks.{Locks, held, is_free}
+use Rattle.gx_waits.specs.Claims.{is_free, is_of, with_claim}
+use Rattle.gx_locks.specs.Locks.{Locks}
 use Rattle.gx_node.specs.Locking.{asked_locks}
 use Rattle.gx_store.specs.Marks.{is_same_gxid}
 use Rattle.gx_rules.specs.Changes.{end_lock, tuple_lock}
@@ -75,7 +75,7 @@ module _ (g writer : Gxid) (other : is_same_gxid writer g ≡ false) where
           or-later false b e = e
 
 -- WITH THE ROW'S LOCK
-any-held-too : (p : Claim → Bool) (holds : List Claim) (claim : Claim) → list_any p holds ≡ true → list_any p (held holds claim) ≡ true
+any-held-too : (p : Claim → Bool) (holds : List Claim) (claim : Claim) → list_any p holds ≡ true → list_any p (with_claim claim holds) ≡ true
 any-held-too p holds claim e = either (list_any (same_claim claim) holds)
   where
     or-more : (a b : Bool) → a ≡ true → (a || b) ≡ true

@@ -9,8 +9,8 @@ use Rattle.gx_tree.specs.declared.schema.Schema.{Schema}
 use Rattle.gx_waits.specs.declared.claim.Claim.{Claim}
 use Rattle.gx_waits.specs.declared.object.Object.{Object}
 use Rattle.gx_waits.specs.declared.object.Object.TheVariants.{Relation, Transaction, Tuple}
-use Rattle.gx_locks.specs.Claims.{is_of}
-use Rattle.gx_locks.specs.Locks.{Locks, is_ready, resumed, wait_of, without}
+use Rattle.gx_waits.specs.Claims.{is_of, without}
+use Rattle.gx_locks.specs.Locks.{Locks, is_ready, may_take, resumed, wait_of}
 use Rattle.gx_node.specs.Locking.{granted_locks, unless_end}
 use Rattle.gx_node.specs.Phases as code_of
 use Rattle.gx_node.specs.Phases.{suspended_of}
@@ -89,7 +89,7 @@ module _ (tables : List Schema) (held locked new : Held) (s : Seg) (g : Gxid) (w
       refl may.may.new (did.back.locks ∙ locks) was.owned (AreWriters-waits s was.writers (s.locks.waits ++ wanted ∷ [])) waits-after was.typed
 
 -- IT WAITS NO MORE
-module _ (tables : List Schema) (old woke : Held) (s : Seg) (g : Gxid) (waiting : Option code.Suspended) (was : IsHeld tables old s) (ready : is_ready s.locks.holds (wait_of s.locks g) ≡ true) (did : HasWoken old woke g waiting) where
+module _ (tables : List Schema) (old woke : Held) (s : Seg) (g : Gxid) (waiting : Option code.Suspended) (was : IsHeld tables old s) (ready : may_take s.locks g ≡ true) (did : HasWoken old woke g waiting) where
   abbrev pub awake : Local → Local
   awake l = record l { suspended = None }
 

@@ -10,7 +10,7 @@ use Rattle.gx_ids.specs.declared.rid.Rid.{Rid}
 use Rattle.gx_tree.specs.declared.row.KeyedRow.{KeyedRow}
 use Rattle.gx_tree.specs.declared.schema.Schema.{Schema}
 use Rattle.gx_tree.specs.declared.value.Value.{Value}
-use Rattle.gx_locks.specs.Claims.{is_of}
+use Rattle.gx_waits.specs.Claims.{is_of}
 use Rattle.gx_rows.specs.declared.status.LocalStatus.TheVariants.{Running}
 use Rattle.gx_slices.specs.Store.{status_of, writes_of}
 use Rattle.gx_node.specs.Phases.{phase_of}

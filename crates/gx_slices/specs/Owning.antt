@@ -1,5 +1,5 @@
 -- Whose locks on transactions stand at a segment, and the one that a writer takes on itself.
-use Rattle.std.specs.Prelude.{◌≡◌, ◌==◌, Bool, true, false, List, [], ◌∷◌}
+use Rattle.std.specs.Prelude.{◌≡◌, ◌==◌, Bool, true, List, [], ◌∷◌}
 use Rattle.std.specs.List.{list_all}
 use Rattle.gx_ids.specs.declared.ids.Gxid.{Gxid}
 use Rattle.gx_ids.specs.declared.ids.Node.{Node}
@@ -24,12 +24,6 @@ is_own claim = is_own_on claim.gxid claim.object
 -- a transaction is held by itself alone
 abbrev pub AreOwn : List Claim → Type 0
 AreOwn holds = list_all is_own holds ≡ true
-
--- a table or a row is claimed, and no transaction
-abbrev pub is_on_transaction : Object → Bool
-is_on_transaction (Relation table) = false
-is_on_transaction (Tuple rid) = false
-is_on_transaction (Transaction other) = true
 
 -- who has written nothing here takes its own lock
 abbrev pub own_locks : Gxid → Phase → Locks → Locks

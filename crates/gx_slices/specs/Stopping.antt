@@ -5,7 +5,8 @@ use Rattle.gx_ids.specs.declared.ids.Gxid.{Gxid}
 use Rattle.gx_ids.specs.declared.ids.Node.{Node}
 use Rattle.gx_ids.specs.declared.rid.Rid.{Rid}
 use Rattle.gx_waits.specs.Claim.{same_claim}
-use Rattle.gx_locks.specs.Locks.{Locks, is_free}
+use Rattle.gx_locks.specs.Locks.{Locks}
+use Rattle.gx_waits.specs.Claims.{is_free}
 use Rattle.gx_node.specs.Locking.{asked_locks, asked_mark}
 use Rattle.gx_store.specs.declared.mark.Mark.{Mark}
 use Rattle.gx_rules.specs.Changes.{end_lock, tuple_lock}

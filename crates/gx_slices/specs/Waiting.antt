@@ -3,7 +3,7 @@ use Rattle.std.specs.Prelude.{◌≡◌, ◌≤◌, ◌<◌, ◌+◌, ◌^◌, �
 use Rattle.std.specs.List.{list_any}
 use Rattle.gx_ids.specs.declared.ids.Gxid.{Gxid}
 use Rattle.gx_tree.specs.declared.schema.Schema.{Schema}
-use Rattle.gx_locks.specs.Claims.{is_of}
+use Rattle.gx_waits.specs.Claims.{is_of}
 use Rattle.gx_node.specs.Right.{IsRightFor}
 use Rattle.gx_rules.specs.Fits.{is_waiting, reads_nothing}
 use Rattle.gx_rules.specs.Segments.{Phase, Reading, Writing, Seg, Suspended, local_of}

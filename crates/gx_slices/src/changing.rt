@@ -1,8 +1,7 @@
 // A command gives a row of a table a new image.
 ghost use Rattle.std.specs.Prelude.{◌≡◌, ◌≤◌, ◌++◌, true, false, OnOk};
 ghost use Rattle.std.specs.List.{list_any};
-ghost use Rattle.gx_locks.specs.Claims.{is_of};
-ghost use Rattle.gx_locks.specs.Locks.{is_free};
+ghost use Rattle.gx_waits.specs.Claims.{is_free, is_of};
 ghost use Rattle.gx_node.specs.Phases.{phase_of};
 ghost use Rattle.gx_rules.specs.Slices as rule;
 ghost use Rattle.gx_slices.specs.Inserts.{IsPut};

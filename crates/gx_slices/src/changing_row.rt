@@ -1,7 +1,7 @@
 // One row of a command that changes rows.
 ghost use Rattle.std.specs.Prelude.{◌≡◌, ◌++◌, ◌∷◌, [], false, IfOk, OnOk, Some};
 ghost use Rattle.std.specs.List.{list_any};
-ghost use Rattle.gx_locks.specs.Claims.{is_of};
+ghost use Rattle.gx_waits.specs.Claims.{is_of};
 ghost use Rattle.gx_store.specs.declared.mark.Mark.TheVariants as mark;
 ghost use Rattle.gx_rules.specs.Changes as rule;
 ghost use Rattle.gx_rules.specs.Shown.{current_of};

@@ -1,7 +1,7 @@
 // An INSERT at a segment.
 ghost use Rattle.std.specs.Prelude.{◌≡◌, ◌≤◌, true, false, length, nat_lt, IfOk, OnOk};
 ghost use Rattle.std.specs.List.{list_any};
-ghost use Rattle.gx_locks.specs.Claims.{is_of};
+ghost use Rattle.gx_waits.specs.Claims.{is_of};
 ghost use Rattle.gx_node.specs.Right.{IsRightFor};
 ghost use Rattle.gx_rules.specs.Fits.{is_waiting};
 ghost use Rattle.gx_rules.specs.Segments.{Seg, after_marks, local_of};

@@ -17,7 +17,8 @@ use Rattle.gx_store.specs.declared.mark.Mark.TheVariants as mark
 use Rattle.gx_store.specs.declared.run.Step.{Step}
 use Rattle.gx_store.specs.Locks.{AreExclusive, AreGranted, AreLockedMarks, AreLockedSteps, LegalHold}
 use Rattle.gx_store.specs.Points.{IsPointOf, Point, before, marks_in}
-use Rattle.gx_store.specs.Waits.{added, claim, holds_at, holds_from, without}
+use Rattle.gx_store.specs.Waits.{holds_at, holds_from}
+use Rattle.gx_waits.specs.Claims.{claim, with_claim, without_claim}
 use Rattle.gx_store.proofs.Runs.{marks_in-push}
 
 abbrev Apart : Claim → Claim → Type 0
@@ -26,8 +27,8 @@ Apart earlier later = Meets later earlier → ⊥
 -- LISTS
 pub holds_from-append : (node : Node) (holds : List Claim) (xs ys : List Mark) → holds_from node holds (xs ++ ys) ≡ holds_from node (holds_from node holds xs) ys
 holds_from-append node holds [] ys = refl
-holds_from-append node holds (mark.Hold n g object mode ∷ xs) ys = holds_from-append node (if n.0 == node.0 then added (claim g object mode) holds else holds) xs ys
-holds_from-append node holds (mark.Release n g object mode ∷ xs) ys = holds_from-append node (if n.0 == node.0 then without (claim g object mode) holds else holds) xs ys
+holds_from-append node holds (mark.Hold n g object mode ∷ xs) ys = holds_from-append node (if n.0 == node.0 then with_claim (claim g object mode) holds else holds) xs ys
+holds_from-append node holds (mark.Release n g object mode ∷ xs) ys = holds_from-append node (if n.0 == node.0 then without_claim (claim g object mode) holds else holds) xs ys
 holds_from-append node holds (m ∷ xs) ys = holds_from-append node holds xs ys
 
 pub granted-front : (marks xs ys : List Mark) → AreGranted marks (xs ++ ys) → AreGranted marks xs
@@ -41,7 +42,7 @@ granted-more marks (mark.Hold n g object mode ∷ xs) ys h k = (h.0, granted-mor
 granted-more marks (m ∷ xs) ys h k = granted-more (marks ++ m ∷ []) xs ys h (subst (λ m. AreGranted m ys) (sym (append_assoc marks (m ∷ []) xs)) k)
 
 -- HOLDS
-with-more : (new : Claim) (holds : List Claim) → All (λ hold. Meets new hold → ⊥) holds → AllPairs Apart holds → AllPairs Apart (added new holds)
+with-more : (new : Claim) (holds : List Claim) → All (λ hold. Meets new hold → ⊥) holds → AllPairs Apart holds → AllPairs Apart (with_claim new holds)
 with-more new holds free apart = by_test (list_any (same_claim new) holds)
   where
     by_test : (b : Bool) → AllPairs Apart (if b then holds else holds ++ new ∷ [])
@@ -52,7 +53,7 @@ abbrev Exclusive : Node → List Mark → Type 0
 Exclusive node marks = AllPairs Apart (holds_at marks node)
 
 -- behind one mark more
-behind-hold : (node n : Node) (new : Claim) (marks : List Mark) → LegalHold marks n new → Exclusive node marks → (b : Bool) → (n.0 == node.0) ≡ b → AllPairs Apart (if b then added new (holds_at marks node) else holds_at marks node)
+behind-hold : (node n : Node) (new : Claim) (marks : List Mark) → LegalHold marks n new → Exclusive node marks → (b : Bool) → (n.0 == node.0) ≡ b → AllPairs Apart (if b then with_claim new (holds_at marks node) else holds_at marks node)
 behind-hold node n new marks free apart true same = with-more new (holds_at marks node) (subst (λ (k : Node). LegalHold marks k new) (same-node n.0 node.0 same) free) apart
   where
     same-node : (a b : ℕ) → (a == b) ≡ true → (let n : Node = record { 0 = a } in n) ≡ record { 0 = b }
@@ -62,7 +63,7 @@ behind-hold node n new marks free apart true same = with-more new (holds_at mark
         same-number a b e = grind (arith, nat_tests)
 behind-hold node n new marks free apart false same = apart
 
-behind-release : (old : Claim) (holds : List Claim) → AllPairs Apart holds → (b : Bool) → AllPairs Apart (if b then without old holds else holds)
+behind-release : (old : Claim) (holds : List Claim) → AllPairs Apart holds → (b : Bool) → AllPairs Apart (if b then without_claim old holds else holds)
 behind-release old holds apart true = AllPairs-filter Apart (λ other. not (same_claim old other)) holds apart
 behind-release old holds apart false = apart
 

@@ -18,6 +18,7 @@ use Rattle.gx_tree.specs.declared.stmt.Level.{Level}
 use Rattle.gx_tree.specs.declared.stmt.Stmt.{Stmt}
 use Rattle.gx_tree.specs.declared.stmt.Stmt.TheVariants as stmt
 use Rattle.gx_waits.specs.Claim.{same_claim}
+use Rattle.gx_waits.specs.declared.claim.Claim.{Claim}
 use Rattle.gx_waits.specs.declared.object.Object.{Object}
 use Rattle.gx_waits.specs.declared.object.Object.TheVariants.{Transaction}
 use Rattle.gx_store.specs.Asking.{AreAsked, Asks, AsksThere, GrantsWait, IsOrWasUnderWay, LocksItself, Needs, has_told}
@@ -30,7 +31,8 @@ use Rattle.gx_store.specs.RefusedParts.{anna, bert, first_cid, first_txn, other_
 use Rattle.gx_store.specs.RefusedWaits.{first_table, on_first, one_query}
 use Rattle.gx_store.specs.Refusals.{the_coordinator}
 use Rattle.gx_store.specs.Silent.{AreWaitersSilent}
-use Rattle.gx_store.specs.Waits.{claim, waits_at}
+use Rattle.gx_store.specs.Waits.{waits_at}
+use Rattle.gx_waits.specs.Claims.{claim}
 use Rattle.gx_store.specs.declared.mark.Mark.{Mark}
 use Rattle.gx_store.specs.declared.mark.Mark.TheVariants as mark
 use Rattle.gx_store.proofs.RefusedCauses.{AreEvents, NoReceipt, none-came}
@@ -94,7 +96,7 @@ no-share script marks query line e n = wrong (subst (λ l. Needs script marks th
     other q = cc
 
     wrong : Needs script marks the_segment first_txn (stmt.Select query) the_table AccessExclusive → ⊥
-    wrong (inl z) = other z.1
+    wrong (inl z) = other (sym (ap (λ (c : Claim). c.mode) (some-same _ _ z)))
     wrong (inr z) = z.1
 
 no-more-there : {script : Script} {point : Point} (query : Query) → Asks script point the_segment first_txn the_table AccessExclusive → is_aborted (before point) first_txn ≡ false
@@ -150,7 +152,7 @@ no-weak script marks assigns cond line off e n = wrong (subst (λ l. Needs scrip
     other q = cc
 
     wrong : Needs script marks the_segment first_txn (stmt.Update first_table assigns cond) the_table RowExclusive → ⊥
-    wrong (inl z) = other (z.1 ∙ ap (λ b. if b then RowExclusive else Exclusive) off)
+    wrong (inl z) = other (sym (ap (λ (c : Claim). c.mode) (some-same _ _ z)) ∙ ap (λ b. if b then RowExclusive else Exclusive) off)
     wrong (inr z) = z.2
 
 no-weak-there : {script : Script} {point : Point} (assigns : List Assign) (cond : Option Cond) → Asks script point the_segment first_txn the_table RowExclusive ⊎ GrantsWait script point the_segment first_txn the_table RowExclusive ⊎ LocksItself point.earlier the_segment first_txn the_table RowExclusive → script.detector ≡ false → is_aborted (before point) first_txn ≡ false → waits_at (before point) the_segment ≡ []

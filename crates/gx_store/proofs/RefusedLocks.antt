@@ -21,7 +21,8 @@ use Rattle.gx_store.specs.Points.{Point, before}
 use Rattle.gx_store.specs.RefusedHistories.{IsNoHistory}
 use Rattle.gx_store.specs.RefusedParts.{anna, first_txn, other_segment, second_txn}
 use Rattle.gx_store.specs.RefusedWaits.{block_of_lock, first_table, granted_over, locked_at_one, released_unended}
-use Rattle.gx_store.specs.Waits.{claim, holds_at}
+use Rattle.gx_store.specs.Waits.{holds_at}
+use Rattle.gx_waits.specs.Claims.{claim}
 use Rattle.gx_store.proofs.RefusedParts.{clash}
 
 -- A LOCK OVER ANOTHER

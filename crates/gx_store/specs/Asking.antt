@@ -1,6 +1,6 @@
 -- Who asks for locks: a transaction waits for one, or is granted it, for a command that is at work at the node, and asks for what its
 -- statement needs there (PostgreSQL manual 13.3).
-use Rattle.std.specs.Prelude.{◌≡◌, ◌⊎◌, Bool, true, false, ◌&&◌, ◌||◌, List, [], ◌∷◌, ◌++◌, Contains}
+use Rattle.std.specs.Prelude.{◌≡◌, ◌⊎◌, Bool, true, false, ◌&&◌, ◌||◌, List, [], ◌∷◌, ◌++◌, Some, Contains}
 use Rattle.std.specs.List.{list_any}
 use Rattle.std.specs.declared.option.Option.{Option}
 use Rattle.gx_ids.specs.declared.ids.Cid.{Cid}
@@ -16,7 +16,7 @@ use Rattle.gx_tree.specs.declared.stmt.Stmt.TheVariants as stmt
 use Rattle.gx_tree.specs.declared.value.Value.{Value}
 use Rattle.gx_dsnap.specs.declared.snapshot.Snapshot.{Snapshot}
 use Rattle.gx_modes.specs.declared.modes.Mode.{Mode}
-use Rattle.gx_modes.specs.declared.modes.Mode.TheVariants.{AccessShare, RowExclusive, Share, Exclusive}
+use Rattle.gx_modes.specs.declared.modes.Mode.TheVariants.{Share, Exclusive}
 use Rattle.gx_msg.specs.declared.message.Message.TheVariants as message
 use Rattle.gx_msg.specs.declared.reply.Reply.TheVariants as reply
 use Rattle.gx_script.specs.declared.Script.{Script}
@@ -29,28 +29,19 @@ use Rattle.gx_store.specs.declared.mark.Mark.TheVariants.{Hold, Sent, Wait, Writ
 use Rattle.gx_store.specs.declared.run.Step.{Step}
 use Rattle.gx_store.specs.Commands.{IsUnderWay}
 use Rattle.gx_store.specs.Journals.{is_same_node}
-use Rattle.gx_store.specs.Locks.{changing_mode}
+use Rattle.gx_store.specs.Locks.{table_lock}
 use Rattle.gx_store.specs.Marks.{is_aborted, is_command_of, is_same_gxid}
 use Rattle.gx_store.specs.Messages.{HasReceived}
 use Rattle.gx_store.specs.Points.{Point, before}
 use Rattle.gx_store.specs.Refusals.{the_coordinator}
-use Rattle.gx_store.specs.Waits.{claim, is_held, waits_at}
+use Rattle.gx_store.specs.Waits.{is_held, waits_at}
+use Rattle.gx_waits.specs.Claims.{claim}
 use Rattle.gx_store.specs.Writes.{IsLate}
 
 -- WHAT A STATEMENT NEEDS
--- the mode in which it locks its table
-abbrev pub LocksTable : Script → Stmt → Table → Mode → Type 0
-LocksTable script (stmt.Select query) table mode = (table ≡ query.table) × (mode ≡ AccessShare)
-LocksTable script (stmt.Insert t tuples) table mode = (table ≡ t) × (mode ≡ RowExclusive)
-LocksTable script (stmt.Update t assigns cond) table mode = (table ≡ t) × (mode ≡ changing_mode script)
-LocksTable script (stmt.Delete t cond) table mode = (table ≡ t) × (mode ≡ changing_mode script)
-LocksTable script (stmt.Lock t m) table mode = (table ≡ t) × (mode ≡ m)
-LocksTable script _ table mode = ⊥
-
--- the lock on its table, by the object
-abbrev pub NeedsTable : Script → Stmt → Object → Mode → Type 0
-NeedsTable script line (Relation table) mode = LocksTable script line table mode
-NeedsTable script line _ mode = ⊥
+-- the lock on its table
+abbrev pub NeedsTable : Script → Gxid → Stmt → Object → Mode → Type 0
+NeedsTable script g line object mode = table_lock script g line ≡ Some (claim g object mode)
 
 -- UPDATE and DELETE go through rows of their table, one behind the other
 abbrev pub GoesThroughRows : Stmt → Table → Type 0
@@ -72,7 +63,7 @@ NeedsRow marks node g table (Relation other) mode = ⊥
 
 -- what a statement needs at a segment
 abbrev pub Needs : Script → List Mark → Node → Gxid → Stmt → Object → Mode → Type 0
-Needs script marks node g line object mode = NeedsTable script line object mode ⊎ ((table : Table) × GoesThroughRows line table × NeedsRow marks node g table object mode)
+Needs script marks node g line object mode = NeedsTable script g line object mode ⊎ ((table : Table) × GoesThroughRows line table × NeedsRow marks node g table object mode)
 
 -- AT WORK
 -- these marks send DONE or FAILED of the command
@@ -112,7 +103,7 @@ pub record AsksHere (script : Script) (point : Point) (node : Node) (g : Gxid) (
   pub level : Level
   pub cid : Cid
   pub under_way : IsUnderWay script point session line level g cid
-  pub needs : NeedsTable script line object mode
+  pub needs : NeedsTable script g line object mode
 
 -- at a segment for what a command at work there needs
 pub record AsksThere (script : Script) (point : Point) (node : Node) (g : Gxid) (object : Object) (mode : Mode) : Type 0 where
@@ -147,7 +138,7 @@ pub record WritesAtWork (script : Script) (point : Point) (node : Node) (g : Gxi
   pub line : Stmt
   pub at_work : IsAtWork script point node g c line
   pub mode : Mode
-  pub locks : LocksTable script line table mode
+  pub locks : NeedsTable script g line (Relation table) mode
   pub held : is_aborted (before point) g ≡ false → is_held (before point) node g (Relation table) mode ≡ true
 
 -- every wait and every hold is asked for so, and every row is written so

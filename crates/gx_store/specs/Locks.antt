@@ -1,5 +1,5 @@
 -- Which locks a history has (PostgreSQL manual 13.3): no two that conflict, and whoever reads or writes holds what it must.
-use Rattle.std.specs.Prelude.{◌≡◌, ◌⊎◌, ℕ, true, false, if◌then◌else◌, List, [], ◌∷◌, ◌++◌, All, Any, AllPairs, Contains}
+use Rattle.std.specs.Prelude.{◌≡◌, ◌⊎◌, ℕ, true, false, if◌then◌else◌, List, [], ◌∷◌, ◌++◌, Some, None, IfSome, All, Any, AllPairs, Contains}
 use Rattle.std.specs.declared.option.Option.{Option}
 use Rattle.gx_ids.specs.declared.ids.Cid.{Cid}
 use Rattle.gx_ids.specs.declared.ids.Gxid.{Gxid}
@@ -7,6 +7,7 @@ use Rattle.gx_ids.specs.declared.ids.Node.{Node}
 use Rattle.gx_ids.specs.declared.ids.SessionId.{SessionId}
 use Rattle.gx_ids.specs.declared.ids.Table.{Table}
 use Rattle.gx_tree.specs.declared.slice.Slice.{Slice}
+use Rattle.gx_tree.specs.declared.slice.Slice.TheVariants as slice
 use Rattle.gx_tree.specs.declared.stmt.Level.{Level}
 use Rattle.gx_tree.specs.declared.stmt.Stmt.{Stmt}
 use Rattle.gx_tree.specs.declared.stmt.Stmt.TheVariants as stmt
@@ -29,7 +30,8 @@ use Rattle.gx_store.specs.Commands.{RunsCommand}
 use Rattle.gx_store.specs.Marks.{is_aborted, is_ended, is_snapped}
 use Rattle.gx_store.specs.Points.{Point, before, marks_in}
 use Rattle.gx_store.specs.Refusals.{the_coordinator}
-use Rattle.gx_store.specs.Waits.{claim, holds_at, is_held}
+use Rattle.gx_store.specs.Waits.{holds_at, is_held}
+use Rattle.gx_waits.specs.Claims.{claim}
 
 -- a lock is granted only where it meets no hold, and waited for only where it meets one
 abbrev pub LegalHold : List Mark → Node → Claim → Type 0
@@ -44,17 +46,31 @@ AreGranted before [] = Unit {0}
 AreGranted before (Hold n g object mode ∷ ms) = LegalHold before n (claim g object mode) × AreGranted (before ++ Hold n g object mode ∷ []) ms
 AreGranted before (m ∷ ms) = AreGranted (before ++ m ∷ []) ms
 
--- the mode in which a statement locks its table, and the table
+-- THE LOCK ON A TABLE
+-- the mode in which UPDATE and DELETE lock their table
 abbrev pub changing_mode : Script → Mode
 changing_mode script = if script.detector then RowExclusive else Exclusive
 
+-- the lock that a statement takes on its table
+abbrev pub table_lock : Script → Gxid → Stmt → Option Claim
+table_lock script g (stmt.Select query) = Some (claim g (Relation query.table) AccessShare)
+table_lock script g (stmt.Insert table tuples) = Some (claim g (Relation table) RowExclusive)
+table_lock script g (stmt.Update table assigns cond) = Some (claim g (Relation table) (changing_mode script))
+table_lock script g (stmt.Delete table cond) = Some (claim g (Relation table) (changing_mode script))
+table_lock script g (stmt.Lock table mode) = Some (claim g (Relation table) mode)
+table_lock script g _ = None
+
+-- a slice takes its statement's, at its segment
+abbrev pub slice_lock : Script → Gxid → Slice → Claim
+slice_lock script g (slice.Select query) = claim g (Relation query.table) AccessShare
+slice_lock script g (slice.Insert table rows) = claim g (Relation table) RowExclusive
+slice_lock script g (slice.Update table assigns cond) = claim g (Relation table) (changing_mode script)
+slice_lock script g (slice.Delete table cond) = claim g (Relation table) (changing_mode script)
+slice_lock script g (slice.Lock table mode) = claim g (Relation table) mode
+
+-- at the coordinator the transaction holds what the statement takes
 abbrev pub HoldsTable : Script → List Mark → Gxid → Stmt → Type 0
-HoldsTable script marks g (stmt.Select query) = is_held marks the_coordinator g (Relation query.table) AccessShare ≡ true
-HoldsTable script marks g (stmt.Insert table tuples) = is_held marks the_coordinator g (Relation table) RowExclusive ≡ true
-HoldsTable script marks g (stmt.Update table assigns cond) = is_held marks the_coordinator g (Relation table) (changing_mode script) ≡ true
-HoldsTable script marks g (stmt.Delete table cond) = is_held marks the_coordinator g (Relation table) (changing_mode script) ≡ true
-HoldsTable script marks g (stmt.Lock table mode) = is_held marks the_coordinator g (Relation table) mode ≡ true
-HoldsTable script marks g _ = Unit {0}
+HoldsTable script marks g line = IfSome (table_lock script g line) (λ lock. is_held marks the_coordinator g lock.object lock.mode ≡ true)
 
 -- who writes a row holds the table at the coordinator and at the row's node, unless the transaction has aborted
 abbrev pub HoldsAt : Script → List Mark → Node → Gxid → Table → Type 0

@@ -14,7 +14,7 @@ use Rattle.gx_script.specs.declared.Line.{Line}
 use Rattle.gx_script.specs.declared.LinkFault.{LinkFault}
 use Rattle.gx_script.specs.declared.Script.{Script}
 use Rattle.gx_waits.specs.declared.claim.Claim.{Claim}
-use Rattle.gx_waits.specs.Claim.{meets}
+use Rattle.gx_waits.specs.Claims.{is_free, is_of}
 use Rattle.gx_store.specs.declared.event.Event.{Event}
 use Rattle.gx_store.specs.declared.event.Event.TheVariants.{Receive, Resume, Start, End, Resend, Round}
 use Rattle.gx_store.specs.declared.mark.Mark.{Mark}
@@ -124,11 +124,8 @@ is_exec (Some (message.Exec g c level snapshot horizon slice)) = true
 is_exec _ = false
 
 -- WAITS THAT ARE READY
-abbrev pub is_ready : List Claim → Claim → Bool
-is_ready holds wait = not (list_any (meets wait) holds)
-
 abbrev pub waits_of : List Mark → Node → Gxid → List Claim
-waits_of marks node g = filter (λ wait. is_same_gxid wait.gxid g) (waits_at marks node)
+waits_of marks node g = filter (is_of g) (waits_at marks node)
 
 -- the transactions that have begun, from the least
 abbrev pub gxids_of : List Mark → List Gxid
@@ -137,7 +134,7 @@ gxids_of marks = map (λ n. record { 0 = n }) (range_with_len 1 (start_count mar
 -- the least transaction with a ready wait at the node resumes
 abbrev pub resumptions : List Mark → Node → List Event
 resumptions marks node =
-    first_of (map (Resume node) (filter (λ g. list_any (is_ready (holds_at marks node)) (waits_of marks node g)) (gxids_of marks)))
+    first_of (map (Resume node) (filter (λ g. list_any (is_free (holds_at marks node)) (waits_of marks node g)) (gxids_of marks)))
 
 -- THE DETECTOR'S ROUNDS
 -- how many rounds have begun, and how many have ended

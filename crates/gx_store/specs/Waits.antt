@@ -1,5 +1,5 @@
 -- The holds and waits that stand at a point, at a node.
-use Rattle.std.specs.Prelude.{◌==◌, Bool, not, if◌then◌else◌, List, [], ◌∷◌, ◌++◌, filter}
+use Rattle.std.specs.Prelude.{◌==◌, Bool, if◌then◌else◌, List, [], ◌∷◌}
 use Rattle.std.specs.List.{list_any}
 use Rattle.gx_ids.specs.declared.ids.Node.{Node}
 use Rattle.gx_ids.specs.declared.ids.Gxid.{Gxid}
@@ -7,32 +7,23 @@ use Rattle.gx_modes.specs.declared.modes.Mode.{Mode}
 use Rattle.gx_waits.specs.declared.claim.Claim.{Claim}
 use Rattle.gx_waits.specs.declared.object.Object.{Object}
 use Rattle.gx_waits.specs.Claim.{same_claim}
+use Rattle.gx_waits.specs.Claims.{claim, with_claim, without_claim}
 use Rattle.gx_store.specs.declared.mark.Mark.{Mark}
 use Rattle.gx_store.specs.declared.mark.Mark.TheVariants.{Hold, Wait, Release}
-
-abbrev pub claim : Gxid → Object → Mode → Claim
-claim g object mode = record { gxid = g; object = object; mode = mode }
-
-abbrev pub without : Claim → List Claim → List Claim
-without old claims = filter (λ other. not (same_claim old other)) claims
-
--- one that stands already isn't added again
-abbrev pub added : Claim → List Claim → List Claim
-added new claims = if list_any (same_claim new) claims then claims else claims ++ new ∷ []
 
 -- a hold stands from its Hold mark to the next Release of the same; these are the ones after the marks, from those before
 abbrev pub holds_from : Node → List Claim → List Mark → List Claim
 holds_from node holds [] = holds
-holds_from node holds (Hold n g object mode ∷ ms) = holds_from node (if n.0 == node.0 then added (claim g object mode) holds else holds) ms
-holds_from node holds (Release n g object mode ∷ ms) = holds_from node (if n.0 == node.0 then without (claim g object mode) holds else holds) ms
+holds_from node holds (Hold n g object mode ∷ ms) = holds_from node (if n.0 == node.0 then with_claim (claim g object mode) holds else holds) ms
+holds_from node holds (Release n g object mode ∷ ms) = holds_from node (if n.0 == node.0 then without_claim (claim g object mode) holds else holds) ms
 holds_from node holds (_ ∷ ms) = holds_from node holds ms
 
 -- a wait stands from its Wait mark to the next Hold or Release of the same
 abbrev pub waits_from : Node → List Claim → List Mark → List Claim
 waits_from node waits [] = waits
-waits_from node waits (Wait n g object mode ∷ ms) = waits_from node (if n.0 == node.0 then added (claim g object mode) waits else waits) ms
-waits_from node waits (Hold n g object mode ∷ ms) = waits_from node (if n.0 == node.0 then without (claim g object mode) waits else waits) ms
-waits_from node waits (Release n g object mode ∷ ms) = waits_from node (if n.0 == node.0 then without (claim g object mode) waits else waits) ms
+waits_from node waits (Wait n g object mode ∷ ms) = waits_from node (if n.0 == node.0 then with_claim (claim g object mode) waits else waits) ms
+waits_from node waits (Hold n g object mode ∷ ms) = waits_from node (if n.0 == node.0 then without_claim (claim g object mode) waits else waits) ms
+waits_from node waits (Release n g object mode ∷ ms) = waits_from node (if n.0 == node.0 then without_claim (claim g object mode) waits else waits) ms
 waits_from node waits (_ ∷ ms) = waits_from node waits ms
 
 abbrev pub holds_at : List Mark → Node → List Claim

@@ -29,7 +29,7 @@ use Rattle.gx_store.specs.Points.{marks_in}
 use Rattle.gx_store.specs.Rows.{row_at}
 use Rattle.gx_rules.specs.Segments.{Seg, Version, has_committed, local_of}
 use Rattle.gx_rules.specs.Shown.{counts, last_images, rows_in, shown}
-use Rattle.gx_law_order.proofs.Lists.{Each}
+use Rattle.gx_law_order.specs.Lists.{Each}
 use Rattle.gx_law_order.proofs.SegItems.{writes_at}
 use Rattle.gx_rules.proofs.KeptImages.{image_in-last_images, in_order-last_images}
 use Rattle.gx_rules.proofs.RowOrder.{less_apart}

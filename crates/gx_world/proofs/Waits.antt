@@ -10,8 +10,8 @@ use Rattle.gx_lemmas.proofs.Tests.{or-false}
 use Rattle.gx_ids.specs.declared.ids.Gxid.{Gxid}
 use Rattle.gx_ids.specs.declared.ids.Node.{Node}
 use Rattle.gx_waits.specs.declared.claim.Claim.{Claim}
-use Rattle.gx_locks.specs.Claims.{is_of}
-use Rattle.gx_locks.specs.Locks.{is_free, is_ready, least_with, ready_ones, wait_of}
+use Rattle.gx_waits.specs.Claims.{is_free, is_of}
+use Rattle.gx_locks.specs.Locks.{least_with, may_take, next_ready, wait_of}
 use Rattle.gx_meaning.specs.Plan.{nodes_from}
 use Rattle.gx_script.specs.declared.Script.{Script}
 use Rattle.gx_store.specs.declared.event.Event.TheVariants.{Resume}
@@ -76,7 +76,7 @@ module _ (script : Script) (some : 1 ≤ script.segments) (steps : List Step) (i
   nobody-past : resumptions (marks_in steps) (at i) ≡ []
   nobody-past =
       reached-there script some steps is i above
-      ∙ ap (λ (s : Seg). option_to_list (option_map (Resume (at i)) (least_with None (ready_ones s.locks)))) (sym ((replayed script steps is).segments i above))
+      ∙ ap (λ (s : Seg). option_to_list (option_map (Resume (at i)) (next_ready s.locks))) (sym ((replayed script steps is).segments i above))
       ∙ ap (λ ws. option_to_list (option_map (Resume (at i)) (least_with None (map (λ (wait : Claim). wait.gxid) (filter (is_free ((world_of script is.events).segs i).locks.holds) ws)))))
       (none-past script (world_of script is.events) (world_well script some is.events) i past)
 
@@ -97,26 +97,26 @@ module _ (network : Network) (is : IsNetwork network) where
   stands-there usable n one few = (one, (seg-inside script _ network (is.stands usable) n one few, seg-is script _ network (is.stands usable) n one))
 
   -- who resumes
-  pub resumes-here : (n : Node) (o : Option Gxid) → n.0 ≡ 0 → o ≡ least_with None (ready_ones (coordinator_after script steps).locks) → option_to_list (option_map (Resume n) o) ≡ resumptions (marks_in steps) n
+  pub resumes-here : (n : Node) (o : Option Gxid) → n.0 ≡ 0 → o ≡ next_ready (coordinator_after script steps).locks → option_to_list (option_map (Resume n) o) ≡ resumptions (marks_in steps) n
   resumes-here n o first same =
       subst (λ k. option_to_list (option_map (Resume k) o) ≡ resumptions (marks_in steps) k) (sym (at-zero n first))
       (ap (λ x. option_to_list (option_map (Resume the_coordinator) x)) same ∙ sym (reached-here script some steps is.reached))
 
-  pub resumes-there : (n : Node) (o : Option Gxid) → 1 ≤ n.0 → o ≡ least_with None (ready_ones (segment_after script n steps).locks) → option_to_list (option_map (Resume n) o) ≡ resumptions (marks_in steps) n
+  pub resumes-there : (n : Node) (o : Option Gxid) → 1 ≤ n.0 → o ≡ next_ready (segment_after script n steps).locks → option_to_list (option_map (Resume n) o) ≡ resumptions (marks_in steps) n
   resumes-there n o one same = ap (λ x. option_to_list (option_map (Resume n) x)) same ∙ sym (reached-there script some steps is.reached n.0 one)
 
   pub nobody-resumes : (n : Node) → network.script.value.segments < n.0 → [] ≡ resumptions (marks_in steps) n
   nobody-resumes n past = sym (nobody-past script some steps is.reached n.0 past)
 
   -- who may resume
-  pub may-there : (n : Node) (g : Gxid) (b : Bool) → 1 ≤ n.0 → n.0 ≤ network.script.value.segments → b ≡ is_ready (segment_after script n steps).locks.holds (wait_of (segment_after script n steps).locks g) → b ≡ is_admitted script steps (Resume n g)
-  may-there n g b one few same = same ∙ sym (may-resume-there script steps some is.reached n one g ∙ ap (λ x. x && is_ready (segment_after script n steps).locks.holds (wait_of (segment_after script n steps).locks g)) (inside n.0 script.segments one few))
+  pub may-there : (n : Node) (g : Gxid) (b : Bool) → 1 ≤ n.0 → n.0 ≤ network.script.value.segments → b ≡ may_take (segment_after script n steps).locks g → b ≡ is_admitted script steps (Resume n g)
+  may-there n g b one few same = same ∙ sym (may-resume-there script steps some is.reached n one g ∙ ap (λ x. x && may_take (segment_after script n steps).locks g) (inside n.0 script.segments one few))
     where
       inside : (a k : ℕ) → 1 ≤ a → a ≤ k → (nat_le 1 a && nat_le a k) ≡ true
       inside a k one few = grind (arith, nat_tests)
 
   pub may-not : (n : Node) (g : Gxid) → network.script.value.segments < n.0 → false ≡ is_admitted script steps (Resume n g)
-  may-not n g past = sym (may-resume-there script steps some is.reached n (low n.0 script.segments past) g ∙ ap (λ x. x && is_ready (segment_after script n steps).locks.holds (wait_of (segment_after script n steps).locks g)) (outside n.0 script.segments past))
+  may-not n g past = sym (may-resume-there script steps some is.reached n (low n.0 script.segments past) g ∙ ap (λ x. x && may_take (segment_after script n steps).locks g) (outside n.0 script.segments past))
     where
       low : (a k : ℕ) → k < a → 1 ≤ a
       low a k past = omega (arith, past)

@@ -9,7 +9,7 @@ ghost use Rattle.gx_rules.specs.Segments.{Seg};
 ghost use Rattle.gx_segment.specs.Steps.{IsSegment};
 ghost use Rattle.gx_segment.specs.declared.segment.Segment.{Segment as OneSegment};
 ghost use Rattle.gx_law_runs.specs.Links.{is_number};
-ghost use Rattle.gx_locks.specs.Locks.{is_ready, wait_of};
+ghost use Rattle.gx_locks.specs.Locks.{may_take};
 ghost use Rattle.gx_store.specs.Journals.{is_same_node};
 ghost use Rattle.gx_store.specs.Refusals.{the_coordinator};
 ghost use Rattle.gx_store.specs.declared.event.Event.TheVariants.{Receive, Resume};
@@ -57,7 +57,7 @@ fn is_ready_there(network: &Network, node: Node, gxid: Gxid) -> bool
     requires some { 1 ≤ node.0 }
     requires few { node.0 ≤ length network.now.segments.items }
     requires is { (segment : OneSegment) → slice_get network.now.segments.items (node.0 - 1) ≡ Some segment → IsSegment segment s }
-    ensures { result ≡ is_ready s.locks.holds (wait_of s.locks gxid) }
+    ensures { result ≡ may_take s.locks gxid }
 {
     network.segments[usize::from(node.0) - 1].can_resume(gxid)
 }

@@ -3,7 +3,7 @@ ghost use Rattle.std.specs.Prelude.{◌≡◌, ◌≤◌, ◌<◌, ◌-◌, ◌=
 ghost use Rattle.std.specs.List.{list_any};
 ghost use Rattle.std.specs.Option.{option_to_list};
 ghost use Rattle.gx_coord.specs.Steps.{IsCoord};
-ghost use Rattle.gx_locks.specs.Locks.{least_with, ready_ones};
+ghost use Rattle.gx_locks.specs.Locks.{next_ready};
 ghost use Rattle.gx_rules.specs.Coordinators.{Coord as RuleCoord};
 ghost use Rattle.gx_rules.specs.Segments.{Seg};
 ghost use Rattle.gx_segment.specs.Steps.{IsSegment};
@@ -35,7 +35,7 @@ pub(crate) fn ready(network: &Network, node: Node) -> Option<Gxid>
 fn ready_here(network: &Network) -> Option<Gxid>
     ghost c: { RuleCoord }
     requires { IsCoord network.now.coord c }
-    ensures { result ≡ least_with None (ready_ones c.locks) }
+    ensures { result ≡ next_ready c.locks }
 {
     network.coord.ready()
 }
@@ -45,7 +45,7 @@ fn ready_there(network: &Network, node: Node) -> Option<Gxid>
     requires some { 1 ≤ node.0 }
     requires few { node.0 ≤ length network.now.segments.items }
     requires is { (segment : OneSegment) → slice_get network.now.segments.items (node.0 - 1) ≡ Some segment → IsSegment segment s }
-    ensures { result ≡ least_with None (ready_ones s.locks) }
+    ensures { result ≡ next_ready s.locks }
 {
     network.segments[usize::from(node.0) - 1].ready()
 }

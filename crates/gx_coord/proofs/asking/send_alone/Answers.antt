@@ -1,7 +1,7 @@
 use Rattle.std.proofs.Common.{◌≡◌, [], ◌∷◌, false, ◌+◌, ◌<◌, ◌^◌, subst, sym}
 use Rattle.std.specs.List.{list_any}
 use Rattle.gx_ids.specs.declared.ids.Gxid.{Gxid}
-use Rattle.gx_locks.specs.Claims.{is_of}
+use Rattle.gx_waits.specs.Claims.{is_of}
 use Rattle.gx_tree.specs.declared.stmt.Level.TheVariants.{ReadCommitted}
 use Rattle.gx_store.specs.declared.mark.Mark.TheVariants.{Start}
 use Rattle.gx_rules.specs.AtCoordinator.{begins, dispatches}

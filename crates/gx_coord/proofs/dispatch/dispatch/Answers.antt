@@ -1,7 +1,7 @@
 use Rattle.std.proofs.Common.{◌≡◌, Some, None, false, subst, sym}
 use Rattle.std.specs.List.{list_any}
 use Rattle.gx_ids.specs.declared.ids.Gxid.{Gxid}
-use Rattle.gx_locks.specs.Claims.{is_of}
+use Rattle.gx_waits.specs.Claims.{is_of}
 use Rattle.gx_coord.specs.Books.{coord_of, stmt_at}
 use Rattle.gx_coord.proofs.Requested.{dispatched-by}
 use Rattle.gx_coord.proofs.Started.{outs-from}

@@ -1,7 +1,8 @@
 use Rattle.std.proofs.Common.{◌≡◌, drop}
 use Rattle.std.specs.Prelude.{None, map, filter}
 use Rattle.gx_locks.specs.Book.{claims_in}
-use Rattle.gx_locks.specs.Locks.{least_with, is_free}
+use Rattle.gx_locks.specs.Locks.{least_with}
+use Rattle.gx_waits.specs.Claims.{is_free}
 use Rattle.gx_locks.proofs.table.least_ready.Given as goal
 
 abbrev pub invariant-loop-wait : goal.invariant-loop-wait

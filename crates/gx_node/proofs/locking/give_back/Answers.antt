@@ -1,6 +1,6 @@
 use Rattle.std.proofs.Common.{◌∙◌, ◌++◌, List, ap, filter, map, sym}
 use Rattle.std.proofs.lemmas.List.{append_assoc, map-append}
-use Rattle.gx_locks.specs.Claims.{is_of}
+use Rattle.gx_waits.specs.Claims.{is_of}
 use Rattle.gx_locks.specs.Holds.{claims_of}
 use Rattle.gx_meaning.specs.Order.{in_order}
 use Rattle.gx_rules.specs.Locks.{claim_order, release_mark}

@@ -1,5 +1,6 @@
 use Rattle.std.proofs.Common.{◌∙◌, ap}
-use Rattle.gx_locks.specs.Locks.{Locks, is_free}
+use Rattle.gx_locks.specs.Locks.{Locks}
+use Rattle.gx_waits.specs.Claims.{is_free}
 use Rattle.gx_slices.specs.Stopping.{row_locks}
 use Rattle.gx_slices.proofs.RowLocks.{taken-end}
 use Rattle.gx_slices.proofs.changing_row.wait_at.Goals as goal

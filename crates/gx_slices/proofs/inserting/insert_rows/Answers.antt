@@ -1,8 +1,8 @@
 use Rattle.std.proofs.Common.{◌≡◌, ◌≤◌, ◌<◌, ◌∙◌, Some, arith, ap, length, subst, sym}
 use Rattle.std.specs.List.{list_any}
 use Rattle.gx_ids.specs.declared.ids.Gxid.{Gxid}
-use Rattle.gx_locks.specs.Claims.{is_of}
-use Rattle.gx_locks.specs.Locks.{Locks, is_free}
+use Rattle.gx_waits.specs.Claims.{is_free, is_of}
+use Rattle.gx_locks.specs.Locks.{Locks}
 use Rattle.gx_rules.specs.Slices.{own_lock}
 use Rattle.gx_slices.proofs.InsertedRows.{all-inserted, none-inserted, one-inserted}
 use Rattle.gx_slices.proofs.Owning.{free-own}

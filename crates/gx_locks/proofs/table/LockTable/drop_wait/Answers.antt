@@ -2,8 +2,8 @@ use Rattle.std.proofs.Common.{◌≡◌, ◌∙◌, List, [], sym, ap, subst, re
 use Rattle.std.proofs.lemmas.Grind.{common_steps}
 use Rattle.std.specs.Prelude.{Some, None, find}
 use Rattle.gx_waits.specs.declared.claim.Claim.{Claim}
-use Rattle.gx_locks.specs.Claims.{is_of}
-use Rattle.gx_locks.specs.Locks.{Locks, without}
+use Rattle.gx_waits.specs.Claims.{is_of, without}
+use Rattle.gx_locks.specs.Locks.{Locks}
 use Rattle.gx_locks.proofs.Whole.{IsWhole-dropped, without-unfound, without-full}
 use Rattle.gx_locks.proofs.table.LockTable.drop_wait.Goals as goal
 

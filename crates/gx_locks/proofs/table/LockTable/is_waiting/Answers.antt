@@ -1,6 +1,6 @@
 use Rattle.std.proofs.Common.{◌∙◌, sym, ap}
 use Rattle.std.specs.List.{list_any}
-use Rattle.gx_locks.specs.Claims.{is_of}
+use Rattle.gx_waits.specs.Claims.{is_of}
 use Rattle.gx_locks.specs.Locks.{Locks}
 use Rattle.gx_locks.proofs.Whole.{list_any-full}
 use Rattle.gx_locks.proofs.table.LockTable.is_waiting.Goals as goal

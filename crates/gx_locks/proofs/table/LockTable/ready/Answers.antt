@@ -3,7 +3,8 @@ use Rattle.std.specs.Prelude.{None, Option, IfSome, List, map, filter}
 use Rattle.gx_ids.specs.declared.ids.Gxid.{Gxid}
 use Rattle.gx_waits.specs.declared.claim.Claim.{Claim}
 use Rattle.gx_locks.specs.Book.{claims_in}
-use Rattle.gx_locks.specs.Locks.{Locks, IsLeast, is_free, is_ready, wait_of, least_with, ready_ones}
+use Rattle.gx_locks.specs.Locks.{IsLeast, Locks, least_with, may_take, ready_ones}
+use Rattle.gx_waits.specs.Claims.{is_free}
 use Rattle.gx_locks.proofs.Least.{IsLeast-least_with}
 use Rattle.gx_locks.proofs.Ready.{is_ready-least}
 use Rattle.gx_locks.proofs.table.LockTable.ready.Goals as goal
@@ -18,4 +19,4 @@ returns-clause-least c = subst (λ (locks : Locks). IsLeast c.least_ready.result
 
 pub returns-clause-ready : goal.returns-clause-ready
 returns-clause-ready c =
-    subst (λ (locks : Locks). IfSome c.least_ready.result (λ g. is_ready locks.holds (wait_of locks g) ≡ true)) c.self.view_is (is_ready-least (claims_in c.self.inside.book) c.self.inside.waits.items c.least_ready.result c.self.invariant.once (least c))
+    subst (λ (locks : Locks). IfSome c.least_ready.result (λ g. may_take locks g ≡ true)) c.self.view_is (is_ready-least (claims_in c.self.inside.book) c.self.inside.waits.items c.least_ready.result c.self.invariant.once (least c))
