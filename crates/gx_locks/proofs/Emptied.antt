@@ -22,7 +22,7 @@ use Rattle.gx_locks.proofs.Keys.{stands, on_isnt_of, of_isnt_on}
 -- what is left of the transaction's holds is a list, of which the index has nothing under its key
 pub record IsEmptied (g : Gxid) (old new : Book) (rest : List Hold) : Type 0 where
   pub places : new.ledger.places ≡ old.ledger.places
-  pub room : (k : Key) → k ≢ Of g → places_at new.index k ≡ places_at old.index k
+  pub room : (k : Key) → places_at new.index k ≡ places_at old.index k
   pub filed : (k : Key) → k ≢ Of g → holds_at new.index k ≡ filter (λ hold. is_under k hold.claim) new.ledger.holds
   pub emptied : holds_at new.index (Of g) ≡ []
   pub others : filter (λ hold. not (is_of g hold.claim)) new.ledger.holds ≡ filter (λ hold. not (is_of g hold.claim)) old.ledger.holds
@@ -82,7 +82,7 @@ module _ (g : Gxid) (old mid new : Book) (h : Hold) (rest : List Hold) (is : IsE
   pub IsEmptied-more : new.ledger.places ≡ mid.ledger.places → ((k : Key) → places_at new.index k ≡ places_at mid.index k) → IsEmptied g old new rest
   IsEmptied-more places room = record {
     places = places ∙ is.places;
-    room = λ k other. room k ∙ is.room k other;
+    room = λ k. room k ∙ is.room k;
     filed = filed_less;
     emptied = elsewhere (Of g) (of_isnt_on h.claim.object g) ∙ is.emptied;
     others = others_kept;
@@ -96,7 +96,7 @@ IsEmptied-taken g old new taken filed once same is there elsewhere =
     let left : taken ≡ filter (λ x. is_of g x.claim) old.ledger.holds = is ∙ filed (Of g) in
     record {
       places = refl;
-      room = λ k other. refl;
+      room = λ k. refl;
       filed = λ k other. elsewhere k other ∙ filed k ∙ ap (filter (λ (x : Hold). is_under k x.claim)) (sym same);
       emptied = there;
       others = refl;

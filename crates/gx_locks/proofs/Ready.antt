@@ -10,10 +10,10 @@ use Rattle.gx_waits.specs.Claims.{is_free, is_of}
 use Rattle.gx_locks.specs.Kept.{WaitOnce}
 use Rattle.gx_locks.specs.Locks.{is_ready, IsLeast}
 
-once_tail : (w : Claim) (ws : List Claim) → WaitOnce (w ∷ ws) → WaitOnce ws
+pub once_tail : (w : Claim) (ws : List Claim) → WaitOnce (w ∷ ws) → WaitOnce ws
 once_tail w ws once i j d before inside = once (suc i) (suc j) d (omega arith) (omega arith)
 
-once_head : (w : Claim) (ws : List Claim) → WaitOnce (w ∷ ws) → All (λ b. is_of w.gxid b ≡ false) ws
+pub once_head : (w : Claim) (ws : List Claim) → WaitOnce (w ∷ ws) → All (λ b. is_of w.gxid b ≡ false) ws
 once_head w ws once k d inside = once 0 (suc k) d (omega arith) (omega arith)
 
 any_of_filter : (p : Claim → Bool) (g : Gxid) (ws : List Claim) → list_any (λ h. eqb h.0 g.0) (map (λ w. w.gxid) (filter p ws)) ≡ true → list_any (is_of g) ws ≡ true
@@ -32,7 +32,7 @@ any_of_filter p g (w ∷ ws) some = kept (p w) some (any_of_filter p g ws)
         or_more true is = refl
         or_more false is = is
 
-same_gxid_is : (g : Gxid) (w : Claim) → is_of g w ≡ true → w.gxid ≡ g
+pub same_gxid_is : (g : Gxid) (w : Claim) → is_of g w ≡ true → w.gxid ≡ g
 same_gxid_is g w same = grind (arith, nat_tests)
 
 step : (holds : List Claim) (g : Gxid) (w : Claim) (ws : List Claim) (same free : Bool) → is_of g w ≡ same → is_free holds w ≡ free → list_any (is_of w.gxid) ws ≡ false → list_any (λ h. eqb h.0 g.0) (map (λ v. v.gxid) (cond free (w ∷ filter (is_free holds) ws) (filter (is_free holds) ws))) ≡ true → (list_any (λ h. eqb h.0 g.0) (map (λ v. v.gxid) (filter (is_free holds) ws)) ≡ true → is_ready holds (find (is_of g) ws) ≡ true) → is_ready holds (cond same (Some w) (find (is_of g) ws)) ≡ true

@@ -19,7 +19,8 @@ use Rattle.gx_locks.specs.Index.{places_at}
 use Rattle.gx_locks.specs.Kept.{AreExclusive, AreOnce, WaitOnce}
 use Rattle.gx_locks.specs.Locks.{is_ready}
 use Rattle.gx_locks.specs.Room.{bit, awaited}
-use Rattle.gx_locks.proofs.Filed.{filter-unfound, filter-none}
+use Rattle.gx_locks.proofs.Filed.{filter-all, filter-unfound, filter-none}
+use Rattle.gx_locks.proofs.Ready.{once_head, once_tail, same_gxid_is}
 
 pub none_passes : (p : Claim → Bool) (xs : List Claim) (k : ℕ) (d : Claim) (b : Bool) → p (get_or xs k d) ≡ b → list_any p xs ≡ false → k < length xs → b ≡ false
 none_passes p xs k d true is none inside = let some = list_any_at p xs k d inside is in absurd (cc)
@@ -33,55 +34,53 @@ pub not_false : (b : Bool) → not b ≡ false → b ≡ true
 not_false true e = refl
 not_false false e = absurd (cc)
 
+-- a transaction whose wait comes first has no other
+only-first : (g : Gxid) (x : Claim) (xs : List Claim) → WaitOnce (x ∷ xs) → is_of g x ≡ true → without g xs ≡ xs
+only-first g x xs once is =
+    subst (λ h. without h xs ≡ xs) (same_gxid_is g x is) (filter-all (λ c. not (is_of x.gxid c)) xs (λ k d inside. ap not (once_head x xs once k d inside)))
+
 module _ (p : Claim → Bool) where
-  count_kept : (q : Claim → Bool) (x : Claim) (xs : List Claim) (a b : Bool) → p x ≡ b → length (filter p (filter q xs)) ≤ length (filter p xs) → length (filter p (cond a (x ∷ filter q xs) (filter q xs))) ≤ length (cond b (x ∷ filter p xs) (filter p xs))
-  count_kept q x xs true true is more = rw is (omega (arith, more))
-  count_kept q x xs true false is more = rw is more
-  count_kept q x xs false true is more = omega (arith, more)
-  count_kept q x xs false false is more = more
+  count_here : (x : Claim) (xs : List Claim) (b : Bool) → length (filter p xs) + bit b ≡ length (cond b (x ∷ filter p xs) (filter p xs))
+  count_here x xs true = omega arith
+  count_here x xs false = omega arith
 
-  -- fewer claims, fewer of a kind
-  pub count-filter : (q : Claim → Bool) (xs : List Claim) → length (filter p (filter q xs)) ≤ length (filter p xs)
-  count-filter q [] = omega arith
-  count-filter q (x ∷ xs) = count_kept q x xs (q x) (p x) refl (count-filter q xs)
-
-  count_here : (x : Claim) (n m : ℕ) (xs : List Claim) (b : Bool) → n ≤ length (filter p xs) → n + bit b ≤ length (cond b (x ∷ filter p xs) (filter p xs))
-  count_here x n m xs true less = omega (arith, less)
-  count_here x n m xs false less = omega (arith, less)
-
-  count_later : (x : Claim) (ys xs : List Claim) (n : ℕ) (b : Bool) → length (filter p ys) + n ≤ length (filter p xs) → length (cond b (x ∷ filter p ys) (filter p ys)) + n ≤ length (cond b (x ∷ filter p xs) (filter p xs))
+  count_later : (x : Claim) (ys xs : List Claim) (n : ℕ) (b : Bool) → length (filter p ys) + n ≡ length (filter p xs) → length (cond b (x ∷ filter p ys) (filter p ys)) + n ≡ length (cond b (x ∷ filter p xs) (filter p xs))
   count_later x ys xs n true less = omega (arith, less)
   count_later x ys xs n false less = omega (arith, less)
 
-  count_once : (g : Gxid) (x w : Claim) (xs : List Claim) (b : Bool) → cond b (Some x) (find (is_of g) xs) ≡ Some w → (find (is_of g) xs ≡ Some w → length (filter p (without g xs)) + bit (p w) ≤ length (filter p xs)) → length (filter p (cond (not b) (x ∷ without g xs) (without g xs))) + bit (p w) ≤ length (cond (p x) (x ∷ filter p xs) (filter p xs))
-  count_once g x w xs true found more = let same : x ≡ w = cc in subst (λ v. length (filter p (without g xs)) + bit (p v) ≤ length (cond (p x) (x ∷ filter p xs) (filter p xs))) same (count_here x (length (filter p (without g xs))) 0 xs (p x) (count-filter (λ c. not (is_of g c)) xs))
-  count_once g x w xs false found more = count_later x (without g xs) xs (bit (p w)) (p x) (more found)
+  count_once : (g : Gxid) (x w : Claim) (xs : List Claim) (b : Bool) → is_of g x ≡ b → WaitOnce (x ∷ xs) → cond b (Some x) (find (is_of g) xs) ≡ Some w → (find (is_of g) xs ≡ Some w → length (filter p (without g xs)) + bit (p w) ≡ length (filter p xs)) → length (filter p (cond (not b) (x ∷ without g xs) (without g xs))) + bit (p w) ≡ length (cond (p x) (x ∷ filter p xs) (filter p xs))
+  count_once g x w xs true is once found more =
+      let same : x ≡ w = cc in
+      subst (λ v. length (filter p (without g xs)) + bit (p v) ≡ length (cond (p x) (x ∷ filter p xs) (filter p xs))) same
+      (ap (λ (ys : List Claim). length (filter p ys) + bit (p x)) (only-first g x xs once is) ∙ count_here x xs (p x))
+  count_once g x w xs false is once found more = count_later x (without g xs) xs (bit (p w)) (p x) (more found)
 
   -- without the wait of a transaction there is one less of its kinds
-  pub count-without : (g : Gxid) (ws : List Claim) (w : Claim) → find (is_of g) ws ≡ Some w → length (filter p (without g ws)) + bit (p w) ≤ length (filter p ws)
-  count-without g [] w found = absurd (cc)
-  count-without g (x ∷ xs) w found = count_once g x w xs (is_of g x) found (count-without g xs w)
+  pub count-without : (g : Gxid) (ws : List Claim) (w : Claim) → WaitOnce ws → find (is_of g) ws ≡ Some w → length (filter p (without g ws)) + bit (p w) ≡ length (filter p ws)
+  count-without g [] w once found = absurd (cc)
+  count-without g (x ∷ xs) w once found = count_once g x w xs (is_of g x) refl once found (count-without g xs w (once_tail x xs once))
 
 filter_true : (xs : List Claim) → filter (λ _. true) xs ≡ xs
 filter_true [] = refl
 filter_true (x ∷ xs) = ap (λ (ys : List Claim). x ∷ ys) (filter_true xs)
 
-length-without : (g : Gxid) (ws : List Claim) (w : Claim) → find (is_of g) ws ≡ Some w → length (without g ws) + 1 ≤ length ws
-length-without g ws w found = subst (λ (xs : List Claim). length xs + 1 ≤ length ws) (filter_true (without g ws)) (subst (λ (xs : List Claim). length (filter (λ _. true) (without g ws)) + 1 ≤ length xs) (filter_true ws) (count-without (λ _. true) g ws w found))
+length-without : (g : Gxid) (ws : List Claim) (w : Claim) → WaitOnce ws → find (is_of g) ws ≡ Some w → length (without g ws) + 1 ≡ length ws
+length-without g ws w once found =
+    ap (λ (xs : List Claim). length xs + 1) (sym (filter_true (without g ws))) ∙ count-without (λ _. true) g ws w once found ∙ ap length (filter_true ws)
 
 -- some claims less
-pub IsWhole-fewer : (p : Claim → Bool) (b b' : Book) (ws : List Claim) → IsWhole b ws → IsFiled b' → claims_in b' ≡ filter p (claims_in b) → b'.ledger.places ≡ b.ledger.places → ((k : Key) → awaited k ws ≤ places_at b'.index k) → IsWhole b' ws
+pub IsWhole-fewer : (p : Claim → Bool) (b b' : Book) (ws : List Claim) → IsWhole b ws → IsFiled b' → claims_in b' ≡ filter p (claims_in b) → b'.ledger.places ≡ b.ledger.places → ((k : Key) → places_at b'.index k ≡ awaited k ws) → IsWhole b' ws
 IsWhole-fewer p b b' ws whole filed e places room = record {
   filed = filed;
   exclusive = subst (λ (cs : List Claim). AreExclusive cs) (sym e) (AllPairs-filter (λ earlier later. meets later earlier ≡ false) p (claims_in b) whole.exclusive);
   held_once = subst (λ (cs : List Claim). AreOnce cs) (sym e) (AllPairs-filter (λ earlier later. same_claim later earlier ≡ false) p (claims_in b) whole.held_once);
   once = whole.once;
-  places = omega (arith, whole.places, places);
+  places = places ∙ whole.places;
   room = room;
 }
 
 -- one more, which meets none and isn't held
-pub IsWhole-held : (b b' : Book) (ws ws' : List Claim) (c : Claim) → IsWhole b ws → WaitOnce ws' → is_free (claims_in b) c ≡ true → list_any (same_claim c) (claims_in b) ≡ false → IsFiled b' → claims_in b' ≡ claims_in b ++ c ∷ [] → length ws' ≤ b'.ledger.places → ((k : Key) → awaited k ws' ≤ places_at b'.index k) → IsWhole b' ws'
+pub IsWhole-held : (b b' : Book) (ws ws' : List Claim) (c : Claim) → IsWhole b ws → WaitOnce ws' → is_free (claims_in b) c ≡ true → list_any (same_claim c) (claims_in b) ≡ false → IsFiled b' → claims_in b' ≡ claims_in b ++ c ∷ [] → b'.ledger.places ≡ length ws' → ((k : Key) → places_at b'.index k ≡ awaited k ws') → IsWhole b' ws'
 IsWhole-held b b' ws ws' c whole once free new filed e places room =
     let none : list_any (meets c) (claims_in b) ≡ false = free_is (list_any (meets c) (claims_in b)) free in
     record {
@@ -96,18 +95,18 @@ IsWhole-held b b' ws ws' c whole once free new filed e places room =
 -- a hold beside the places
 pub IsWhole-added : (b b' : Book) (ws : List Claim) (c : Claim) → IsWhole b ws → is_free (claims_in b) c ≡ true → list_any (same_claim c) (claims_in b) ≡ false → IsFiled b' → claims_in b' ≡ claims_in b ++ c ∷ [] → HasSamePlaces b b' → IsWhole b' ws
 IsWhole-added b b' ws c whole free new filed e same =
-    IsWhole-held b b' ws ws c whole whole.once free new filed e (omega (arith, whole.places, same.ledger)) (λ k. omega (arith, whole.room k, same.index k))
+    IsWhole-held b b' ws ws c whole whole.once free new filed e (same.ledger ∙ whole.places) (λ k. same.index k ∙ whole.room k)
 
 -- the waits without a transaction's
 once-without : (g : Gxid) (ws ws' : List Claim) → WaitOnce ws → ws' ≡ without g ws → WaitOnce ws'
 once-without g ws ws' once e = subst (λ (xs : List Claim). WaitOnce xs) (sym e) (AllPairs-filter (λ a b. is_of a.gxid b ≡ false) (λ c. not (is_of g c)) ws once)
 
 module _ (b b' : Book) (ws ws' : List Claim) (g : Gxid) (w : Claim) (whole : IsWhole b ws) (e : ws' ≡ without g ws) (found : find (is_of g) ws ≡ Some w) (less : HasPlaceLess b b' w) where
-  places_left : length ws' ≤ b'.ledger.places
-  places_left = omega (arith, length-without g ws w found, ap length e, whole.places, less.ledger)
+  places_left : b'.ledger.places ≡ length ws'
+  places_left = omega (arith, length-without g ws w whole.once found, ap length e, whole.places, less.ledger)
 
-  room_left : (k : Key) → awaited k ws' ≤ places_at b'.index k
-  room_left k = omega (arith, count-without (is_under k) g ws w found, ap (awaited k) e, whole.room k, less.index k)
+  room_left : (k : Key) → places_at b'.index k ≡ awaited k ws'
+  room_left k = omega (arith, count-without (is_under k) g ws w whole.once found, ap (awaited k) e, whole.room k, less.index k)
 
   -- a wait is dropped with its place
   pub IsWhole-dropped : HasSameHolds b b' → IsWhole b' ws'
@@ -129,8 +128,8 @@ module _ (b b' : Book) (ws ws' : List Claim) (g : Gxid) (w : Claim) (whole : IsW
 -- each wait has a place
 pub HasPlace-found : (b : Book) (ws : List Claim) (g : Gxid) (w : Claim) → IsWhole b ws → find (is_of g) ws ≡ Some w → HasPlace b w
 HasPlace-found b ws g w whole found = record {
-  ledger = omega (arith, length-without g ws w found, whole.places);
-  index = λ k. omega (arith, count-without (is_under k) g ws w found, whole.room k);
+  ledger = omega (arith, length-without g ws w whole.once found, whole.places);
+  index = λ k. omega (arith, count-without (is_under k) g ws w whole.once found, whole.room k);
 }
 
 none_of : (g : Gxid) (ws : List Claim) → filter (is_of g) (without g ws) ≡ []
@@ -149,12 +148,12 @@ key_cases g (Of h) = ⊎_elim (λ (same : h ≡ g). inl (ap Of same)) (λ (other
     gxids a b = grind (arith, nat_tests)
 
 -- all claims of a transaction that doesn't wait are given back
-pub IsWhole-emptied : (g : Gxid) (b b' : Book) (ws ws0 : List Claim) → IsWhole b ws → ws ≡ without g ws0 → IsFiled b' → claims_in b' ≡ without g (claims_in b) → b'.ledger.places ≡ b.ledger.places → ((k : Key) → k ≢ Of g → places_at b'.index k ≡ places_at b.index k) → IsWhole b' ws
-IsWhole-emptied g b b' ws ws0 whole e filed claims places room =
-    IsWhole-fewer (λ c. not (is_of g c)) b b' ws whole filed claims places (λ k. ⊎_elim (λ (same : k ≡ Of g). its k same) (λ (other : k ≢ Of g). omega (arith, whole.room k, room k other)) (key_cases g k))
+pub IsWhole-emptied : (g : Gxid) (b b' : Book) (ws ws0 : List Claim) → IsWhole b ws → ws ≡ without g ws0 → IsFiled b' → claims_in b' ≡ without g (claims_in b) → b'.ledger.places ≡ b.ledger.places → places_at b'.index (Of g) ≡ 0 → ((k : Key) → k ≢ Of g → places_at b'.index k ≡ places_at b.index k) → IsWhole b' ws
+IsWhole-emptied g b b' ws ws0 whole e filed claims places none room =
+    IsWhole-fewer (λ c. not (is_of g c)) b b' ws whole filed claims places (λ k. ⊎_elim (λ (same : k ≡ Of g). its k same) (λ (other : k ≢ Of g). room k other ∙ whole.room k) (key_cases g k))
   where
-    its : (k : Key) → k ≡ Of g → awaited k ws ≤ places_at b'.index k
-    its k same = subst (λ l. awaited l ws ≤ places_at b'.index k) (sym same) (omega (arith, ap length (ap (filter (is_of g)) e ∙ none_of g ws0)))
+    its : (k : Key) → k ≡ Of g → places_at b'.index k ≡ awaited k ws
+    its k same = subst (λ l. places_at b'.index l ≡ awaited l ws) (sym same) (none ∙ sym (ap length (ap (filter (is_of g)) e ∙ none_of g ws0)))
 
 -- where a transaction doesn't wait, its waits are none
 pub without-unfound : (g : Gxid) (ws : List Claim) → find (is_of g) ws ≡ None → without g ws ≡ ws

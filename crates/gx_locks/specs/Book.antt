@@ -42,11 +42,11 @@ pub record HasPlace (book : Book) (claim : Claim) : Type 0 where
   pub index : (k : Key) → bit (is_under k claim) ≤ places_at book.index k
 
 -- the book is filed, the claims exclude one another and are held once, the waits are of different transactions, and
--- each wait has a place
+-- each wait has a place, and nobody else
 pub record IsWhole (book : Book) (waits : List Claim) : Type 0 where
   pub filed : IsFiled book
   pub exclusive : AreExclusive (claims_in book)
   pub held_once : AreOnce (claims_in book)
   pub once : WaitOnce waits
-  pub places : length waits ≤ book.ledger.places
-  pub room : (k : Key) → awaited k waits ≤ places_at book.index k
+  pub places : book.ledger.places ≡ length waits
+  pub room : (k : Key) → places_at book.index k ≡ awaited k waits

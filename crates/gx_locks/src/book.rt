@@ -188,6 +188,7 @@ impl Book {
         ensures taken { claims_of (held result) ≡ filter (is_of gxid) (claims_in self.old) }
         ensures claims { claims_in self.new ≡ without gxid (claims_in self.old) }
         ensures places { self.new.ledger.places ≡ self.old.ledger.places }
+        ensures none { places_at self.new.index (Of gxid) ≡ 0 }
         ensures room { (k : Key) → k ≢ Of gxid → places_at self.new.index k ≡ places_at self.old.index k }
     {
         let holds = self.index.take_of(gxid);

@@ -341,7 +341,8 @@ impl Index {
         ensures taken { held result ≡ holds_at self.old (Of gxid) }
         ensures there { holds_at self.new (Of gxid) ≡ [] }
         ensures elsewhere { (k : Key) → k ≢ Of gxid → holds_at self.new k ≡ holds_at self.old k }
-        ensures places { (k : Key) → k ≢ Of gxid → places_at self.new k ≡ places_at self.old k }
+        ensures places_there { places_at self.new (Of gxid) ≡ 0 }
+        ensures places_elsewhere { (k : Key) → k ≢ Of gxid → places_at self.new k ≡ places_at self.old k }
     {
         let holds = self.take_there(Key::Of(gxid));
         self.free_idle(gxid);

@@ -4,3 +4,6 @@ use Rattle.gx_locks.proofs.index.Index.take_of.Goals as goal
 
 pub returns-clause-there : goal.returns-clause-there
 returns-clause-there c = ap (λ rack. rack.holds) (c.free_idle.ensures (Of c.args.gxid) ∙ c.take_there-holds.ensures.there)
+
+pub returns-clause-places_there : goal.returns-clause-places_there
+returns-clause-places_there c = ap (λ rack. rack.places) (c.free_idle.ensures (Of c.args.gxid) ∙ c.take_there-holds.ensures.there)
