@@ -17,7 +17,7 @@ use Rattle.gx_sql.specs.declared.refusal.Refusal.{Refusal}
 use Rattle.gx_sql.specs.Script.{Reads}
 use Rattle.gx_store.specs.declared.run.Run.{Run}
 use Rattle.gx_store.specs.declared.run.Step.{Step}
-use Rattle.gx_store.specs.Language.{IsScript}
+use Rattle.gx_store.specs.Language.{HasFaultsOnce, IsScript}
 use Rattle.gx_store.specs.Ordered.{AreOrdered}
 use Rattle.gx_store.specs.Points.{marks_of}
 use Rattle.gx_store.specs.Protocol.{DoStepsFollow}
@@ -154,10 +154,11 @@ pub record IsRead (work : Option ℕ) (left after : Option (List ℕ)) (said : R
   pub few : length bytes ≤ limit
   pub is : Reads bytes said
 
--- The script keeps the rules and the limits of the language, each of its INSERTs has a tuple, and no more than the limit of bytes, and each tuple
--- a value for the distribution column.
+-- The script keeps the rules and the limits of the language, has no fault of a link twice, each of its INSERTs has a tuple, and no more than the
+-- limit of bytes, and each tuple a value for the distribution column.
 pub record KeepsLanguage (script : Script) : Type 0 where
   pub language : IsScript script
+  pub faults : HasFaultsOnce script
   pub inserts : AreInsertsWhole script.tables script.lines
   pub tuples : HaveTuplesTo limit script.lines
 

@@ -17,11 +17,11 @@ use Rattle.gx_sql.specs.declared.refusal.LineFault.{LineFault}
 use Rattle.gx_sql.specs.declared.refusal.LineFault.TheVariants as fault
 use Rattle.gx_sql.specs.declared.refusal.Refusal.TheVariants as refusal
 use Rattle.gx_sql.specs.Counts.{PassesInHead, PassesInLine}
-use Rattle.gx_store.specs.Language.{IsScript}
+use Rattle.gx_store.specs.Language.{HasFaultsOnce, IsScript}
 use Rattle.gx_sql.specs.Lines.{lines_of, is_skipped}
 use Rattle.gx_sql.specs.Progress.{Progress, start, giving, is_known, is_on, with_line, with_segments, with_line_syn}
 use Rattle.gx_sql.specs.Script.{the_limits, Follows, Counts, Told, TokensSay, LineSays, Goes, Where, ended, script_of, ReadsOn, Reads}
-use Rattle.gx_sql.proofs.Language.{read_keeps}
+use Rattle.gx_sql.proofs.Language.{read_faults, read_keeps}
 use Rattle.gx_law_scripts.proofs.Filled.{IsFilled, IsWritten, more-written, stmt-written, stmt_of-filled}
 use Rattle.gx_law_scripts.proofs.Sizes.{AreShort, lines-short, tokens-few}
 
@@ -135,3 +135,7 @@ script-filled most bytes s few (inr (n, e)) = absurd cc
 pub script-is : (bytes : List ℕ) (s : Script) → Reads bytes (Ok s) → IsScript s
 script-is bytes s (inl (u, h)) = read_keeps bytes (Ok s) h
 script-is bytes s (inr (n, e)) = absurd cc
+
+pub faults-once : (bytes : List ℕ) (s : Script) → Reads bytes (Ok s) → HasFaultsOnce s
+faults-once bytes s (inl (u, h)) = read_faults bytes s h
+faults-once bytes s (inr (n, e)) = absurd cc

@@ -5,7 +5,7 @@ ghost use Rattle.gx_store.specs.Language.{AreLinesNumbered};
 ghost use Rattle.gx_rules.specs.Machine.{run_of, world_of};
 ghost use Rattle.gx_rules.specs.System.{IsSystemRun};
 ghost use Rattle.gx_script.specs.declared.Script.{Script};
-ghost use Rattle.gx_store.specs.Language.{IsScript};
+ghost use Rattle.gx_store.specs.Language.{HasFaultsOnce, IsScript};
 ghost use Rattle.gx_sql.specs.Script.{Reads};
 ghost use Rattle.gx_law_scripts.specs.Tuples.{HaveTuplesTo};
 ghost use Rattle.gx_store.specs.Runs.{IsLegalHistory};
@@ -20,6 +20,11 @@ pub fn scripts_have_segments_and_numbers()
 /// A script that was read keeps the rules and the limits of the language.
 pub fn scripts_keep_the_language()
     ensures { (bytes : List ℕ) (script : Script) → Reads bytes (Ok script) → IsScript script }
+{}
+
+/// A script that was read has no fault of a link twice.
+pub fn faults_stand_once()
+    ensures { (bytes : List ℕ) (script : Script) → Reads bytes (Ok script) → HasFaultsOnce script }
 {}
 
 /// Each INSERT of a script that was read has a tuple, and each of its tuples a value for the distribution column, which no UPDATE sets.

@@ -11,8 +11,8 @@ use gx_store::Mark;
 use gx_tree::{Row, Stmt};
 use std::alloc::Global;
 
-/// Whether a command of a transaction that has aborted may write this image of the row behind these marks.
-pub fn is_late_write_of(
+// Whether a command of a transaction that has aborted may write this image of the row behind these marks.
+pub(crate) fn is_late_write_of(
     alloc: Global,
     script: &Script,
     marks: &[Mark],

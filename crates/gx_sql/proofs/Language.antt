@@ -39,7 +39,7 @@ use Rattle.gx_sql.specs.Counts.{is_session}
 use Rattle.gx_sql.specs.Held.{HasRoom}
 use Rattle.gx_sql.specs.Progress.{Progress, start, giving, is_on, is_known, same_way, same_fault, with_fault, link_fault, place_of, count_of, counted, next_line, with_detector, with_table, with_link, with_line, with_session, with_line_syn}
 use Rattle.gx_sql.specs.Script.{the_limits, Told, TokensSay, LineSays, Goes, Where, ReadsOn, script_of, ended}
-use Rattle.gx_store.specs.Language.{table_name, IsName, IsTable, IsLine, lines_in, AreLinesNumbered, BeginInOrder, IsFault, IsScript}
+use Rattle.gx_store.specs.Language.{table_name, IsName, IsTable, IsLine, lines_in, AreLinesNumbered, BeginInOrder, IsFault, HasFaultsOnce, IsScript}
 use Rattle.gx_sql.proofs.Held.{length_snoc}
 use Rattle.gx_sql.proofs.Named.{made_columns, table_made}
 use Rattle.gx_sql.proofs.Room.{head_room, line_room}
@@ -371,44 +371,50 @@ tokens_keep number None p ts q o k (inr (f, v, e)) = absurd cc
 tokens_keep number (Some n) p ts q o k h = told_keeps number n p p.lines ts q o k h
 
 -- SCRIPTS
-ended_keeps : (number : ℕ) (o : Option ℕ) (p : Progress) (s : Script) → p.segments ≡ o → number ≤ 100001 → Keeps number p → Ok s ≡ ended number p o → IsScript s
+-- a script that keeps the rules, and has no fault of a link twice
+abbrev IsRight : Script → Type 0
+IsRight s = IsScript s × HasFaultsOnce s
+
+ended_keeps : (number : ℕ) (o : Option ℕ) (p : Progress) (s : Script) → p.segments ≡ o → number ≤ 100001 → Keeps number p → Ok s ≡ ended number p o → IsRight s
 ended_keeps number None p s o l k e = absurd cc
 ended_keeps number (Some n) p s o l k e =
     let same : s ≡ script_of n p = cc in
     let faults : KeepsFaults (Some n) p.faults = subst (λ (o : Option ℕ). KeepsFaults o p.faults) o k.faults in
     let few = k.few_lines in
-    subst IsScript (sym same) (record {
-      some_segments = faults.0;
-      few_segments = faults.1;
-      tables = k.tables;
-      table_names = k.table_names;
-      few_tables = k.few_tables;
-      sessions = k.sessions;
-      session_names = k.session_names;
-      few_sessions = subst (λ (n : ℕ). n ≤ 64) (sym (length_names p.sessions)) k.few_sessions;
-      lines = subst (λ (n : ℕ). All (IsLine p.tables n) p.lines) (sym (length_names p.sessions)) k.lines;
-      few_lines = omega arith;
-      numbers = k.numbers;
-      order = subst (BeginInOrder 0 p.lines) (sym (length_names p.sessions)) k.order;
-      faults = faults.2;
-      faults_once = faults.3;
-    })
+    subst IsRight (sym same) (
+      record {
+        some_segments = faults.0;
+        few_segments = faults.1;
+        tables = k.tables;
+        table_names = k.table_names;
+        few_tables = k.few_tables;
+        sessions = k.sessions;
+        session_names = k.session_names;
+        few_sessions = subst (λ (n : ℕ). n ≤ 64) (sym (length_names p.sessions)) k.few_sessions;
+        lines = subst (λ (n : ℕ). All (IsLine p.tables n) p.lines) (sym (length_names p.sessions)) k.lines;
+        few_lines = omega arith;
+        numbers = k.numbers;
+        order = subst (BeginInOrder 0 p.lines) (sym (length_names p.sessions)) k.order;
+        faults = faults.2;
+      },
+      faults.3,
+    )
 
-goes_keep : (number : ℕ) (go : Progress → Type 0) (q : Result Progress LineFault) (s : Script) → ((p : Progress) → q ≡ Ok p → go p → IsScript s) → Goes number go q (Ok s) → IsScript s
+goes_keep : (number : ℕ) (go : Progress → Type 0) (q : Result Progress LineFault) (s : Script) → ((p : Progress) → q ≡ Ok p → go p → IsRight s) → Goes number go q (Ok s) → IsRight s
 goes_keep number go (Ok p) s f h = f p refl h
 goes_keep number go (Err e) s f h = absurd cc
 
-reads_keep : (number : ℕ) (p : Progress) (ls : List (List ℕ)) (s : Script) → number ≤ 100001 → Keeps number p → ReadsOn number p ls (Ok s) → IsScript s
+reads_keep : (number : ℕ) (p : Progress) (ls : List (List ℕ)) (s : Script) → number ≤ 100001 → Keeps number p → ReadsOn number p ls (Ok s) → IsRight s
 reads_keep number p [] s l k h = ended_keeps number p.segments p s refl l k h
 reads_keep number p (line ∷ ls) s l k h = within (nat_lt 100000 number) refl (λ q m k h. reads_keep (number + 1) q ls s m k h) h
   where
-    says : ((q : Progress) → Keeps (number + 1) q → ReadsOn (number + 1) q ls (Ok s) → IsScript s) → (b : Bool) → Where b (ReadsOn (number + 1) p ls (Ok s)) ((q : Result Progress LineFault) × LineSays p line q × Goes number (λ (p : Progress). ReadsOn (number + 1) p ls (Ok s)) q (Ok s)) → IsScript s
+    says : ((q : Progress) → Keeps (number + 1) q → ReadsOn (number + 1) q ls (Ok s) → IsRight s) → (b : Bool) → Where b (ReadsOn (number + 1) p ls (Ok s)) ((q : Result Progress LineFault) × LineSays p line q × Goes number (λ (p : Progress). ReadsOn (number + 1) p ls (Ok s)) q (Ok s)) → IsRight s
     says rest true h = rest p (keeps_more number p k) h
     says rest false (q, (ts, lexed, t), g) =
         goes_keep number (λ (p : Progress). ReadsOn (number + 1) p ls (Ok s)) q s (λ u e h. rest u (tokens_keep number p.segments p ts u refl k (subst (TokensSay p.segments p ts) e t)) h) g
 
-    within : (b : Bool) → nat_lt 100000 number ≡ b → ((q : Progress) → number + 1 ≤ 100001 → Keeps (number + 1) q → ReadsOn (number + 1) q ls (Ok s) → IsScript s)
-        → Where b (Ok s ≡ Err (refusal.TooMany number limit.Lines)) (Where (is_skipped line) (ReadsOn (number + 1) p ls (Ok s)) ((q : Result Progress LineFault) × LineSays p line q × Goes number (λ (p : Progress). ReadsOn (number + 1) p ls (Ok s)) q (Ok s))) → IsScript s
+    within : (b : Bool) → nat_lt 100000 number ≡ b → ((q : Progress) → number + 1 ≤ 100001 → Keeps (number + 1) q → ReadsOn (number + 1) q ls (Ok s) → IsRight s)
+        → Where b (Ok s ≡ Err (refusal.TooMany number limit.Lines)) (Where (is_skipped line) (ReadsOn (number + 1) p ls (Ok s)) ((q : Result Progress LineFault) × LineSays p line q × Goes number (λ (p : Progress). ReadsOn (number + 1) p ls (Ok s)) q (Ok s))) → IsRight s
     within true e rest h = absurd cc
     within false e rest h =
         let few : number ≤ 100000 = grind arith in
@@ -418,5 +424,8 @@ start_keeps : Keeps 1 start
 start_keeps = record { tables = All-nil IsTable; table_names = tt; few_tables = omega arith; sessions = All-nil IsName; session_names = tt; few_sessions = omega arith; lines = All-nil (IsLine [] 0); few_lines = omega arith; numbers = tt; order = refl; counts = tt; faults = refl }
 
 pub read_keeps : (bytes : List ℕ) (r : Result Script Refusal) → Answers (ReadsOn 1 start (lines_of bytes)) r → IfOk r IsScript
-read_keeps bytes (Ok s) h = reads_keep 1 start (lines_of bytes) s (omega arith) start_keeps h
+read_keeps bytes (Ok s) h = (reads_keep 1 start (lines_of bytes) s (omega arith) start_keeps h).0
 read_keeps bytes (Err e) h = tt
+
+pub read_faults : (bytes : List ℕ) (s : Script) → ReadsOn 1 start (lines_of bytes) (Ok s) → HasFaultsOnce s
+read_faults bytes s h = (reads_keep 1 start (lines_of bytes) s (omega arith) start_keeps h).1

@@ -55,4 +55,7 @@ pub record IsScript (script : Script) : Type 0 where
   pub numbers : AreLinesNumbered [] script.lines
   pub order : BeginInOrder 0 script.lines (length script.sessions)
   pub faults : All (IsFault script.segments) script.faults
-  pub faults_once : AreDistinct script.faults
+
+-- No link has the same fault of one message twice. A run is what it is either way; a reader keeps each fault once.
+abbrev pub HasFaultsOnce : Script → Type 0
+HasFaultsOnce script = AreDistinct script.faults

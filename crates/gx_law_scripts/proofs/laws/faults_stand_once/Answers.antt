@@ -1,0 +1,5 @@
+use Rattle.gx_law_scripts.proofs.Kept.{faults-once}
+use Rattle.gx_law_scripts.proofs.laws.faults_stand_once.Goals as goal
+
+pub returns : goal.returns
+returns c = λ bytes script read. faults-once bytes script read
