@@ -16,7 +16,7 @@ use Rattle.gx_lines.specs.Heads.{segments, head_line, session_line, detector, ta
 use Rattle.gx_resolve.specs.Results.{Answer}
 use Rattle.gx_resolve.specs.Resolving.{stmt_of, table_from, new_table}
 use Rattle.gx_resolve.proofs.Promised.{table_promise}
-use Rattle.gx_print.specs.Limited.{Each}
+use Rattle.gx_print.specs.Limited.{Each, IsWithin, StmtClear}
 use Rattle.gx_print.specs.Reading.{IsTable, AreTables, HasSize}
 use Rattle.gx_print.specs.Written.{written, printed}
 use Rattle.gx_print.proofs.TableNames.{declared_table}
@@ -170,6 +170,14 @@ among_each : {A : Type 0} (P : A → Type 0) (x : A) (xs : List A) → Each P xs
 among_each P x [] h a = absurd a
 among_each P x (y ∷ xs) h (inl e) = subst P (sym e) h.0
 among_each P x (y ∷ xs) h (inr a) = among_each P x xs h.1 a
+
+-- a line of a script that was read is written within the limits, with the language's names and numbers
+pub line_written : (bytes : List ℕ) (s : Script) (l : Line) → Reads bytes (Ok s) → Among l s.lines → HasSize l.stmt → IsWithin the_limits (written s.tables l.stmt) × StmtClear (written s.tables l.stmt)
+line_written bytes s l h a size =
+    let whole = script_whole bytes s h in
+    let read = among_each (WasRead s.tables) l s.lines whole.1 a in
+    let again = read_again the_limits s.tables read.1 l.stmt whole.0 (stmt_within the_limits read.1 read.0 read.2) size read.3 in
+    (again.within, again.clear)
 
 -- the printed form of a line of a script that was read
 pub line_again : (bytes : List ℕ) (s : Script) (l : Line) → Reads bytes (Ok s) → Among l s.lines → HasSize l.stmt → ReadsAs s.tables l.stmt (printed s.tables l.stmt) × IsOneLine (printed s.tables l.stmt)
