@@ -3,6 +3,7 @@ use Rattle.std.proofs.Common.{◌≡◌, ◌⊎◌, inl, inr, ℕ, ◌+◌, ◌&
 use Rattle.std.proofs.lemmas.List.Elements.{All-cons, All-contains, All-nil}
 use Rattle.std.specs.List.{list_any}
 use Rattle.std.specs.Prelude.{All}
+use Rattle.gx_ids.specs.declared.ids.Gxid.{Gxid}
 use Rattle.gx_ids.specs.declared.ids.Node.{Node}
 use Rattle.gx_ids.specs.declared.ids.SessionId.{SessionId}
 use Rattle.gx_ids.specs.declared.rid.Rid.{Rid}
@@ -21,7 +22,7 @@ use Rattle.gx_waits.specs.Claim.{same_claim}
 use Rattle.gx_waits.specs.declared.claim.Claim.{Claim}
 use Rattle.gx_waits.specs.declared.object.Object.{Object}
 use Rattle.gx_waits.specs.declared.object.Object.TheVariants.{Transaction}
-use Rattle.gx_store.specs.Asking.{AreAsked, Asks, AsksThere, GrantsWait, IsOrWasUnderWay, LocksItself, Needs, has_told}
+use Rattle.gx_store.specs.Asking.{AreAsked, Asks, AsksThere, GrantsWait, IsOrWasUnderWay, LocksItself, Needs, NeedsTable, has_told}
 use Rattle.gx_store.specs.Commands.{RunsCommand}
 use Rattle.gx_store.specs.Lines.{Outside, cid_of, next_stmt, state_of}
 use Rattle.gx_store.specs.Marks.{answer_count, is_aborted, is_same_session}
@@ -183,8 +184,19 @@ no-writes : (marks : List Mark) → AreNoWrites marks → All NoWrite marks
 no-writes [] n = All-nil NoWrite
 no-writes (m ∷ ms) n = All-cons NoWrite m ms n.0 (no-writes ms n.1)
 
+-- what a statement takes on its table is no lock on a transaction
+on-a-table : (script : Script) (g h : Gxid) (line : Stmt) (mode : Mode) → NeedsTable script g line (Transaction h) mode → ⊥
+on-a-table script g h (stmt.Select query) mode e = cc
+on-a-table script g h (stmt.Insert table tuples) mode e = cc
+on-a-table script g h (stmt.Update table assigns cond) mode e = cc
+on-a-table script g h (stmt.Delete table cond) mode e = cc
+on-a-table script g h (stmt.Lock table other) mode e = cc
+on-a-table script g h (stmt.Begin level) mode e = cc
+on-a-table script g h stmt.Commit mode e = cc
+on-a-table script g h stmt.Rollback mode e = cc
+
 no-writer : (marks : List Mark) (line : Stmt) (script : Script) → All NoWrite marks → Needs script marks the_segment first_txn line (Transaction second_txn) Share → ⊥
-no-writer marks line script none (inl z) = z
+no-writer marks line script none (inl z) = on-a-table script first_txn second_txn line Share z
 no-writer marks line script none (inr z) = let w = z.2.2.1 in All-contains NoWrite marks (mark.Write second_txn w.cid the_segment z.0 z.2.2.0 w.image) none w.noted
 
 no-writer-there : {script : Script} {point : Point} → Asks script point the_segment first_txn (Transaction second_txn) Share → is_aborted (before point) first_txn ≡ false → AreNoWrites (before point) → ⊥
@@ -194,7 +206,7 @@ pub not-for-a-reader : (script : Script) (assigns : List Assign) (cond : Option 
 not-for-a-reader script assigns cond snapshot h = no-writer-there h.1.0.1.0 refl (tt, (tt, (tt, (tt, (tt, tt)))))
 
 no-own-need : (script : Script) (marks : List Mark) (line : Stmt) → Needs script marks the_segment first_txn line (Transaction first_txn) Exclusive → ⊥
-no-own-need script marks line (inl z) = z
+no-own-need script marks line (inl z) = on-a-table script first_txn first_txn line Exclusive z
 no-own-need script marks line (inr z) = other z.2.0
   where
     other : Exclusive ≡ Share → ⊥
