@@ -6,6 +6,7 @@ use Rattle.std.specs.Prelude.{All}
 use Rattle.gx_ids.specs.declared.ids.Gxid.{Gxid}
 use Rattle.gx_ids.specs.declared.ids.Node.{Node}
 use Rattle.gx_ids.specs.declared.ids.SessionId.{SessionId}
+use Rattle.gx_ids.specs.declared.ids.Table.{Table}
 use Rattle.gx_ids.specs.declared.rid.Rid.{Rid}
 use Rattle.gx_tree.specs.declared.value.Value.{Value}
 use Rattle.gx_dsnap.specs.declared.snapshot.Snapshot.{Snapshot}
@@ -21,7 +22,7 @@ use Rattle.gx_tree.specs.declared.stmt.Stmt.TheVariants as stmt
 use Rattle.gx_waits.specs.Claim.{same_claim}
 use Rattle.gx_waits.specs.declared.claim.Claim.{Claim}
 use Rattle.gx_waits.specs.declared.object.Object.{Object}
-use Rattle.gx_waits.specs.declared.object.Object.TheVariants.{Transaction}
+use Rattle.gx_waits.specs.declared.object.Object.TheVariants.{Relation, Transaction}
 use Rattle.gx_store.specs.Asking.{AreAsked, Asks, AsksThere, GrantsWait, IsOrWasUnderWay, LocksItself, Needs, NeedsTable, has_told}
 use Rattle.gx_store.specs.Commands.{RunsCommand}
 use Rattle.gx_store.specs.Lines.{Outside, cid_of, next_stmt, state_of}
@@ -186,14 +187,26 @@ no-writes (m ∷ ms) n = All-cons NoWrite m ms n.0 (no-writes ms n.1)
 
 -- what a statement takes on its table is no lock on a transaction
 on-a-table : (script : Script) (g h : Gxid) (line : Stmt) (mode : Mode) → NeedsTable script g line (Transaction h) mode → ⊥
-on-a-table script g h (stmt.Select query) mode e = cc
-on-a-table script g h (stmt.Insert table tuples) mode e = cc
-on-a-table script g h (stmt.Update table assigns cond) mode e = cc
-on-a-table script g h (stmt.Delete table cond) mode e = cc
-on-a-table script g h (stmt.Lock table other) mode e = cc
-on-a-table script g h (stmt.Begin level) mode e = cc
-on-a-table script g h stmt.Commit mode e = cc
-on-a-table script g h stmt.Rollback mode e = cc
+on-a-table script g h line mode = by_line line
+  where
+    apart : {table : Table} → Relation table ≡ Transaction h → ⊥
+    apart e = cc
+
+    objects : {a b : Claim} → Some a ≡ Some b → a.object ≡ b.object
+    objects e = ap (λ (c : Claim). c.object) (some-same _ _ e)
+
+    none : {c : Claim} → None ≡ Some c → ⊥
+    none e = cc
+
+    by_line : (line : Stmt) → NeedsTable script g line (Transaction h) mode → ⊥
+    by_line (stmt.Select query) e = apart (objects e)
+    by_line (stmt.Insert table tuples) e = apart (objects e)
+    by_line (stmt.Update table assigns cond) e = apart (objects e)
+    by_line (stmt.Delete table cond) e = apart (objects e)
+    by_line (stmt.Lock table other) e = apart (objects e)
+    by_line (stmt.Begin level) e = none e
+    by_line stmt.Commit e = none e
+    by_line stmt.Rollback e = none e
 
 no-writer : (marks : List Mark) (line : Stmt) (script : Script) → All NoWrite marks → Needs script marks the_segment first_txn line (Transaction second_txn) Share → ⊥
 no-writer marks line script none (inl z) = on-a-table script first_txn second_txn line Share z
