@@ -96,7 +96,7 @@ fol-words script before (m ∷ ms) e = (one m e.0, fol-words script (before ++ m
   where
     one : (m : Mark) → FolAt script before m → WordHere the_coordinator before m
     one (mark.Skip g c rid) f = absurd f
-    one (mark.Fault g c rid image) f = inl (refl, f)
+    one (mark.Fault g c rid image) f = inl (refl, f.0)
     one (mark.Sent to number told) f = absurd f
     one m f = tt
 
