@@ -1,0 +1,6 @@
+pub mod Attempts
+pub mod Bytes
+pub mod Chars
+pub mod Reports
+pub mod Steps
+pub mod Stopped
