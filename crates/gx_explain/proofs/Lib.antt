@@ -2,5 +2,6 @@ pub mod Attempts
 pub mod Bytes
 pub mod Chars
 pub mod Reports
+pub mod Shown
 pub mod Steps
 pub mod Stopped

@@ -150,9 +150,13 @@ abbrev pub sets : ℕ → Answer Assign → Bool
 sets key (Ok assign) = assign.col == key
 sets key (Err e) = false
 
+-- how many assignments stand before the one that sets the column at this place
+abbrev pub other_assigns : List Column → ℕ → List AssignSyn → ℕ
+other_assigns columns key assigns = prefix_len (λ assign. not (sets key (assign_as columns assign))) assigns
+
 -- the assignment that sets the distribution column
 abbrev pub key_set_place : List Column → ℕ → StmtSyn → List Token → ℕ
-key_set_place columns key (stmt_syn.Update table assigns cond) ts = before_assignment (prefix_len (λ assign. not (sets key (assign_as columns assign))) assigns) ts
+key_set_place columns key (stmt_syn.Update table assigns cond) ts = before_assignment (other_assigns columns key assigns) ts
 key_set_place columns key _ ts = 0
 
 abbrev pub key_update_place : List Column → Dist → StmtSyn → List Token → ℕ

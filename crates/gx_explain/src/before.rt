@@ -35,13 +35,23 @@ fn add_line<'t>(
     }
 }
 
+fn lines_before(number: u32) -> Mem<u32>
+    ensures { IfOk result (λ before. before + 1 ≡ number) }
+{
+    if 0 < number {
+        Ok(number - 1)
+    } else {
+        Err(OutOfMemory)
+    }
+}
+
 /// What the lines before the one of this number say, and the bytes from that line on. It is for a number up to which no line is
 /// refused, and then fails for want of memory alone.
 pub fn read_before(alloc: Global, bytes: &[u8], number: u32) -> Mem<(Progress, &[u8])>
     ensures before { IfOk result (λ r. Comes 1 start (lines.lines_of bytes.now) number (progress_of r.0) (lines.lines_of r.1.now)) }
     ensures held { IfOk result (λ r. IsHeld r.0) }
 {
-    let before = number.checked_sub(1).ok_or(OutOfMemory)?;
+    let before = lines_before(number)?;
     let mut progress = Progress::new(alloc);
     let mut tokens = Vec::new(alloc);
     let mut rest = bytes;

@@ -1,16 +1,15 @@
 // Where the part of a statement stands that is wrong by its kinds, counts or ranges.
-ghost use Rattle.std.specs.Prelude.{◌≡◌, ◌≤◌, ◌+◌, [], ◌==◌, if◌then◌else◌, Some, None, not, is_ok, length, IfOk};
-ghost use Rattle.std.specs.List.{prefix_len};
-ghost use Rattle.gx_resolve.specs.Kinding.{tuple_as, assign_as};
+ghost use Rattle.std.specs.Prelude.{◌≡◌, ◌≤◌, ◌+◌, is_ok, length, IfOk};
+ghost use Rattle.std.specs.List.{list_any, prefix_len};
+ghost use Rattle.gx_resolve.specs.Kinding.{assign_as};
 ghost use Rattle.gx_resolve.specs.Naming.{is_among, group_names};
 ghost use Rattle.gx_resolve.specs.Selecting as selecting;
 ghost use Rattle.gx_explain.specs.Places as of;
 
 use crate::parts::{before_part, before_word, behind};
-use gx_grammar::Syn;
 use gx_ids::{Mem, OutOfMemory, Seq};
 use gx_lex::{Token, Word};
-use gx_lines::{AssignSyn, ItemSyn, ItemsSyn, KeySyn, SelectSyn, Size, StmtSyn};
+use gx_lines::{AssignSyn, ItemSyn, ItemsSyn, KeySyn, SelectSyn, Size, StmtSyn, TupleSyn};
 use gx_resolve::{ResolveError, Written};
 use gx_tree::{Column, Dist, Txt};
 use std::alloc::Global;
@@ -76,6 +75,27 @@ fn right_parts<T: Written>(alloc: Global, columns: &[Column], parts: &[T]) -> Me
     Ok(count)
 }
 
+fn right_items(alloc: Global, columns: &[Column], items: &[ItemSyn]) -> Mem<usize>
+    requires { length columns.now ≤ 256 }
+    ensures { IfOk result (λ count. count ≡ of.good_items columns.now items.now) }
+{
+    right_parts(alloc, columns, items)
+}
+
+fn right_tuples(alloc: Global, columns: &[Column], tuples: &[TupleSyn]) -> Mem<usize>
+    requires { length columns.now ≤ 256 }
+    ensures { IfOk result (λ count. count ≡ of.good_tuples columns.now tuples.now) }
+{
+    right_parts(alloc, columns, tuples)
+}
+
+fn right_assigns(alloc: Global, columns: &[Column], assigns: &[AssignSyn]) -> Mem<usize>
+    requires { length columns.now ≤ 256 }
+    ensures { IfOk result (λ count. count ≡ of.good_assigns columns.now assigns.now) }
+{
+    right_parts(alloc, columns, assigns)
+}
+
 fn among(count: usize, all: usize) -> Option<usize>
     ensures { result ≡ of.among count all }
 {
@@ -88,10 +108,10 @@ fn wrong_item(alloc: Global, columns: &[Column], items: &ItemsSyn) -> Mem<Option
 {
     match items {
         ItemsSyn::All => Ok(None),
-        ItemsSyn::These(items) => Ok(among(
-            right_parts(alloc, columns, items.as_slice())?,
-            items.as_slice().len(),
-        )),
+        ItemsSyn::These(items) => {
+            let count = right_items(alloc, columns, items.as_slice())?;
+            Ok(among(count, items.as_slice().len()))
+        }
     }
 }
 
@@ -197,12 +217,18 @@ fn is_aggregate(item: &ItemSyn) -> bool
     }
 }
 
+fn any_aggregate(items: &[ItemSyn]) -> bool
+    ensures { result ≡ list_any selecting.is_aggregate items.now }
+{
+    items.iter().any(|item| is_aggregate(item))
+}
+
 fn has_aggregate(items: &ItemsSyn) -> bool
     ensures { result ≡ selecting.has_aggregate items.now }
 {
     match items {
         ItemsSyn::All => false,
-        ItemsSyn::These(items) => items.as_slice().iter().any(|item| is_aggregate(item)),
+        ItemsSyn::These(items) => any_aggregate(items.as_slice()),
     }
 }
 
@@ -252,11 +278,11 @@ pub fn mismatch_place(
             Ok(select_place(select.get(), item, tokens))
         }
         StmtSyn::Insert(_, tuples) => {
-            let count = right_parts(alloc, columns, tuples.as_slice())?;
+            let count = right_tuples(alloc, columns, tuples.as_slice())?;
             Ok(before_tuple(count, tokens))
         }
         StmtSyn::Update(_, assigns, _) => {
-            let count = right_parts(alloc, columns, assigns.as_slice())?;
+            let count = right_assigns(alloc, columns, assigns.as_slice())?;
             Ok(update_place(among(count, assigns.as_slice().len()), tokens))
         }
         StmtSyn::Delete(_, _) => Ok(before_where(tokens)),
@@ -285,7 +311,7 @@ fn sets(alloc: Global, columns: &[Column], key: u8, assign: &AssignSyn) -> Mem<b
 
 fn other_assigns(alloc: Global, columns: &[Column], key: u8, assigns: &[AssignSyn]) -> Mem<usize>
     requires { length columns.now ≤ 256 }
-    ensures { IfOk result (λ count. count ≡ prefix_len (λ assign. not (of.sets key (assign_as columns.now assign))) assigns.now) }
+    ensures { IfOk result (λ count. count ≡ of.other_assigns columns.now key assigns.now) }
 {
     let mut count = 0usize;
     for assign in assigns {

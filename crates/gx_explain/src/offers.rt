@@ -18,8 +18,8 @@ use std::alloc::Global;
 // The most tokens before a place at which something is offered, since all of them are read for each offer.
 const NEAR: usize = 20_000;
 
-// The most bytes of a line of offers.
-const WIDTH: usize = 100;
+// The most bytes of offers, which with what stands before them make a line of 100.
+const ROOM: usize = 76;
 
 // The signs.
 const SIGNS: [Symbol; 16] = [
@@ -86,7 +86,7 @@ fn goes(going: Going) -> bool {
 }
 
 fn push_offer(offers: &mut Vec<u8>, spelling: &[u8]) -> Mem<()> {
-    if offers.len() + spelling.len() + 24 > WIDTH {
+    if offers.len().saturating_add(spelling.len()) > ROOM {
         return Ok(());
     }
     if !offers.is_empty() {

@@ -19,6 +19,7 @@ use gx_sql::refusal::LineFault;
 use gx_tree::Schema;
 use indexmap::IndexMap;
 use std::alloc::Global;
+use std::mem;
 
 /// The limits of lines.
 pub fn limits() -> Limits
@@ -139,7 +140,8 @@ fn head_place(
     match read_head_line(alloc, segments, limits(), tokens) {
         Ok(line) => {
             let place = written_place(alloc, &progress.tables, &line, fault, tokens);
-            drop(line);
+            // The process ends soon, and the memory of what was read with it.
+            mem::forget(line);
             Ok(Some(place?))
         }
         Err(ReadError::Fault(_, left)) => Ok(tokens.len().checked_sub(left)),
@@ -159,7 +161,8 @@ fn line_place(
     match read_session_line(alloc, limits(), tokens) {
         Ok(line) => {
             let place = written_place(alloc, &progress.tables, &line, fault, tokens);
-            drop(line);
+            // The process ends soon, and the memory of what was read with it.
+            mem::forget(line);
             Ok(Some(place?))
         }
         Err(ReadError::Fault(_, left)) => Ok(tokens.len().checked_sub(left)),

@@ -53,12 +53,3 @@ pub fn push_reason(text: &mut Vec<u8>, number: u32, fault: LineFault) -> Mem<()>
     push_count(text, u128::from(number))?;
     push_bytes(text, b"\n")
 }
-
-/// Adds the line on the first byte that isn't UTF-8.
-pub fn push_not_utf8(text: &mut Vec<u8>, place: u64) -> Mem<()>
-    ensures { OnOk result (text.new.items ≡ text.old.items ++ of.reason_utf8 place) }
-{
-    push_bytes(text, b"refused 8 not utf-8 byte ")?;
-    push_count(text, u128::from(place))?;
-    push_bytes(text, b"\n")
-}
