@@ -1,5 +1,5 @@
 -- What the work comes to, by what the bytes are.
-use Rattle.std.proofs.Common.{◌≡◌, ℕ, List, Err, refl}
+use Rattle.std.proofs.Common.{ℕ, List, Err, refl}
 use Rattle.std.specs.Prelude.{Option}
 use Rattle.gx_sql.specs.declared.refusal.Refusal.{Refusal}
 use Rattle.gx_sql.specs.declared.refusal.Refusal.TheVariants as refusal

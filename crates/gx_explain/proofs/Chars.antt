@@ -1,5 +1,5 @@
 -- Blanks that are pushed one after the other.
-use Rattle.std.proofs.Common.{◌≡◌, ℕ, zero, suc, ◌-◌, ◌<◌, List, ◌∷◌, arith, refl, ap, sym}
+use Rattle.std.proofs.Common.{◌≡◌, ℕ, zero, suc, ◌-◌, ◌<◌, ◌∷◌, arith, ap, sym}
 use Rattle.gx_explain.specs.Windows.{blanks}
 
 pub blanks-next : (n : ℕ) → 0 < n → blanks n ≡ 32 ∷ blanks (n - 1)

@@ -1,5 +1,5 @@
 -- What each status tells, from what the work before the writing came to and what was told of it.
-use Rattle.std.proofs.Common.{◌≡◌, ◌⊎◌, inl, inr, ℕ, nat_eq, List, Bool, true, false, arith, refl, sym, ◌∙◌, subst, codes}
+use Rattle.std.proofs.Common.{◌≡◌, ◌⊎◌, inl, inr, ℕ, nat_eq, List, Bool, true, false, arith, refl, sym, ◌∙◌, subst}
 use Rattle.std.specs.Prelude.{Option}
 use Rattle.gx_explain.specs.declared.attempt.Attempt.{Attempt}
 use Rattle.gx_explain.specs.declared.attempt.Attempt.TheVariants.{IsScript, Refused, ReadFault, TooLarge, OutOfMemory}

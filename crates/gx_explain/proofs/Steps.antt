@@ -1,5 +1,5 @@
 -- The lines before a line, one after the other.
-use Rattle.std.proofs.Common.{◌≡◌, ◌⊎◌, inl, inr, ℕ, ◌+◌, Bool, true, false, List, [], ◌∷◌, Ok, arith, refl, sym, subst}
+use Rattle.std.proofs.Common.{◌≡◌, inl, inr, ℕ, ◌+◌, Bool, true, false, List, [], ◌∷◌, Ok, arith, refl, sym, subst}
 use Rattle.gx_sql.specs.Lines.{is_skipped, lines_of}
 use Rattle.gx_sql.specs.Progress.{Progress}
 use Rattle.gx_sql.specs.Script.{LineSays, Where}

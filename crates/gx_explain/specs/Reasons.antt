@@ -1,13 +1,10 @@
 -- The line that tells why bytes are no script, as `gx` tells it, and the line of the script that it names.
-use Rattle.std.specs.Prelude.{ℕ, List, ◌++◌, Some, None, codes}
+use Rattle.std.specs.Prelude.{ℕ, List, ◌++◌, codes}
 use Rattle.std.specs.Fmt.{decimal}
-use Rattle.std.specs.declared.option.Option.{Option}
 use Rattle.gx_sql.specs.declared.refusal.Limit.{Limit}
 use Rattle.gx_sql.specs.declared.refusal.Limit.TheVariants as limit
 use Rattle.gx_sql.specs.declared.refusal.LineFault.{LineFault}
 use Rattle.gx_sql.specs.declared.refusal.LineFault.TheVariants as fault
-use Rattle.gx_sql.specs.declared.refusal.Refusal.{Refusal}
-use Rattle.gx_sql.specs.declared.refusal.Refusal.TheVariants as refusal
 
 abbrev pub limit_name : Limit → List ℕ
 limit_name limit.Segments = codes "segments"

@@ -1,4 +1,3 @@
-use Rattle.std.proofs.Common.{arith, length, ◌≤◌}
 use Rattle.gx_explain.proofs.Bytes.{within-byte, within-quotes, within-ended, within-open, shorter, shorter-twice}
 use Rattle.gx_explain.proofs.tails.behind_text.Goals as goal
 
