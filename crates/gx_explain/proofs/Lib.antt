@@ -1,0 +1,7 @@
+pub mod Attempts
+pub mod Bytes
+pub mod Chars
+pub mod Reports
+pub mod Shown
+pub mod Steps
+pub mod Stopped

@@ -1,0 +1,7 @@
+pub mod Before
+pub mod Parts
+pub mod Places
+pub mod Tails
+pub mod Windows
+pub mod Reasons
+pub mod Top

@@ -1,0 +1,167 @@
+// Hints for the usual mistakes. Nothing is proved of them.
+use crate::rules::{KINDS, NAMES, PLACES, Rule, WORDS};
+use crate::spelled::spelled;
+use gx_ids::Mem;
+use gx_lex::byte::{is_capital, is_word_byte, small};
+use gx_lex::{Token, Word};
+use gx_sql::Limit;
+use gx_sql::refusal::LineFault;
+use gx_text::push_bytes;
+
+/// How a token comes to be where it can't stand.
+#[derive(Clone, Copy)]
+pub enum Stray {
+    /// It is a keyword, and a name could stand there.
+    Keyword,
+    /// It is a word with capitals that is no keyword, or no token at all.
+    Bad,
+    /// It could stand there by the grammar.
+    Fitting,
+    Other,
+}
+
+// Whether bytes begin with this word, in letters of either case, or with this sign. The end of a line is a line feed.
+fn begins(spelling: &[u8], bytes: &[u8]) -> bool {
+    if spelling.first() == Some(&10) {
+        return bytes.is_empty();
+    }
+    let mut rest = bytes;
+    for letter in spelling {
+        match rest.split_first() {
+            None => return false,
+            Some((byte, others)) => {
+                if *letter != small(*byte) {
+                    return false;
+                }
+                rest = others;
+            }
+        }
+    }
+    !goes_on(spelling, rest)
+}
+
+// Whether a word isn't at its end before these bytes.
+fn goes_on(spelling: &[u8], rest: &[u8]) -> bool {
+    match (spelling.first(), rest.first()) {
+        (Some(letter), Some(byte)) => is_word_byte(*letter) && is_word_byte(*byte),
+        _ => false,
+    }
+}
+
+fn is_any(wanted: &[u8], found: &[u8]) -> bool {
+    wanted.is_empty() || wanted == found
+}
+
+fn hint_by(rules: &[Rule], clause: &[u8], last: &[u8], tail: &[u8]) -> Option<&'static [u8]> {
+    for rule in rules {
+        if is_any(rule.clause, clause) && is_any(rule.last, last) && begins(rule.here, tail) {
+            return Some(rule.hint);
+        }
+    }
+    None
+}
+
+fn last_of<'a>(tokens: &'a [Token]) -> &'a [u8] {
+    match tokens.last() {
+        Some(token) => spelled(token),
+        None => b"\n",
+    }
+}
+
+fn is_clause(word: Word) -> bool {
+    match word {
+        Word::Select | Word::From | Word::Where | Word::Group | Word::Order | Word::Limit => true,
+        Word::Into | Word::Values | Word::Set | Word::Lock | Word::Count | Word::Distributed =>
+            true,
+        _ => false,
+    }
+}
+
+// The clause of a line behind these tokens, or this one.
+fn clause_of(tokens: &[Token], front: &'static [u8]) -> &'static [u8] {
+    let mut clause = front;
+    for token in tokens {
+        if let Token::Word(word) = token {
+            if is_clause(*word) {
+                clause = word.text();
+            }
+        }
+    }
+    clause
+}
+
+fn hint_on_bad(first: Option<&u8>) -> Option<&'static [u8]> {
+    match first {
+        Some(byte) if is_capital(*byte) => Some(b"names are written in small letters"),
+        Some(byte) if *byte == 39 => Some(
+            b"a text ends on its line, and a quote within it is written twice",
+        ),
+        _ => None,
+    }
+}
+
+fn hint_on_stray(stray: Stray, tail: &[u8]) -> Option<&'static [u8]> {
+    match stray {
+        Stray::Keyword => Some(b"this word is a keyword, and can't be a name"),
+        Stray::Bad => hint_on_bad(tail.first()),
+        Stray::Fitting => Some(b"this is told already"),
+        Stray::Other => None,
+    }
+}
+
+fn hint_on_syntax(stray: Stray, clause: &[u8], last: &[u8], tail: &[u8]) -> Option<&'static [u8]> {
+    if let Some(hint) = hint_by(&WORDS, clause, last, tail) {
+        return Some(hint);
+    }
+    if let Some(hint) = hint_on_stray(stray, tail) {
+        return Some(hint);
+    }
+    hint_by(&PLACES, clause, last, tail)
+}
+
+fn hint_on_limit(limit: Limit) -> &'static [u8] {
+    match limit {
+        Limit::Segments => b"there are at most 16 segments",
+        Limit::Sessions => b"there are at most 64 sessions",
+        Limit::Tables => b"there are at most 64 tables",
+        Limit::Columns => b"a table has at most 32 columns",
+        Limit::Lines => b"there are at most 100000 lines",
+        Limit::Name => b"a name has at most 63 bytes",
+        Limit::Text => b"a text has at most 1000 bytes",
+        Limit::Depth =>
+            b"at most 100 parentheses, NOTs and minus signs stand around a token, and 1000 operators in an expression",
+    }
+}
+
+/// The hint for a fault behind these tokens, in a line that stands at this front of the script.
+pub fn hint(
+    fault: LineFault,
+    stray: Stray,
+    front: &'static [u8],
+    tokens: &[Token],
+    tail: &[u8],
+) -> Option<&'static [u8]> {
+    let clause = clause_of(tokens, front);
+    let last = last_of(tokens);
+    match fault {
+        LineFault::Syntax => hint_on_syntax(stray, clause, last, tail),
+        LineFault::UnknownTable => Some(b"no table line has this name"),
+        LineFault::UnknownColumn => hint_by(&NAMES, clause, last, tail),
+        LineFault::TableExists => Some(b"a table line above has this name"),
+        LineFault::TypeMismatch => hint_by(&KINDS, clause, last, tail),
+        LineFault::KeyUpdate => Some(
+            b"a row keeps its key: DELETE it and INSERT another, in a block",
+        ),
+        LineFault::TooMany(limit) => Some(hint_on_limit(limit)),
+    }
+}
+
+/// Adds a hint, where there is one.
+pub fn push_hint(words: &mut Vec<u8>, hint: Option<&'static [u8]>) -> Mem<()> {
+    if let Some(hint) = hint {
+        push_bytes(words, b"  hint: ")?;
+        push_bytes(words, hint)?;
+        push_bytes(words, b"\n")?;
+    }
+    Ok(())
+}

@@ -1,0 +1,360 @@
+// Where the part of a statement stands that is wrong by its kinds, counts or ranges.
+ghost use Rattle.std.specs.Prelude.{◌≡◌, ◌≤◌, ◌+◌, is_ok, length, IfOk};
+ghost use Rattle.std.specs.List.{list_any, prefix_len};
+ghost use Rattle.gx_resolve.specs.Kinding.{assign_as};
+ghost use Rattle.gx_resolve.specs.Naming.{is_among, group_names};
+ghost use Rattle.gx_resolve.specs.Selecting as selecting;
+ghost use Rattle.gx_explain.specs.Places as of;
+
+use crate::parts::{before_part, before_word, behind};
+use gx_ids::{Mem, OutOfMemory, Seq};
+use gx_lex::{Token, Word};
+use gx_lines::{AssignSyn, ItemSyn, ItemsSyn, KeySyn, SelectSyn, Size, StmtSyn, TupleSyn};
+use gx_resolve::{ResolveError, Written};
+use gx_tree::{Column, Dist, Txt};
+use std::alloc::Global;
+
+fn before_where(tokens: &[Token]) -> usize
+    ensures { result ≡ of.before_where tokens.now }
+{
+    before_word(Word::Where, tokens) + 1
+}
+
+fn before_item(count: usize, tokens: &[Token]) -> usize
+    ensures { result ≡ of.before_item count tokens.now }
+{
+    3 + before_part(count, behind(3, tokens))
+}
+
+fn before_tuple(count: usize, tokens: &[Token]) -> usize
+    ensures { result ≡ of.before_tuple count tokens.now }
+{
+    6 + before_part(count, behind(6, tokens))
+}
+
+fn before_assignment(count: usize, tokens: &[Token]) -> usize
+    ensures { result ≡ of.before_assignment count tokens.now }
+{
+    5 + before_part(count, behind(5, tokens))
+}
+
+fn before_key(count: usize, tokens: &[Token]) -> usize
+    ensures { result ≡ of.before_key count tokens.now }
+{
+    let first = before_word(Word::Order, tokens) + 2;
+    first + before_part(count, behind(first, tokens))
+}
+
+// Whether a part is right over the columns.
+fn is_right<T: Written>(alloc: Global, columns: &[Column], part: &T) -> Mem<bool>
+    requires { length columns.now ≤ 256 }
+    ensures { IfOk result (λ right. right ≡ is_ok (T.means columns.now part.now)) }
+{
+    match part.resolve(alloc, columns) {
+        Ok(resolved) => {
+            drop(resolved);
+            Ok(true)
+        }
+        Err(ResolveError::Fault(_)) => Ok(false),
+        Err(ResolveError::OutOfMemory) => Err(OutOfMemory),
+    }
+}
+
+// How many parts stand before the first that isn't right.
+fn right_parts<T: Written>(alloc: Global, columns: &[Column], parts: &[T]) -> Mem<usize>
+    requires { length columns.now ≤ 256 }
+    ensures { IfOk result (λ count. count ≡ prefix_len (λ part. is_ok (T.means columns.now part)) parts.now) }
+{
+    let mut count = 0usize;
+    for part in parts {
+        if !is_right(alloc, columns, part)? {
+            return Ok(count);
+        }
+        count += 1;
+    }
+    Ok(count)
+}
+
+fn right_items(alloc: Global, columns: &[Column], items: &[ItemSyn]) -> Mem<usize>
+    requires { length columns.now ≤ 256 }
+    ensures { IfOk result (λ count. count ≡ of.good_items columns.now items.now) }
+{
+    right_parts(alloc, columns, items)
+}
+
+fn right_tuples(alloc: Global, columns: &[Column], tuples: &[TupleSyn]) -> Mem<usize>
+    requires { length columns.now ≤ 256 }
+    ensures { IfOk result (λ count. count ≡ of.good_tuples columns.now tuples.now) }
+{
+    right_parts(alloc, columns, tuples)
+}
+
+fn right_assigns(alloc: Global, columns: &[Column], assigns: &[AssignSyn]) -> Mem<usize>
+    requires { length columns.now ≤ 256 }
+    ensures { IfOk result (λ count. count ≡ of.good_assigns columns.now assigns.now) }
+{
+    right_parts(alloc, columns, assigns)
+}
+
+fn among(count: usize, all: usize) -> Option<usize>
+    ensures { result ≡ of.among count all }
+{
+    if count == all { None } else { Some(count) }
+}
+
+fn wrong_item(alloc: Global, columns: &[Column], items: &ItemsSyn) -> Mem<Option<usize>>
+    requires { length columns.now ≤ 256 }
+    ensures { IfOk result (λ item. item ≡ of.wrong_item columns.now items.now) }
+{
+    match items {
+        ItemsSyn::All => Ok(None),
+        ItemsSyn::These(items) => {
+            let count = right_items(alloc, columns, items.as_slice())?;
+            Ok(among(count, items.as_slice().len()))
+        }
+    }
+}
+
+fn is_too_large(limit: Option<Size>) -> bool
+    ensures { result ≡ of.is_too_large limit }
+{
+    match limit {
+        None => false,
+        Some(Size(None)) => true,
+        Some(Size(Some(_))) => false,
+    }
+}
+
+fn is_named(names: &[Txt], name: &Txt) -> bool
+    ensures { result ≡ is_among names.now name.now }
+{
+    names.iter().any(|other| *other == *name)
+}
+
+fn may_group(names: &[Txt], item: &ItemSyn) -> bool
+    ensures { result ≡ of.may_group names.now item.now }
+{
+    match item {
+        ItemSyn::Column(name) => is_named(names, name),
+        ItemSyn::Count => true,
+        ItemSyn::Agg(_, _) => true,
+    }
+}
+
+fn grouped_items(names: &[Txt], items: &[ItemSyn]) -> usize
+    ensures { result ≡ prefix_len (of.may_group names.now) items.now }
+{
+    items
+        .iter()
+        .take_while(|item| may_group(names, *item))
+        .count()
+}
+
+fn plain_item(names: &[Txt], items: &ItemsSyn) -> Option<usize>
+    ensures { result ≡ of.plain_item names.now items.now }
+{
+    match items {
+        ItemsSyn::All => Some(0),
+        ItemsSyn::These(items) => among(
+            grouped_items(names, items.as_slice()),
+            items.as_slice().len(),
+        ),
+    }
+}
+
+fn grouped_keys(names: &[Txt], keys: &[KeySyn]) -> usize
+    ensures { result ≡ of.good_keys names.now keys.now }
+{
+    keys.iter()
+        .take_while(|key| is_named(names, &key.column))
+        .count()
+}
+
+fn plain_key(names: &[Txt], keys: &Option<Seq<KeySyn>>) -> Option<usize>
+    ensures { result ≡ of.plain_key names.now keys.now }
+{
+    match keys {
+        None => None,
+        Some(keys) => among(grouped_keys(names, keys.as_slice()), keys.as_slice().len()),
+    }
+}
+
+fn group_names_of(group: &Option<Seq<Txt>>) -> &[Txt]
+    ensures { result.now ≡ group_names group.now }
+{
+    match group {
+        None => &[],
+        Some(names) => names.as_slice(),
+    }
+}
+
+fn key_place(key: Option<usize>, tokens: &[Token]) -> usize
+    ensures { result ≡ of.key_place key tokens.now }
+{
+    match key {
+        Some(count) => before_key(count, tokens),
+        None => before_where(tokens),
+    }
+}
+
+fn group_place(select: &SelectSyn, tokens: &[Token]) -> usize
+    ensures { result ≡ of.group_place select.now (of.plain_item (group_names select.now.group) select.now.items) tokens.now }
+{
+    let names = group_names_of(&select.group);
+    match plain_item(names, &select.items) {
+        Some(count) => before_item(count, tokens),
+        None => key_place(plain_key(names, &select.order), tokens),
+    }
+}
+
+fn is_aggregate(item: &ItemSyn) -> bool
+    ensures { result ≡ selecting.is_aggregate item.now }
+{
+    match item {
+        ItemSyn::Column(_) => false,
+        ItemSyn::Count => true,
+        ItemSyn::Agg(_, _) => true,
+    }
+}
+
+fn any_aggregate(items: &[ItemSyn]) -> bool
+    ensures { result ≡ list_any selecting.is_aggregate items.now }
+{
+    items.iter().any(|item| is_aggregate(item))
+}
+
+fn has_aggregate(items: &ItemsSyn) -> bool
+    ensures { result ≡ selecting.has_aggregate items.now }
+{
+    match items {
+        ItemsSyn::All => false,
+        ItemsSyn::These(items) => any_aggregate(items.as_slice()),
+    }
+}
+
+fn is_grouped(select: &SelectSyn) -> bool
+    ensures { result ≡ selecting.is_grouped select.now }
+{
+    has_aggregate(&select.items) || select.group.is_some()
+}
+
+fn select_place(select: &SelectSyn, item: Option<usize>, tokens: &[Token]) -> usize
+    ensures { result ≡ of.select_place select.now item tokens.now }
+{
+    if let Some(count) = item {
+        return before_item(count, tokens);
+    }
+    if is_too_large(select.limit) {
+        before_word(Word::Limit, tokens) + 1
+    } else if is_grouped(select) {
+        group_place(select, tokens)
+    } else {
+        before_where(tokens)
+    }
+}
+
+fn update_place(assign: Option<usize>, tokens: &[Token]) -> usize
+    ensures { result ≡ of.update_place assign tokens.now }
+{
+    match assign {
+        Some(count) => before_assignment(count, tokens),
+        None => before_where(tokens),
+    }
+}
+
+/// How many tokens stand before the first part of a statement that is wrong by its kinds, counts and ranges.
+pub fn mismatch_place(
+    alloc: Global,
+    columns: &[Column],
+    stmt: &StmtSyn,
+    tokens: &[Token],
+) -> Mem<usize>
+    requires { length columns.now ≤ 256 }
+    ensures { IfOk result (λ place. place ≡ of.mismatch_place columns.now stmt.now tokens.now) }
+{
+    match stmt {
+        StmtSyn::Select(select) => {
+            let item = wrong_item(alloc, columns, &select.get().items)?;
+            Ok(select_place(select.get(), item, tokens))
+        }
+        StmtSyn::Insert(_, tuples) => {
+            let count = right_tuples(alloc, columns, tuples.as_slice())?;
+            Ok(before_tuple(count, tokens))
+        }
+        StmtSyn::Update(_, assigns, _) => {
+            let count = right_assigns(alloc, columns, assigns.as_slice())?;
+            Ok(update_place(among(count, assigns.as_slice().len()), tokens))
+        }
+        StmtSyn::Delete(_, _) => Ok(before_where(tokens)),
+        StmtSyn::Lock(_, _) => Ok(0),
+        StmtSyn::Begin(_) => Ok(0),
+        StmtSyn::Commit => Ok(0),
+        StmtSyn::Rollback => Ok(0),
+    }
+}
+
+// Whether an assignment sets the column at this place.
+fn sets(alloc: Global, columns: &[Column], key: u8, assign: &AssignSyn) -> Mem<bool>
+    requires { length columns.now ≤ 256 }
+    ensures { IfOk result (λ sets. sets ≡ of.sets key (assign_as columns.now assign.now)) }
+{
+    match assign.resolve(alloc, columns) {
+        Ok(resolved) => {
+            let col = resolved.col;
+            drop(resolved);
+            Ok(col == key)
+        }
+        Err(ResolveError::Fault(_)) => Ok(false),
+        Err(ResolveError::OutOfMemory) => Err(OutOfMemory),
+    }
+}
+
+fn other_assigns(alloc: Global, columns: &[Column], key: u8, assigns: &[AssignSyn]) -> Mem<usize>
+    requires { length columns.now ≤ 256 }
+    ensures { IfOk result (λ count. count ≡ of.other_assigns columns.now key assigns.now) }
+{
+    let mut count = 0usize;
+    for assign in assigns {
+        if sets(alloc, columns, key, assign)? {
+            return Ok(count);
+        }
+        count += 1;
+    }
+    Ok(count)
+}
+
+fn key_set_place(
+    alloc: Global,
+    columns: &[Column],
+    key: u8,
+    stmt: &StmtSyn,
+    tokens: &[Token],
+) -> Mem<usize>
+    requires { length columns.now ≤ 256 }
+    ensures { IfOk result (λ place. place ≡ of.key_set_place columns.now key stmt.now tokens.now) }
+{
+    match stmt {
+        StmtSyn::Update(_, assigns, _) => {
+            let count = other_assigns(alloc, columns, key, assigns.as_slice())?;
+            Ok(before_assignment(count, tokens))
+        }
+        _ => Ok(0),
+    }
+}
+
+/// How many tokens stand before the assignment that sets the distribution column.
+pub fn key_update_place(
+    alloc: Global,
+    columns: &[Column],
+    dist: Dist,
+    stmt: &StmtSyn,
+    tokens: &[Token],
+) -> Mem<usize>
+    requires { length columns.now ≤ 256 }
+    ensures { IfOk result (λ place. place ≡ of.key_update_place columns.now dist stmt.now tokens.now) }
+{
+    match dist {
+        Dist::By(key) => key_set_place(alloc, columns, key, stmt, tokens),
+        Dist::Randomly => Ok(0),
+    }
+}

@@ -1,0 +1,210 @@
+// Where in a refused line its fault is.
+ghost use Rattle.std.specs.Prelude.{◌≡◌, ◌≤◌, ◌+◌, ◌-◌, List, IfOk, IfSome, length};
+ghost use Rattle.std.specs.Option.{option_map, ForSome};
+ghost use Rattle.gx_lines.specs.Heads.{head_line, segments as segments_line, session_line};
+ghost use Rattle.gx_sql.specs.Held.{AreTables, IsHeld, progress_of, schemas};
+ghost use Rattle.gx_sql.specs.Script.{the_limits};
+ghost use Rattle.gx_explain.specs.Places as of;
+
+use crate::kinds::{key_update_place, mismatch_place};
+use crate::names::{before_repeated, before_unknown};
+use crate::parts::{before_table, before_word, behind};
+use gx_grammar::{Limits, ReadError};
+use gx_ids::{Mem, OutOfMemory, Table};
+use gx_lex::{Token, Word};
+use gx_lines::{LineSyn, StmtSyn, read_head_line, read_segments_line, read_session_line};
+use gx_sql::Limit;
+use gx_sql::progress::{Progress, find_table};
+use gx_sql::refusal::LineFault;
+use gx_tree::Schema;
+use indexmap::IndexMap;
+use std::alloc::Global;
+use std::mem;
+
+/// The limits of lines.
+pub fn limits() -> Limits
+    ensures { result ≡ the_limits }
+{
+    Limits {
+        segments: 16,
+        name: 63,
+        text: 1000,
+        depth: 100,
+        operators: 1000,
+    }
+}
+
+// The place at which a count is passed.
+fn counted(fault: LineFault) -> Option<usize>
+    ensures { result ≡ of.counted fault }
+{
+    match fault {
+        LineFault::TooMany(Limit::Sessions) => Some(0),
+        LineFault::TooMany(Limit::Tables) => Some(1),
+        LineFault::TooMany(Limit::Columns) => Some(99),
+        LineFault::TooMany(Limit::Lines) => Some(0),
+        _ => None,
+    }
+}
+
+fn table_place(alloc: Global, fault: LineFault, tokens: &[Token]) -> Mem<usize>
+    ensures { IfOk result (λ place. place ≡ of.table_place fault tokens.now) }
+{
+    match fault {
+        LineFault::Syntax => before_repeated(alloc, false, tokens),
+        LineFault::UnknownColumn => Ok(before_word(Word::By, tokens) + 2),
+        _ => Ok(1),
+    }
+}
+
+fn session_place(
+    alloc: Global,
+    schema: &Schema,
+    stmt: &StmtSyn,
+    fault: LineFault,
+    tokens: &[Token],
+) -> Mem<usize>
+    requires { length schema.now.columns ≤ 256 }
+    ensures { IfOk result (λ place. place ≡ of.session_place schema.now stmt.now fault tokens.now) }
+{
+    let columns = schema.columns.as_slice();
+    match fault {
+        LineFault::Syntax => before_repeated(alloc, true, tokens),
+        LineFault::UnknownColumn => Ok(1 + before_unknown(columns, behind(1, tokens))),
+        LineFault::TypeMismatch => mismatch_place(alloc, columns, stmt, tokens),
+        LineFault::KeyUpdate => key_update_place(alloc, columns, schema.dist, stmt, tokens),
+        _ => Ok(0),
+    }
+}
+
+fn found_place(
+    alloc: Global,
+    found: Option<(Table, &Schema)>,
+    stmt: &StmtSyn,
+    fault: LineFault,
+    tokens: &[Token],
+) -> Mem<usize>
+    requires { ForSome found (λ f. length f.1.now.columns ≤ 256) }
+    ensures { IfOk result (λ place. place ≡ of.found_place (option_map (λ f. (f.0, f.1.now)) found.entry) stmt.now fault tokens.now) }
+{
+    match found {
+        None => Ok(before_table(tokens)),
+        Some((_place, schema)) => session_place(alloc, schema, stmt, fault, tokens),
+    }
+}
+
+// Where a line that is written by the grammar is wrong.
+fn written_place(
+    alloc: Global,
+    tables: &IndexMap<Vec<u8>, Schema>,
+    line: &LineSyn,
+    fault: LineFault,
+    tokens: &[Token],
+) -> Mem<usize>
+    requires named { AreTables tables.now.entries }
+    requires few { length tables.now.entries ≤ 64 }
+    ensures { IfOk result (λ place. place ≡ of.written_place (schemas tables.now.entries) line.now fault tokens.now) }
+{
+    match line {
+        LineSyn::Detector(_) => Ok(0),
+        LineSyn::Table(_) => table_place(alloc, fault, tokens),
+        LineSyn::Link(_) => Ok(0),
+        LineSyn::Session(_, stmt) => {
+            let found = find_table(tables, stmt);
+            found_place(alloc, found, stmt, fault, tokens)
+        }
+    }
+}
+
+fn segments_place(alloc: Global, tokens: &[Token]) -> Mem<Option<usize>>
+    ensures { IfOk result (λ found. IfSome found (of.IsStopped segments_line tokens.now)) }
+{
+    match read_segments_line(alloc, limits(), tokens) {
+        Ok(_) => Ok(None),
+        Err(ReadError::Fault(_, left)) => Ok(tokens.len().checked_sub(left)),
+        Err(ReadError::OutOfMemory) => Err(OutOfMemory),
+    }
+}
+
+fn head_place(
+    alloc: Global,
+    progress: &Progress,
+    segments: u64,
+    fault: LineFault,
+    tokens: &[Token],
+) -> Mem<Option<usize>>
+    requires held { IsHeld progress.now }
+    requires some { 1 ≤ segments }
+    ensures { IfOk result (λ found. IfSome found (of.IsPlaceBy (head_line segments) (schemas progress.now.tables.entries) fault tokens.now)) }
+{
+    match read_head_line(alloc, segments, limits(), tokens) {
+        Ok(line) => {
+            let place = written_place(alloc, &progress.tables, &line, fault, tokens);
+            // The process ends soon, and the memory of what was read with it.
+            mem::forget(line);
+            Ok(Some(place?))
+        }
+        Err(ReadError::Fault(_, left)) => Ok(tokens.len().checked_sub(left)),
+        Err(ReadError::OutOfMemory) => Err(OutOfMemory),
+    }
+}
+
+fn line_place(
+    alloc: Global,
+    progress: &Progress,
+    fault: LineFault,
+    tokens: &[Token],
+) -> Mem<Option<usize>>
+    requires held { IsHeld progress.now }
+    ensures { IfOk result (λ found. IfSome found (of.IsPlaceBy session_line (schemas progress.now.tables.entries) fault tokens.now)) }
+{
+    match read_session_line(alloc, limits(), tokens) {
+        Ok(line) => {
+            let place = written_place(alloc, &progress.tables, &line, fault, tokens);
+            // The process ends soon, and the memory of what was read with it.
+            mem::forget(line);
+            Ok(Some(place?))
+        }
+        Err(ReadError::Fault(_, left)) => Ok(tokens.len().checked_sub(left)),
+        Err(ReadError::OutOfMemory) => Err(OutOfMemory),
+    }
+}
+
+// The place by the rule of the line, or by what it says.
+fn read_place(
+    alloc: Global,
+    progress: &Progress,
+    fault: LineFault,
+    tokens: &[Token],
+) -> Mem<Option<usize>>
+    requires held { IsHeld progress.now }
+    ensures { IfOk result (λ found. IfSome found (of.IsPlaceIn progress.now.segments progress.now.lines.items (schemas progress.now.tables.entries) fault tokens.now)) }
+{
+    match progress.segments {
+        None => segments_place(alloc, tokens),
+        Some(segments) => {
+            if progress.lines.is_empty() {
+                head_place(alloc, progress, segments, fault, tokens)
+            } else {
+                line_place(alloc, progress, fault, tokens)
+            }
+        }
+    }
+}
+
+/// How many tokens of a line stand before the one with which this fault comes, behind what the lines before it said. A line with
+/// this fault has such a token.
+pub fn find_place(
+    alloc: Global,
+    progress: &Progress,
+    fault: LineFault,
+    tokens: &[Token],
+) -> Mem<Option<usize>>
+    requires held { IsHeld progress.now }
+    ensures { IfOk result (λ found. IfSome found (of.IsPlace (progress_of progress.now) fault tokens.now)) }
+{
+    match counted(fault) {
+        Some(place) => Ok(Some(place)),
+        None => read_place(alloc, progress, fault, tokens),
+    }
+}
