@@ -1,0 +1,11 @@
+pub mod Rising
+pub mod Places
+pub mod Found
+pub mod Turning
+pub mod Taking
+pub mod Items
+pub mod Merging
+pub mod Longer
+pub mod Laws
+pub mod Shown
+pub mod MergeRuns
