@@ -61,12 +61,14 @@ pub fn declared_is_table()
 /// Behind the heads of a script, a session's line with such a text is read as just that statement: the bytes are a script of
 /// these heads and that line, and nothing else.
 pub fn one_line_is_read()
-    ensures { (heads : List ℕ) (over : Script) (name : List ℕ) (x : Stmt) (text : List ℕ) → AreHeads heads over → IsNamed the_limits name → ReadsAs over.tables x text → IsOneLine text → IsReadAs (heads ++ line_of name text) (with_one over name x) }
+    ensures { (heads : List ℕ) (over : Script) (name : List ℕ) (x : Stmt) (text : List ℕ) → AreHeads heads over → IsNamed the_limits name
+        → ReadsAs over.tables x text → IsOneLine text → IsReadAs (heads ++ line_of name text) (with_one over name x) }
 {}
 
 /// A line of a script that was read is written within the limits: its names and texts are short enough, no token stands too
 /// deep, and no expression has too many operators; each list has a part at least, an INSERT a tuple and a query an item; and
 /// its names are those of the language.
 pub fn read_lines_keep_the_limits()
-    ensures { (bytes : List ℕ) (script : Script) (line : Line) → Reads bytes (Ok script) → Among line script.lines → HasSize line.stmt → IsWithin the_limits (written script.tables line.stmt) × StmtClear (written script.tables line.stmt) }
+    ensures { (bytes : List ℕ) (script : Script) (line : Line) → Reads bytes (Ok script) → Among line script.lines → HasSize line.stmt
+        → IsWithin the_limits (written script.tables line.stmt) × StmtClear (written script.tables line.stmt) }
 {}

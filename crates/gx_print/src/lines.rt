@@ -40,7 +40,9 @@ pub fn print_line(alloc: Global, script: &Script, line: &Line) -> Mem<Vec<u8>>
     // Where the script was read and has the line, the text reads as its statement under the script's tables.
     ensures again { (bytes : List ℕ) → Reads bytes (Ok script.now) → Among line.now script.now.lines → IfOk result (λ text. ReadsAs script.now.tables line.now.stmt text.items) }
     // And behind heads with its tables the text as a session's line is read as just that statement, and as nothing else.
-    ensures whole { (bytes heads : List ℕ) (over : OneScript) (name : List ℕ) → Reads bytes (Ok script.now) → Among line.now script.now.lines → AreHeads heads over → over.tables ≡ script.now.tables → IsNamed the_limits name → IfOk result (λ text. IsReadAs (heads ++ line_of name text.items) (with_one over name line.now.stmt)) }
+    ensures whole { (bytes heads : List ℕ) (over : OneScript) (name : List ℕ) → Reads bytes (Ok script.now) → Among line.now script.now.lines
+        → AreHeads heads over → over.tables ≡ script.now.tables → IsNamed the_limits name
+        → IfOk result (λ text. IsReadAs (heads ++ line_of name text.items) (with_one over name line.now.stmt)) }
 {
     let _limit = limit_of(&line.stmt);
     print_stmt(alloc, script.tables.as_slice(), &line.stmt)
