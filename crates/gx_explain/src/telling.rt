@@ -10,7 +10,7 @@ use crate::offers::words_on;
 use crate::places::find_place;
 use crate::reasons::push_reason;
 use crate::tails::tail_behind;
-use crate::windows::{chars_before, push_window};
+use crate::windows::push_window;
 use gx_ids::{Mem, OutOfMemory};
 use gx_lex::{Token, cut_line};
 use gx_sql::progress::Progress;
@@ -42,7 +42,7 @@ fn push_shown<'t>(
     let Some(tail) = tail_behind(place, line) else {
         return Err(OutOfMemory);
     };
-    push_window(text, line, chars_before(line, tail))?;
+    push_window(text, line, tail)?;
     let words = words_on(alloc, progress, fault, tokens, place, tail)?;
     push_bytes(text, words.as_slice())
 }

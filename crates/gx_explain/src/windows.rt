@@ -1,5 +1,5 @@
 // What is shown of a line.
-ghost use Rattle.std.specs.Prelude.{◌≡◌, ◌≤◌, ◌++◌, length, OnOk};
+ghost use Rattle.std.specs.Prelude.{◌≡◌, ◌≤◌, ◌++◌, length, nat_le, take, OnOk};
 ghost use Rattle.gx_explain.specs.Windows as of;
 
 use gx_ids::Mem;
@@ -11,6 +11,9 @@ const WIDTH: usize = 100;
 // How many of them stand before a place in their midst.
 const HALF: usize = 50;
 
+// The bytes before a place among which so many characters are.
+const NEAR: usize = 200;
+
 fn is_inner(byte: u8) -> bool
     ensures { result ≡ of.is_inner byte }
 {
@@ -21,14 +24,6 @@ fn chars(bytes: &[u8]) -> usize
     ensures { result ≡ of.chars bytes.now }
 {
     bytes.iter().filter(|byte| !is_inner(**byte)).count()
-}
-
-/// How many characters of a line stand before a tail of it.
-pub fn chars_before(line: &[u8], tail: &[u8]) -> usize
-    requires { length tail.now ≤ length line.now }
-    ensures { result ≡ of.chars_before line.now tail.now }
-{
-    chars(&line[..line.len() - tail.len()])
 }
 
 // The bytes behind so many characters.
@@ -79,24 +74,52 @@ fn push_blanks(text: &mut Vec<u8>, count: usize) -> Mem<()>
     Ok(())
 }
 
+// Whether a line has no more characters than are shown.
+fn is_short(line: &[u8]) -> bool
+    ensures { result ≡ nat_le (of.chars line.now) 100 }
+{
+    behind_chars(WIDTH, line).is_empty()
+}
+
 fn left_out(line: &[u8], place: usize) -> usize
     ensures value { result ≡ of.left_out line.now place }
     ensures within { result ≤ place }
 {
-    if chars(line) <= WIDTH {
+    if is_short(line) {
         0
     } else {
         place.saturating_sub(HALF)
     }
 }
 
-/// Adds 100 characters of a line at most, and a caret under the one at this place.
-pub fn push_window(text: &mut Vec<u8>, line: &[u8], place: usize) -> Mem<()>
-    ensures { OnOk result (text.new.items ≡ text.old.items ++ of.window line.now place) }
+// The bytes of a line behind so many of its characters, of which so many stand before a byte of it. What stands there is looked at first, and not
+// the line from its front, where that will do.
+fn behind_from(line: &[u8], out: usize, place: usize, at: usize) -> &[u8]
+    requires inside { at ≤ length line.now }
+    requires within { out ≤ place }
+    requires before { of.chars (take at line.now) ≡ place }
+    ensures { result.now ≡ of.behind_chars out line.now }
 {
+    let near = at.saturating_sub(NEAR);
+    let count = chars(&line[near..at]);
+    let gap = place - out;
+    if gap <= count {
+        behind_chars(count - gap, &line[near..])
+    } else {
+        behind_chars(out, line)
+    }
+}
+
+/// Adds 100 characters of a line at most, and a caret under the one at which a tail of it begins.
+pub fn push_window(text: &mut Vec<u8>, line: &[u8], tail: &[u8]) -> Mem<()>
+    requires { length tail.now ≤ length line.now }
+    ensures { OnOk result (text.new.items ≡ text.old.items ++ of.window line.now (of.chars_before line.now tail.now)) }
+{
+    let at = line.len() - tail.len();
+    let place = chars(&line[..at]);
     let out = left_out(line, place);
     push_bytes(text, b"  ")?;
-    push_chars(text, WIDTH, behind_chars(out, line))?;
+    push_chars(text, WIDTH, behind_from(line, out, place, at))?;
     push_bytes(text, b"\n  ")?;
     push_blanks(text, place - out)?;
     push_bytes(text, b"^\n")
