@@ -67,12 +67,7 @@ fn hint_of(rule: &'static str, clause: &[u8], last: &[u8], tail: &[u8]) -> Optio
     }
 }
 
-fn hint_by(
-    rules: &'static str,
-    clause: &[u8],
-    last: &[u8],
-    tail: &[u8],
-) -> Option<&'static [u8]> {
+fn hint_by(rules: &'static str, clause: &[u8], last: &[u8], tail: &[u8]) -> Option<&'static [u8]> {
     for rule in rules.split('\n') {
         let hint = hint_of(rule, clause, last, tail);
         if hint.is_some() {

@@ -91,11 +91,7 @@ fn add_name<'t>(names: &mut Vec<Name<'t>>, opened: bool, token: &Token<'t>) -> M
 }
 
 // How many tokens stand before the first column that is repeated, with a list for the names.
-fn before_again<'t>(
-    names: &mut Vec<Name<'t>>,
-    assigned: bool,
-    tokens: &[Token<'t>],
-) -> Mem<usize>
+fn before_again<'t>(names: &mut Vec<Name<'t>>, assigned: bool, tokens: &[Token<'t>]) -> Mem<usize>
     ensures { IfOk result (λ place. place ≡ of.before_repeated assigned names.old.items false tokens.now) }
 {
     let mut opened = false;

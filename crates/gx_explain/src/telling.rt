@@ -44,7 +44,9 @@ fn push_shown<'t>(
     };
     push_window(text, line, chars_before(line, tail))?;
     let words = words_on(alloc, progress, fault, tokens, place, tail)?;
-    push_bytes(text, words.as_slice())
+    let pushed = push_bytes(text, words.as_slice());
+    drop(words);
+    pushed
 }
 
 fn push_line(

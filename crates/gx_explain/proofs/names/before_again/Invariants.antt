@@ -1,4 +1,4 @@
-use Rattle.std.proofs.Common.{◌≡◌, ◌+◌, drop, false, []}
+use Rattle.std.proofs.Common.{◌≡◌, ◌+◌, drop, false}
 use Rattle.gx_explain.specs.Parts.{before_repeated}
 use Rattle.gx_explain.proofs.names.before_again.Given as goal
 
