@@ -1,6 +1,7 @@
 -- Where the grammar stops, from what a reader tells.
-use Rattle.std.proofs.Common.{◌≡◌, inl, inr, ℕ, ◌+◌, ◌-◌, ◌≤◌, List, length, Option, Some, None, Err, IfSome, SomeIff, arith, ◌∙◌, ap, subst}
+use Rattle.std.proofs.Common.{◌≡◌, inl, inr, ℕ, ◌+◌, ◌-◌, ◌≤◌, List, length, Option, Some, None, Err, Result, IfOk, IfSome, SomeIff, arith, ◌∙◌, ap, subst}
 use Rattle.std.proofs.lemmas.List.{length-append}
+use Rattle.std.proofs.lemmas.Result.{IfOk-weaker}
 use Rattle.gx_lex.specs.declared.token.Token.{Token}
 use Rattle.gx_grammar.specs.declared.fault.Limits.{Limits}
 use Rattle.gx_grammar.specs.declared.fault.Fault.{Fault}
@@ -30,5 +31,13 @@ pub stopped-by : (rule : Limits → LineSyn → List Token → Type 0) (tables :
 stopped-by rule tables g ts None h = tt
 stopped-by rule tables g ts (Some place) h = inl h
 
-pub written-by : (rule : Limits → LineSyn → List Token → Type 0) (d : Limits) (tables : List Schema) (g : LineFault) (ts : List Token) (x : LineSyn) (place : ℕ) → d ≡ the_limits → rule d x ts → place ≡ written_place tables x g ts → IsPlaceBy rule tables g ts place
+written-by : (rule : Limits → LineSyn → List Token → Type 0) (d : Limits) (tables : List Schema) (g : LineFault) (ts : List Token) (x : LineSyn) (place : ℕ) → d ≡ the_limits → rule d x ts → place ≡ written_place tables x g ts → IsPlaceBy rule tables g ts place
 written-by rule d tables g ts x place e h w = inr (x, subst (λ (d : Limits). rule d x ts) e h, w)
+
+pub written-in : {Y : Type 0} (rule : Limits → LineSyn → List Token → Type 0) (d : Limits) (tables : List Schema) (g : LineFault) (ts : List Token) (x : LineSyn) (r : Result (Option ℕ) Y) → d ≡ the_limits → rule d x ts
+    → IfOk r (λ found. IfSome found (λ place. place ≡ written_place tables x g ts)) → IfOk r (λ found. IfSome found (IsPlaceBy rule tables g ts))
+written-in rule d tables g ts x r e h w = IfOk-weaker r (λ found. IfSome found (λ place. place ≡ written_place tables x g ts)) (λ found. IfSome found (IsPlaceBy rule tables g ts)) each w
+  where
+    each : (found : Option ℕ) → IfSome found (λ place. place ≡ written_place tables x g ts) → IfSome found (IsPlaceBy rule tables g ts)
+    each None m = tt
+    each (Some place) m = written-by rule d tables g ts x place e h m

@@ -43,7 +43,10 @@ fn explained(alloc: Global, bytes: &[u8]) -> Attempt
     ensures { IsOfBytes bytes.now result }
 {
     match parse_script(alloc, bytes) {
-        Ok(_) => Attempt::IsScript,
+        Ok(script) => {
+            drop(script);
+            Attempt::IsScript
+        }
         Err(refusal) => refused(alloc, bytes, refusal),
     }
 }

@@ -45,6 +45,32 @@ fn lines_before(number: u32) -> Mem<u32>
     }
 }
 
+// Reads so many lines behind none, and gives the bytes behind them. The list is for their tokens.
+fn read_lines<'t>(
+    alloc: Global,
+    progress: &mut Progress,
+    tokens: &mut Vec<Token<'t>>,
+    bytes: &'t [u8],
+    count: u32,
+) -> Mem<&'t [u8]>
+    requires held { IsHeld progress.old }
+    requires none { vec_len progress.old.lines ≤ 0 }
+    ensures before { IfOk result (λ rest. Comes 1 (progress_of progress.old) (lines.lines_of bytes.now) (1 + count) (progress_of progress.new) (lines.lines_of rest.now)) }
+    ensures held { OnOk result (IsHeld progress.new) }
+{
+    let mut rest = bytes;
+    for _line in 0..count {
+        match first_line(rest) {
+            None => return Err(OutOfMemory),
+            Some((line, others)) => {
+                add_line(alloc, progress, tokens, line)?;
+                rest = others;
+            }
+        }
+    }
+    Ok(rest)
+}
+
 /// What the lines before the one of this number say, and the bytes from that line on. It is for a number up to which no line is
 /// refused, and then fails for want of memory alone.
 pub fn read_before(alloc: Global, bytes: &[u8], number: u32) -> Mem<(Progress, &[u8])>
@@ -54,15 +80,13 @@ pub fn read_before(alloc: Global, bytes: &[u8], number: u32) -> Mem<(Progress, &
     let before = lines_before(number)?;
     let mut progress = Progress::new(alloc);
     let mut tokens = Vec::new(alloc);
-    let mut rest = bytes;
-    for _line in 0..before {
-        match first_line(rest) {
-            None => return Err(OutOfMemory),
-            Some((line, others)) => {
-                add_line(alloc, &mut progress, &mut tokens, line)?;
-                rest = others;
-            }
+    let read = read_lines(alloc, &mut progress, &mut tokens, bytes, before);
+    drop(tokens);
+    match read {
+        Ok(rest) => Ok((progress, rest)),
+        Err(OutOfMemory) => {
+            drop(progress);
+            Err(OutOfMemory)
         }
     }
-    Ok((progress, rest))
 }

@@ -1,5 +1,5 @@
 // Hints for the usual mistakes. Nothing is proved of them.
-use crate::rules::{KINDS, NAMES, PLACES, Rule, WORDS};
+use crate::rules::{KINDS, NAMES, PLACES, WORDS};
 use crate::spelled::spelled;
 use gx_ids::Mem;
 use gx_lex::byte::{is_capital, is_word_byte, small};
@@ -20,9 +20,9 @@ pub enum Stray {
     Other,
 }
 
-// Whether bytes begin with this word, in letters of either case, or with this sign. The end of a line is a line feed.
+// Whether bytes begin with this word, in letters of either case, or with this sign. The end of a line is a $.
 fn begins(spelling: &[u8], bytes: &[u8]) -> bool {
-    if spelling.first() == Some(&10) {
+    if spelling.first() == Some(&b'$') {
         return bytes.is_empty();
     }
     let mut rest = bytes;
@@ -52,10 +52,26 @@ fn is_any(wanted: &[u8], found: &[u8]) -> bool {
     wanted.is_empty() || wanted == found
 }
 
-fn hint_by(rules: &[Rule], clause: &[u8], last: &[u8], tail: &[u8]) -> Option<&'static [u8]> {
-    for rule in rules {
-        if is_any(rule.clause, clause) && is_any(rule.last, last) && begins(rule.here, tail) {
-            return Some(rule.hint);
+// The hint of a rule where it is one for these.
+fn hint_of(rule: &'static str, clause: &[u8], last: &[u8], tail: &[u8]) -> Option<&'static [u8]> {
+    let (of_clause, rest) = rule.split_once("~")?;
+    let (behind, rest) = rest.split_once("~")?;
+    let (here, hint) = rest.split_once("~")?;
+    if is_any(of_clause.as_bytes(), clause)
+        && is_any(behind.as_bytes(), last)
+        && begins(here.as_bytes(), tail)
+    {
+        Some(hint.as_bytes())
+    } else {
+        None
+    }
+}
+
+fn hint_by(rules: &'static str, clause: &[u8], last: &[u8], tail: &[u8]) -> Option<&'static [u8]> {
+    for rule in rules.split('\n') {
+        let hint = hint_of(rule, clause, last, tail);
+        if hint.is_some() {
+            return hint;
         }
     }
     None
@@ -64,7 +80,7 @@ fn hint_by(rules: &[Rule], clause: &[u8], last: &[u8], tail: &[u8]) -> Option<&'
 fn last_of<'a>(tokens: &'a [Token]) -> &'a [u8] {
     match tokens.last() {
         Some(token) => spelled(token),
-        None => b"\n",
+        None => b"$",
     }
 }
 
@@ -110,13 +126,13 @@ fn hint_on_stray(stray: Stray, tail: &[u8]) -> Option<&'static [u8]> {
 }
 
 fn hint_on_syntax(stray: Stray, clause: &[u8], last: &[u8], tail: &[u8]) -> Option<&'static [u8]> {
-    if let Some(hint) = hint_by(&WORDS, clause, last, tail) {
+    if let Some(hint) = hint_by(WORDS, clause, last, tail) {
         return Some(hint);
     }
     if let Some(hint) = hint_on_stray(stray, tail) {
         return Some(hint);
     }
-    hint_by(&PLACES, clause, last, tail)
+    hint_by(PLACES, clause, last, tail)
 }
 
 fn hint_on_limit(limit: Limit) -> &'static [u8] {
@@ -146,9 +162,9 @@ pub fn hint(
     match fault {
         LineFault::Syntax => hint_on_syntax(stray, clause, last, tail),
         LineFault::UnknownTable => Some(b"no table line has this name"),
-        LineFault::UnknownColumn => hint_by(&NAMES, clause, last, tail),
+        LineFault::UnknownColumn => hint_by(NAMES, clause, last, tail),
         LineFault::TableExists => Some(b"a table line above has this name"),
-        LineFault::TypeMismatch => hint_by(&KINDS, clause, last, tail),
+        LineFault::TypeMismatch => hint_by(KINDS, clause, last, tail),
         LineFault::KeyUpdate => Some(
             b"a row keeps its key: DELETE it and INSERT another, in a block",
         ),

@@ -128,7 +128,12 @@ fn is_too_large(limit: Option<Size>) -> bool
 fn is_named(names: &[Txt], name: &Txt) -> bool
     ensures { result ≡ is_among names.now name.now }
 {
-    names.iter().any(|other| *other == *name)
+    for other in names {
+        if *other == *name {
+            return true;
+        }
+    }
+    false
 }
 
 fn may_group(names: &[Txt], item: &ItemSyn) -> bool
@@ -144,10 +149,14 @@ fn may_group(names: &[Txt], item: &ItemSyn) -> bool
 fn grouped_items(names: &[Txt], items: &[ItemSyn]) -> usize
     ensures { result ≡ prefix_len (of.may_group names.now) items.now }
 {
-    items
-        .iter()
-        .take_while(|item| may_group(names, *item))
-        .count()
+    let mut count = 0usize;
+    for item in items {
+        if !may_group(names, item) {
+            return count;
+        }
+        count += 1;
+    }
+    count
 }
 
 fn plain_item(names: &[Txt], items: &ItemsSyn) -> Option<usize>
@@ -165,9 +174,14 @@ fn plain_item(names: &[Txt], items: &ItemsSyn) -> Option<usize>
 fn grouped_keys(names: &[Txt], keys: &[KeySyn]) -> usize
     ensures { result ≡ of.good_keys names.now keys.now }
 {
-    keys.iter()
-        .take_while(|key| is_named(names, &key.column))
-        .count()
+    let mut count = 0usize;
+    for key in keys {
+        if !is_named(names, &key.column) {
+            return count;
+        }
+        count += 1;
+    }
+    count
 }
 
 fn plain_key(names: &[Txt], keys: &Option<Seq<KeySyn>>) -> Option<usize>
@@ -220,7 +234,12 @@ fn is_aggregate(item: &ItemSyn) -> bool
 fn any_aggregate(items: &[ItemSyn]) -> bool
     ensures { result ≡ list_any selecting.is_aggregate items.now }
 {
-    items.iter().any(|item| is_aggregate(item))
+    for item in items {
+        if is_aggregate(item) {
+            return true;
+        }
+    }
+    false
 }
 
 fn has_aggregate(items: &ItemsSyn) -> bool
@@ -286,10 +305,7 @@ pub fn mismatch_place(
             Ok(update_place(among(count, assigns.as_slice().len()), tokens))
         }
         StmtSyn::Delete(_, _) => Ok(before_where(tokens)),
-        StmtSyn::Lock(_, _) => Ok(0),
-        StmtSyn::Begin(_) => Ok(0),
-        StmtSyn::Commit => Ok(0),
-        StmtSyn::Rollback => Ok(0),
+        _ => Ok(0),
     }
 }
 

@@ -15,7 +15,12 @@ use std::alloc::Global;
 fn is_column(columns: &[Column], name: &[u8]) -> bool
     ensures { result ≡ naming.is_column columns.now name.now }
 {
-    columns.iter().any(|column| column.name.as_slice() == name)
+    for column in columns {
+        if column.name.as_slice() == name {
+            return true;
+        }
+    }
+    false
 }
 
 fn is_unknown(columns: &[Column], behind: bool, token: &Token) -> bool
@@ -57,7 +62,12 @@ fn opens(assigned: bool, token: &Token) -> bool
 fn is_among(names: &[Name], name: &[u8]) -> bool
     ensures { result ≡ naming.is_among names.now name.now }
 {
-    names.iter().any(|other| other.as_slice() == name)
+    for other in names {
+        if other.as_slice() == name {
+            return true;
+        }
+    }
+    false
 }
 
 fn is_repeated(names: &[Name], opened: bool, token: &Token) -> bool
@@ -80,20 +90,29 @@ fn add_name<'t>(names: &mut Vec<Name<'t>>, opened: bool, token: &Token<'t>) -> M
     Ok(())
 }
 
-/// How many tokens stand before the first column that SET assigns once more, or that a table line declares once more.
-pub fn before_repeated(alloc: Global, assigned: bool, tokens: &[Token]) -> Mem<usize>
-    ensures { IfOk result (λ place. place ≡ of.before_repeated assigned [] false tokens.now) }
+// How many tokens stand before the first column that is repeated, with a list for the names.
+fn before_again<'t>(names: &mut Vec<Name<'t>>, assigned: bool, tokens: &[Token<'t>]) -> Mem<usize>
+    ensures { IfOk result (λ place. place ≡ of.before_repeated assigned names.old.items false tokens.now) }
 {
-    let mut names = Vec::new(alloc);
     let mut opened = false;
     let mut place = 0usize;
     for token in tokens {
         if is_repeated(names.as_slice(), opened, token) {
             return Ok(place);
         }
-        add_name(&mut names, opened, token)?;
+        add_name(names, opened, token)?;
         opened = opens(assigned, token);
         place += 1;
     }
     Ok(place)
+}
+
+/// How many tokens stand before the first column that SET assigns once more, or that a table line declares once more.
+pub fn before_repeated(alloc: Global, assigned: bool, tokens: &[Token]) -> Mem<usize>
+    ensures { IfOk result (λ place. place ≡ of.before_repeated assigned [] false tokens.now) }
+{
+    let mut names = Vec::new(alloc);
+    let place = before_again(&mut names, assigned, tokens);
+    drop(names);
+    place
 }

@@ -159,6 +159,57 @@ fn offer_signs(
     Ok(())
 }
 
+// Offers what has no spelling of its own, and says whether a name could stand there.
+fn offer_kinds(
+    alloc: Global,
+    progress: &Progress,
+    tokens: &mut Vec<Token>,
+    offers: &mut Vec<u8>,
+) -> Mem<bool>
+    requires { IsHeld progress.now }
+{
+    let name = Token::Name(Name::new(b"a"));
+    let named = offer(alloc, progress, tokens, name, b"a name", offers)?;
+    let number = Token::Number(Some(1));
+    offer(alloc, progress, tokens, number, b"a number", offers)?;
+    let content = Token::Text(Txt::from_vec(Vec::new(alloc)));
+    offer(alloc, progress, tokens, content, b"a text", offers)?;
+    Ok(named)
+}
+
+fn offer_end(alloc: Global, progress: &Progress, tokens: &[Token], offers: &mut Vec<u8>) -> Mem<()>
+    requires { IsHeld progress.now }
+{
+    match read_on(alloc, progress, tokens)? {
+        Going::Whole => push_offer(offers, b"the end"),
+        _ => Ok(()),
+    }
+}
+
+fn offer_all(
+    alloc: Global,
+    progress: &Progress,
+    tokens: &mut Vec<Token>,
+    offers: &mut Vec<u8>,
+) -> Mem<bool>
+    requires { IsHeld progress.now }
+{
+    let named = offer_kinds(alloc, progress, tokens, offers)?;
+    offer_words(alloc, progress, tokens, &WORDS, offers)?;
+    offer_signs(alloc, progress, tokens, &SIGNS, offers)?;
+    offer_end(alloc, progress, tokens.as_slice(), offers)?;
+    Ok(named)
+}
+
+fn push_offered(words: &mut Vec<u8>, offers: &[u8]) -> Mem<()> {
+    if offers.is_empty() {
+        return Ok(());
+    }
+    push_bytes(words, b"  could stand there:  ")?;
+    push_bytes(words, offers)?;
+    push_bytes(words, b"\n")
+}
+
 // Gives a line of what could stand behind these tokens, and says whether a name could.
 fn push_offers(
     alloc: Global,
@@ -169,23 +220,13 @@ fn push_offers(
     requires { IsHeld progress.now }
 {
     let mut offers = Vec::new(alloc);
-    let name = Token::Name(Name::new(b"a"));
-    let named = offer(alloc, progress, tokens, name, b"a name", &mut offers)?;
-    let number = Token::Number(Some(1));
-    offer(alloc, progress, tokens, number, b"a number", &mut offers)?;
-    let content = Token::Text(Txt::from_vec(Vec::new(alloc)));
-    offer(alloc, progress, tokens, content, b"a text", &mut offers)?;
-    offer_words(alloc, progress, tokens, &WORDS, &mut offers)?;
-    offer_signs(alloc, progress, tokens, &SIGNS, &mut offers)?;
-    if let Going::Whole = read_on(alloc, progress, tokens.as_slice())? {
-        push_offer(&mut offers, b"the end")?;
+    let named = offer_all(alloc, progress, tokens, &mut offers);
+    let pushed = push_offered(words, offers.as_slice());
+    drop(offers);
+    match pushed {
+        Ok(()) => named,
+        Err(OutOfMemory) => Err(OutOfMemory),
     }
-    if !offers.is_empty() {
-        push_bytes(words, b"  could stand there:  ")?;
-        push_bytes(words, offers.as_slice())?;
-        push_bytes(words, b"\n")?;
-    }
-    Ok(named)
 }
 
 // Whether a fault may be one of the grammar.
@@ -258,6 +299,30 @@ fn front_of(progress: &Progress) -> &'static [u8] {
     }
 }
 
+// Adds what could stand at the place of a fault, and a hint.
+fn push_words(
+    alloc: Global,
+    words: &mut Vec<u8>,
+    progress: &Progress,
+    fault: LineFault,
+    tokens: &mut Vec<Token>,
+    place: usize,
+    tail: &[u8],
+) -> Mem<()>
+    requires { IsHeld progress.now }
+{
+    let mut stray = Stray::Other;
+    if is_of_tokens(fault) && place <= NEAR {
+        stray = push_offers_at(alloc, words, progress, tokens, place)?;
+    } else {
+        tokens.truncate(place);
+    }
+    push_hint(
+        words,
+        hint(fault, stray, front_of(progress), tokens.as_slice(), tail),
+    )
+}
+
 /// What could stand at the place of a fault, before which so many of these tokens stand, and a hint.
 pub fn words_on(
     alloc: Global,
@@ -270,15 +335,11 @@ pub fn words_on(
     requires { IsHeld progress.now }
 {
     let mut words = Vec::new(alloc);
-    let mut stray = Stray::Other;
-    if is_of_tokens(fault) && place <= NEAR {
-        stray = push_offers_at(alloc, &mut words, progress, tokens, place)?;
-    } else {
-        tokens.truncate(place);
+    match push_words(alloc, &mut words, progress, fault, tokens, place, tail) {
+        Ok(()) => Ok(words),
+        Err(OutOfMemory) => {
+            drop(words);
+            Err(OutOfMemory)
+        }
     }
-    push_hint(
-        &mut words,
-        hint(fault, stray, front_of(progress), tokens.as_slice(), tail),
-    )?;
-    Ok(words)
 }

@@ -12,10 +12,14 @@ pub fn before_word(word: Word, tokens: &[Token]) -> usize
     ensures value { result ≡ of.before_word word tokens.now }
     ensures within { result ≤ length tokens.now }
 {
-    tokens
-        .iter()
-        .take_while(|token| !is_word(word, *token))
-        .count()
+    let mut count = 0usize;
+    for token in tokens {
+        if is_word(word, token) {
+            return count;
+        }
+        count += 1;
+    }
+    count
 }
 
 pub fn is_table_word(token: &Token) -> bool
@@ -27,17 +31,18 @@ pub fn is_table_word(token: &Token) -> bool
         || is_word(Word::Table, token)
 }
 
-fn is_other(token: &Token) -> bool
-    ensures { result ≡ not (of.is_table_word token.now) }
-{
-    !is_table_word(token)
-}
-
 fn before_table_word(tokens: &[Token]) -> usize
     ensures value { result ≡ prefix_len (λ y. not (of.is_table_word y)) tokens.now }
     ensures within { result ≤ length tokens.now }
 {
-    tokens.iter().take_while(|token| is_other(*token)).count()
+    let mut count = 0usize;
+    for token in tokens {
+        if is_table_word(token) {
+            return count;
+        }
+        count += 1;
+    }
+    count
 }
 
 /// How many tokens stand before the name of the table.

@@ -126,6 +126,23 @@ fn segments_place(alloc: Global, tokens: &[Token]) -> Mem<Option<usize>>
     }
 }
 
+// Where a line that was read is wrong.
+fn place_in(
+    alloc: Global,
+    progress: &Progress,
+    line: LineSyn,
+    fault: LineFault,
+    tokens: &[Token],
+) -> Mem<Option<usize>>
+    requires { IsHeld progress.now }
+    ensures { IfOk result (λ found. IfSome found (λ place. place ≡ of.written_place (schemas progress.now.tables.entries) line.entry fault tokens.now)) }
+{
+    let place = written_place(alloc, &progress.tables, &line, fault, tokens);
+    // The process ends soon, and the memory of what was read with it.
+    mem::forget(line);
+    Ok(Some(place?))
+}
+
 fn head_place(
     alloc: Global,
     progress: &Progress,
@@ -138,12 +155,7 @@ fn head_place(
     ensures { IfOk result (λ found. IfSome found (of.IsPlaceBy (head_line segments) (schemas progress.now.tables.entries) fault tokens.now)) }
 {
     match read_head_line(alloc, segments, limits(), tokens) {
-        Ok(line) => {
-            let place = written_place(alloc, &progress.tables, &line, fault, tokens);
-            // The process ends soon, and the memory of what was read with it.
-            mem::forget(line);
-            Ok(Some(place?))
-        }
+        Ok(line) => place_in(alloc, progress, line, fault, tokens),
         Err(ReadError::Fault(_, left)) => Ok(tokens.len().checked_sub(left)),
         Err(ReadError::OutOfMemory) => Err(OutOfMemory),
     }
@@ -159,12 +171,7 @@ fn line_place(
     ensures { IfOk result (λ found. IfSome found (of.IsPlaceBy session_line (schemas progress.now.tables.entries) fault tokens.now)) }
 {
     match read_session_line(alloc, limits(), tokens) {
-        Ok(line) => {
-            let place = written_place(alloc, &progress.tables, &line, fault, tokens);
-            // The process ends soon, and the memory of what was read with it.
-            mem::forget(line);
-            Ok(Some(place?))
-        }
+        Ok(line) => place_in(alloc, progress, line, fault, tokens),
         Err(ReadError::Fault(_, left)) => Ok(tokens.len().checked_sub(left)),
         Err(ReadError::OutOfMemory) => Err(OutOfMemory),
     }

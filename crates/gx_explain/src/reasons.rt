@@ -7,18 +7,18 @@ use gx_sql::Limit;
 use gx_sql::refusal::LineFault;
 use gx_text::{push_bytes, push_count};
 
-fn push_limit(text: &mut Vec<u8>, limit: Limit) -> Mem<()>
-    ensures { OnOk result (text.new.items ≡ text.old.items ++ of.limit_name limit) }
+fn limit_name(limit: Limit) -> &'static [u8]
+    ensures { result.now ≡ of.limit_name limit }
 {
     match limit {
-        Limit::Segments => push_bytes(text, b"segments"),
-        Limit::Sessions => push_bytes(text, b"sessions"),
-        Limit::Tables => push_bytes(text, b"tables"),
-        Limit::Columns => push_bytes(text, b"columns"),
-        Limit::Lines => push_bytes(text, b"lines"),
-        Limit::Name => push_bytes(text, b"name"),
-        Limit::Text => push_bytes(text, b"text"),
-        Limit::Depth => push_bytes(text, b"depth"),
+        Limit::Segments => b"segments",
+        Limit::Sessions => b"sessions",
+        Limit::Tables => b"tables",
+        Limit::Columns => b"columns",
+        Limit::Lines => b"lines",
+        Limit::Name => b"name",
+        Limit::Text => b"text",
+        Limit::Depth => b"depth",
     }
 }
 
@@ -26,7 +26,7 @@ fn push_too_many(text: &mut Vec<u8>, limit: Limit) -> Mem<()>
     ensures { OnOk result (text.new.items ≡ text.old.items ++ (codes "7 too many " ++ of.limit_name limit)) }
 {
     push_bytes(text, b"7 too many ")?;
-    push_limit(text, limit)
+    push_bytes(text, limit_name(limit))
 }
 
 fn push_fault(text: &mut Vec<u8>, fault: LineFault) -> Mem<()>

@@ -12,7 +12,14 @@ fn blanks_len(line: &[u8]) -> usize
     ensures value { result ≡ prefix_len lexing.is_blank line.now }
     ensures within { result ≤ length line.now }
 {
-    line.iter().take_while(|byte| is_blank(**byte)).count()
+    let mut count = 0usize;
+    for byte in line {
+        if !is_blank(*byte) {
+            return count;
+        }
+        count += 1;
+    }
+    count
 }
 
 fn behind_blanks(line: &[u8]) -> &[u8]
@@ -27,7 +34,14 @@ fn word_len(bytes: &[u8]) -> usize
     ensures value { result ≡ prefix_len lexing.is_word_byte bytes.now }
     ensures within { result ≤ length bytes.now }
 {
-    bytes.iter().take_while(|byte| is_word_byte(**byte)).count()
+    let mut count = 0usize;
+    for byte in bytes {
+        if !is_word_byte(*byte) {
+            return count;
+        }
+        count += 1;
+    }
+    count
 }
 
 fn behind_word(first: u8, behind: &[u8]) -> &[u8]
@@ -43,7 +57,14 @@ fn digits_len(bytes: &[u8]) -> usize
     ensures value { result ≡ prefix_len lexing.is_digit bytes.now }
     ensures within { result ≤ length bytes.now }
 {
-    bytes.iter().take_while(|byte| is_digit(**byte)).count()
+    let mut count = 0usize;
+    for byte in bytes {
+        if !is_digit(*byte) {
+            return count;
+        }
+        count += 1;
+    }
+    count
 }
 
 fn behind_digits(first: u8, behind: &[u8]) -> &[u8]

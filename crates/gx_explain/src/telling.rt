@@ -2,7 +2,7 @@
 ghost use Rattle.std.specs.Prelude.{◌≡◌, ◌++◌, ◌≤◌, ℕ, List, IfOk, OnOk, length};
 ghost use Rattle.gx_sql.specs.Held.{IsHeld, progress_of};
 ghost use Rattle.gx_sql.specs.Lines.{lines_of};
-ghost use Rattle.gx_explain.specs.Reasons.{reason_utf8};
+ghost use Rattle.gx_explain.specs.Reasons.{reason_at, reason_utf8};
 ghost use Rattle.gx_explain.specs.Top as of;
 
 use crate::before::read_before;
@@ -44,7 +44,9 @@ fn push_shown<'t>(
     };
     push_window(text, line, tail)?;
     let words = words_on(alloc, progress, fault, tokens, place, tail)?;
-    push_bytes(text, words.as_slice())
+    let pushed = push_bytes(text, words.as_slice());
+    drop(words);
+    pushed
 }
 
 fn push_line(
@@ -81,17 +83,32 @@ fn push_first(
     }
 }
 
+// What is told of the line that stands first, of this number and with this fault.
+fn first_text(
+    alloc: Global,
+    progress: &Progress,
+    rest: &[u8],
+    number: u32,
+    fault: LineFault,
+) -> Mem<Vec<u8>>
+    requires { IsHeld progress.now }
+    ensures { IfOk result (λ text. (shown : List ℕ) × (words : List ℕ) × of.AreShown (progress_of progress.now) fault (lines_of rest.now) shown × (text.items ≡ reason_at number fault ++ (shown ++ words))) }
+{
+    let mut text = Vec::new(alloc);
+    push_reason(&mut text, number, fault)?;
+    push_first(alloc, &mut text, progress, fault, rest)?;
+    Ok(text)
+}
+
 // What is told of bytes of which the line of this number has this fault.
 fn line_text(alloc: Global, bytes: &[u8], number: u32, fault: LineFault) -> Mem<Vec<u8>>
     ensures { IfOk result (λ text. of.IsLineTold bytes.now number fault text.items) }
 {
     let (progress, rest) = read_before(alloc, bytes, number)?;
-    let mut text = Vec::new(alloc);
-    push_reason(&mut text, number, fault)?;
-    push_first(alloc, &mut text, &progress, fault, rest)?;
+    let text = first_text(alloc, &progress, rest, number, fault);
     // The process ends soon, and the memory of what was read with it.
     mem::forget(progress);
-    Ok(text)
+    text
 }
 
 fn utf8_text(alloc: Global, place: u64) -> Mem<Vec<u8>>

@@ -23,7 +23,13 @@ fn is_inner(byte: u8) -> bool
 fn chars(bytes: &[u8]) -> usize
     ensures { result ≡ of.chars bytes.now }
 {
-    bytes.iter().filter(|byte| !is_inner(**byte)).count()
+    let mut count = 0usize;
+    for byte in bytes {
+        if !is_inner(*byte) {
+            count += 1;
+        }
+    }
+    count
 }
 
 // The bytes behind so many characters.

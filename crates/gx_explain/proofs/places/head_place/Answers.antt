@@ -1,10 +1,10 @@
 use Rattle.gx_lines.specs.Heads.{head_line}
 use Rattle.gx_sql.specs.Held.{schemas}
-use Rattle.gx_explain.proofs.Stopped.{stopped-at, stopped-by, written-by}
+use Rattle.gx_explain.proofs.Stopped.{stopped-at, stopped-by, written-in}
 use Rattle.gx_explain.proofs.places.head_place.Goals as goal
 
-pub returns-in_ok-place-in-Ok : goal.returns-in_ok-place-in-Ok
-returns-in_ok-place-in-Ok c = written-by (head_line c.args.segments) c.limits.result (schemas c.args.progress.now.tables.entries) c.args.fault c.args.tokens.now c.in-Ok.line c.in_ok-place-in-Ok.field-0 c.limits.ensures c.in-Ok.ensures.verdict c.in_ok-place-in-Ok.ensures
+pub returns-in-Ok : goal.returns-in-Ok
+returns-in-Ok c = written-in (head_line c.args.segments) c.limits.result (schemas c.args.progress.now.tables.entries) c.args.fault c.args.tokens.now c.in-Ok.line c.place_in.result c.limits.ensures c.in-Ok.ensures.verdict c.place_in.ensures
 
 pub returns-in-Err-Fault : goal.returns-in-Err-Fault
 returns-in-Err-Fault c =

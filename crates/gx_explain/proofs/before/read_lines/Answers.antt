@@ -3,7 +3,7 @@ use Rattle.gx_sql.specs.Held.{progress_of}
 use Rattle.gx_sql.specs.Lines.{lines_of}
 use Rattle.gx_sql.specs.Progress.{Progress}
 use Rattle.gx_explain.proofs.Steps.{comes-here, comes-step}
-use Rattle.gx_explain.proofs.before.read_before.Goals as goal
+use Rattle.gx_explain.proofs.before.read_lines.Goals as goal
 
 pub loop-line-preserved : goal.loop-line-preserved
 loop-line-preserved c = (
@@ -14,5 +14,5 @@ loop-line-preserved c = (
 
 pub returns-clause-before : goal.returns-clause-before
 returns-clause-before c =
-    let here : 1 + c.loop-line._line ≡ c.args.number = omega (arith, c.in_ok-before.ensures, c.loop-line.auto._line-end, c.loop-line-test.false) in
-    c.loop-line.invariant.2 c.args.number (progress_of c.loop-line.progress) (lines_of c.loop-line.rest.now) (comes-here (1 + c.loop-line._line) c.args.number (progress_of c.loop-line.progress) (lines_of c.loop-line.rest.now) here)
+    let here : 1 + c.loop-line._line ≡ 1 + c.args.count = omega (arith, c.loop-line.auto._line-end, c.loop-line-test.false) in
+    c.loop-line.invariant.2 (1 + c.args.count) (progress_of c.loop-line.progress) (lines_of c.loop-line.rest.now) (comes-here (1 + c.loop-line._line) (1 + c.args.count) (progress_of c.loop-line.progress) (lines_of c.loop-line.rest.now) here)

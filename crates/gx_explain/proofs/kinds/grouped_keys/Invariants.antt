@@ -1,0 +1,10 @@
+use Rattle.std.proofs.Common.{◌≡◌, ◌+◌, drop}
+use Rattle.std.specs.List.{prefix_len}
+use Rattle.gx_resolve.specs.Naming.{is_among}
+use Rattle.gx_explain.proofs.kinds.grouped_keys.Given as goal
+
+abbrev pub invariant-loop-key : goal.invariant-loop-key
+invariant-loop-key l = record {
+  counted : l.count ≡ l.key-index;
+  rest : l.count + prefix_len (λ key. is_among l.names key.column) (drop l.key-index l.keys) ≡ prefix_len (λ key. is_among l.names key.column) l.keys;
+}
