@@ -93,11 +93,22 @@ fn is_clause(word: Word) -> bool {
     }
 }
 
+// With one of these a head of a link begins, which has no other clause.
+fn is_link(word: Word) -> bool {
+    match word {
+        Word::Lose | Word::Repeat => true,
+        _ => false,
+    }
+}
+
 // The clause of a line behind these tokens, or this one.
 fn clause_of(tokens: &[Token], front: &'static [u8]) -> &'static [u8] {
     let mut clause = front;
     for token in tokens {
         if let Token::Word(word) = token {
+            if is_link(*word) {
+                return word.text();
+            }
             if is_clause(*word) {
                 clause = word.text();
             }
