@@ -186,8 +186,19 @@ fn offer_end(alloc: Global, progress: &Progress, tokens: &[Token], offers: &mut 
     }
 }
 
-fn offer_all(
+fn push_offered(words: &mut Vec<u8>, offers: &[u8]) -> Mem<()> {
+    if offers.is_empty() {
+        return Ok(());
+    }
+    push_bytes(words, b"  could stand there:  ")?;
+    push_bytes(words, offers)?;
+    push_bytes(words, b"\n")
+}
+
+// Gives a line of what could stand behind these tokens, with a list for it, and says whether a name could.
+fn push_all(
     alloc: Global,
+    words: &mut Vec<u8>,
     progress: &Progress,
     tokens: &mut Vec<Token>,
     offers: &mut Vec<u8>,
@@ -198,19 +209,10 @@ fn offer_all(
     offer_words(alloc, progress, tokens, &WORDS, offers)?;
     offer_signs(alloc, progress, tokens, &SIGNS, offers)?;
     offer_end(alloc, progress, tokens.as_slice(), offers)?;
+    push_offered(words, offers.as_slice())?;
     Ok(named)
 }
 
-fn push_offered(words: &mut Vec<u8>, offers: &[u8]) -> Mem<()> {
-    if offers.is_empty() {
-        return Ok(());
-    }
-    push_bytes(words, b"  could stand there:  ")?;
-    push_bytes(words, offers)?;
-    push_bytes(words, b"\n")
-}
-
-// Gives a line of what could stand behind these tokens, and says whether a name could.
 fn push_offers(
     alloc: Global,
     words: &mut Vec<u8>,
@@ -220,13 +222,9 @@ fn push_offers(
     requires { IsHeld progress.now }
 {
     let mut offers = Vec::new(alloc);
-    let named = offer_all(alloc, progress, tokens, &mut offers);
-    let pushed = push_offered(words, offers.as_slice());
+    let named = push_all(alloc, words, progress, tokens, &mut offers);
     drop(offers);
-    match pushed {
-        Ok(()) => named,
-        Err(OutOfMemory) => Err(OutOfMemory),
-    }
+    named
 }
 
 // Whether a fault may be one of the grammar.
