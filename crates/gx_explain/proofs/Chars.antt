@@ -5,7 +5,7 @@ use Rattle.std.proofs.lemmas.Bool.Decides.{nat_tests}
 use Rattle.std.proofs.lemmas.List.{length-drop, take-append-drop}
 use Rattle.std.proofs.lemmas.List.Elements.{filter-append}
 use Rattle.std.proofs.Math.Seq.{take-add, take-length}
-use Rattle.gx_explain.specs.Windows.{behind_chars, blanks, chars, is_first, is_inner}
+use Rattle.gx_explain.specs.Windows.{behind_chars, blanks, chars, is_first, is_inner, left_out}
 
 pub blanks-next : (n : ℕ) → 0 < n → blanks n ≡ 32 ∷ blanks (n - 1)
 blanks-next zero l = absurd (omega arith)
@@ -67,6 +67,28 @@ behind-append n (b ∷ xs) ys = by_test (is_inner b) (behind-append n xs ys)
 chars-append : (xs ys : List ℕ) → chars (xs ++ ys) ≡ chars xs + chars ys
 chars-append xs ys = ap length (filter-append is_first xs ys) ∙ length-append (filter is_first xs) (filter is_first ys)
 
+-- the characters before a byte, of which those from an earlier one on are a part
+near-chars : (line : List ℕ) (near at : ℕ) → near ≤ at → chars (take near line) + chars (take (at - near) (drop near line)) ≡ chars (take at line)
+near-chars line near at before =
+    sym (chars-append (take near line) (take (at - near) (drop near line)))
+    ∙ ap chars (sym (ap (λ (n : ℕ). take n line) (back near at before) ∙ take-add near (at - near) line))
+  where
+    back : (n m : ℕ) → n ≤ m → m ≡ n + (m - n)
+    back n m h = omega (arith, h)
+
+pub near-within : (line : List ℕ) (near at : ℕ) → near ≤ at → chars (take (at - near) (drop near line)) ≤ chars (take at line)
+near-within line near at before = part (chars (take near line)) (chars (take (at - near) (drop near line))) (chars (take at line)) (near-chars line near at before)
+  where
+    part : (n m k : ℕ) → n + m ≡ k → m ≤ k
+    part n m k e = omega (arith, e)
+
+-- of a long line no more than 50 characters are shown before a place
+pub shown-long : (line : List ℕ) (place : ℕ) → nat_le (chars line) 100 ≡ false → 50 ≤ place → 50 ≡ place - left_out line place
+shown-long line place long many = subst (λ (t : Bool). 50 ≡ place - (if t then 0 else place - 50)) (sym long) (last place many)
+  where
+    last : (n : ℕ) → 50 ≤ n → 50 ≡ n - (n - 50)
+    last n h = omega (arith, h)
+
 -- from a byte of a line on that stands before a place of it, behind which stand as many characters as lie between what is left out and the place
 pub behind-near : (line : List ℕ) (near at out place gap count : ℕ) → near ≤ at → chars (take at line) ≡ place → count ≡ chars (take (at - near) (drop near line)) → gap ≡ place - out → out ≤ place → gap ≤ count
     → behind_chars (count - gap) (take (length line - near) (drop near line)) ≡ behind_chars out line
@@ -77,11 +99,8 @@ behind-near line near at out place gap count before stands counted left within f
     whole : take (length line - near) (drop near line) ≡ drop near line
     whole = ap (λ (n : ℕ). take n (drop near line)) (sym (length-drop near line)) ∙ take-length (drop near line)
 
-    back : (n m : ℕ) → n ≤ m → m ≡ n + (m - n)
-    back n m h = omega (arith, h)
-
     cut : chars (take near line) + chars (take (at - near) (drop near line)) ≡ place
-    cut = sym (chars-append (take near line) (take (at - near) (drop near line))) ∙ ap chars (sym (ap (λ (n : ℕ). take n line) (back near at before) ∙ take-add near (at - near) line)) ∙ stands
+    cut = near-chars line near at before ∙ stands
 
     sum : (f m : ℕ) → f + m ≡ place → count ≡ m → gap ≡ place - out → out ≤ place → gap ≤ count → out ≡ f + (count - gap)
     sum f m a b c d e = omega (arith, a, b, c, d, e)

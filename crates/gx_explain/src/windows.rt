@@ -1,5 +1,5 @@
 // What is shown of a line.
-ghost use Rattle.std.specs.Prelude.{◌≡◌, ◌≤◌, ◌++◌, length, nat_le, take, OnOk};
+ghost use Rattle.std.specs.Prelude.{◌≡◌, ◌≤◌, ◌-◌, ◌++◌, length, nat_le, take, OnOk};
 ghost use Rattle.gx_explain.specs.Windows as of;
 
 use gx_ids::Mem;
@@ -87,32 +87,33 @@ fn is_short(line: &[u8]) -> bool
     behind_chars(WIDTH, line).is_empty()
 }
 
-fn left_out(line: &[u8], place: usize) -> usize
-    ensures value { result ≡ of.left_out line.now place }
-    ensures within { result ≤ place }
+// The characters that are shown before a byte of a line. What stands just before it is looked at first, and not the line from its front, where that
+// will do.
+fn shown_before(line: &[u8], at: usize) -> usize
+    requires { at ≤ length line.now }
+    ensures { result ≡ of.chars (take at line.now) - of.left_out line.now (of.chars (take at line.now)) }
 {
     if is_short(line) {
-        0
-    } else {
-        place.saturating_sub(HALF)
+        return chars(&line[..at]);
     }
+    if HALF <= chars(&line[at.saturating_sub(NEAR)..at]) {
+        return HALF;
+    }
+    chars(&line[..at]).min(HALF)
 }
 
-// The bytes of a line behind so many of its characters, of which so many stand before a byte of it. What stands there is looked at first, and not
-// the line from its front, where that will do.
-fn behind_from(line: &[u8], out: usize, place: usize, at: usize) -> &[u8]
+// The bytes of a line from the first of so many characters before a byte of it.
+fn behind_from(line: &[u8], shown: usize, at: usize) -> &[u8]
     requires inside { at ≤ length line.now }
-    requires within { out ≤ place }
-    requires before { of.chars (take at line.now) ≡ place }
-    ensures { result.now ≡ of.behind_chars out line.now }
+    requires before { shown ≤ of.chars (take at line.now) }
+    ensures { result.now ≡ of.behind_chars (of.chars (take at line.now) - shown) line.now }
 {
     let near = at.saturating_sub(NEAR);
     let count = chars(&line[near..at]);
-    let gap = place - out;
-    if gap <= count {
-        behind_chars(count - gap, &line[near..])
+    if shown <= count {
+        behind_chars(count - shown, &line[near..])
     } else {
-        behind_chars(out, line)
+        behind_chars(chars(&line[..at]) - shown, line)
     }
 }
 
@@ -122,11 +123,10 @@ pub fn push_window(text: &mut Vec<u8>, line: &[u8], tail: &[u8]) -> Mem<()>
     ensures { OnOk result (text.new.items ≡ text.old.items ++ of.window line.now (of.chars_before line.now tail.now)) }
 {
     let at = line.len() - tail.len();
-    let place = chars(&line[..at]);
-    let out = left_out(line, place);
+    let shown = shown_before(line, at);
     push_bytes(text, b"  ")?;
-    push_chars(text, WIDTH, behind_from(line, out, place, at))?;
+    push_chars(text, WIDTH, behind_from(line, shown, at))?;
     push_bytes(text, b"\n  ")?;
-    push_blanks(text, place - out)?;
+    push_blanks(text, shown)?;
     push_bytes(text, b"^\n")
 }
