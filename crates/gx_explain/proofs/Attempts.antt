@@ -1,5 +1,5 @@
 -- What the work comes to, by what the bytes are.
-use Rattle.std.proofs.Common.{ℕ, List, Err, refl}
+use Rattle.std.proofs.Common.{◌≡◌, ℕ, List, Err, refl}
 use Rattle.std.specs.Prelude.{Option}
 use Rattle.gx_sql.specs.declared.refusal.Refusal.{Refusal}
 use Rattle.gx_sql.specs.declared.refusal.Refusal.TheVariants as refusal
@@ -9,12 +9,12 @@ use Rattle.gx_explain.specs.declared.attempt.Attempt.{Attempt}
 use Rattle.gx_explain.specs.declared.attempt.Attempt.TheVariants as attempt
 use Rattle.gx_explain.specs.Top.{IsAttempt, IsOfBytes, IsRead, IsTold, work}
 
-pub of-bytes : (left after : Option (List ℕ)) (before now : ℕ) (bytes : List ℕ) → IsRead left after bytes → (a : Attempt) → IsOfBytes bytes a → IsAttempt (work left after before now) a
-of-bytes left after before now bytes read attempt.IsScript is = record { bytes = bytes; read = read; script = is.0; is = is.1; told = refl }
-of-bytes left after before now bytes read (attempt.Refused text) is = record { bytes = bytes; read = read; refusal = is.0; is = is.1; told = is.2 }
-of-bytes left after before now bytes read attempt.ReadFault is = absurd is
-of-bytes left after before now bytes read attempt.TooLarge is = absurd is
-of-bytes left after before now bytes read attempt.OutOfMemory is = tt
+pub of-bytes : (left after : Option (List ℕ)) (before now : ℕ) (bytes : List ℕ) → IsRead left after bytes → now ≡ before → (a : Attempt) → IsOfBytes bytes a → IsAttempt (work left after before now) a
+of-bytes left after before now bytes read calm attempt.IsScript is = record { bytes = bytes; read = read; script = is.0; is = is.1; told = refl }
+of-bytes left after before now bytes read calm (attempt.Refused text) is = record { bytes = bytes; read = read; refusal = is.0; is = is.1; told = is.2 }
+of-bytes left after before now bytes read calm attempt.ReadFault is = absurd is
+of-bytes left after before now bytes read calm attempt.TooLarge is = absurd is
+of-bytes left after before now bytes read calm attempt.OutOfMemory is = calm
 
 -- a refusal that has a text isn't want of memory
 pub refused-reads : (bytes : List ℕ) (r : Refusal) (text : List ℕ) → Answers (Reads bytes) (Err r) → IsTold bytes r text → Reads bytes (Err r)

@@ -26,12 +26,12 @@ record IsEnding (w : Work) (a : Attempt) : Type 0 where
 
 module _ (w : Work) (written shown : Option (List ℕ)) (faults more said : ℕ) where
   told : (a : Attempt) → IsAttempt w a → IsSaidOf a written shown faults more said
-      → (IsEnding w a × IsSaid (status_in a) (text_in a) written shown faults more said) ⊎ ((said ≡ 6) × (shown ≡ written))
+      → (IsEnding w a × IsSaid (status_in a) (text_in a) written shown faults more said) ⊎ (((said ≡ 6) × (shown ≡ written)) × ((w.now ≡ w.before) × (more ≡ faults)))
   told IsScript of is = inl (record { due = of; any = inl (inl (inl of)); known = inl (inl (inl (inl (inl refl)))); other = (λ e. cc, λ e. cc) }, is)
   told (Refused text) of is = inl (record { due = of; any = inl (inl (inr of)); known = inl (inl (inl (inl (inr refl)))); other = (λ e. cc, λ e. cc) }, is)
   told ReadFault of is = inl (record { due = of; any = inl (inr of); known = inl (inl (inl (inr refl))); other = (λ e. cc, λ e. cc) }, is)
   told TooLarge of is = inl (record { due = of; any = inr of; known = inr refl; other = (λ e. cc, λ e. cc) }, is)
-  told OutOfMemory of is = inr (is.0, is.1)
+  told OutOfMemory of is = inr ((is.0, is.1), (of, is.2))
 
   pub known : (a : Attempt) → IsAttempt w a → IsSaidOf a written shown faults more said → IsStatus said
   known a of is = elim (told a of is) [
@@ -39,7 +39,7 @@ module _ (w : Work) (written shown : Option (List ℕ)) (faults more said : ℕ)
       | inl whole ↦ subst IsStatus (sym whole.0) end.0.known
       | inr cut ↦ subst IsStatus (sym cut.0) (inl (inl (inr refl)))
     ]
-    | inr out ↦ subst IsStatus (sym out.0) (inl (inr refl))
+    | inr out ↦ subst IsStatus (sym out.0.0) (inl (inr refl))
   ]
 
   -- a status other than a write fault and want of memory has its text
@@ -49,7 +49,7 @@ module _ (w : Work) (written shown : Option (List ℕ)) (faults more said : ℕ)
       | inl whole ↦ record { text = text_in a; is = subst (λ s. IsDueAt w s (text_in a)) (sym whole.0 ∙ here) end.0.due; all = whole.1 }
       | inr cut ↦ absurd (five (sym here ∙ cut.0))
     ]
-    | inr out ↦ absurd (six (sym here ∙ out.0))
+    | inr out ↦ absurd (six (sym here ∙ out.0.0))
   ]
 
   pub cut_short : (a : Attempt) → IsAttempt w a → IsSaidOf a written shown faults more said → said ≡ 5 → IsCutShort (IsDue w) written shown faults more
@@ -58,11 +58,20 @@ module _ (w : Work) (written shown : Option (List ℕ)) (faults more said : ℕ)
       | inl whole ↦ absurd (end.0.other.0 (sym whole.0 ∙ here))
       | inr cut ↦ record { text = text_in a; is = end.0.any; rose = cut.1.0; part = cut.1.1 }
     ]
-    | inr out ↦ absurd (omega (arith, out.0, here))
+    | inr out ↦ absurd (omega (arith, out.0.0, here))
   ]
 
   pub memory : (a : Attempt) → IsAttempt w a → IsSaidOf a written shown faults more said → said ≡ 6 → shown ≡ written
   memory a of is here = elim (told a of is) [
+    | inl end ↦ elim end.1 [
+      | inl whole ↦ absurd (end.0.other.1 (sym whole.0 ∙ here))
+      | inr cut ↦ absurd (omega (arith, cut.0, here))
+    ]
+    | inr out ↦ out.0.1
+  ]
+
+  pub unfailed : (a : Attempt) → IsAttempt w a → IsSaidOf a written shown faults more said → said ≡ 6 → (w.now ≡ w.before) × (more ≡ faults)
+  unfailed a of is here = elim (told a of is) [
     | inl end ↦ elim end.1 [
       | inl whole ↦ absurd (end.0.other.1 (sym whole.0 ∙ here))
       | inr cut ↦ absurd (omega (arith, cut.0, here))

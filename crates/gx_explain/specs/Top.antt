@@ -136,7 +136,7 @@ IsAttempt w IsScript = IsDone w.left w.after (codes "a script\n")
 IsAttempt w (Refused text) = IsRefused w.left w.after text.items
 IsAttempt w ReadFault = IsReadFault w.before w.now (codes "read fault\n")
 IsAttempt w TooLarge = IsTooLarge w.left w.after (codes "too large\n")
-IsAttempt w OutOfMemory = ⊤
+IsAttempt w OutOfMemory = w.now ≡ w.before
 
 -- the status that tells what the work came to, and the text; none where memory ran out
 abbrev pub status_in : Attempt → ℕ
@@ -157,9 +157,9 @@ text_in TooLarge = codes "too large\n"
 abbrev pub IsSaid : ℕ → List ℕ → Option (List ℕ) → Option (List ℕ) → ℕ → ℕ → ℕ → Type 0
 IsSaid status text written after before now said = ((said ≡ status) × Appends written after text) ⊎ ((said ≡ 5) × (Rose before now × WritesPrefix written after text))
 
--- what the work came to was told: by its text, or by its status alone where memory ran out
+-- what the work came to was told: by its text, or by its status alone where memory ran out, and then the sink has counted no fault
 abbrev pub IsSaidOf : Attempt → Option (List ℕ) → Option (List ℕ) → ℕ → ℕ → ℕ → Type 0
-IsSaidOf OutOfMemory written after before now said = (said ≡ 6) × (after ≡ written)
+IsSaidOf OutOfMemory written after before now said = (said ≡ 6) × (after ≡ written) × (now ≡ before)
 IsSaidOf attempt written after before now said = IsSaid (status_in attempt) (text_in attempt) written after before now said
 
 abbrev pub IsStatus : ℕ → Type 0

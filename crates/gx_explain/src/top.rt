@@ -48,7 +48,8 @@ pub fn run_explain<S: Source, K: Sink>(alloc: Global, source: &mut S, sink: &mut
     ensures write_fault { result ≡ 5 → IsCutShort (IsDue (work (S.left source.old) (S.left source.new) (S.fault_count source.old) (S.fault_count source.new)))
         (K.written sink.old) (K.written sink.new) (K.fault_count sink.old) (K.fault_count sink.new) }
 
-    // Nothing was written.
+    // Nothing was written, and neither source nor sink has counted a fault.
+    ensures unfailed { result ≡ 6 → (S.fault_count source.new ≡ S.fault_count source.old) × (K.fault_count sink.new ≡ K.fault_count sink.old) }
     ensures memory { result ≡ 6 → K.written sink.new ≡ K.written sink.old }
 
     ensures too_large { result ≡ 9 → IsWritten (IsTooLarge (S.left source.old) (S.left source.new)) (K.written sink.old) (K.written sink.new) }

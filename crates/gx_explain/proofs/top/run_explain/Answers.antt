@@ -1,4 +1,4 @@
-use Rattle.gx_explain.proofs.Reports.{at_status, cut_short, known, memory}
+use Rattle.gx_explain.proofs.Reports.{at_status, cut_short, known, memory, unfailed}
 use Rattle.gx_explain.proofs.top.run_explain.Goals as goal
 
 pub returns : goal.returns
@@ -12,6 +12,7 @@ returns g c =
       refused = λ e. at_status _ _ _ _ _ _ 3 a of is e (λ q. cc) (λ q. cc);
       read_fault = λ e. at_status _ _ _ _ _ _ 4 a of is e (λ q. cc) (λ q. cc);
       write_fault = cut_short _ _ _ _ _ _ a of is;
+      unfailed = unfailed _ _ _ _ _ _ a of is;
       memory = memory _ _ _ _ _ _ a of is;
       too_large = λ e. at_status _ _ _ _ _ _ 9 a of is e (λ q. cc) (λ q. cc);
     }
