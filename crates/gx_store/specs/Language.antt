@@ -5,12 +5,14 @@ use Rattle.gx_script.specs.declared.Line.{Line}
 use Rattle.gx_script.specs.declared.LinkFault.{LinkFault}
 use Rattle.gx_script.specs.declared.Script.{Script}
 use Rattle.gx_meaning.specs.Statements.{AreDistinct, column_text, IsSchema, IsStmtOf}
+use Rattle.gx_store.specs.Limits.{IsWord, IsBoundedLine, HaveTuplesTo}
 
 abbrev pub table_name : Schema → List ℕ
 table_name table = table.name
 
+-- a name of the language that is short enough
 abbrev pub IsName : List ℕ → Type 0
-IsName name = length name ≤ 63
+IsName name = (length name ≤ 63) × IsWord name
 
 pub record IsTable (table : Schema) : Type 0 where
   pub name : IsName table.name
@@ -51,6 +53,8 @@ pub record IsScript (script : Script) : Type 0 where
   pub session_names : AreDistinct script.sessions
   pub few_sessions : length script.sessions ≤ 64
   pub lines : All (IsLine script.tables (length script.sessions)) script.lines
+  pub limits : All IsBoundedLine script.lines
+  pub few_tuples : HaveTuplesTo 4294967295 script.lines
   pub few_lines : length script.lines ≤ 100000
   pub numbers : AreLinesNumbered [] script.lines
   pub order : BeginInOrder 0 script.lines (length script.sessions)
