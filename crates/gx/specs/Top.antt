@@ -30,7 +30,7 @@ use Rattle.gx_law_locks.specs.Blocked.{DoStayBlocked}
 use Rattle.gx_law_writes.specs.Legal.{AreLocksLegal}
 use Rattle.gx_law_runs.specs.Endings.{IsFinished}
 use Rattle.gx_law_locks.specs.Legal.{AreRoundsLegal}
-use Rattle.gx_law_scripts.specs.Tuples.{HaveTuplesTo}
+use Rattle.gx_store.specs.Limits.{HaveTuplesTo}
 use Rattle.gx_law_order.specs.Told.{DoStepsTell}
 use Rattle.gx_drive.specs.Ends.{IsEnd}
 use Rattle.gx_drive.specs.Ordered.{AreFailuresFew, AreFirst, AreHeld, AreHeldSoFar}

@@ -1,5 +1,2 @@
-pub mod Sizes
-pub mod Filled
-pub mod Kept
 pub mod Whole
 pub mod Runs

@@ -13,7 +13,7 @@ use Rattle.gx_law_answers.specs.Cancelled.{AreVictimsCancelled}
 use Rattle.gx_law_answers.proofs.Join.{legal, system-legal}
 use Rattle.gx_law_answers.proofs.Snaps.{snapshots-one}
 use Rattle.gx_law_answers.proofs.Whole.{filled, keyed}
-use Rattle.gx_law_scripts.proofs.Kept.{script-is}
+use Rattle.gx_sql.proofs.Limited.{script-kept}
 use Rattle.gx_law_scripts.proofs.Whole.{inserts_whole}
 
 cancelled : (script : Script) → 1 ≤ script.segments → AreVictimsCancelled script
@@ -22,12 +22,12 @@ cancelled script some events = world-cancels script some (world-rounds script so
 module _ (bytes : List ℕ) (script : Script) (read : Reads bytes (Ok script)) where
   pub run-legal : (events : List (Event × Bool)) → IsLegalHistory script (run_of (world_of script events))
   run-legal events =
-      let is = script-is bytes script read in
+      let is = script-kept bytes script read in
       let inserts = inserts_whole bytes script read in
       legal script is.some_segments is.numbers (keyed script inserts) (snapshots-one script is.some_segments) (filled script inserts) (cancelled script is.some_segments) events
 
   pub system_run-legal : (run : Run) → IsSystemRun script run → IsLegalHistory script run
   system_run-legal run system =
-      let is = script-is bytes script read in
+      let is = script-kept bytes script read in
       let inserts = inserts_whole bytes script read in
       system-legal script is.some_segments is.numbers (keyed script inserts) (snapshots-one script is.some_segments) (filled script inserts) (cancelled script is.some_segments) run system

@@ -1,4 +1,4 @@
--- The INSERTs and UPDATEs of a script that was read are whole, and no INSERT has more tuples than the script has bytes.
+-- The INSERTs and UPDATEs of a script that was read are whole.
 use Rattle.std.proofs.Common.{◌≡◌, ℕ, zero, suc, ◌<◌, ◌≤◌, List, [], ◌∷◌, length, Ok, Some, slice_get, sym, ◌∙◌, ap, subst, arith}
 use Rattle.std.specs.List.{AllByRecursion}
 use Rattle.std.proofs.lemmas.List.{length-map}
@@ -19,9 +19,8 @@ use Rattle.gx_store.specs.Language.{IsLine, IsTable}
 use Rattle.gx_sql.specs.Script.{Reads}
 use Rattle.gx_store.specs.Writes.{dist_of}
 use Rattle.gx_store.specs.Whole.{AreInsertsWhole, HaveKeys, IsWholeStmt}
-use Rattle.gx_law_scripts.specs.Tuples.{HasTuplesTo, HaveTuplesTo}
-use Rattle.gx_law_scripts.proofs.Filled.{IsFilled}
-use Rattle.gx_law_scripts.proofs.Kept.{AreFilled, script-filled, script-is}
+use Rattle.gx_store.specs.Limits.{IsBoundedLine, IsBoundedStmt}
+use Rattle.gx_sql.proofs.Limited.{script-kept}
 
 -- TUPLES
 tuple_long : (columns : List Column) (tuple : List Expr) → IsTuple columns tuple → length tuple ≡ length columns
@@ -49,45 +48,27 @@ table_stands (t ∷ ts) (suc k) schema are e =
     let s = table_stands ts k schema are.1 e in
     record { key = s.key; same = s.same }
 
-stmt_whole : (most : ℕ) (tables : List Schema) (s : Stmt) → AllByRecursion IsTable tables → IsStmtOf tables s → IsFilled most s → IsWholeStmt tables s
-stmt_whole most tables (stmt.Begin level) are of one = tt
-stmt_whole most tables stmt.Commit are of one = tt
-stmt_whole most tables stmt.Rollback are of one = tt
-stmt_whole most tables (stmt.Select query) are of one = tt
-stmt_whole most tables (stmt.Insert table []) are of one = absurd one.0
-stmt_whole most tables (stmt.Insert table (tuple ∷ tuples)) are (schema, at, over) one =
+stmt_whole : (tables : List Schema) (s : Stmt) → AllByRecursion IsTable tables → IsStmtOf tables s → IsBoundedStmt s → IsWholeStmt tables s
+stmt_whole tables (stmt.Begin level) are of one = tt
+stmt_whole tables stmt.Commit are of one = tt
+stmt_whole tables stmt.Rollback are of one = tt
+stmt_whole tables (stmt.Select query) are of one = tt
+stmt_whole tables (stmt.Insert table []) are of one = absurd (let some = one.0 in omega (arith, some))
+stmt_whole tables (stmt.Insert table (tuple ∷ tuples)) are (schema, at, over) one =
     let s = table_stands tables table.0 schema are at in
     subst (λ (d : Dist). HaveKeys d (tuple ∷ tuples)) (sym s.same) (have_keys schema.columns schema.dist (tuple ∷ tuples) s.key (recursion_from_All (IsTuple schema.columns) (tuple ∷ tuples) over))
-stmt_whole most tables (stmt.Update table set cond) are (schema, at, over) one =
+stmt_whole tables (stmt.Update table set cond) are (schema, at, over) one =
     let s = table_stands tables table.0 schema are at in
     subst (λ (d : Dist). KeepsKey d set) (sym s.same) over.key
-stmt_whole most tables (stmt.Delete table cond) are of one = tt
-stmt_whole most tables (stmt.Lock table mode) are of one = tt
+stmt_whole tables (stmt.Delete table cond) are of one = tt
+stmt_whole tables (stmt.Lock table mode) are of one = tt
 
-lines_whole : (most : ℕ) (tables : List Schema) (sessions : ℕ) (ls : List Line) → AllByRecursion IsTable tables → AllByRecursion (IsLine tables sessions) ls → AreFilled most ls → AreInsertsWhole tables ls
-lines_whole most tables sessions [] are of h = tt
-lines_whole most tables sessions (l ∷ ls) are of h = (stmt_whole most tables l.stmt are of.0.1 h.0, lines_whole most tables sessions ls are of.1 h.1)
+lines_whole : (tables : List Schema) (sessions : ℕ) (ls : List Line) → AllByRecursion IsTable tables → AllByRecursion (IsLine tables sessions) ls → AllByRecursion IsBoundedLine ls → AreInsertsWhole tables ls
+lines_whole tables sessions [] are of h = tt
+lines_whole tables sessions (l ∷ ls) are of h = (stmt_whole tables l.stmt are of.0.1 h.0, lines_whole tables sessions ls are of.1 h.1)
 
 pub inserts_whole : (bytes : List ℕ) (s : Script) → Reads bytes (Ok s) → AreInsertsWhole s.tables s.lines
 inserts_whole bytes s h =
-    let is = script-is bytes s h in
+    let is = script-kept bytes s h in
     let sessions = length s.sessions in
-    lines_whole (length bytes) s.tables sessions s.lines (recursion_from_All IsTable s.tables is.tables) (recursion_from_All (IsLine s.tables sessions) s.lines is.lines) (script-filled (length bytes) bytes s (omega arith) h)
-
--- THEIR TUPLES
-stmt_few : (most : ℕ) (s : Stmt) → IsFilled most s → HasTuplesTo most s
-stmt_few most (stmt.Begin level) h = tt
-stmt_few most stmt.Commit h = tt
-stmt_few most stmt.Rollback h = tt
-stmt_few most (stmt.Select query) h = tt
-stmt_few most (stmt.Insert table tuples) h = h.1
-stmt_few most (stmt.Update table set cond) h = tt
-stmt_few most (stmt.Delete table cond) h = tt
-stmt_few most (stmt.Lock table mode) h = tt
-
-lines_few : (most : ℕ) (ls : List Line) → AreFilled most ls → HaveTuplesTo most ls
-lines_few most [] h = tt
-lines_few most (l ∷ ls) h = (stmt_few most l.stmt h.0, lines_few most ls h.1)
-
-pub tuples_few : (most : ℕ) (bytes : List ℕ) (s : Script) → length bytes ≤ most → Reads bytes (Ok s) → HaveTuplesTo most s.lines
-tuples_few most bytes s few h = lines_few most s.lines (script-filled most bytes s few h)
+    lines_whole s.tables sessions s.lines (recursion_from_All IsTable s.tables is.tables) (recursion_from_All (IsLine s.tables sessions) s.lines is.lines) (recursion_from_All IsBoundedLine s.lines is.limits)

@@ -1,5 +1,5 @@
 //! Laws of every script that was read.
-ghost use Rattle.std.specs.Prelude.{◌≡◌, ◌≤◌, ℕ, Bool, List, [], Ok, length};
+ghost use Rattle.std.specs.Prelude.{◌≡◌, ◌<◌, ◌≤◌, ◌^◌, ℕ, All, Bool, List, [], Ok, length};
 ghost use Rattle.gx_store.specs.Whole.{AreInsertsWhole};
 ghost use Rattle.gx_store.specs.Language.{AreLinesNumbered};
 ghost use Rattle.gx_rules.specs.Machine.{run_of, world_of};
@@ -7,7 +7,7 @@ ghost use Rattle.gx_rules.specs.System.{IsSystemRun};
 ghost use Rattle.gx_script.specs.declared.Script.{Script};
 ghost use Rattle.gx_store.specs.Language.{HasFaultsOnce, IsScript};
 ghost use Rattle.gx_sql.specs.Script.{Reads};
-ghost use Rattle.gx_law_scripts.specs.Tuples.{HaveTuplesTo};
+ghost use Rattle.gx_store.specs.Limits.{IsBoundedLine, HaveTuplesTo};
 ghost use Rattle.gx_store.specs.Runs.{IsLegalHistory};
 ghost use Rattle.gx_store.specs.declared.event.Event.{Event as OneEvent};
 ghost use Rattle.gx_store.specs.declared.run.Run.{Run as OneRun};
@@ -17,9 +17,15 @@ pub fn scripts_have_segments_and_numbers()
     ensures { (script : Script) → IsScript script → (1 ≤ script.segments) × AreLinesNumbered [] script.lines }
 {}
 
-/// A script that was read keeps the rules and the limits of the language.
+/// A script that was read keeps the rules and the limits of the language. It has fewer than 2^32 bytes, and so each INSERT fewer
+/// tuples.
 pub fn scripts_keep_the_language()
-    ensures { (bytes : List ℕ) (script : Script) → Reads bytes (Ok script) → IsScript script }
+    ensures { (bytes : List ℕ) (script : Script) → length bytes < 2 ^ 32 → Reads bytes (Ok script) → IsScript script }
+{}
+
+/// However many bytes it has, each of its lines keeps the limits.
+pub fn lines_keep_the_limits()
+    ensures { (bytes : List ℕ) (script : Script) → Reads bytes (Ok script) → All IsBoundedLine script.lines }
 {}
 
 /// A script that was read has no fault of a link twice.

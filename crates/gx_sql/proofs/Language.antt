@@ -2,13 +2,15 @@
 use Rattle.std.proofs.Common.{◌≡◌, inl, inr, ℕ, ◌+◌, ◌<◌, ◌≤◌, nat_le, nat_lt, ◌==◌, max, if◌then◌else◌, is_some, Bool, true, false, not, ◌&&◌, ◌||◌, List, [], ◌∷◌, ◌++◌, length, map, All, Option, Some, None, Result, Ok, Err, IfOk, refl, sym, ◌∙◌, ap, subst, arith}
 use Rattle.std.specs.List.{list_any}
 use Rattle.std.proofs.lemmas.Bool.{eq-eqb}
-use Rattle.std.proofs.lemmas.List.Elements.{All-nil, All-cons, All-push, All-map, All-weaker}
+use Rattle.std.proofs.lemmas.List.Elements.{All-nil, All-push, All-map, All-weaker, All-from_recursion}
+use Rattle.gx_lex.specs.declared.word.Word.TheVariants as word
+use Rattle.gx_lex.specs.declared.symbol.Symbol.TheVariants as symbol
 use Rattle.gx_lex.specs.declared.token.Token.{Token}
 use Rattle.gx_lex.specs.declared.token.Token.TheVariants as token
 use Rattle.gx_grammar.specs.declared.fault.Limits.{Limits}
 use Rattle.gx_grammar.specs.declared.fault.LineLimit.TheVariants as line_limit
-use Rattle.gx_grammar.specs.Rules.{Is, Isnt, Passes, many, behind}
-use Rattle.gx_grammar.specs.Tokens.{is_comma, name_of}
+use Rattle.gx_grammar.specs.Rules.{Is, Isnt, Passes}
+use Rattle.gx_grammar.specs.Tokens.{is_word, is_sign, listed}
 use Rattle.gx_lines.specs.declared.classes.Segments.{Segments}
 use Rattle.gx_lines.specs.declared.classes.Switch.{Switch}
 use Rattle.gx_lines.specs.declared.syn.ColumnSyn.{ColumnSyn}
@@ -18,6 +20,8 @@ use Rattle.gx_lines.specs.declared.syn.TableSyn.{TableSyn}
 use Rattle.gx_lines.specs.declared.syn.LineSyn.{LineSyn}
 use Rattle.gx_lines.specs.declared.syn.LineSyn.TheVariants as line_syn
 use Rattle.gx_lines.specs.Classes.{segments_of, in_range, number_in}
+use Rattle.gx_lines.specs.Queries.{name}
+use Rattle.gx_lines.specs.Statements.{stmt as spelled}
 use Rattle.gx_lines.specs.Heads.{segments, column, table, link, session_line, head_line}
 use Rattle.gx_tree.specs.declared.schema.Column.{Column}
 use Rattle.gx_tree.specs.declared.schema.Schema.{Schema}
@@ -34,13 +38,16 @@ use Rattle.gx_sql.specs.declared.refusal.LineFault.{LineFault}
 use Rattle.gx_sql.specs.declared.refusal.Refusal.{Refusal}
 use Rattle.gx_sql.specs.declared.refusal.Refusal.TheVariants as refusal
 use Rattle.gx_sql.specs.Lines.{lines_of, is_skipped}
-use Rattle.gx_sql.specs.Answering.{Answers}
 use Rattle.gx_sql.specs.Counts.{is_session}
 use Rattle.gx_sql.specs.Held.{HasRoom}
 use Rattle.gx_sql.specs.Progress.{Progress, start, giving, is_on, is_known, same_way, same_fault, with_fault, link_fault, place_of, count_of, counted, next_line, with_detector, with_table, with_link, with_line, with_session, with_line_syn}
 use Rattle.gx_sql.specs.Script.{the_limits, Told, TokensSay, LineSays, Goes, Where, ReadsOn, script_of, ended}
-use Rattle.gx_store.specs.Language.{table_name, IsName, IsTable, IsLine, lines_in, AreLinesNumbered, BeginInOrder, IsFault, HasFaultsOnce, IsScript}
+use Rattle.gx_store.specs.Limits.{IsBoundedLine, IsBoundedStmt}
+use Rattle.gx_store.specs.Language.{table_name, IsName, IsTable, IsLine, lines_in, AreLinesNumbered, BeginInOrder, IsFault, HasFaultsOnce}
 use Rattle.gx_sql.proofs.Held.{length_snoc}
+use Rattle.gx_sql.proofs.Having.{AreProper, Has, AreSome, IsNamed, tokens_proper, front, back, behind_has, list_has, parens_have, name_named}
+use Rattle.gx_sql.proofs.Small.{IsSmallStmt, stmt_small}
+use Rattle.gx_sql.proofs.Bounded.{some_long, stmt_kept}
 use Rattle.gx_sql.proofs.Named.{made_columns, table_made}
 use Rattle.gx_sql.proofs.Room.{head_room, line_room}
 use Rattle.gx_sql.proofs.Numbered.{distinct_snoc, unknown_apart, tables_snoc, stmt_more, names, other_apart, names_known, names_new, length_names, place_known, place_new, AreCounted, counted_next, count_is, none_next, order_known, order_new, numbered_snoc}
@@ -91,55 +98,27 @@ token_both d token.Bad x h = absurd cc
 told_both : (d : Limits) (n : Segments) (ts : List Token) → segments d n ts → (1 ≤ n.0) × (n.0 ≤ max d.segments 1)
 told_both d n ts (p, e, (us, vs, q, (y, m, f), r)) = subst (λ (n : Segments). (1 ≤ n.0) × (n.0 ≤ max d.segments 1)) (sym e) (token_both d y p.1 m)
 
-name_to : (d : Limits) (y : Token) (n : List ℕ) → name_of d y ≡ Is n → length n ≤ d.name
-name_to d (token.Name m) n e = pick (nat_le (length m) d.name) refl
-  where
-    pick : (b : Bool) → nat_le (length m) d.name ≡ b → length n ≤ d.name
-    pick true q =
-        let same : m ≡ n = cc in
-        let to : length m ≤ d.name = grind arith in
-        subst (λ (n : List ℕ). length n ≤ d.name) same to
-    pick false q = absurd cc
-name_to d (token.Word w) n e = absurd cc
-name_to d (token.Number k) n e = absurd cc
-name_to d (token.Text t) n e = absurd cc
-name_to d (token.Symbol s) n e = absurd cc
-name_to d token.Bad n e = absurd cc
-
 -- COLUMNS
-abbrev IsNarrow : Limits → ColumnSyn → Type 0
-IsNarrow d c = length c.name ≤ d.name
+abbrev IsColumn : Limits → ColumnSyn → Type 0
+IsColumn d c = IsNamed d c.name
 
-column_to : (d : Limits) (c : ColumnSyn) (ts : List Token) → column d c ts → IsNarrow d c
-column_to d c ts (a, f, (ns, ms, (y, ny, oy), z, s)) = subst (IsNarrow d) (sym f) (name_to d y a.0 ny)
-
-further_to : (d : Limits) (c : ColumnSyn) (ts : List Token) → behind is_comma (column d) c ts → IsNarrow d c
-further_to d c ts (p, e, (ks, ls, k, q, r)) = subst (IsNarrow d) (sym e) (column_to d p.1 ls q)
-
-columns_to : (d : Limits) (cs : List ColumnSyn) (ts : List Token) → many (behind is_comma (column d)) cs ts → All (IsNarrow d) cs
-columns_to d [] ts m = All-nil (IsNarrow d)
-columns_to d (c ∷ cs) ts (us, vs, q, m, e) = All-cons (IsNarrow d) c cs (further_to d c us q) (columns_to d cs vs m)
+column_named : (d : Limits) → Has (column d) (IsColumn d)
+column_named d c ts e (p, q, (us, vs, w, m, k)) = subst (IsColumn d) (sym q) (name_named d p.0 us (front us vs (subst AreProper k e)) w)
 
 -- LINES BY THEIR RULES
 abbrev Fits : Limits → ℕ → LineSyn → Type 0
-Fits d n (line_syn.Table t) = (length t.name ≤ d.name) × (1 ≤ length t.columns) × All (IsNarrow d) t.columns
+Fits d n (line_syn.Table t) = IsNamed d t.name × AreSome (IsColumn d) t.columns
 Fits d n (line_syn.Link l) = (1 ≤ l.segment) × (l.segment ≤ n) × (1 ≤ l.number)
-Fits d n (line_syn.Session name s) = length name ≤ d.name
+Fits d n (line_syn.Session name s) = IsNamed d name × IsSmallStmt s
 Fits d n (line_syn.Detector s) = Unit {0}
 
-some_length : {X : Type 0} (xs : List X) (y : X) (ys : List X) → xs ≡ y ∷ ys → 1 ≤ length xs
-some_length {X = X} xs y ys e = subst (λ xs. 1 ≤ length xs) (sym e) (first ys)
-  where
-    first : (ys : List X) → 1 ≤ length (y ∷ ys)
-    first ys = omega arith
-
-table_fits : (d : Limits) (n : ℕ) (line : LineSyn) (ts : List Token) → table d line ts → Fits d n line
-table_fits d n line ts (p, e, (us, vs, (p1, e1, (ks, ns, k, (z, nz, oz), s)), (ws, xs, (w, e2, (zs, bs, (x, e3, (os, ls, on, (y, e4, (c0, c1, co, ma, r4)), r3)), cl, r2)), di, r1), r0)) =
-    let columns = e2 ∙ e3 ∙ e4 in
-    subst (Fits d n) (sym e) (
-      subst (λ (name : List ℕ). length name ≤ d.name) (sym e1) (name_to d z p1.1 nz),
-      some_length p.1.0 y.0 y.1 columns,
-      subst (All (IsNarrow d)) (sym columns) (All-cons (IsNarrow d) y.0 y.1 (column_to d y.0 c0 co) (columns_to d y.1 c1 ma)),
+table_fits : (d : Limits) (n : ℕ) (line : LineSyn) (ts : List Token) → AreProper ts → table d line ts → Fits d n line
+table_fits d n line ts e (p, q, (us, vs, w, (us1, vs1, cs, m, k1), k)) =
+    let both = subst AreProper k e in
+    let rest = subst AreProper k1 (back us vs both) in
+    subst (Fits d n) (sym q) (
+      behind_has (is_word word.Table) (name d) (IsNamed d) (name_named d) p.0 us (front us vs both) w,
+      parens_have (listed (column d)) (AreSome (IsColumn d)) (list_has (column d) (IsColumn d) (column_named d)) p.1.0 us1 (front us1 vs1 rest) cs,
     )
 
 link_fits : (d : Limits) (n : ℕ) (line : LineSyn) (ts : List Token) → link n line ts → Fits d n line
@@ -148,14 +127,20 @@ link_fits d n line ts (p, e, (us, vs, q, (us2, vs2, q2, (us3, vs3, (y, ny, oy), 
     let number = number_both 1 18446744073709551615 z p4.1 nz in
     subst (Fits d n) (sym e) (segment.0, segment.1, subst (λ (m : ℕ). 1 ≤ m) (sym e4) number.0)
 
-session_fits : (d : Limits) (n : ℕ) (line : LineSyn) (ts : List Token) → session_line d line ts → Fits d n line
-session_fits d n line ts (p, e, (us, vs, (y, ny, oy), q, r)) = subst (Fits d n) (sym e) (name_to d y p.0 ny)
+session_fits : (n : ℕ) (line : LineSyn) (ts : List Token) → AreProper ts → session_line the_limits line ts → Fits the_limits n line
+session_fits n line ts e (p, q, (us, vs, w, (us1, vs1, s, m, k1), k)) =
+    let both = subst AreProper k e in
+    let rest = subst AreProper k1 (back us vs both) in
+    subst (Fits the_limits n) (sym q) (
+      name_named the_limits p.0 us (front us vs both) w,
+      behind_has (is_sign symbol.Colon) (spelled the_limits) IsSmallStmt stmt_small p.1.0 us1 (front us1 vs1 rest) s,
+    )
 
-head_fits : (d : Limits) (n : ℕ) (line : LineSyn) (ts : List Token) → head_line n d line ts → Fits d n line
-head_fits d n line ts (inl (a, e, q)) = subst (Fits d n) (sym e) tt
-head_fits d n line ts (inr (inl q)) = table_fits d n line ts q
-head_fits d n line ts (inr (inr (inl q))) = link_fits d n line ts q
-head_fits d n line ts (inr (inr (inr q))) = session_fits d n line ts q
+head_fits : (n : ℕ) (line : LineSyn) (ts : List Token) → AreProper ts → head_line n the_limits line ts → Fits the_limits n line
+head_fits n line ts e (inl (a, q, w)) = subst (Fits the_limits n) (sym q) tt
+head_fits n line ts e (inr (inl w)) = table_fits the_limits n line ts e w
+head_fits n line ts e (inr (inr (inl w))) = link_fits the_limits n line ts w
+head_fits n line ts e (inr (inr (inr w))) = session_fits n line ts e w
 
 -- WHAT LINES KEEP
 abbrev KeepsFaults : Option ℕ → List LinkFault → Type 0
@@ -171,6 +156,7 @@ record Keeps (number : ℕ) (p : Progress) : Type 0 where
   pub session_names : AreDistinct (names p.sessions)
   pub few_sessions : length p.sessions ≤ 64
   pub lines : All (IsLine p.tables (length p.sessions)) p.lines
+  pub limits : All IsBoundedLine p.lines
   pub few_lines : length p.lines < number
   pub numbers : AreLinesNumbered [] p.lines
   pub order : BeginInOrder 0 p.lines (length p.sessions)
@@ -180,7 +166,7 @@ record Keeps (number : ℕ) (p : Progress) : Type 0 where
 keeps_more : (number : ℕ) (p : Progress) → Keeps number p → Keeps (number + 1) p
 keeps_more number p k =
     let few = k.few_lines in
-    record { tables = k.tables; table_names = k.table_names; few_tables = k.few_tables; sessions = k.sessions; session_names = k.session_names; few_sessions = k.few_sessions; lines = k.lines; few_lines = omega arith; numbers = k.numbers; order = k.order; counts = k.counts; faults = k.faults }
+    record { tables = k.tables; table_names = k.table_names; few_tables = k.few_tables; sessions = k.sessions; session_names = k.session_names; few_sessions = k.few_sessions; lines = k.lines; limits = k.limits; few_lines = omega arith; numbers = k.numbers; order = k.order; counts = k.counts; faults = k.faults }
 
 detector_keeps : (number : ℕ) (p : Progress) (s : Switch) (q : Progress) → Keeps number p → with_detector p s ≡ Ok q → Keeps number q
 detector_keeps number p s q k e = pick (is_some p.detector) refl
@@ -189,7 +175,7 @@ detector_keeps number p s q k e = pick (is_some p.detector) refl
     pick true h = absurd cc
     pick false h =
         let same : q ≡ record p { detector = Some (is_on s) } = cc in
-        subst (Keeps number) (sym same) (record { tables = k.tables; table_names = k.table_names; few_tables = k.few_tables; sessions = k.sessions; session_names = k.session_names; few_sessions = k.few_sessions; lines = k.lines; few_lines = k.few_lines; numbers = k.numbers; order = k.order; counts = k.counts; faults = k.faults })
+        subst (Keeps number) (sym same) (record { tables = k.tables; table_names = k.table_names; few_tables = k.few_tables; sessions = k.sessions; session_names = k.session_names; few_sessions = k.few_sessions; lines = k.lines; limits = k.limits; few_lines = k.few_lines; numbers = k.numbers; order = k.order; counts = k.counts; faults = k.faults })
 
 way_is : (b : Bool) → same_way b b ≡ true
 way_is true = refl
@@ -235,7 +221,7 @@ faults_snoc (Some m) n fs f e h k =
 link_keeps : (number n : ℕ) (p : Progress) (l : LinkSyn) (q : Progress) → p.segments ≡ Some n → Fits the_limits n (line_syn.Link l) → Keeps number p → with_link p l ≡ Ok q → Keeps number q
 link_keeps number n p l q s f k e =
     let same : q ≡ record p { faults = with_fault (link_fault l) p.faults } = cc in
-    subst (Keeps number) (sym same) (record { tables = k.tables; table_names = k.table_names; few_tables = k.few_tables; sessions = k.sessions; session_names = k.session_names; few_sessions = k.few_sessions; lines = k.lines; few_lines = k.few_lines; numbers = k.numbers; order = k.order; counts = k.counts; faults = faults_snoc p.segments n p.faults (link_fault l) s f k.faults })
+    subst (Keeps number) (sym same) (record { tables = k.tables; table_names = k.table_names; few_tables = k.few_tables; sessions = k.sessions; session_names = k.session_names; few_sessions = k.few_sessions; lines = k.lines; limits = k.limits; few_lines = k.few_lines; numbers = k.numbers; order = k.order; counts = k.counts; faults = faults_snoc p.segments n p.faults (link_fault l) s f k.faults })
 
 given : {A : Type 0} (f : A → Progress) (answer : Answer A) (q : Progress) → giving f answer ≡ Ok q → (a : A) × (answer ≡ Ok a) × (q ≡ f a)
 given f (Ok a) q e = (a, refl, cc)
@@ -253,6 +239,7 @@ table_keeps number p s is apart few k =
       session_names = k.session_names;
       few_sessions = k.few_sessions;
       lines = All-weaker (IsLine p.tables (length p.sessions)) (IsLine (p.tables ++ s ∷ []) (length p.sessions)) (λ (l : Line) h. (h.0, stmt_more p.tables s l.stmt h.1)) p.lines k.lines;
+      limits = k.limits;
       few_lines = k.few_lines;
       numbers = k.numbers;
       order = k.order;
@@ -268,14 +255,14 @@ declared_keeps number n p t q f room k e =
     let narrow = room.1 in
     let is : IsTable g.0 = record {
       name = subst IsName (sym made.1) f.0;
-      schema = table_promise (is_known t.name p.tables) t (Ok g.0) g.1 f.1;
+      schema = table_promise (is_known t.name p.tables) t (Ok g.0) g.1 (some_long t.columns f.1.0);
       few_columns = omega arith;
-      column_names = subst (λ (cs : List Column). All IsName (map column_text cs)) (sym (made_columns (is_known t.name p.tables) t g.0 g.1)) (All-map IsName column_text (map column_as t.columns) (All-map (λ (c : Column). IsName c.name) column_as t.columns f.2));
+      column_names = subst (λ (cs : List Column). All IsName (map column_text cs)) (sym (made_columns (is_known t.name p.tables) t g.0 g.1)) (All-map IsName column_text (map column_as t.columns) (All-map (λ (c : Column). IsName c.name) column_as t.columns (All-from_recursion (IsColumn the_limits) t.columns f.1.1)));
     } in
     subst (Keeps number) (sym g.2) (table_keeps number p g.0 is (subst (λ (name : List ℕ). ¬ (IsOneOf name (map table_name p.tables))) (sym made.1) (unknown_apart t.name p.tables 0 made.0)) room.0 k)
 
 -- a line more
-module _ (number : ℕ) (p : Progress) (name : List ℕ) (stmt : Stmt) (k : Keeps number p) (short : IsName name) (is : IsStmtOf p.tables stmt) where
+module _ (number : ℕ) (p : Progress) (name : List ℕ) (stmt : Stmt) (k : Keeps number p) (short : IsName name) (is : IsStmtOf p.tables stmt) (bounded : IsBoundedStmt stmt) where
   abbrev Then : List (List ℕ × ℕ)
   Then = counted name (count_of name p.sessions + 1) p.sessions
 
@@ -297,6 +284,7 @@ module _ (number : ℕ) (p : Progress) (name : List ℕ) (stmt : Stmt) (k : Keep
         session_names = distinct;
         few_sessions = few;
         lines = All-push (IsLine p.tables (length Then)) p.lines The (All-weaker (IsLine p.tables (length p.sessions)) (IsLine p.tables (length Then)) (λ (l : Line) h. (longer l.session.0 h.0 more, h.1)) p.lines k.lines) (less, is);
+        limits = All-push IsBoundedLine p.lines The k.limits bounded;
         few_lines = omega arith;
         numbers = numbered_snoc [] p.lines The (ap (λ (n : ℕ). n + 1) count) k.numbers;
         order = order;
@@ -332,100 +320,109 @@ module _ (number : ℕ) (p : Progress) (name : List ℕ) (stmt : Stmt) (k : Keep
           let few : length p.sessions < 64 = grind arith in
           new_keeps e few
 
-session_keeps : (number : ℕ) (p : Progress) (name : List ℕ) (s : StmtSyn) (q : Progress) → IsName name → HasRoom (length p.tables) p.sessions (line_syn.Session name s) → Keeps number p → with_session p name s ≡ Ok q → Keeps (number + 1) q
-session_keeps number p name s q short room k e =
+session_keeps : (number : ℕ) (p : Progress) (name : List ℕ) (s : StmtSyn) (q : Progress) → IsName name → IsSmallStmt s → HasRoom (length p.tables) p.sessions (line_syn.Session name s) → Keeps number p → with_session p name s ≡ Ok q → Keeps (number + 1) q
+session_keeps number p name s q short small room k e =
     let g = given (with_line p name) (stmt_of p.tables s) q e in
-    subst (Keeps (number + 1)) (sym g.2) (next_keeps number p name g.0 k short (stmt_of-keeps p.tables s g.0 g.1) room)
+    subst (Keeps (number + 1)) (sym g.2) (next_keeps number p name g.0 k short (stmt_of-keeps p.tables s g.0 g.1) (stmt_kept p.tables s g.0 k.tables small g.1) room)
 
 syn_keeps : (number n : ℕ) (p : Progress) (l : LineSyn) (q : Progress) → p.segments ≡ Some n → Fits the_limits n l → HasRoom (length p.tables) p.sessions l → Keeps number p → with_line_syn p l ≡ Ok q → Keeps (number + 1) q
 syn_keeps number n p (line_syn.Detector s) q o f room k e = keeps_more number q (detector_keeps number p s q k e)
 syn_keeps number n p (line_syn.Table t) q o f room k e = keeps_more number q (declared_keeps number n p t q f room k e)
 syn_keeps number n p (line_syn.Link l) q o f room k e = keeps_more number q (link_keeps number n p l q o f k e)
-syn_keeps number n p (line_syn.Session name s) q o f room k e = session_keeps number p name s q f room k e
+syn_keeps number n p (line_syn.Session name s) q o f room k e = session_keeps number p name s q f.0 f.1 room k e
 
 few_of : (o : Option ℕ) (n : ℕ) (fs : List LinkFault) → o ≡ Some n → KeepsFaults o fs → n ≤ 16
 few_of None n fs e k = absurd cc
 few_of (Some m) n fs e k = let same : m ≡ n = cc in subst (λ (n : ℕ). n ≤ 16) same k.1
 
-told_keeps : (number n : ℕ) (p : Progress) (ls : List Line) (ts : List Token) (q : Progress) → p.segments ≡ Some n → Keeps number p → Told n p ls ts (Ok q) → Keeps (number + 1) q
-told_keeps number n p [] ts q o k (inl (l, h, e)) = absurd cc
-told_keeps number n p [] ts q o k (inr (none, inl (x, h, e))) =
-    syn_keeps number n p x q o (head_fits the_limits n x ts h) (head_room the_limits n (length p.tables) p.sessions x ts (few_of p.segments n p.faults o k.faults) none h) k (sym e)
-told_keeps number n p [] ts q o k (inr (none, inr (f, v, e))) = absurd cc
-told_keeps number n p (l ∷ ls) ts q o k (inl (m, h, e)) = absurd cc
-told_keeps number n p (l ∷ ls) ts q o k (inr (none, inl (x, h, e))) =
-    syn_keeps number n p x q o (session_fits the_limits n x ts h) (line_room the_limits (length p.tables) p.sessions x ts none h) k (sym e)
-told_keeps number n p (l ∷ ls) ts q o k (inr (none, inr (f, v, e))) = absurd cc
+told_keeps : (number n : ℕ) (p : Progress) (ls : List Line) (ts : List Token) (q : Progress) → AreProper ts → p.segments ≡ Some n → Keeps number p → Told n p ls ts (Ok q) → Keeps (number + 1) q
+told_keeps number n p [] ts q proper o k (inl (l, h, e)) = absurd cc
+told_keeps number n p [] ts q proper o k (inr (none, inl (x, h, e))) =
+    syn_keeps number n p x q o (head_fits n x ts proper h) (head_room the_limits n (length p.tables) p.sessions x ts (few_of p.segments n p.faults o k.faults) none h) k (sym e)
+told_keeps number n p [] ts q proper o k (inr (none, inr (f, v, e))) = absurd cc
+told_keeps number n p (l ∷ ls) ts q proper o k (inl (m, h, e)) = absurd cc
+told_keeps number n p (l ∷ ls) ts q proper o k (inr (none, inl (x, h, e))) =
+    syn_keeps number n p x q o (session_fits n x ts proper h) (line_room the_limits (length p.tables) p.sessions x ts none h) k (sym e)
+told_keeps number n p (l ∷ ls) ts q proper o k (inr (none, inr (f, v, e))) = absurd cc
 
 no_faults : (o : Option ℕ) (fs : List LinkFault) → o ≡ None → KeepsFaults o fs → fs ≡ []
 no_faults None fs e k = k
 no_faults (Some n) fs e k = absurd cc
 
-tokens_keep : (number : ℕ) (o : Option ℕ) (p : Progress) (ts : List Token) (q : Progress) → p.segments ≡ o → Keeps number p → TokensSay o p ts (Ok q) → Keeps (number + 1) q
-tokens_keep number None p ts q o k (inl (n, r, e)) =
+tokens_keep : (number : ℕ) (o : Option ℕ) (p : Progress) (ts : List Token) (q : Progress) → AreProper ts → p.segments ≡ o → Keeps number p → TokensSay o p ts (Ok q) → Keeps (number + 1) q
+tokens_keep number None p ts q proper o k (inl (n, r, e)) =
     let same : q ≡ record p { segments = Some n.0 } = cc in
     let both = told_both the_limits n ts r in
     let none = no_faults p.segments p.faults o k.faults in
-    subst (Keeps (number + 1)) (sym same) (keeps_more number (record p { segments = Some n.0 }) (record { tables = k.tables; table_names = k.table_names; few_tables = k.few_tables; sessions = k.sessions; session_names = k.session_names; few_sessions = k.few_sessions; lines = k.lines; few_lines = k.few_lines; numbers = k.numbers; order = k.order; counts = k.counts; faults = (both.0, both.1, subst (All (IsFault n.0)) (sym none) (All-nil (IsFault n.0)), subst AreDistinct (sym none) tt) }))
-tokens_keep number None p ts q o k (inr (f, v, e)) = absurd cc
-tokens_keep number (Some n) p ts q o k h = told_keeps number n p p.lines ts q o k h
+    subst (Keeps (number + 1)) (sym same) (keeps_more number (record p { segments = Some n.0 }) (record { tables = k.tables; table_names = k.table_names; few_tables = k.few_tables; sessions = k.sessions; session_names = k.session_names; few_sessions = k.few_sessions; lines = k.lines; limits = k.limits; few_lines = k.few_lines; numbers = k.numbers; order = k.order; counts = k.counts; faults = (both.0, both.1, subst (All (IsFault n.0)) (sym none) (All-nil (IsFault n.0)), subst AreDistinct (sym none) tt) }))
+tokens_keep number None p ts q proper o k (inr (f, v, e)) = absurd cc
+tokens_keep number (Some n) p ts q proper o k h = told_keeps number n p p.lines ts q proper o k h
 
 -- SCRIPTS
--- a script that keeps the rules, and has no fault of a link twice
-abbrev IsRight : Script → Type 0
-IsRight s = IsScript s × HasFaultsOnce s
+-- what a script keeps however many bytes it has
+pub record IsKept (script : Script) : Type 0 where
+  pub some_segments : 1 ≤ script.segments
+  pub few_segments : script.segments ≤ 16
+  pub tables : All IsTable script.tables
+  pub table_names : AreDistinct (map table_name script.tables)
+  pub few_tables : length script.tables ≤ 64
+  pub sessions : All IsName script.sessions
+  pub session_names : AreDistinct script.sessions
+  pub few_sessions : length script.sessions ≤ 64
+  pub lines : All (IsLine script.tables (length script.sessions)) script.lines
+  pub limits : All IsBoundedLine script.lines
+  pub few_lines : length script.lines ≤ 100000
+  pub numbers : AreLinesNumbered [] script.lines
+  pub order : BeginInOrder 0 script.lines (length script.sessions)
+  pub faults : All (IsFault script.segments) script.faults
+  pub once : HasFaultsOnce script
 
-ended_keeps : (number : ℕ) (o : Option ℕ) (p : Progress) (s : Script) → p.segments ≡ o → number ≤ 100001 → Keeps number p → Ok s ≡ ended number p o → IsRight s
+ended_keeps : (number : ℕ) (o : Option ℕ) (p : Progress) (s : Script) → p.segments ≡ o → number ≤ 100001 → Keeps number p → Ok s ≡ ended number p o → IsKept s
 ended_keeps number None p s o l k e = absurd cc
 ended_keeps number (Some n) p s o l k e =
     let same : s ≡ script_of n p = cc in
     let faults : KeepsFaults (Some n) p.faults = subst (λ (o : Option ℕ). KeepsFaults o p.faults) o k.faults in
     let few = k.few_lines in
-    subst IsRight (sym same) (
-      record {
-        some_segments = faults.0;
-        few_segments = faults.1;
-        tables = k.tables;
-        table_names = k.table_names;
-        few_tables = k.few_tables;
-        sessions = k.sessions;
-        session_names = k.session_names;
-        few_sessions = subst (λ (n : ℕ). n ≤ 64) (sym (length_names p.sessions)) k.few_sessions;
-        lines = subst (λ (n : ℕ). All (IsLine p.tables n) p.lines) (sym (length_names p.sessions)) k.lines;
-        few_lines = omega arith;
-        numbers = k.numbers;
-        order = subst (BeginInOrder 0 p.lines) (sym (length_names p.sessions)) k.order;
-        faults = faults.2;
-      },
-      faults.3,
-    )
+    subst IsKept (sym same) (record {
+      some_segments = faults.0;
+      few_segments = faults.1;
+      tables = k.tables;
+      table_names = k.table_names;
+      few_tables = k.few_tables;
+      sessions = k.sessions;
+      session_names = k.session_names;
+      few_sessions = subst (λ (n : ℕ). n ≤ 64) (sym (length_names p.sessions)) k.few_sessions;
+      lines = subst (λ (n : ℕ). All (IsLine p.tables n) p.lines) (sym (length_names p.sessions)) k.lines;
+      limits = k.limits;
+      few_lines = omega arith;
+      numbers = k.numbers;
+      order = subst (BeginInOrder 0 p.lines) (sym (length_names p.sessions)) k.order;
+      faults = faults.2;
+      once = faults.3;
+    })
 
-goes_keep : (number : ℕ) (go : Progress → Type 0) (q : Result Progress LineFault) (s : Script) → ((p : Progress) → q ≡ Ok p → go p → IsRight s) → Goes number go q (Ok s) → IsRight s
+goes_keep : (number : ℕ) (go : Progress → Type 0) (q : Result Progress LineFault) (s : Script) → ((p : Progress) → q ≡ Ok p → go p → IsKept s) → Goes number go q (Ok s) → IsKept s
 goes_keep number go (Ok p) s f h = f p refl h
 goes_keep number go (Err e) s f h = absurd cc
 
-reads_keep : (number : ℕ) (p : Progress) (ls : List (List ℕ)) (s : Script) → number ≤ 100001 → Keeps number p → ReadsOn number p ls (Ok s) → IsRight s
+reads_keep : (number : ℕ) (p : Progress) (ls : List (List ℕ)) (s : Script) → number ≤ 100001 → Keeps number p → ReadsOn number p ls (Ok s) → IsKept s
 reads_keep number p [] s l k h = ended_keeps number p.segments p s refl l k h
 reads_keep number p (line ∷ ls) s l k h = within (nat_lt 100000 number) refl (λ q m k h. reads_keep (number + 1) q ls s m k h) h
   where
-    says : ((q : Progress) → Keeps (number + 1) q → ReadsOn (number + 1) q ls (Ok s) → IsRight s) → (b : Bool) → Where b (ReadsOn (number + 1) p ls (Ok s)) ((q : Result Progress LineFault) × LineSays p line q × Goes number (λ (p : Progress). ReadsOn (number + 1) p ls (Ok s)) q (Ok s)) → IsRight s
+    says : ((q : Progress) → Keeps (number + 1) q → ReadsOn (number + 1) q ls (Ok s) → IsKept s) → (b : Bool) → Where b (ReadsOn (number + 1) p ls (Ok s)) ((q : Result Progress LineFault) × LineSays p line q × Goes number (λ (p : Progress). ReadsOn (number + 1) p ls (Ok s)) q (Ok s)) → IsKept s
     says rest true h = rest p (keeps_more number p k) h
     says rest false (q, (ts, lexed, t), g) =
-        goes_keep number (λ (p : Progress). ReadsOn (number + 1) p ls (Ok s)) q s (λ u e h. rest u (tokens_keep number p.segments p ts u refl k (subst (TokensSay p.segments p ts) e t)) h) g
+        goes_keep number (λ (p : Progress). ReadsOn (number + 1) p ls (Ok s)) q s (λ u e h. rest u (tokens_keep number p.segments p ts u (tokens_proper ts line lexed) refl k (subst (TokensSay p.segments p ts) e t)) h) g
 
-    within : (b : Bool) → nat_lt 100000 number ≡ b → ((q : Progress) → number + 1 ≤ 100001 → Keeps (number + 1) q → ReadsOn (number + 1) q ls (Ok s) → IsRight s)
-        → Where b (Ok s ≡ Err (refusal.TooMany number limit.Lines)) (Where (is_skipped line) (ReadsOn (number + 1) p ls (Ok s)) ((q : Result Progress LineFault) × LineSays p line q × Goes number (λ (p : Progress). ReadsOn (number + 1) p ls (Ok s)) q (Ok s))) → IsRight s
+    within : (b : Bool) → nat_lt 100000 number ≡ b → ((q : Progress) → number + 1 ≤ 100001 → Keeps (number + 1) q → ReadsOn (number + 1) q ls (Ok s) → IsKept s)
+        → Where b (Ok s ≡ Err (refusal.TooMany number limit.Lines)) (Where (is_skipped line) (ReadsOn (number + 1) p ls (Ok s)) ((q : Result Progress LineFault) × LineSays p line q × Goes number (λ (p : Progress). ReadsOn (number + 1) p ls (Ok s)) q (Ok s))) → IsKept s
     within true e rest h = absurd cc
     within false e rest h =
         let few : number ≤ 100000 = grind arith in
         says (λ q. rest q (omega arith)) (is_skipped line) h
 
 start_keeps : Keeps 1 start
-start_keeps = record { tables = All-nil IsTable; table_names = tt; few_tables = omega arith; sessions = All-nil IsName; session_names = tt; few_sessions = omega arith; lines = All-nil (IsLine [] 0); few_lines = omega arith; numbers = tt; order = refl; counts = tt; faults = refl }
+start_keeps = record { tables = All-nil IsTable; table_names = tt; few_tables = omega arith; sessions = All-nil IsName; session_names = tt; few_sessions = omega arith; lines = All-nil (IsLine [] 0); limits = All-nil IsBoundedLine; few_lines = omega arith; numbers = tt; order = refl; counts = tt; faults = refl }
 
-pub read_keeps : (bytes : List ℕ) (r : Result Script Refusal) → Answers (ReadsOn 1 start (lines_of bytes)) r → IfOk r IsScript
-read_keeps bytes (Ok s) h = (reads_keep 1 start (lines_of bytes) s (omega arith) start_keeps h).0
-read_keeps bytes (Err e) h = tt
-
-pub read_faults : (bytes : List ℕ) (s : Script) → ReadsOn 1 start (lines_of bytes) (Ok s) → HasFaultsOnce s
-read_faults bytes s h = (reads_keep 1 start (lines_of bytes) s (omega arith) start_keeps h).1
+pub read_kept : (bytes : List ℕ) (s : Script) → ReadsOn 1 start (lines_of bytes) (Ok s) → IsKept s
+read_kept bytes s h = reads_keep 1 start (lines_of bytes) s (omega arith) start_keeps h

@@ -8,5 +8,12 @@ pub mod Saying
 pub mod Unique
 pub mod Steps
 pub mod Numbered
+pub mod Extents
+pub mod Having
+pub mod Small
+pub mod Bounded
 pub mod Language
+pub mod Sizes
+pub mod Filled
+pub mod Limited
 mod Feeds

@@ -11,6 +11,7 @@ pub mod Messages
 pub mod Refusals
 pub mod Answers
 pub mod Legal
+pub mod Parts
 pub mod Runs
 pub mod Locks
 pub mod Asking

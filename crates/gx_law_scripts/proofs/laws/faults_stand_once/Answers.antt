@@ -1,4 +1,4 @@
-use Rattle.gx_law_scripts.proofs.Kept.{faults-once}
+use Rattle.gx_sql.proofs.Limited.{faults-once}
 use Rattle.gx_law_scripts.proofs.laws.faults_stand_once.Goals as goal
 
 pub returns : goal.returns

@@ -1,6 +1,9 @@
--- Each INSERT of a script that was read has a tuple, and no more tuples than the script has bytes.
-use Rattle.std.proofs.Common.{◌≡◌, inl, inr, ℕ, ◌+◌, ◌≤◌, nat_lt, Bool, true, false, if◌then◌else◌, is_some, List, [], ◌∷◌, ◌++◌, length, Option, Some, None, Result, Ok, Err, refl, sym, ◌∙◌, ap, subst, arith}
+-- A script that was read keeps the rules and the limits of the language; no INSERT of it has more tuples than the script has bytes.
+use Rattle.std.proofs.Common.{◌≡◌, inl, inr, ℕ, ◌+◌, ◌<◌, ◌≤◌, ◌^◌, nat_lt, Bool, true, false, if◌then◌else◌, is_some, List, [], ◌∷◌, ◌++◌, length, Option, Some, None, Result, Ok, Err, IfOk, refl, sym, ◌∙◌, ap, subst, arith}
+use Rattle.std.specs.List.{AllByRecursion}
+use Rattle.std.specs.Str.{IsUtf8}
 use Rattle.std.proofs.lemmas.List.{length-append}
+use Rattle.std.proofs.lemmas.List.Elements.{All-from_recursion}
 use Rattle.gx_lex.specs.declared.token.Token.{Token}
 use Rattle.gx_tree.specs.declared.schema.Schema.{Schema}
 use Rattle.gx_grammar.specs.declared.fault.Limits.{Limits}
@@ -15,22 +18,24 @@ use Rattle.gx_sql.specs.declared.refusal.Limit.{Limit}
 use Rattle.gx_sql.specs.declared.refusal.Limit.TheVariants as limit
 use Rattle.gx_sql.specs.declared.refusal.LineFault.{LineFault}
 use Rattle.gx_sql.specs.declared.refusal.LineFault.TheVariants as fault
+use Rattle.gx_sql.specs.declared.refusal.Refusal.{Refusal}
 use Rattle.gx_sql.specs.declared.refusal.Refusal.TheVariants as refusal
+use Rattle.gx_sql.specs.Answering.{Answers}
 use Rattle.gx_sql.specs.Counts.{PassesInHead, PassesInLine}
 use Rattle.gx_store.specs.Language.{HasFaultsOnce, IsScript}
+use Rattle.gx_store.specs.Limits.{HasTuplesTo, IsLineTo, HaveTuplesTo}
 use Rattle.gx_sql.specs.Lines.{lines_of, is_skipped}
 use Rattle.gx_sql.specs.Progress.{Progress, start, giving, is_known, is_on, with_line, with_segments, with_line_syn}
 use Rattle.gx_sql.specs.Script.{the_limits, Follows, Counts, Told, TokensSay, LineSays, Goes, Where, ended, script_of, ReadsOn, Reads}
-use Rattle.gx_sql.proofs.Language.{read_faults, read_keeps}
-use Rattle.gx_law_scripts.proofs.Filled.{IsFilled, IsWritten, more-written, stmt-written, stmt_of-filled}
-use Rattle.gx_law_scripts.proofs.Sizes.{AreShort, lines-short, tokens-few}
+use Rattle.gx_sql.proofs.Language.{IsKept, read_kept}
+use Rattle.gx_sql.proofs.Filled.{IsWritten, more-written, stmt-written, stmt_of-filled}
+use Rattle.gx_sql.proofs.Sizes.{AreShort, lines-short, tokens-few}
 
 module _ (most : ℕ) where
-  abbrev pub AreFilled : List Line → Type 0
-  AreFilled [] = Unit {0}
-  AreFilled (l ∷ ls) = IsFilled most l.stmt × AreFilled ls
+  abbrev AreFilled : List Line → Type 0
+  AreFilled ls = AllByRecursion (IsLineTo most) ls
 
-  one-more : (ls : List Line) (l : Line) → AreFilled ls → IsFilled most l.stmt → AreFilled (ls ++ l ∷ [])
+  one-more : (ls : List Line) (l : Line) → AreFilled ls → HasTuplesTo most l.stmt → AreFilled (ls ++ l ∷ [])
   one-more [] l h one = (one, tt)
   one-more (k ∷ ls) l h one = (h.0, one-more ls l h.1 one)
 
@@ -128,14 +133,38 @@ module _ (most : ℕ) where
     lines-filled [] n short p k h = ended-filled n p p.segments s k h
     lines-filled (line ∷ ls) n short p k h = counts (nat_lt 100000 n) n p line ls short.0 k (lines-filled ls (n + 1) short.1) h
 
-pub script-filled : (most : ℕ) (bytes : List ℕ) (s : Script) → length bytes ≤ most → Reads bytes (Ok s) → AreFilled most s.lines
-script-filled most bytes s few (inl (u, h)) = lines-filled most s (lines_of bytes) 1 (lines-short most bytes few) start tt h
-script-filled most bytes s few (inr (n, e)) = absurd cc
+pub tuples-few : (most : ℕ) (bytes : List ℕ) (s : Script) → length bytes ≤ most → Reads bytes (Ok s) → HaveTuplesTo most s.lines
+tuples-few most bytes s few (inl (u, h)) = All-from_recursion (IsLineTo most) s.lines (lines-filled most s (lines_of bytes) 1 (lines-short most bytes few) start tt h)
+tuples-few most bytes s few (inr (n, e)) = absurd cc
 
-pub script-is : (bytes : List ℕ) (s : Script) → Reads bytes (Ok s) → IsScript s
-script-is bytes s (inl (u, h)) = read_keeps bytes (Ok s) h
-script-is bytes s (inr (n, e)) = absurd cc
+pub script-kept : (bytes : List ℕ) (s : Script) → Reads bytes (Ok s) → IsKept s
+script-kept bytes s (inl (u, h)) = read_kept bytes s h
+script-kept bytes s (inr (n, e)) = absurd cc
+
+pub script-is : (bytes : List ℕ) (s : Script) → length bytes < 2 ^ 32 → Reads bytes (Ok s) → IsScript s
+script-is bytes s few h =
+    let k = script-kept bytes s h in
+    record {
+      some_segments = k.some_segments;
+      few_segments = k.few_segments;
+      tables = k.tables;
+      table_names = k.table_names;
+      few_tables = k.few_tables;
+      sessions = k.sessions;
+      session_names = k.session_names;
+      few_sessions = k.few_sessions;
+      lines = k.lines;
+      limits = k.limits;
+      few_tuples = tuples-few 4294967295 bytes s (omega (arith, few)) h;
+      few_lines = k.few_lines;
+      numbers = k.numbers;
+      order = k.order;
+      faults = k.faults;
+    }
 
 pub faults-once : (bytes : List ℕ) (s : Script) → Reads bytes (Ok s) → HasFaultsOnce s
-faults-once bytes s (inl (u, h)) = read_faults bytes s h
-faults-once bytes s (inr (n, e)) = absurd cc
+faults-once bytes s h = (script-kept bytes s h).once
+
+pub read-is : (bytes : List ℕ) (r : Result Script Refusal) → length bytes < 2 ^ 32 → IsUtf8 bytes → Answers (ReadsOn 1 start (lines_of bytes)) r → IfOk r IsScript
+read-is bytes (Ok s) few u h = script-is bytes s few (inl (u, h))
+read-is bytes (Err e) few u h = tt
