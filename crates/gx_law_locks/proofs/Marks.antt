@@ -1,5 +1,5 @@
 -- What marks of locks make of a node's holds and waits.
-use Rattle.std.proofs.Common.{◌≡◌, ◌==◌, ◌||◌, ◌⊎◌, inl, Bool, true, false, List, [], ◌∷◌, ◌++◌, None, Some, refl, sym, subst, ap, ◌∙◌, if◌then◌else◌, append_assoc, append-nil, arith}
+use Rattle.std.proofs.Common.{◌≡◌, ◌==◌, ◌||◌, ◌⊎◌, inl, inr, Bool, true, false, List, [], ◌∷◌, ◌++◌, None, Some, refl, sym, subst, ap, ◌∙◌, if◌then◌else◌, append_assoc, append-nil, arith}
 use Rattle.std.proofs.lemmas.Bool.Decides.{nat_tests}
 use Rattle.std.proofs.lemmas.Bool.{or_left, or_right}
 use Rattle.std.specs.Prelude.{filter, find}
@@ -23,7 +23,7 @@ use Rattle.gx_law_order.specs.Lists.{Each}
 use Rattle.gx_law_order.proofs.Past.{aborted-append, committed-append}
 use Rattle.gx_law_locks.specs.Late.{AreReleasesLate}
 use Rattle.gx_law_locks.specs.Waiting.{IsForEnd}
-use Rattle.gx_law_locks.proofs.Claims.{not-among, without-none, without-only}
+use Rattle.gx_law_locks.proofs.Claims.{gxid-of, not-among, passes, without-none, without-only}
 
 -- who begins to wait meets one of these holds, and has none of these waits
 pub record Begins (holds waits : List Claim) (wanted : Claim) : Type 0 where
@@ -39,13 +39,17 @@ AreRight node holds waits (mark.Hold n g object mode ∷ ms) =
 AreRight node holds waits (mark.Release n g object mode ∷ ms) = AreRight node (holds_from node holds (mark.Release n g object mode ∷ [])) (waits_from node waits (mark.Release n g object mode ∷ [])) ms
 AreRight node holds waits (m ∷ ms) = AreRight node holds waits ms
 
--- who gives back has none of these waits, or has aborted; who begins to wait for another's end does so in mode Share; who commits
--- has none of them
+-- who gives back has none of these waits, or has aborted; who is granted something has none of them, or waits for just that; who
+-- begins to wait for another's end does so in mode Share; who commits has none of them
 abbrev pub MayGive : List Mark → List Claim → Gxid → Type 0
 MayGive before waits g = (find (is_of g) waits ≡ None) ⊎ (is_aborted before g ≡ true)
 
+abbrev pub MayGet : List Claim → Claim → Type 0
+MayGet waits wanted = (find (is_of wanted.gxid) waits ≡ None) ⊎ (filter (is_of wanted.gxid) waits ≡ wanted ∷ [])
+
 abbrev pub Lets : List Mark → List Claim → Mark → Type 0
 Lets before waits (mark.Release n g object mode) = MayGive before waits g
+Lets before waits (mark.Hold n g object mode) = MayGet waits (claim g object mode)
 Lets before waits (mark.Wait n g object mode) = IsForEnd object mode
 Lets before waits (mark.Commit g) = find (is_of g) waits ≡ None
 Lets before waits _ = Unit {0}
@@ -180,7 +184,7 @@ grant node before l wanted free e =
       waits = ap (λ b. if b then without_claim wanted l.waits else l.waits) (node-itself node) ∙ without-none wanted l.waits e;
       right = (free, tt);
       late = tt;
-      lets = (tt, tt);
+      lets = (inl e, tt);
     }
 
 -- who has no wait there begins to wait
@@ -220,7 +224,7 @@ resumption node before l g wanted free e =
       waits = ap (λ b. if b then without_claim wanted l.waits else l.waits) (node-itself node) ∙ without-only g wanted l.waits e;
       right = (free, tt);
       late = tt;
-      lets = (tt, tt);
+      lets = (inr (subst (λ (h : Gxid). filter (is_of h) l.waits ≡ wanted ∷ []) (sym (gxid-of wanted.gxid g (passes (is_of g) l.waits wanted [] e))) e), tt);
     }
 
 -- ENDS

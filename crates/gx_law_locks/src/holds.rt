@@ -5,7 +5,7 @@ ghost use Rattle.gx_law_locks.specs.Late.{AreReleasesLate};
 ghost use Rattle.gx_law_locks.specs.Marked.{AreLocksMarked, AreWaitsLegal};
 ghost use Rattle.gx_law_locks.specs.Orders.{AreOrdersLocked};
 ghost use Rattle.gx_law_locks.specs.Own.{DoHoldOwn, DoWritersHold};
-ghost use Rattle.gx_law_locks.specs.Waiting.{EachBehind, KeepsWhileWaiting, WaitsForEnd};
+ghost use Rattle.gx_law_locks.specs.Waiting.{EachBehind, GetsWhatItWaitsFor, KeepsWhileWaiting, WaitsForEnd};
 ghost use Rattle.gx_law_locks.specs.Writes.{AreWritesLocked};
 ghost use Rattle.gx_law_order.specs.Runs.{steps_after};
 ghost use Rattle.gx_rules.specs.Machine.{world_of};
@@ -71,6 +71,11 @@ pub fn writers_hold_until_they_end()
 /// While a transaction waits at a node it gives nothing back there, the wait itself included, unless it has aborted.
 pub fn who_waits_gives_nothing_back()
     ensures { (script : Script) (events : List (OneEvent × Bool)) → 1 ≤ script.segments → EachBehind KeepsWhileWaiting [] (marks_in (steps_after script events)) }
+{}
+
+/// Nor is it granted anything there but what it waits for.
+pub fn who_waits_is_granted_what_it_waits_for()
+    ensures { (script : Script) (events : List (OneEvent × Bool)) → 1 ≤ script.segments → EachBehind GetsWhatItWaitsFor [] (marks_in (steps_after script events)) }
 {}
 
 /// Another transaction's end is waited for in mode Share alone, so that a hold on it for a moment is in nobody's way.
