@@ -24,7 +24,7 @@ use Rattle.gx_waits.specs.Claim.{same_claim}
 use Rattle.gx_waits.specs.declared.claim.Claim.{Claim}
 use Rattle.gx_waits.specs.declared.object.Object.{Object}
 use Rattle.gx_waits.specs.declared.object.Object.TheVariants.{Relation, Transaction, Tuple}
-use Rattle.gx_waits.specs.Claims.{is_free, is_of, with_claim, without}
+use Rattle.gx_waits.specs.Claims.{is_clear, is_of, with_claim, without}
 use Rattle.gx_locks.specs.Locks.{Locks, wait_of}
 use Rattle.gx_meaning.specs.declared.fault.ArithFault.{ArithFault}
 use Rattle.gx_msg.specs.declared.message.Message.{Message}
@@ -273,7 +273,7 @@ module _ (script : Script) (Come : Message → Type 0) (s : Seg) (waits : AreSus
   starts h g c level snapshot x o =
       let up : WritersLock (raised s h) = record { owns = k.owns; each = k.each; awaited = k.awaited } in
       let waiting = same-phase (raised s h) g (record (local_of s g) { last = c.0; answer = None; suspended = Some (suspended_slice c level snapshot x) }) up refl in
-      both (is_free s.locks.holds (slice_lock script g x)) _ _
+      both (is_clear s.locks.holds s.locks.waits (slice_lock script g x)) _ _
       (slice_runs (record (raised s h) { locks = with_hold s.locks (slice_lock script g x) }) g c level snapshot x (started script s h g x k o).writers o)
       (waited _ (slice_lock script g x) waiting (awaited-rows s.versions (slice_lock script g x).object (slice-rows script g x)))
 
