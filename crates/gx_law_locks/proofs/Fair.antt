@@ -26,7 +26,7 @@ pub record IsFair (before : List Mark) (m : Mark) : Type 0 where
   pub ends : WaitsForEnd before m
 
 -- so it is of marks of which the laws hold
-each-granted : (before ms : List Mark) → AreGranted before ms → EachBehind GrantsLegally before ms
+pub each-granted : (before ms : List Mark) → AreGranted before ms → EachBehind GrantsLegally before ms
 each-granted before [] e = tt
 each-granted before (mark.Hold n g object mode ∷ ms) e = (e.0, each-granted (before ++ mark.Hold n g object mode ∷ []) ms e.1)
 each-granted before (m ∷ ms) e = (tt, each-granted (before ++ m ∷ []) ms e)

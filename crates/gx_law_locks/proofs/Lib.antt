@@ -40,6 +40,7 @@ pub mod Active
 pub mod Rechecks
 pub mod Whole
 pub mod Fair
+pub mod Passing
 pub mod Sharing
 pub mod Standing
 pub mod Staying

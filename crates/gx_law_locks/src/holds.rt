@@ -5,6 +5,7 @@ ghost use Rattle.gx_law_locks.specs.Late.{AreReleasesLate};
 ghost use Rattle.gx_law_locks.specs.Marked.{AreLocksMarked, AreWaitsLegal};
 ghost use Rattle.gx_law_locks.specs.Orders.{AreOrdersLocked};
 ghost use Rattle.gx_law_locks.specs.Own.{DoHoldOwn, DoWritersHold};
+ghost use Rattle.gx_law_locks.specs.Queue.{PassesNobody};
 ghost use Rattle.gx_law_locks.specs.Waiting.{EachBehind, GetsWhatItWaitsFor, KeepsWhileWaiting, WaitsForEnd};
 ghost use Rattle.gx_law_locks.specs.Writes.{AreWritesLocked};
 ghost use Rattle.gx_law_order.specs.Runs.{steps_after};
@@ -20,13 +21,19 @@ pub fn locks_are_marked()
     ensures { (script : Script) (events : List (OneEvent × Bool)) → 1 ≤ script.segments → AreLocksMarked (world_of script events) }
 {}
 
-/// A lock is granted only where it meets no hold.
+/// A lock is granted only where it meets nobody: neither a hold, nor a wait ahead of it that its own transaction's holds don't block.
 pub fn locks_are_granted_where_they_meet_none()
     ensures { (script : Script) (events : List (OneEvent × Bool)) → 1 ≤ script.segments → AreGranted [] (marks_in (steps_after script events)) }
 {}
 
-/// Whoever begins to wait at a node meets a hold there, and has no other wait there.
-pub fn waits_meet_a_hold()
+/// At one node nobody is granted a lock while an earlier wait for a conflicting mode stands, unless it holds a mode on the object that
+/// conflicts with the waiter's.
+pub fn nobody_is_passed()
+    ensures { (script : Script) (events : List (OneEvent × Bool)) → 1 ≤ script.segments → EachBehind PassesNobody [] (marks_in (steps_after script events)) }
+{}
+
+/// Whoever begins to wait at a node meets somebody there, who holds or waits ahead, and has no other wait there.
+pub fn waits_meet_somebody()
     ensures { (script : Script) (events : List (OneEvent × Bool)) → 1 ≤ script.segments → AreWaitsLegal [] (marks_in (steps_after script events)) }
 {}
 
