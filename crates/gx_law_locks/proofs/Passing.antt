@@ -7,6 +7,8 @@ use Rattle.std.specs.List.{list_any}
 use Rattle.std.specs.Prelude.{Any, Contains}
 use Rattle.gx_ids.specs.declared.ids.Gxid.{Gxid}
 use Rattle.gx_ids.specs.declared.ids.Node.{Node}
+use Rattle.gx_modes.specs.declared.modes.Mode.{Mode}
+use Rattle.gx_waits.specs.declared.object.Object.{Object}
 use Rattle.gx_waits.proofs.Members.{Has, contains_from_has, has_from_contains}
 use Rattle.gx_waits.specs.Claim.{Meets, ahead, in_the_way, is_ahead, meets, same_claim}
 use Rattle.gx_waits.specs.Claims.{claim}
@@ -40,8 +42,8 @@ earlier-ahead wanted wait (x ∷ xs) back none other =
     by_test true e h = absurd (none (contains_from_has wanted (x ∷ xs) (inl (sym (claim-same wanted x e)))))
     by_test false e h = inr h
 
-passes-none : (before : List Mark) (m : Mark) → GrantsLegally before m → PassesNobody before m
-passes-none before (mark.Hold node g object mode) legal wait earlier met = by_test (is_ahead holds wanted wait) refl
+grant-passes : (before : List Mark) (node : Node) (g : Gxid) (object : Object) (mode : Mode) → LegalHold before node (claim g object mode) → PassesNobody before (mark.Hold node g object mode)
+grant-passes before node g object mode legal wait earlier met = by_test (is_ahead holds wanted wait) refl
   where
     wanted : Claim
     wanted = claim g object mode
@@ -71,6 +73,8 @@ passes-none before (mark.Hold node g object mode) legal wait earlier met = by_te
         let a = Any-from_list_any (λ hold. (hold.gxid.0 == g.0) && meets wait hold) holds (flipped _ e) in
         let p = parts (a.1.gxid.0 == g.0) (meets wait a.1) a.4 in
         (a.0, a.1, a.2, a.3, (same-gxid a.1.gxid g p.0, Meets_from_test wait a.1 p.1))
+passes-none : (before : List Mark) (m : Mark) → GrantsLegally before m → PassesNobody before m
+passes-none before (mark.Hold node g object mode) legal = grant-passes before node g object mode legal
 passes-none before m legal = tt
 
 pub passing : (marks : List Mark) → AreGranted [] marks → EachBehind PassesNobody [] marks
