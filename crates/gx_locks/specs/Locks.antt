@@ -5,8 +5,8 @@ use Rattle.gx_ids.specs.declared.ids.Node.{Node}
 use Rattle.gx_waits.specs.declared.claim.Claim.{Claim}
 use Rattle.gx_locks.specs.declared.answer.LockAnswer.{LockAnswer}
 use Rattle.gx_locks.specs.declared.answer.LockAnswer.TheVariants.{Granted, Waits}
-use Rattle.gx_waits.specs.Claim.{meets}
-use Rattle.gx_waits.specs.Claims.{is_free, is_of, with_claim, without}
+use Rattle.gx_waits.specs.Claim.{in_the_way, meets}
+use Rattle.gx_waits.specs.Claims.{is_clear, is_of, with_claim, without}
 use Rattle.gx_locks.specs.Claims.{gxid_cmp}
 use Rattle.std.specs.List.Sorted.{IsStrictlySortedBy}
 
@@ -16,13 +16,13 @@ pub record Locks : Type 0 where
   pub holds : List Claim
   pub waits : List Claim
 
--- the transactions whose holds a claim meets, by hold
+-- the transactions that a claim meets among these
 abbrev pub blockers : List Claim → Claim → List Gxid
-blockers holds claim = map (λ hold. hold.gxid) (filter (meets claim) holds)
+blockers claims claim = map (λ other. other.gxid) (filter (meets claim) claims)
 
 -- the transactions whose waits are ready, by wait
 abbrev pub ready_ones : Locks → List Gxid
-ready_ones locks = map (λ wait. wait.gxid) (filter (is_free locks.holds) locks.waits)
+ready_ones locks = map (λ wait. wait.gxid) (filter (is_clear locks.holds locks.waits) locks.waits)
 
 -- the lesser of two
 abbrev pub lesser : Gxid → Gxid → Gxid
@@ -49,13 +49,13 @@ abbrev pub wait_of : Locks → Gxid → Option Claim
 wait_of locks g = find (is_of g) locks.waits
 
 -- whether it is ready
-abbrev pub is_ready : List Claim → Option Claim → Bool
-is_ready holds None = false
-is_ready holds (Some wait) = is_free holds wait
+abbrev pub is_ready : Locks → Option Claim → Bool
+is_ready locks None = false
+is_ready locks (Some wait) = is_clear locks.holds locks.waits wait
 
 -- a transaction may take what it waits for
 abbrev pub may_take : Locks → Gxid → Bool
-may_take locks g = is_ready locks.holds (wait_of locks g)
+may_take locks g = is_ready locks (wait_of locks g)
 
 -- the least transaction that may, where there is one
 abbrev pub next_ready : Locks → Option Gxid
@@ -72,7 +72,7 @@ pub record AreRisen (gxids all : List Gxid) : Type 0 where
   pub all_of_them : (g : Gxid) → Contains all g → Contains gxids g
   pub no_others : (g : Gxid) → Contains gxids g → Contains all g
 
--- what came of a request: it is granted exactly where it meets no hold; else it stands as the last wait
+-- what came of a request: it is granted exactly where its way is clear; else it stands as the last wait
 abbrev pub IsAnswer : Locks → Claim → LockAnswer → Locks → Type 0
-IsAnswer old claim Granted new = (is_free old.holds claim ≡ true) × (new ≡ record old { holds = with_claim claim old.holds })
-IsAnswer old claim (Waits gxids) new = (is_free old.holds claim ≡ false) × (AreRisen gxids (blockers old.holds claim) × (new ≡ record old { waits = old.waits ++ claim ∷ [] }))
+IsAnswer old claim Granted new = (is_clear old.holds old.waits claim ≡ true) × (new ≡ record old { holds = with_claim claim old.holds })
+IsAnswer old claim (Waits gxids) new = (is_clear old.holds old.waits claim ≡ false) × (AreRisen gxids (blockers (in_the_way old.holds old.waits claim) claim) × (new ≡ record old { waits = old.waits ++ claim ∷ [] }))

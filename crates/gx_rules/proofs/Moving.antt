@@ -3,7 +3,7 @@ use Rattle.std.proofs.Common.{◌≡◌, ◌∙◌, ◌⊎◌, inl, inr, ℕ, Bo
 use Rattle.gx_ids.specs.declared.ids.Gxid.{Gxid}
 use Rattle.gx_ids.specs.declared.rid.Rid.{Rid}
 use Rattle.gx_tree.specs.declared.value.Value.{Value}
-use Rattle.gx_waits.specs.Claims.{is_free}
+use Rattle.gx_waits.specs.Claims.{is_clear}
 use Rattle.gx_store.specs.declared.mark.Mark.TheVariants as mark
 use Rattle.gx_rules.specs.Changes.{Change, RowTurn, does_row, ended, gives_back_if_held, goes_through, is_done, suspended_at, suspends_at, tuple_lock}
 use Rattle.gx_rules.specs.Changes.RowEnd.{Failing, Skipped, Waiting, Written}
@@ -18,7 +18,7 @@ use Rattle.gx_rules.proofs.RowEnds.{does}
 -- Kept by each move: a lock of its own is granted, where it is free, or given back, where it is held; a row is written, skipped or
 -- faulted on, for its reason; the command waits for a lock.
 pub record Keeps (g : Gxid) (k : Change) (P : Moved → Type 0) : Type 0 where
-  pub takes : (m : Moved) (rid : Rid) → is_free m.seg.locks.holds (tuple_lock g rid) ≡ true → P m → P (takes_lock (tuple_lock g rid) m)
+  pub takes : (m : Moved) (rid : Rid) → is_clear m.seg.locks.holds m.seg.locks.waits (tuple_lock g rid) ≡ true → P m → P (takes_lock (tuple_lock g rid) m)
   pub gives : (m : Moved) (rid : Rid) → is_holding m (tuple_lock g rid) ≡ true → P m → P (gives_back (tuple_lock g rid) m)
   pub writes : (m : Moved) (rid : Rid) (image : Option (List Value)) → WritesIt m g k rid image → P m → P (writes_row g k.cid k.table m rid image)
   pub skips : (m : Moved) (rid : Rid) → SkipsIt m g k rid ⊎ IsUnshown m g k rid → P m → P (noted m (mark.Skip g k.cid rid))

@@ -14,7 +14,7 @@ use Rattle.gx_rules.specs.Changes.RowEnd.{Failing, Waiting, Written}
 use Rattle.gx_rules.specs.Segments.{Version}
 use Rattle.gx_rules.specs.Shown.{counts, current_of}
 use Rattle.gx_rules.specs.Slices.{Moved, cause_of, is_holding, noted, takes_lock, writes_row}
-use Rattle.gx_waits.specs.Claims.{is_free}
+use Rattle.gx_waits.specs.Claims.{is_clear}
 use Rattle.gx_rules.specs.Visits.{Does, FaultsAt, IsNow, IsOvertakenAt, IsSettled, IsUnshown, SkipsIt, WaitsAt, WritesIt}
 
 -- what may have come of a row that is looked at
@@ -91,7 +91,7 @@ looks m g k rid = at-current m g k rid (current_of m.seg k.table rid) refl
 
 -- WITH ITS LOCK
 module _ (m : Moved) (g : Gxid) (rid : Rid) (writer : Gxid) where
-  with-free : (b : Bool) → is_free m.seg.locks.holds (tuple_lock g rid) ≡ b
+  with-free : (b : Bool) → is_clear m.seg.locks.holds m.seg.locks.waits (tuple_lock g rid) ≡ b
       → (stopped : Moved) × WaitsAt m g rid writer stopped × ((if b then waits (end_lock g writer) (takes_lock (tuple_lock g rid) m) else waits (tuple_lock g rid) m) ≡ ended stopped Waiting)
   with-free true f = ((waits (end_lock g writer) (takes_lock (tuple_lock g rid) m)).moved, inr (inl (f, refl)), refl)
   with-free false f = ((waits (tuple_lock g rid) m).moved, inr (inr (f, refl)), refl)
@@ -99,9 +99,9 @@ module _ (m : Moved) (g : Gxid) (rid : Rid) (writer : Gxid) where
   with-holding : (b : Bool) → is_holding m (tuple_lock g rid) ≡ b
       → (stopped : Moved) × WaitsAt m g rid writer stopped
       × ((if b then waits (end_lock g writer) m
-      else (if is_free m.seg.locks.holds (tuple_lock g rid) then waits (end_lock g writer) (takes_lock (tuple_lock g rid) m) else waits (tuple_lock g rid) m)) ≡ ended stopped Waiting)
+      else (if is_clear m.seg.locks.holds m.seg.locks.waits (tuple_lock g rid) then waits (end_lock g writer) (takes_lock (tuple_lock g rid) m) else waits (tuple_lock g rid) m)) ≡ ended stopped Waiting)
   with-holding true h = ((waits (end_lock g writer) m).moved, inl (h, refl), refl)
-  with-holding false h = with-free (is_free m.seg.locks.holds (tuple_lock g rid)) refl
+  with-holding false h = with-free (is_clear m.seg.locks.holds m.seg.locks.waits (tuple_lock g rid)) refl
 
   stops : (stopped : Moved) × WaitsAt m g rid writer stopped × (waits_at m g rid writer ≡ ended stopped Waiting)
   stops = with-holding (is_holding m (tuple_lock g rid)) refl

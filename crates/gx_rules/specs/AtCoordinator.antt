@@ -58,7 +58,7 @@ use Rattle.gx_store.specs.Locks.{table_lock}
 use Rattle.gx_store.specs.Refusals.{the_coordinator}
 use Rattle.gx_store.specs.Writes.{dist_of}
 use Rattle.gx_locks.specs.Locks.{may_take, resumed, wait_of}
-use Rattle.gx_waits.specs.Claims.{is_free}
+use Rattle.gx_waits.specs.Claims.{is_clear}
 use Rattle.gx_waits.specs.declared.claim.Claim.{Claim}
 use Rattle.gx_rules.specs.Coordinators.{Command, Coord, CoordTurn, Session, Work, joined, new_work, no_work, rests, session_of, with_session, with_state, with_work, work_of}
 use Rattle.gx_rules.specs.Fits.{fits_part}
@@ -243,7 +243,7 @@ if_granted script c g line wanted false = waits_for c g line wanted
 
 abbrev pub requests : Script → Coord → Gxid → Stmt → Option Claim → CoordTurn
 requests script c g line None = goes_on_locked script c g line
-requests script c g line (Some wanted) = if_granted script c g line wanted (is_free c.locks.holds wanted)
+requests script c g line (Some wanted) = if_granted script c g line wanted (is_clear c.locks.holds c.locks.waits wanted)
 
 abbrev pub dispatches : Script → Coord → Gxid → Stmt → CoordTurn
 dispatches script c g line = requests script c g line (table_lock script g line)
@@ -483,7 +483,7 @@ abbrev pub is_segment : Script → Node → Bool
 is_segment script i = nat_le 1 i.0 && nat_le i.0 script.segments
 
 -- A delivery is from a segment, a line starts where its session is idle, a session ends that is idle in a block without a line
--- left, what is sent again has an awaited answer, whoever resumes has a wait that meets no hold, and a round begins where the
+-- left, what is sent again has an awaited answer, whoever resumes has a wait whose way is clear, and a round begins where the
 -- detector is on and none runs.
 abbrev pub coord_can : Script → Coord → NodeEvent → Bool
 coord_can script c (node.Deliver from envelope) = is_segment script from

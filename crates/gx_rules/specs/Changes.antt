@@ -18,7 +18,7 @@ use Rattle.gx_dsnap.specs.declared.snapshot.Snapshot.{Snapshot}
 use Rattle.gx_modes.specs.declared.modes.Mode.TheVariants.{Exclusive, Share}
 use Rattle.gx_waits.specs.declared.claim.Claim.{Claim}
 use Rattle.gx_waits.specs.declared.object.Object.TheVariants.{Transaction, Tuple}
-use Rattle.gx_waits.specs.Claims.{claim, is_free}
+use Rattle.gx_waits.specs.Claims.{claim, is_clear}
 use Rattle.gx_meaning.specs.Answer.{keeps}
 use Rattle.gx_meaning.specs.Expressions.{and_then}
 use Rattle.gx_meaning.specs.declared.fault.ArithFault.{ArithFault}
@@ -119,7 +119,7 @@ waits wanted m = ended (record { seg = record m.seg { locks = with_wait m.seg.lo
 abbrev pub waits_at : Moved → Gxid → Rid → Gxid → RowTurn
 waits_at m g rid writer =
     if is_holding m (tuple_lock g rid) then waits (end_lock g writer) m
-    else if is_free m.seg.locks.holds (tuple_lock g rid) then waits (end_lock g writer) (takes_lock (tuple_lock g rid) m)
+    else if is_clear m.seg.locks.holds m.seg.locks.waits (tuple_lock g rid) then waits (end_lock g writer) (takes_lock (tuple_lock g rid) m)
     else waits (tuple_lock g rid) m
 
 -- A row may be processed where its current version is the transaction's own, or whose writer has ended there.

@@ -79,7 +79,7 @@ at_node w (event.End s) = Some (node.End s)
 at_node w (event.Resend i g) = Some (node.Resend i g)
 at_node w event.Round = Some node.Round
 
--- A segment takes deliveries, and, where it is one of the script's, resumes whoever has a wait there that meets no hold. What the
+-- A segment takes deliveries, and, where it is one of the script's, resumes whoever has a wait there whose way is clear. What the
 -- coordinator admits, it says itself.
 abbrev pub seg_can : Script → Seg → NodeEvent → Bool
 seg_can script s (node.Deliver from envelope) = true

@@ -12,7 +12,7 @@ use Rattle.gx_waits.specs.declared.claim.Claim.{Claim}
 use Rattle.gx_waits.specs.declared.object.Object.{Object}
 use Rattle.gx_waits.specs.declared.object.Object.TheVariants.{Transaction}
 use Rattle.gx_locks.specs.Locks.{resumed}
-use Rattle.gx_waits.specs.Claims.{is_free}
+use Rattle.gx_waits.specs.Claims.{is_clear}
 use Rattle.gx_script.specs.declared.Script.{Script}
 use Rattle.gx_store.specs.Locks.{slice_lock}
 use Rattle.gx_rules.specs.Changes.{change_of, changes_rows, goes_on_at}
@@ -52,7 +52,7 @@ runs_locked s g c level snapshot slice wanted =
 
 abbrev pub requests : Seg → Gxid → Cid → Level → Option Snapshot → Slice → Claim → SegTurn
 requests s g c level snapshot slice wanted =
-    if is_free s.locks.holds wanted then runs_locked s g c level snapshot slice wanted else suspends s g c level snapshot slice wanted
+    if is_clear s.locks.holds s.locks.waits wanted then runs_locked s g c level snapshot slice wanted else suspends s g c level snapshot slice wanted
 
 abbrev pub starts_slice : Script → Seg → Gxid → Cid → Level → Option Snapshot → Slice → SegTurn
 starts_slice script s g c level snapshot slice = requests s g c level snapshot slice (slice_lock script g slice)

@@ -10,7 +10,7 @@ use Rattle.gx_meaning.specs.declared.fault.ArithFault.{ArithFault}
 use Rattle.gx_msg.specs.declared.reply.Cause.{Cause}
 use Rattle.gx_msg.specs.declared.reply.Cause.TheVariants.{Serialization}
 use Rattle.gx_msg.specs.declared.reply.Reply.TheVariants as reply
-use Rattle.gx_waits.specs.Claims.{is_free}
+use Rattle.gx_waits.specs.Claims.{is_clear}
 use Rattle.gx_store.specs.declared.mark.Mark.TheVariants as mark
 use Rattle.gx_store.specs.Commands.{condition_on}
 use Rattle.gx_rules.specs.Changes.{Change, RowEnd, RowTurn, does_row, end_lock, ended, gives_back_if_held, is_done, is_settled, new_image, suspended_at, suspends_at, tuple_lock, waits}
@@ -160,8 +160,8 @@ pub record WasOvertaken (m : Moved) (g : Gxid) (k : Change) (rid : Rid) (t : Row
 abbrev pub WaitsAt : Moved → Gxid → Rid → Gxid → Moved → Type 0
 WaitsAt m g rid writer stopped =
     ((is_holding m (tuple_lock g rid) ≡ true) × (stopped ≡ (waits (end_lock g writer) m).moved))
-    ⊎ ((is_free m.seg.locks.holds (tuple_lock g rid) ≡ true) × (stopped ≡ (waits (end_lock g writer) (takes_lock (tuple_lock g rid) m)).moved))
-    ⊎ ((is_free m.seg.locks.holds (tuple_lock g rid) ≡ false) × (stopped ≡ (waits (tuple_lock g rid) m).moved))
+    ⊎ ((is_clear m.seg.locks.holds m.seg.locks.waits (tuple_lock g rid) ≡ true) × (stopped ≡ (waits (end_lock g writer) (takes_lock (tuple_lock g rid) m)).moved))
+    ⊎ ((is_clear m.seg.locks.holds m.seg.locks.waits (tuple_lock g rid) ≡ false) × (stopped ≡ (waits (tuple_lock g rid) m).moved))
 
 pub record DidStop (m : Moved) (g : Gxid) (k : Change) (rid : Rid) (t : RowTurn) : Type 0 where
   pub version : Version

@@ -1,15 +1,16 @@
 -- Legal locks exclude one another at each point.
 use Rattle.std.proofs.Common.{◌≡◌, ◌<◌, ◌==◌, ℕ, Bool, true, false, List, [], ◌∷◌, ◌++◌, refl, sym, subst, ap, ◌∙◌, if◌then◌else◌, append_assoc, append-nil, arith}
 use Rattle.std.proofs.lemmas.Bool.Decides.{nat_tests}
+use Rattle.std.proofs.lemmas.List.{get_or_append_left, length-append}
 use Rattle.std.proofs.lemmas.List.Concat.{flat_map-append}
 use Rattle.std.proofs.lemmas.List.Elements.{All-get_or}
 use Rattle.std.proofs.lemmas.List.Kept.{AllPairs-filter}
 use Rattle.std.proofs.lemmas.List.Quantifiers.{all_pairs_push}
 use Rattle.std.specs.List.{list_any}
-use Rattle.std.specs.Prelude.{All, AllPairs, not}
+use Rattle.std.specs.Prelude.{All, AllPairs, filter, not}
 use Rattle.gx_ids.specs.declared.ids.Node.{Node}
 use Rattle.gx_script.specs.declared.Script.{Script}
-use Rattle.gx_waits.specs.Claim.{Meets, same_claim}
+use Rattle.gx_waits.specs.Claim.{Meets, ahead, is_ahead, same_claim}
 use Rattle.gx_waits.specs.declared.claim.Claim.{Claim}
 use Rattle.gx_store.specs.declared.event.Event.{Event}
 use Rattle.gx_store.specs.declared.mark.Mark.{Mark}
@@ -17,7 +18,7 @@ use Rattle.gx_store.specs.declared.mark.Mark.TheVariants as mark
 use Rattle.gx_store.specs.declared.run.Step.{Step}
 use Rattle.gx_store.specs.Locks.{AreExclusive, AreGranted, AreLockedMarks, AreLockedSteps, LegalHold}
 use Rattle.gx_store.specs.Points.{IsPointOf, Point, before, marks_in}
-use Rattle.gx_store.specs.Waits.{holds_at, holds_from}
+use Rattle.gx_store.specs.Waits.{holds_at, holds_from, waits_at}
 use Rattle.gx_waits.specs.Claims.{claim, with_claim, without_claim}
 use Rattle.gx_store.proofs.Runs.{marks_in-push}
 
@@ -49,12 +50,19 @@ with-more new holds free apart = by_test (list_any (same_claim new) holds)
     by_test true = apart
     by_test false = all_pairs_push Apart holds new apart (λ k d below. All-get_or (λ hold. Meets new hold → ⊥) holds k d below free)
 
+-- what meets nobody in its way meets no hold
+all-front : {A : Type 0} (P : A → Type 0) (xs ys : List A) → All P (xs ++ ys) → All P xs
+all-front P xs ys all k d below = subst P (get_or_append_left xs ys d k below) (all k d (omega (below, length-append xs ys, arith)))
+
+pub meets-no-hold : (marks : List Mark) (node : Node) (new : Claim) → LegalHold marks node new → All (λ hold. Meets new hold → ⊥) (holds_at marks node)
+meets-no-hold marks node new legal = all-front (λ other. Meets new other → ⊥) (holds_at marks node) (filter (is_ahead (holds_at marks node) new) (ahead new (waits_at marks node))) legal
+
 abbrev Exclusive : Node → List Mark → Type 0
 Exclusive node marks = AllPairs Apart (holds_at marks node)
 
 -- behind one mark more
 behind-hold : (node n : Node) (new : Claim) (marks : List Mark) → LegalHold marks n new → Exclusive node marks → (b : Bool) → (n.0 == node.0) ≡ b → AllPairs Apart (if b then with_claim new (holds_at marks node) else holds_at marks node)
-behind-hold node n new marks free apart true same = with-more new (holds_at marks node) (subst (λ (k : Node). LegalHold marks k new) (same-node n.0 node.0 same) free) apart
+behind-hold node n new marks free apart true same = with-more new (holds_at marks node) (meets-no-hold marks node new (subst (λ (k : Node). LegalHold marks k new) (same-node n.0 node.0 same) free)) apart
   where
     same-node : (a b : ℕ) → (a == b) ≡ true → (let n : Node = record { 0 = a } in n) ≡ record { 0 = b }
     same-node a b e = ap (λ k. let n : Node = record { 0 = k } in n) (same-number a b e)

@@ -3,7 +3,7 @@ use Rattle.std.proofs.Common.{◌≡◌, ℕ, [], ◌∷◌, inl, refl, ap, arit
 use Rattle.gx_ids.specs.declared.ids.Gxid.{Gxid}
 use Rattle.gx_modes.specs.declared.modes.Mode.TheVariants.{Exclusive}
 use Rattle.gx_script.specs.declared.Script.{Script}
-use Rattle.gx_waits.specs.Claim.{IsEdge, IsEdgeOf, Meets, edge_of}
+use Rattle.gx_waits.specs.Claim.{IsEdge, IsEdgeOf, Meets, edge_of, in_the_way}
 use Rattle.gx_waits.specs.declared.claim.Claim.{Claim}
 use Rattle.gx_waits.specs.declared.object.Object.TheVariants.{Relation}
 use Rattle.gx_waits.proofs.Members.{any_from_has, has_from_contains}
@@ -27,7 +27,7 @@ module _ (script : Script) where
 
   it-stands : IsEdge (wait ∷ []) (hold ∷ []) (edge_of wait hold)
   it-stands =
-      any_from_has (λ w. IsEdgeOf w (hold ∷ []) (edge_of wait hold)) (wait ∷ []) wait (inl refl)
+      any_from_has (λ w. IsEdgeOf w (in_the_way (hold ∷ []) (wait ∷ []) w) (edge_of wait hold)) (wait ∷ []) wait (inl refl)
       (any_from_has (λ h. Meets wait h × (edge_of wait hold ≡ edge_of wait h)) (hold ∷ []) hold (inl refl) (it-meets, refl))
 
   pub no-rounds : AreRounds (watched script) [] nothing_reported → ⊥

@@ -16,7 +16,7 @@ use Rattle.gx_modes.specs.declared.modes.Mode.{Mode}
 use Rattle.gx_modes.specs.declared.modes.Mode.TheVariants.{AccessShare, RowExclusive, Share, Exclusive}
 use Rattle.gx_msg.specs.declared.message.Message.TheVariants as message
 use Rattle.gx_script.specs.declared.Script.{Script}
-use Rattle.gx_waits.specs.Claim.{Meets}
+use Rattle.gx_waits.specs.Claim.{Meets, in_the_way}
 use Rattle.gx_waits.specs.declared.claim.Claim.{Claim}
 use Rattle.gx_waits.specs.declared.object.Object.{Object}
 use Rattle.gx_waits.specs.declared.object.Object.TheVariants.{Relation, Tuple, Transaction}
@@ -30,17 +30,17 @@ use Rattle.gx_store.specs.Commands.{RunsCommand}
 use Rattle.gx_store.specs.Marks.{is_aborted, is_ended, is_snapped}
 use Rattle.gx_store.specs.Points.{Point, before, marks_in}
 use Rattle.gx_store.specs.Refusals.{the_coordinator}
-use Rattle.gx_store.specs.Waits.{holds_at, is_held}
+use Rattle.gx_store.specs.Waits.{holds_at, is_held, waits_at}
 use Rattle.gx_waits.specs.Claims.{claim}
 
--- a lock is granted only where it meets no hold, and waited for only where it meets one
+-- a lock is granted only where it meets nobody who holds, or who waits ahead of it, and waited for only where it meets somebody
 abbrev pub LegalHold : List Mark → Node → Claim → Type 0
-LegalHold marks node wanted = All (λ hold. Meets wanted hold → ⊥) (holds_at marks node)
+LegalHold marks node wanted = All (λ other. Meets wanted other → ⊥) (in_the_way (holds_at marks node) (waits_at marks node) wanted)
 
 abbrev pub LegalWait : List Mark → Node → Claim → Type 0
-LegalWait marks node wanted = Any (λ hold. Meets wanted hold) (holds_at marks node)
+LegalWait marks node wanted = Any (λ other. Meets wanted other) (in_the_way (holds_at marks node) (waits_at marks node) wanted)
 
--- each hold among these marks, behind those before, meets none that stands there
+-- each hold among these marks, behind those before, meets nobody there
 abbrev pub AreGranted : List Mark → List Mark → Type 0
 AreGranted before [] = Unit {0}
 AreGranted before (Hold n g object mode ∷ ms) = LegalHold before n (claim g object mode) × AreGranted (before ++ Hold n g object mode ∷ []) ms

@@ -38,6 +38,9 @@ first_txn = record { 0 = 1 }
 abbrev pub second_txn : Gxid
 second_txn = record { 0 = 2 }
 
+abbrev pub third_txn : Gxid
+third_txn = record { 0 = 3 }
+
 abbrev pub first_cid : Cid
 first_cid = record { 0 = 1 }
 

@@ -1,5 +1,5 @@
 -- Small runs whose locks are refused, or that answer LOCK TABLE too early.
-use Rattle.std.specs.Prelude.{false, List, [], ◌∷◌}
+use Rattle.std.specs.Prelude.{false, List, [], ◌∷◌, ◌++◌}
 use Rattle.gx_ids.specs.declared.ids.Node.{Node}
 use Rattle.gx_ids.specs.declared.ids.Table.{Table}
 use Rattle.gx_tree.specs.declared.part.Part.TheVariants.{Rows}
@@ -19,7 +19,7 @@ use Rattle.gx_store.specs.declared.event.Event.TheVariants as event
 use Rattle.gx_store.specs.declared.mark.Mark.{Mark}
 use Rattle.gx_store.specs.declared.mark.Mark.TheVariants as mark
 use Rattle.gx_store.specs.declared.run.Step.{Step}
-use Rattle.gx_store.specs.RefusedParts.{anna, block_begins, first_cid, first_txn, line_of, other_segment, second_txn, step_at, the_segment, with_lines, with_two}
+use Rattle.gx_store.specs.RefusedParts.{anna, block_begins, first_cid, first_txn, line_of, other_segment, second_txn, step_at, the_segment, third_txn, with_lines, with_two}
 use Rattle.gx_store.specs.Refusals.{the_coordinator}
 
 abbrev pub first_table : Table
@@ -47,6 +47,23 @@ abbrev pub granted_over : Mode → Mode → List Step
 granted_over held wanted =
     step_at the_segment 1 (event.Receive the_coordinator the_segment 1) (mark.Hold the_segment first_txn (Relation first_table) held ∷ [])
     ∷ step_at the_segment 2 (event.Receive the_coordinator the_segment 2) (mark.Hold the_segment second_txn (Relation first_table) wanted ∷ []) ∷ []
+
+-- A LOCK PAST THE QUEUE
+-- at the segment the first transaction holds the table in one mode, and the second waits for it in another
+abbrev pub held_and_awaited : Mode → Mode → List Step
+held_and_awaited held awaited =
+    step_at the_segment 1 (event.Receive the_coordinator the_segment 1) (mark.Hold the_segment first_txn (Relation first_table) held ∷ [])
+    ∷ step_at the_segment 2 (event.Receive the_coordinator the_segment 2) (mark.Wait the_segment second_txn (Relation first_table) awaited ∷ []) ∷ []
+
+-- a third, which holds nothing there, is granted it
+abbrev pub granted_past : Mode → Mode → Mode → List Step
+granted_past held awaited wanted =
+    held_and_awaited held awaited ++ step_at the_segment 3 (event.Receive the_coordinator the_segment 3) (mark.Hold the_segment third_txn (Relation first_table) wanted ∷ []) ∷ []
+
+-- the first, for which the second waits, waits for it in its turn
+abbrev pub waits_behind_its_waiter : Mode → Mode → Mode → List Step
+waits_behind_its_waiter held awaited wanted =
+    held_and_awaited held awaited ++ step_at the_segment 3 (event.Receive the_coordinator the_segment 3) (mark.Wait the_segment first_txn (Relation first_table) wanted ∷ []) ∷ []
 
 -- A LOCK THAT IS GIVEN BACK BEFORE THE END
 -- a transaction that has neither committed nor aborted gives back its table

@@ -35,7 +35,7 @@ is_started (_ ∷ ms) g = is_started ms g
 abbrev pub is_active : List Mark → Gxid → Bool
 is_active marks g = is_started marks g && (not (is_ended marks g) && not (is_committing marks g))
 
--- the edge stands at its node: a wait there meets a hold
+-- the edge stands at its node: a wait there meets who is in its way
 abbrev pub StandsAt : List Mark → PlacedEdge → Type 0
 StandsAt marks placed = IsEdge (waits_at marks placed.node) (holds_at marks placed.node) placed.edge
 

@@ -14,7 +14,7 @@ use Rattle.gx_script.specs.declared.Line.{Line}
 use Rattle.gx_script.specs.declared.LinkFault.{LinkFault}
 use Rattle.gx_script.specs.declared.Script.{Script}
 use Rattle.gx_waits.specs.declared.claim.Claim.{Claim}
-use Rattle.gx_waits.specs.Claims.{is_free, is_of}
+use Rattle.gx_waits.specs.Claims.{is_clear, is_of}
 use Rattle.gx_store.specs.declared.event.Event.{Event}
 use Rattle.gx_store.specs.declared.event.Event.TheVariants.{Receive, Resume, Start, End, Resend, Round}
 use Rattle.gx_store.specs.declared.mark.Mark.{Mark}
@@ -134,7 +134,7 @@ gxids_of marks = map (λ n. record { 0 = n }) (range_with_len 1 (start_count mar
 -- the least transaction with a ready wait at the node resumes
 abbrev pub resumptions : List Mark → Node → List Event
 resumptions marks node =
-    first_of (map (Resume node) (filter (λ g. list_any (is_free (holds_at marks node)) (waits_of marks node g)) (gxids_of marks)))
+    first_of (map (Resume node) (filter (λ g. list_any (is_clear (holds_at marks node) (waits_at marks node)) (waits_of marks node g)) (gxids_of marks)))
 
 -- THE DETECTOR'S ROUNDS
 -- how many rounds have begun, and how many have ended

@@ -8,7 +8,7 @@ ghost use Rattle.gx_store.specs.declared.run.Step.{Step as OneStep};
 ghost use Rattle.gx_store.specs.Locks.{AreExclusive, AreLockedSteps};
 ghost use Rattle.gx_store.specs.Points.{IsPointOf, Point, before};
 ghost use Rattle.gx_store.specs.RefusedHistories.{IsNoHistory};
-ghost use Rattle.gx_store.specs.RefusedWaits.{block_of_lock, granted_over, locked_at_one, one_query, released_early, released_unended};
+ghost use Rattle.gx_store.specs.RefusedWaits.{block_of_lock, granted_over, granted_past, locked_at_one, one_query, released_early, released_unended, waits_behind_its_waiter};
 ghost use Rattle.gx_tree.specs.declared.query.Query.{Query as OneQuery};
 ghost use Rattle.std.specs.Prelude.{IsTrue, List, []};
 
@@ -20,6 +20,16 @@ pub fn lock_released_before_the_answer()
 /// A table isn't granted in a mode that conflicts with what another transaction holds.
 pub fn lock_granted_over_another()
     ensures { (script : Script) (held wanted : OneMode) → IsTrue (conflict wanted held) → AreLockedSteps script [] (granted_over held wanted) → ⊥ }
+{}
+
+/// A table isn't granted past an earlier wait for a mode that conflicts with the one asked for.
+pub fn lock_granted_past_a_wait()
+    ensures { (script : Script) (held awaited wanted : OneMode) → IsTrue (conflict wanted awaited) → AreLockedSteps script [] (granted_past held awaited wanted) → ⊥ }
+{}
+
+/// Nobody is made to wait for one whom its own hold makes wait.
+pub fn wait_behind_its_own_waiter()
+    ensures { (script : Script) (held awaited wanted : OneMode) → IsTrue (conflict awaited held) → AreLockedSteps script [] (waits_behind_its_waiter held awaited wanted) → ⊥ }
 {}
 
 /// No node gives back the table of a transaction that has neither committed nor aborted.

@@ -1,4 +1,3 @@
 pub mod Members
 pub mod StuckWaits
-pub mod Adds
 pub mod Determined

@@ -3,7 +3,7 @@ use Rattle.std.specs.Prelude.{◌==◌, Bool, not, if◌then◌else◌, List, []
 use Rattle.std.specs.List.{list_any}
 use Rattle.gx_ids.specs.declared.ids.Gxid.{Gxid}
 use Rattle.gx_modes.specs.declared.modes.Mode.{Mode}
-use Rattle.gx_waits.specs.Claim.{meets, same_claim}
+use Rattle.gx_waits.specs.Claim.{in_the_way, meets, same_claim}
 use Rattle.gx_waits.specs.declared.claim.Claim.{Claim}
 use Rattle.gx_waits.specs.declared.object.Object.{Object}
 
@@ -26,6 +26,10 @@ without_claim old claims = filter (λ other. not (same_claim old other)) claims
 abbrev pub without : Gxid → List Claim → List Claim
 without g claims = filter (λ claim. not (is_of g claim)) claims
 
--- whether a claim meets no hold
+-- whether a claim meets none of these
 abbrev pub is_free : List Claim → Claim → Bool
-is_free holds claim = not (list_any (meets claim) holds)
+is_free claims claim = not (list_any (meets claim) claims)
+
+-- whether a claim's way is clear: nothing that is held, or waited for ahead of it, meets it
+abbrev pub is_clear : List Claim → List Claim → Claim → Bool
+is_clear holds waits claim = is_free (in_the_way holds waits claim) claim

@@ -1,4 +1,4 @@
-use Rattle.std.specs.Prelude.{◌≡◌, ◌≢◌, List, [], ◌∷◌, ◌++◌, ◌⊎◌, map, filter, not, Contains, AllPairs}
+use Rattle.std.specs.Prelude.{◌≡◌, List, [], ◌∷◌, ◌++◌, ◌⊎◌, map, filter, not, Contains}
 use Rattle.std.specs.List.{flat_map}
 use Rattle.gx_ids.specs.declared.ids.Gxid.{Gxid}
 use Rattle.gx_waits.specs.declared.edge.Edge.{Edge}
@@ -9,13 +9,6 @@ use Rattle.gx_waits.specs.Edge.{names}
 -- the edge is there and nothing changes, or it isn't and comes to stand at the end
 abbrev pub AddsOnce : List Edge → List Edge → Edge → Type 0
 AddsOnce old new edge = (Contains old edge × (new ≡ old)) ⊎ ((Contains old edge → ⊥) × (new ≡ old ++ edge ∷ []))
-
--- the new edges are the old ones and those that P holds of, and no edge comes to stand twice
-pub record AddsAll (P : Edge → Type 0) (old new : List Edge) : Type 0 where
-  pub old_ones : (edge : Edge) → Contains old edge → Contains new edge
-  pub new_ones : (edge : Edge) → P edge → Contains new edge
-  pub no_others : (edge : Edge) → Contains new edge → Contains old edge ⊎ P edge
-  pub once : AllPairs (λ a b. a ≢ b) old → AllPairs (λ a b. a ≢ b) new
 
 -- the graph without the edges that name the transaction
 abbrev pub without_edges_of : Gxid → LocalGraph → LocalGraph

@@ -1,9 +1,9 @@
-ghost use Rattle.std.specs.Prelude.{◌↔◌, ◌≡◌, IsTrue};
+ghost use Rattle.std.specs.Prelude.{◌≡◌};
 
 use crate::edge::Edge;
 use crate::object::Object;
 use gx_ids::{Duplicate, Gxid, Mem};
-use gx_modes::{Mode, conflicts};
+use gx_modes::Mode;
 use std::alloc::Global;
 
 /// A lock that a transaction holds or waits for at one node.
@@ -15,22 +15,15 @@ pub struct Claim {
 }
 
 impl Claim {
-    ghost use Rattle.gx_waits.specs.Claim.{Meets, edge_of};
+    ghost use Rattle.gx_waits.specs.Claim.{edge_of};
 
-    /// Whether this wait has to wait for that hold at the same node.
-    pub fn meets(&self, hold: &Claim) -> bool
-        ensures { IsTrue result ↔ Meets self.now hold.now }
-    {
-        self.gxid != hold.gxid && self.object == hold.object && conflicts(self.mode, hold.mode)
-    }
-
-    /// The edge from this wait to a hold that it meets.
-    pub fn edge_to(&self, hold: &Claim) -> Edge
-        ensures { result ≡ edge_of self.now hold.now }
+    /// The edge from this wait to a claim that it meets.
+    pub fn edge_to(&self, other: &Claim) -> Edge
+        ensures { result ≡ edge_of self.now other.now }
     {
         Edge {
             waiter: self.gxid,
-            holder: hold.gxid,
+            holder: other.gxid,
             dotted: self.object.is_tuple(),
         }
     }

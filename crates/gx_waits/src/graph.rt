@@ -1,6 +1,5 @@
 ghost use Rattle.std.specs.Prelude.{◌↔◌, ◌≡◌, ◌++◌, ◌∷◌, [], IsTrue, IfOk, IsOk, IsOkAnd, OnOk, OnErr, Any, Contains};
 
-use crate::claim::Claim;
 use crate::edge::Edge;
 use gx_ids::{Duplicate, Gxid, Mem, Node, Seq};
 use std::alloc::Global;
@@ -13,8 +12,7 @@ pub struct LocalGraph {
 }
 
 impl LocalGraph {
-    ghost use Rattle.gx_waits.specs.LocalGraph.{AddsOnce, AddsAll, without_edges_of};
-    ghost use Rattle.gx_waits.specs.Claim.{AreEdges, IsEdgeOf};
+    ghost use Rattle.gx_waits.specs.LocalGraph.{AddsOnce, without_edges_of};
 
     /// The graph of a node where nobody waits.
     pub fn new(alloc: Global, node: Node) -> Mem<LocalGraph>
@@ -35,30 +33,6 @@ impl LocalGraph {
     {
         if !self.edges.as_slice().contains(&edge) {
             self.edges.push(edge)?;
-        }
-        Ok(())
-    }
-
-    /// The graph of a node at which these waits and holds stand, its edges by wait and then by hold.
-    pub fn of_claims(alloc: Global, node: Node, waits: &[Claim], holds: &[Claim]) -> Mem<LocalGraph>
-        ensures node { IfOk result (λ graph. graph.node ≡ node) }
-        ensures edges { IfOk result (λ graph. AreEdges waits.now holds.now graph.edges) }
-    {
-        let mut graph = LocalGraph::new(alloc, node)?;
-        for wait in waits {
-            graph.add_edges_of(wait, holds)?;
-        }
-        Ok(graph)
-    }
-
-    fn add_edges_of(&mut self, wait: &Claim, holds: &[Claim]) -> Mem<()>
-        ensures node { self.new.node ≡ self.old.node }
-        ensures ok { OnOk result (AddsAll (IsEdgeOf wait.now holds.now) self.old.edges self.new.edges) }
-    {
-        for hold in holds {
-            if wait.meets(hold) {
-                self.add(wait.edge_to(hold))?;
-            }
         }
         Ok(())
     }
