@@ -18,6 +18,7 @@ use Rattle.gx_store.specs.Refusals.{the_coordinator}
 use Rattle.gx_rules.specs.AtCoordinator.{and_cancels, and_cancels_all, coord_rule, coord_turn}
 use Rattle.gx_rules.specs.AtSegment.{seg_rule}
 use Rattle.gx_rules.specs.Coordinators.{Coord, CoordTurn, new_coordinator}
+use Rattle.gx_rules.specs.Rounds.{victims_at}
 use Rattle.gx_rules.specs.Segments.{Seg, new_segment}
 use Rattle.gx_rules.specs.Sending.{clock_after}
 use Rattle.gx_law_order.proofs.Clocks.{clock_after-above}
@@ -74,7 +75,7 @@ victims-clock [] t = refl
 victims-clock (g ∷ gs) t = victims-clock gs (and_cancels t g)
 
 coordinator-clock : (script : Script) (c : Coord) (x : NodeEvent) (fails : Bool) → (coord_rule script c x fails).coord.clock ≡ clock_after c.clock x
-coordinator-clock script c x fails = victims-clock _ (coord_turn script c x fails)
+coordinator-clock script c x fails = victims-clock (victims_at c x) (coord_turn script c x fails)
 
 -- ALL NODES
 past : (histories : List (List Step)) (i : ℕ) → length histories ≤ i → get_or histories i [] ≡ []

@@ -30,7 +30,7 @@ nothing : (x : Step) (xs : List Step) → [] ≡ x ∷ xs → ⊥
 nothing x xs e = omega (arith, ap length e)
 
 head : (x y : Step) (xs ys : List Step) → x ∷ xs ≡ y ∷ ys → x ≡ y
-head x y xs ys e = search []
+head x y xs ys e = search
 
 -- what stands first among a node's own steps stands among all
 own-of : (P : Step → Type 0) (node : Node) (xs ys : List Step) (y : Step) → Each P xs → own_steps node xs ≡ y ∷ ys → P y
@@ -69,7 +69,7 @@ alike-rest : (x : Step) (xs ys : List Step) → AreAlike (x ∷ xs) (x ∷ ys) �
 alike-rest x xs ys alike node = by_test (is_same_node x.stamp.node node) (alike node)
   where
     by_test : (b : Bool) → cond b (x ∷ own_steps node xs) (own_steps node xs) ≡ cond b (x ∷ own_steps node ys) (own_steps node ys) → own_steps node xs ≡ own_steps node ys
-    by_test true e = search []
+    by_test true e = search
     by_test false e = e
 
 alike-one : (xs ys : List Step) → AreRising xs → AreRising ys → AreAlike xs ys → xs ≡ ys

@@ -6,5 +6,5 @@ use Rattle.gx_merge.proofs.merging.merge.Goals as goal
 pub merged-requires : goal.merged-requires
 merged-requires c = are-apart c.args.script.now (map (λ h. h.steps) c.args.histories.now) c.requires.fit
 
-pub returns-reached : goal.returns-reached
-returns-reached c = ?
+pub returns-clause-reached : goal.returns-clause-reached
+returns-clause-reached c = merge-reached c.args.script.now c.requires.segments (map (λ h. h.steps) c.args.histories.now) c.requires.fit c.in_ok-steps.steps c.in_ok-steps.ensures
