@@ -1,6 +1,8 @@
 //! Copies of marks.
 #![tactic(auto)]
 
+mod probe;
+
 ghost use Rattle.std.specs.Prelude.{◌≡◌, IfOk, OnOk, ◌++◌, true};
 ghost use Rattle.gx_store.specs.declared.mark.Mark.TheVariants.{Recheck};
 ghost use Rattle.gx_copies.specs.Copies.{is_of_claim, is_of_message, is_of_node, is_of_row, is_of_transaction};

@@ -40,9 +40,10 @@ module _ {Data : Type 0} (rule : Rule Data) (clock : Data → ℕ) (told : (d : 
 
   -- the clock that a step leaves is its own
   step-clock : (d : Data) (s : Step) → IsTurn rule at d (here_in post s) s → (clock (holds_by rule d (here_in post s) (has_failed s.marks)) ≡ s.stamp.clock) × (clock d < s.stamp.clock)
-  step-clock d s turn =
-      ( ap (λ o. clock (holds_by rule d o (has_failed s.marks))) turn.is ∙ kept d turn.here (has_failed s.marks) ∙ sym (turn.clock ∙ told d turn.here turn.fails)
-      , subst (λ k. clock d < k) (sym (turn.clock ∙ told d turn.here turn.fails)) (clock_after-above (clock d) turn.here) )
+  step-clock d s turn = (
+    ap (λ o. clock (holds_by rule d o (has_failed s.marks))) turn.is ∙ kept d turn.here (has_failed s.marks) ∙ sym (turn.clock ∙ told d turn.here turn.fails),
+    subst (λ k. clock d < k) (sym (turn.clock ∙ told d turn.here turn.fails)) (clock_after-above (clock d) turn.here),
+  )
 
   each-above : (d : Data) (ss : List Step) → DoesFollow rule at post d ss → Each (λ s. clock d < s.stamp.clock) ss
   each-above d [] follows = tt

@@ -57,9 +57,11 @@ module _ (hs : List (List Step)) (fs : List ℕ) (k : ℕ) where
       by_test : (b : Bool) → nat_le f.clock s.stamp.clock ≡ b → IsEarliest hs fs (k + 1) (Some (if b then f else front k s))
       by_test true test =
           (omega (arith, least.0), least.1, below-more (ComesLater hs fs f) k least.2 (of-some _ (next_at hs fs k) s next (kept s.stamp.clock f.clock k f.place test least.0)))
-      by_test false test =
-          (omega arith, record { step = s; next = next; clock = refl },
-           below-more (ComesLater hs fs (front k s)) k (λ i inside. lower-at test i (next_at hs fs i) (least.2 i inside)) (of-some _ (next_at hs fs k) s next (itself s.stamp.clock k)))
+      by_test false test = (
+        omega arith,
+        record { step = s; next = next; clock = refl },
+        below-more (ComesLater hs fs (front k s)) k (λ i inside. lower-at test i (next_at hs fs i) (least.2 i inside)) (of-some _ (next_at hs fs k) s next (itself s.stamp.clock k)),
+      )
 
 -- the next step at a place
 pub next-of : (hs : List NodeHistory) (fs : List ℕ) (h : NodeHistory) (k : ℕ) → k < length hs → slice_get (slice_index_or hs k h).steps (get_or fs k 0) ≡ next_at (map (λ h. h.steps) hs) fs k

@@ -7,7 +7,6 @@ use Rattle.std.specs.List.Sorted.{IsStrictlySortedBy}
 use Rattle.std.specs.Ordering.{nat_cmp, ordering_then}
 use Rattle.std.specs.declared.cmp.Ordering.TheVariants.{Less}
 use Rattle.std.proofs.lemmas.List.{drop_more, get_or-map, get_or_default, get_or-set_other, get_or-set_same, length-map, length-replicate, length-set, take_all, take_more}
-
 use Rattle.std.proofs.lemmas.Option.{get_or_from_slice_get, slice_get_within}
 use Rattle.std.specs.Prelude.{◌==◌, filter, eqb, leb}
 use Rattle.std.specs.declared.option.Option.{Option}
@@ -161,8 +160,8 @@ module _ (hs : List (List Step)) (apart : AreApart hs) (fs : List ℕ) (ss : Lis
     before-there node other =
         subst (λ k. ComeBefore (ss ++ s ∷ []) (drop k (history node))) (sym (front-there node other))
         (before-push ss s (drop (get_or fs node.0 0) (history node)) (so.before node)
-         (behind-first s (drop (get_or fs node.0 0) (history node)) (rising-drop (get_or fs node.0 0) (history node) (apart.rising node))
-          (subst (λ o. IfSome o (IsBefore s)) (sym (get-drop (history node) (get_or fs node.0 0))) (first-there node other (next_at hs fs node.0) refl))))
+        (behind-first s (drop (get_or fs node.0 0) (history node)) (rising-drop (get_or fs node.0 0) (history node) (apart.rising node))
+        (subst (λ o. IfSome o (IsBefore s)) (sym (get-drop (history node) (get_or fs node.0 0))) (first-there node other (next_at hs fs node.0) refl))))
 
     by-node : (P : Node → Type 0) → P here → ((node : Node) → node.0 ≢ front.place → P node) → (node : Node) → P node
     by-node P at away node = by_case (eqb_tells node.0 front.place)
@@ -249,8 +248,8 @@ module _ (histories : List NodeHistory) (fs : List ℕ) (ss : List Step) (so : A
   loop-more apart m next new pushed =
       subst (λ k. AreMerged all (set fs front.place k) new) (sym (next ∙ ap (λ k. k + 1) front-read))
       (subst (AreMerged all (set fs front.place (get_or fs front.place 0 + 1)))
-       (sym (pushed least.1.step ∙ ap (λ s. ss ++ s ∷ []) (get_or_from_slice_get (get_or histories front.place h).steps n least.1.step least.1.step step-read)))
-       (merged-more all apart fs ss so front least.1.step least.1.next least.1.clock (λ other inside. least.2 other (subst (λ k. other < k) many inside))))
+      (sym (pushed least.1.step ∙ ap (λ s. ss ++ s ∷ []) (get_or_from_slice_get (get_or histories front.place h).steps n least.1.step least.1.step step-read)))
+      (merged-more all apart fs ss so front least.1.step least.1.next least.1.clock (λ other inside. least.2 other (subst (λ k. other < k) many inside))))
 
   pub loop-less : (m : ℕ) → m ≡ n + 1 → left_in all (set fs front.place m) < left_in all fs
   loop-less m next =
