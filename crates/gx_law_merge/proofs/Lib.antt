@@ -1,6 +1,7 @@
 pub mod Rising
 pub mod Places
 pub mod Found
+pub mod Histories
 pub mod Turning
 pub mod Taking
 pub mod Items
@@ -9,3 +10,4 @@ pub mod Longer
 pub mod Laws
 pub mod Shown
 pub mod MergeRuns
+pub mod OneMerge

@@ -23,11 +23,11 @@ use Rattle.gx_law_runs.specs.Replays.{IsNextAtCoordinator, IsNextAtSegment, coor
 use Rattle.gx_law_runs.proofs.Moving.{coordinator-left, segment-left}
 use Rattle.gx_law_runs.proofs.Reaching.{by-events, coordinator-reached, segment-reached}
 use Rattle.gx_law_merge.specs.Apart.{DoesFollow, Post, Rule, at_place, coordinators_rule, here_in, holds_after, holds_by, segments_rule, sent_to, takes_by, takes_in}
-use Rattle.gx_law_merge.specs.Merge.{DoFit, IsMergeOf, coordinator_in, coordinators_items, history_of, own_steps, posted_in, segment_in, segments_items}
+use Rattle.gx_law_merge.specs.Merge.{AreRising, DoFit, IsMergeOf, coordinator_in, coordinators_items, history_of, own_steps, posted_in, segment_in, segments_items}
 use Rattle.gx_law_merge.proofs.Found.{found-at}
 use Rattle.gx_law_merge.proofs.Items.{all-added, coordinator-items, coordinator-told, nothing-added, segment-items, segment-told}
 use Rattle.gx_law_merge.proofs.Places.{place-first, sent-append, sent-from}
-use Rattle.gx_law_merge.proofs.Rising.{AreRising, IsFrom, later, own-append, own-here, own-there, rest-rises}
+use Rattle.gx_law_merge.proofs.Rising.{IsFrom, later, own-append, own-here, own-there, rest-rises}
 use Rattle.gx_law_merge.proofs.Turning.{IsFoundBelow, coordinator-leads, coordinators-next, segment-leads, segments-next}
 
 -- A node goes on by its rule through the steps that it has left, from what it holds and its journal has, and comes to where its history ends.

@@ -11,10 +11,7 @@ use Rattle.gx_ids.specs.declared.stamp.Stamp.{Stamp}
 use Rattle.gx_store.specs.declared.run.Step.{Step}
 use Rattle.gx_store.specs.Journals.{is_same_node}
 use Rattle.gx_law_order.specs.Lists.{Each}
-use Rattle.gx_law_merge.specs.Merge.{own_steps, stamp_order}
-
-abbrev pub AreRising : List Step → Type 0
-AreRising steps = IsStrictlySortedBy stamp_order (map (λ s. s.stamp) steps)
+use Rattle.gx_law_merge.specs.Merge.{AreRising, own_steps, stamp_order}
 
 -- no clock is below this one
 abbrev pub IsFrom : ℕ → Step → Type 0
@@ -35,6 +32,10 @@ later s ss r = each-later s.stamp ss r.0
 pub rest-rises : (s : Step) (ss : List Step) → AreRising (s ∷ ss) → AreRising ss
 unfolding IsStrictlySortedBy
 rest-rises s ss r = r.1
+
+pub each-behind : (a : Stamp) (ss : List Step) → AllByRecursion (λ b. stamp_order a b ≡ Less) (map (λ s. s.stamp) ss) → Each (λ b. stamp_order a b.stamp ≡ Less) ss
+each-behind a [] e = tt
+each-behind a (s ∷ ss) e = (e.0, each-behind a ss e.1)
 
 -- A NODE'S OWN STEPS
 pub own-append : (node : Node) (xs ys : List Step) → own_steps node (xs ++ ys) ≡ own_steps node xs ++ own_steps node ys

@@ -17,6 +17,7 @@ use Rattle.gx_store.specs.Refusals.{the_coordinator}
 use Rattle.gx_rules.specs.Coordinators.{Coord, new_coordinator}
 use Rattle.gx_rules.specs.Machine.{World}
 use Rattle.gx_rules.specs.Segments.{Seg, new_segment}
+use Rattle.gx_law_order.specs.Lists.{Each}
 use Rattle.gx_law_reads.specs.Sights.{AreRowsOfAll}
 use Rattle.gx_law_merge.specs.Apart.{DoesFollow, Post, at_place, coordinators_rule, holds_after, segments_rule, sent_to, takes_in}
 
@@ -45,10 +46,19 @@ stamp_order a b = ordering_then (nat_cmp a.clock b.clock) (nat_cmp a.node.0 b.no
 abbrev pub own_steps : Node → List Step → List Step
 own_steps node steps = filter (λ s. is_same_node s.stamp.node node) steps
 
--- the steps rise by their stamps, and those of each node are its history
+-- the steps rise by their stamps
+abbrev pub AreRising : List Step → Type 0
+AreRising steps = IsStrictlySortedBy stamp_order (map (λ s. s.stamp) steps)
+
+-- the steps rise, and those of each node are its history
 pub record IsMergeOf (histories : List (List Step)) (steps : List Step) : Type 0 where
-  pub rising : IsStrictlySortedBy stamp_order (map (λ s. s.stamp) steps)
+  pub rising : AreRising steps
   pub own : (node : Node) → own_steps node steps ≡ history_of histories node
+
+-- the steps of each history stand at its node and rise
+pub record AreApart (histories : List (List Step)) : Type 0 where
+  pub here : (node : Node) → Each (λ s. s.stamp.node ≡ node) (history_of histories node)
+  pub rising : (node : Node) → AreRising (history_of histories node)
 
 -- WHAT THE NODES HOLD AT THE ENDS OF THEIR HISTORIES
 abbrev pub coordinator_in : Script → List (List Step) → Coord

@@ -5,7 +5,7 @@ ghost use Rattle.std.specs.declared.vec.Vec.{Vec as OneVec};
 ghost use Rattle.gx_ids.specs.declared.ids.Node.{Node as OneNode};
 ghost use Rattle.gx_law_locks.specs.Blocked.{DoStayBlocked};
 ghost use Rattle.gx_law_locks.specs.Legal.{AreRoundsLegal};
-ghost use Rattle.gx_law_merge.specs.Merge.{AreShown, DoFit, IsMergeOf, coordinator_in, coordinators_items, segment_in, segments_items};
+ghost use Rattle.gx_law_merge.specs.Merge.{AreApart, AreShown, DoFit, IsMergeOf, coordinator_in, coordinators_items, segment_in, segments_items};
 ghost use Rattle.gx_law_runs.specs.Reached.{IsReached};
 ghost use Rattle.gx_law_runs.specs.Replays.{coordinator_after, segment_after};
 ghost use Rattle.gx_law_writes.specs.Legal.{AreLocksLegal};
@@ -22,6 +22,16 @@ ghost use Rattle.gx_store.specs.View.{AreFinalFrom};
 ghost use Rattle.gx_store.specs.Whole.{AreInsertsWhole};
 ghost use Rattle.gx_store.specs.declared.run.Step.{Step as OneStep};
 ghost use Rattle.gx_tree.specs.declared.row.KeyedRow.{KeyedRow as OneRow};
+
+/// Of histories that fit each has the steps of its own node, and these rise by their moments.
+pub fn histories_are_apart()
+    ensures { (script : Script) (histories : List (List OneStep)) → DoFit script histories → AreApart histories }
+{}
+
+/// A merge of histories is the only one.
+pub fn merges_are_one()
+    ensures { (histories : List (List OneStep)) (steps others : List OneStep) → IsMergeOf histories steps → IsMergeOf histories others → steps ≡ others }
+{}
 
 /// A merge of histories that fit is reached: some events lead the machine through it.
 pub fn merges_are_reached()

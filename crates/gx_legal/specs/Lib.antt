@@ -15,7 +15,6 @@ pub mod Told
 pub mod Answers
 pub mod Causes
 pub mod Commands
-pub mod Copies
 pub mod Deeds
 pub mod Done
 pub mod Ends
