@@ -1,12 +1,14 @@
 -- What is asked for in each event of a segment.
-use Rattle.std.proofs.Common.{◌≡◌, ◌≤◌, ◌==◌, ◌||◌, cond, inl, inr, ℕ, List, [], ◌∷◌, ◌++◌, Option, Some, None, Bool, true, false, not, refl, sym, subst, ap, ◌∙◌, if◌then◌else◌, length, nat_lt}
+use Rattle.std.proofs.Common.{◌≡◌, ◌≤◌, ◌<◌, ◌==◌, ◌||◌, cond, inl, inr, ℕ, List, [], ◌∷◌, ◌++◌, Option, Some, None, Bool, true, false, not, refl, sym, subst, ap, ◌∙◌, if◌then◌else◌, length, nat_lt}
 use Rattle.std.proofs.lemmas.Bool.{or_left, or_right}
 use Rattle.std.specs.List.{list_any}
 use Rattle.std.specs.Prelude.{find}
 use Rattle.gx_lemmas.proofs.Numbers.{lt-of}
 use Rattle.gx_ids.specs.declared.ids.Cid.{Cid}
 use Rattle.gx_ids.specs.declared.ids.Gxid.{Gxid}
+use Rattle.gx_ids.specs.declared.ids.Node.{Node}
 use Rattle.gx_ids.specs.declared.ids.SessionId.{SessionId}
+use Rattle.gx_ids.specs.declared.rid.Rid.{Rid}
 use Rattle.gx_tree.specs.declared.slice.Slice.{Slice}
 use Rattle.gx_tree.specs.declared.stmt.Level.{Level}
 use Rattle.gx_dsnap.specs.Gxids.{is_below}
@@ -31,12 +33,12 @@ use Rattle.gx_store.specs.declared.mark.Mark.{Mark}
 use Rattle.gx_store.specs.declared.node.NodeEvent.{NodeEvent}
 use Rattle.gx_store.specs.declared.node.NodeEvent.TheVariants as here
 use Rattle.gx_rules.specs.AtSegment as segment
-use Rattle.gx_rules.specs.AtSegment.{commits, ends, finishes, if_fits, on_abort, on_commit, on_commit_prepared, on_exec, on_forget, on_message, on_prepare, once, promises, raised, repeats, resumes, seg_rule, takes, unless_below, was_prepared}
+use Rattle.gx_rules.specs.AtSegment.{commits, finishes, if_fits, on_abort, on_commit, on_commit_prepared, on_exec, on_forget, on_message, on_prepare, once, promises, raised, repeats, resumes, seg_rule, takes, unless_below, was_prepared}
 use Rattle.gx_rules.specs.Fits.{fits_exec, is_waiting}
-use Rattle.gx_rules.specs.Machine.{World, seg_can}
-use Rattle.gx_rules.specs.Running.{runs_locked, starts_slice, suspends, runs_slice}
+use Rattle.gx_rules.specs.Machine.{World, found, seg_can}
+use Rattle.gx_rules.specs.Running.{is_granted, runs_locked, starts_slice, suspends, runs_slice}
 use Rattle.gx_store.specs.Locks.{slice_lock}
-use Rattle.gx_rules.specs.Segments.{Local, Phase, Seg, SegTurn, Suspended, local_of, stays, tells_kept, after_marks}
+use Rattle.gx_rules.specs.Segments.{Local, Phase, Seg, SegTurn, local_of, stays, tells_kept, after_marks}
 use Rattle.gx_rules.specs.Segments.Phase.{Aborted, Committed, Forgotten, Prepared, Reading, Writing}
 use Rattle.gx_rules.proofs.Rounds.{collect-ways}
 use Rattle.gx_law_order.specs.Rest.{EachMark}
@@ -49,17 +51,23 @@ use Rattle.gx_law_order.proofs.Releases.{each-released}
 use Rattle.gx_law_order.proofs.Stepping as stepping
 use Rattle.gx_law_order.proofs.Suspensions.{fits-new}
 use Rattle.gx_law_order.proofs.World.{Knows}
-use Rattle.gx_law_order.proofs.Waiting.{GoesOn, GoesOnSo, each-among, going-on, going-ways, freed}
+use Rattle.gx_law_order.proofs.Changing.{IsAtRow, IsChangeOf, change-parts}
+use Rattle.gx_law_order.proofs.Waiting.{GoesOn, GoesOnSo, IsAtARow, each-among, going-on, going-ways, freed}
+use Rattle.gx_law_order.specs.Pairs.{is_open}
+use Rattle.gx_law_locks.proofs.Tables.{own-gxid}
 use Rattle.gx_law_locks.specs.Late.{AreReleasesLate}
 use Rattle.gx_law_locks.specs.Marked.{IsMarked}
 use Rattle.gx_law_locks.proofs.AtRows.{AtRows, HoldsAtRow, HoldsWaiting}
 use Rattle.gx_law_locks.proofs.Claims.{claim-itself}
-use Rattle.gx_law_writes.proofs.AskedSlices.{IsNoted}
 use Rattle.gx_law_writes.proofs.AskedMarks.{NoAsk, none-asked, sent-no-ask}
 use Rattle.gx_law_writes.proofs.AskedThere.{IsPost, Posted, all-posts, row-on, runs, waits}
+use Rattle.gx_law_writes.proofs.NeedsRows.{Stops}
 use Rattle.gx_law_writes.proofs.Next.{new-next, next_command, waits-next}
 use Rattle.gx_law_writes.proofs.Told.{StepTold}
-use Rattle.gx_rules.specs.Locks.{hold_mark}
+use Rattle.gx_law_writes.proofs.Turns.{Changed, base}
+use Rattle.gx_rules.specs.Changes.{Change, change_of, changes_rows, selected, shown_to}
+use Rattle.gx_rules.specs.Locks.{hold_mark, with_hold}
+use Rattle.gx_rules.specs.Slices.{starts_from}
 
 -- ORDERS THAT ASK FOR NOTHING
 module _ (s : Seg) where
@@ -159,7 +167,20 @@ order-silent script s fails (message.Graph round graph) e = tt
 
 -- AN EVENT OF A SEGMENT
 module _ (script : Script) (numbered_lines : AreLinesNumbered [] script.lines) (w : World) (n : Knows script w) (k : stepping.Holds script w) (i : ℕ) (place : IsSegment script (at i)) (marked : IsMarked (marks_in w.steps) (at i) (w.segs i).locks)
-    (told : Each (StepTold script (marks_in w.steps) (λ j g. (w.segs j).locals g)) w.steps) (noted : Each (IsNoted (marks_in w.steps) (at i)) (w.segs i).versions) (rows : AtRows script (w.segs i) (w.segs i).locks.holds) where
+    (told : Each (StepTold script (marks_in w.steps) (λ j g. (w.segs j).locals g)) w.steps) (rows : AtRows script (w.segs i) (w.segs i).locks.holds) where
+  -- WHAT IS NEEDED AT ROWS
+  -- by a command that comes and changes rows
+  abbrev pub NewNeeds : Message → Type 0
+  NewNeeds m =
+      (y : SegTurn) (z : Changed script (w.segs i) m y)
+      → let b : Seg = base (w.segs i) z.horizon (with_hold (w.segs i).locks z.wanted) in Stops (marks_in w.steps ++ hold_mark (w.segs i).node z.wanted ∷ []) b.node z.g z.change (selected z.change.cond (shown_to b z.g z.change)) (starts_from b)
+
+  -- by one that has waited, for its table or at a row
+  pub record LaterNeeds (g : Gxid) (o : GoesOn script w i g) (q : Change) : Type 0 where
+    pub table : o.slice.row ≡ None → (wanted : Claim) → wanted.gxid ≡ g
+        → Stops (marks_in w.steps ++ hold_mark (w.segs i).node wanted ∷ []) (freed (w.segs i) g wanted).node g q (selected q.cond (shown_to (freed (w.segs i) g wanted) g q)) (starts_from (freed (w.segs i) g wanted))
+    pub row : (rid : Rid) → o.slice.row ≡ Some rid → (wanted : Claim) → wanted.gxid ≡ g → Stops (marks_in w.steps ++ []) (w.segs i).node g q (rid ∷ o.slice.rows) (is_granted (w.segs i) g wanted)
+
   module _ (e : Event) (quiet-event : (t : SessionId) → starts_by t e ≡ 0) (whole : List Mark) (late : AreReleasesLate [] (marks_in w.steps ++ whole)) where
     abbrev s : Seg
     s = w.segs i
@@ -172,54 +193,89 @@ module _ (script : Script) (numbered_lines : AreLinesNumbered [] script.lines) (
     silent turn q rest split later = none-asked script w.steps e [] turn.marks later q
 
     -- EXEC
-    module _ (g : Gxid) (c : Cid) (level : Level) (snapshot : Option Snapshot) (horizon : Gxid) (x : Slice) (post : Posted script w (at i) (message.Exec g c level snapshot horizon x)) (received : Receives w.steps e the_coordinator (at i) (message.Exec g c level snapshot horizon x)) where
+    module _ (g : Gxid) (c : Cid) (level : Level) (snapshot : Option Snapshot) (horizon : Gxid) (x : Slice) (post : Posted script w (at i) (message.Exec g c level snapshot horizon x)) (received : Receives w.steps e the_coordinator (at i) (message.Exec g c level snapshot horizon x)) (needs : NewNeeds (message.Exec g c level snapshot horizon x)) where
       came : (earlier later : List Mark) → HasReceived (record { steps = w.steps; event = e; earlier = earlier; later = later }) the_coordinator (at i) (message.Exec g c level snapshot horizon x)
       came earlier later = (length w.steps, inr (refl, received))
 
-      starts : next_command (s.locals g.0) ≤ c.0 → Turns (starts_slice script (raised (w.segs i) horizon) g c level snapshot x)
-      starts fresh = by_test (is_clear s.locks.holds s.locks.waits (slice_lock script g x))
+      -- what it needs at rows, where it runs
+      stops : is_open (local_of (w.segs i) g).phase ≡ true → (local_of (w.segs i) g).last < c.0 → (local_of (w.segs i) g).suspended ≡ None → (q : Change) → change_of c level snapshot x ≡ Some q
+          → let b : Seg = base (w.segs i) horizon (with_hold (w.segs i).locks (slice_lock script g x)) in Stops (marks_in w.steps ++ hold_mark (w.segs i).node (slice_lock script g x) ∷ []) (at i) g q (selected q.cond (shown_to b g q)) (starts_from b)
+      stops opened less alone q changes = subst (λ (node : Node). Stops (marks_in w.steps ++ hold_mark s.node (slice_lock script g x) ∷ []) node g q (selected q.cond (shown_to b g q)) (starts_from b)) (n.well.names i) (needs _ run)
         where
+          b : Seg
+          b = base s horizon (with_hold s.locks (slice_lock script g x))
+
+          parts : IsChangeOf c level snapshot x q
+          parts = change-parts c level snapshot x q changes
+
+          its-message : message.Exec g c level snapshot horizon x ≡ message.Exec g q.cid q.level (Some q.snapshot) horizon q.slice
+          its-message =
+              ap (λ d. message.Exec g d level snapshot horizon x) (sym parts.cid) ∙ ap (λ l. message.Exec g q.cid l snapshot horizon x) (sym parts.level)
+              ∙ ap (λ o. message.Exec g q.cid q.level o horizon x) (sym parts.snapshot) ∙ ap (λ y. message.Exec g q.cid q.level (Some q.snapshot) horizon y) (sym parts.slice)
+
+          run : Changed script (w.segs i) (message.Exec g c level snapshot horizon x) (after_marks (hold_mark (w.segs i).node (slice_lock script g x) ∷ []) (changes_rows (base (w.segs i) horizon (with_hold (w.segs i).locks (slice_lock script g x))) g (Some q)))
+          run =
+              record {
+                g = g;
+                horizon = horizon;
+                change = q;
+                is = its-message;
+                changes = parts.again;
+                opened = opened;
+                fresh = subst (λ (d : Cid). (s.locals g.0).last < d.0) (sym parts.cid) less;
+                alone = alone;
+                wanted = slice_lock script g x;
+                locked = ap (slice_lock script g) parts.slice;
+                ran = refl;
+              }
+
+      starts : is_open (local_of (w.segs i) g).phase ≡ true → (local_of (w.segs i) g).last < c.0 → (local_of (w.segs i) g).suspended ≡ None → Turns (starts_slice script (raised (w.segs i) horizon) g c level snapshot x)
+      starts opened less alone = by_test (is_clear s.locks.holds s.locks.waits (slice_lock script g x))
+        where
+          fresh : next_command (s.locals g.0) ≤ c.0
+          fresh = new-next (s.locals g.0) c.0 alone less
+
           by_test : (q : Bool) → Turns (if q then runs_locked (raised (w.segs i) horizon) g c level snapshot x (slice_lock script g x) else suspends (raised (w.segs i) horizon) g c level snapshot x (slice_lock script g x))
           by_test true rest split later =
-              runs script numbered_lines w n k i place marked told noted e quiet-event whole late g c level snapshot horizon x post fresh came _ (n.well.names i) refl s.node (n.well.names i) rest split later
-          by_test false rest split later = waits script numbered_lines w n k i place marked told noted e quiet-event whole late g c level snapshot horizon x post fresh came s.node (n.well.names i) later
+              runs script numbered_lines w n k i place marked told e quiet-event whole late g c level snapshot horizon x post fresh came _ (n.well.names i) s.node (n.well.names i) (stops opened less alone) rest split later
+          by_test false rest split later = waits script numbered_lines w n k i place marked told e quiet-event whole late g c level snapshot horizon x post fresh came s.node (n.well.names i) later
 
-      take : (nat_lt (local_of (w.segs i) g).last c.0 ≡ true → (local_of (w.segs i) g).suspended ≡ None) → Turns (takes script (w.segs i) g c level snapshot horizon x (local_of (w.segs i) g))
-      take rests = by_test (nat_lt (local_of s g).last c.0) refl
+      take : is_open (local_of (w.segs i) g).phase ≡ true → (nat_lt (local_of (w.segs i) g).last c.0 ≡ true → (local_of (w.segs i) g).suspended ≡ None) → Turns (takes script (w.segs i) g c level snapshot horizon x (local_of (w.segs i) g))
+      take opened rests = by_test (nat_lt (local_of s g).last c.0) refl
         where
           by_test : (q : Bool) → nat_lt (local_of (w.segs i) g).last c.0 ≡ q → Turns (if q then starts_slice script (raised (w.segs i) horizon) g c level snapshot x else repeats (w.segs i) g c (local_of (w.segs i) g))
-          by_test true new = starts (new-next (local_of s g) c.0 (rests new) (lt-of (local_of s g).last c.0 new))
+          by_test true new = starts opened (lt-of (local_of s g).last c.0 new) (rests new)
           by_test false new = silent (repeats (w.segs i) g c (local_of (w.segs i) g)) (repeat s g c (local_of s g))
 
-      exec : (nat_lt (local_of (w.segs i) g).last c.0 ≡ true → (local_of (w.segs i) g).suspended ≡ None) → (p : Phase) → Turns (on_exec script (w.segs i) g c level snapshot horizon x (local_of (w.segs i) g) p)
-      exec rests Reading = take rests
-      exec rests Writing = take rests
-      exec rests Prepared = silent (repeats (w.segs i) g c (local_of (w.segs i) g)) (repeat s g c (local_of s g))
-      exec rests Committed = silent (repeats (w.segs i) g c (local_of (w.segs i) g)) (repeat s g c (local_of s g))
-      exec rests (Forgotten q) = silent (stays (w.segs i)) tt
-      exec rests Aborted = silent (stays (w.segs i)) tt
+      exec : (nat_lt (local_of (w.segs i) g).last c.0 ≡ true → (local_of (w.segs i) g).suspended ≡ None) → (p : Phase) → (local_of (w.segs i) g).phase ≡ p → Turns (on_exec script (w.segs i) g c level snapshot horizon x (local_of (w.segs i) g) p)
+      exec rests Reading is = take (ap is_open is) rests
+      exec rests Writing is = take (ap is_open is) rests
+      exec rests Prepared is = silent (repeats (w.segs i) g c (local_of (w.segs i) g)) (repeat s g c (local_of s g))
+      exec rests Committed is = silent (repeats (w.segs i) g c (local_of (w.segs i) g)) (repeat s g c (local_of s g))
+      exec rests (Forgotten q) is = silent (stays (w.segs i)) tt
+      exec rests Aborted is = silent (stays (w.segs i)) tt
 
       exec-turns : (fails : Bool) → Turns (on_message script (w.segs i) fails (message.Exec g c level snapshot horizon x))
       exec-turns fails = by_below (is_below s.horizon g)
         where
           by_fit : (q : Bool) → fits_exec script (w.segs i) g c snapshot horizon x ≡ q → Turns (if_fits (w.segs i) q (on_exec script (w.segs i) g c level snapshot horizon x (local_of (w.segs i) g) (local_of (w.segs i) g).phase))
-          by_fit true fit = exec (fits-new script s g c snapshot horizon x fit).rests (local_of s g).phase
+          by_fit true fit = exec (fits-new script s g c snapshot horizon x fit).rests (local_of s g).phase refl
           by_fit false fit = silent (stays (w.segs i)) tt
 
           by_below : (q : Bool) → Turns (if q then stays (w.segs i) else if_fits (w.segs i) (fits_exec script (w.segs i) g c snapshot horizon x) (on_exec script (w.segs i) g c level snapshot horizon x (local_of (w.segs i) g) (local_of (w.segs i) g).phase))
           by_below true = silent (stays (w.segs i)) tt
           by_below false = by_fit (fits_exec script s g c snapshot horizon x) refl
 
-    message-turns : (fails : Bool) (m : Message) → Posted script w (at i) m → Receives w.steps e the_coordinator (at i) m → Turns (on_message script (w.segs i) fails m)
-    message-turns fails (message.Exec g c level snapshot horizon x) post received = exec-turns g c level snapshot horizon x post received fails
-    message-turns fails (message.Prepare g) post received = silent (on_message script (w.segs i) fails (message.Prepare g)) (order-silent script s fails (message.Prepare g) tt)
-    message-turns fails (message.Commit g) post received = silent (on_message script (w.segs i) fails (message.Commit g)) (order-silent script s fails (message.Commit g) tt)
-    message-turns fails (message.CommitPrepared g) post received = silent (on_message script (w.segs i) fails (message.CommitPrepared g)) (order-silent script s fails (message.CommitPrepared g) tt)
-    message-turns fails (message.Abort g) post received = silent (on_message script (w.segs i) fails (message.Abort g)) (order-silent script s fails (message.Abort g) tt)
-    message-turns fails (message.Forget g) post received = silent (on_message script (w.segs i) fails (message.Forget g)) (order-silent script s fails (message.Forget g) tt)
-    message-turns fails (message.Collect round) post received = silent (on_message script (w.segs i) fails (message.Collect round)) (order-silent script s fails (message.Collect round) tt)
-    message-turns fails (message.Answer g r) post received = silent (on_message script (w.segs i) fails (message.Answer g r)) (order-silent script s fails (message.Answer g r) tt)
-    message-turns fails (message.Graph round graph) post received = silent (on_message script (w.segs i) fails (message.Graph round graph)) (order-silent script s fails (message.Graph round graph) tt)
+    message-turns : (fails : Bool) (m : Message) → Posted script w (at i) m → Receives w.steps e the_coordinator (at i) m → NewNeeds m → Turns (on_message script (w.segs i) fails m)
+    message-turns fails (message.Exec g c level snapshot horizon x) post received needs = exec-turns g c level snapshot horizon x post received needs fails
+    message-turns fails (message.Prepare g) post received needs = silent (on_message script (w.segs i) fails (message.Prepare g)) (order-silent script s fails (message.Prepare g) tt)
+    message-turns fails (message.Commit g) post received needs = silent (on_message script (w.segs i) fails (message.Commit g)) (order-silent script s fails (message.Commit g) tt)
+    message-turns fails (message.CommitPrepared g) post received needs = silent (on_message script (w.segs i) fails (message.CommitPrepared g)) (order-silent script s fails (message.CommitPrepared g) tt)
+    message-turns fails (message.Abort g) post received needs = silent (on_message script (w.segs i) fails (message.Abort g)) (order-silent script s fails (message.Abort g) tt)
+    message-turns fails (message.Forget g) post received needs = silent (on_message script (w.segs i) fails (message.Forget g)) (order-silent script s fails (message.Forget g) tt)
+    message-turns fails (message.Collect round) post received needs = silent (on_message script (w.segs i) fails (message.Collect round)) (order-silent script s fails (message.Collect round) tt)
+    message-turns fails (message.Answer g r) post received needs = silent (on_message script (w.segs i) fails (message.Answer g r)) (order-silent script s fails (message.Answer g r) tt)
+    message-turns fails (message.Graph round graph) post received needs = silent (on_message script (w.segs i) fails (message.Graph round graph)) (order-silent script s fails (message.Graph round graph) tt)
 
     -- A SLICE GOES ON
     -- who has a wait is among those who wait
@@ -234,8 +290,8 @@ module _ (script : Script) (numbered_lines : AreLinesNumbered [] script.lines) (
         by_test true q later = or_left (same_claim wanted x) (list_any (same_claim wanted) xs) (subst (λ y. same_claim wanted y ≡ true) (same x wanted q) (claim-itself wanted))
         by_test false q later = or_right (same_claim wanted x) (list_any (same_claim wanted) xs) (later q)
 
-    resume-turns : (g : Gxid) (o : GoesOn script w i g) → Turns (resumes (w.segs i) g (wait_of (w.segs i).locks g) (local_of (w.segs i) g).suspended)
-    resume-turns g o = by_way (going-ways script w i g o)
+    resume-turns : (g : Gxid) (o : GoesOn script w i g) → ((q : Change) → change_of o.slice.cid o.slice.level o.slice.snapshot o.slice.slice ≡ Some q → LaterNeeds g o q) → Turns (resumes (w.segs i) g (wait_of (w.segs i).locks g) (local_of (w.segs i) g).suspended)
+    resume-turns g o needs = by_way (going-ways script w i g o)
       where
         post : Posted script w (at i) (message.Exec g o.slice.cid o.slice.level o.slice.snapshot o.waits.horizon o.slice.slice)
         post =
@@ -249,14 +305,32 @@ module _ (script : Script) (numbered_lines : AreLinesNumbered [] script.lines) (
         fresh : next_command ((w.segs i).locals g.0) ≤ o.slice.cid.0
         fresh = waits-next ((w.segs i).locals g.0) o.slice o.is o.waits.last
 
+        its-lock : Claim
+        its-lock = slice_lock script g o.slice.slice
+
+        at-table : o.slice.row ≡ None → (q : Change) → change_of o.slice.cid o.slice.level o.slice.snapshot o.slice.slice ≡ Some q
+            → let b : Seg = freed (w.segs i) g (slice_lock script g o.slice.slice) in Stops (marks_in w.steps ++ hold_mark (w.segs i).node (slice_lock script g o.slice.slice) ∷ []) (at i) g q (selected q.cond (shown_to b g q)) (starts_from b)
+        at-table row q changes =
+            subst (λ (node : Node). Stops (marks_in w.steps ++ hold_mark s.node (slice_lock script g o.slice.slice) ∷ []) node g q (selected q.cond (shown_to (freed s g its-lock) g q)) (starts_from (freed s g its-lock))) (n.well.names i)
+            ((needs q changes).table row its-lock (own-gxid script g o.slice.slice))
+
+        at-row : (a : IsAtARow g o.slice o.wanted) → Stops (marks_in w.steps ++ []) (at i) g a.change (a.rid ∷ o.slice.rows) (is_granted (w.segs i) g o.wanted)
+        at-row a =
+            subst (λ (node : Node). Stops (marks_in w.steps ++ []) node g a.change (a.rid ∷ o.slice.rows) (is_granted s g o.wanted)) (n.well.names i) ((needs a.change a.changes).row a.rid a.row o.wanted (owner a.lock))
+          where
+            owner : IsAtRow g a.rid o.wanted → o.wanted.gxid ≡ g
+            owner (inl e) = ap (λ (c : Claim). c.gxid) (sym e)
+            owner (inr e) = ap (λ (c : Claim). c.gxid) (sym e.is)
+
         by_way : GoesOnSo script (w.segs i) g o.slice o.wanted (resumes (w.segs i) g (wait_of (w.segs i).locks g) (local_of (w.segs i) g).suspended) → Turns (resumes (w.segs i) g (wait_of (w.segs i).locks g) (local_of (w.segs i) g).suspended)
         by_way (inl d) =
             subst Turns (sym (d.is ∙ ap (λ q. after_marks (hold_mark s.node q ∷ []) (runs_slice (freed s g q) g o.slice.cid o.slice.level o.slice.snapshot o.slice.slice)) (sym d.at.lock)))
-            (λ rest split later. runs script numbered_lines w n k i place marked told noted e quiet-event whole late g o.slice.cid o.slice.level o.slice.snapshot o.waits.horizon o.slice.slice post fresh came _ (n.well.names i) refl s.node (n.well.names i) rest split later)
+            (λ rest split later. runs script numbered_lines w n k i place marked told e quiet-event whole late g o.slice.cid o.slice.level o.slice.snapshot o.waits.horizon o.slice.slice post fresh came _ (n.well.names i) s.node (n.well.names i) (at-table d.at.row) rest split later)
         by_way (inr d) =
             subst Turns (sym d.is)
-            (λ rest split later. row-on script numbered_lines w n k i place marked told noted e quiet-event whole late g o.slice.cid o.slice.level o.slice.snapshot o.waits.horizon o.slice.slice post fresh came d.at.change d.at.changes d.at.rid o.slice.rows o.slice.count o.wanted (waits-among g o.wanted (w.segs i).locks.waits o.claims) d.at.lock
-            (subst (HoldsAtRow script g s.locks.holds o.slice) d.at.row (subst (HoldsWaiting script g s.locks.holds) o.is (rows g))) (n.well.names i) rest split later)
+            (λ rest split later. row-on script numbered_lines w n k i place marked told e quiet-event whole late g o.slice.cid o.slice.level o.slice.snapshot o.waits.horizon o.slice.slice post fresh came d.at.change d.at.changes d.at.rid o.slice.rows o.slice.count o.wanted (waits-among g o.wanted (w.segs i).locks.waits o.claims) d.at.lock
+            (subst (HoldsAtRow script g s.locks.holds o.slice) d.at.row (subst (HoldsWaiting script g s.locks.holds) o.is (rows g))) (n.well.names i)
+            (at-row d.at) rest split later)
 
   -- ANY EVENT
   module _ (e : Event) (fails : Bool) where
@@ -268,18 +342,21 @@ module _ (script : Script) (numbered_lines : AreLinesNumbered [] script.lines) (
         let turn : SegTurn = segment.on_event script (w.segs i) x fails in
         marks-append (IsAsked script) w.steps e [] turn.marks _ later (f _) (none-asked script w.steps e ([] ++ turn.marks) _ later (sent-no-ask (λ node. turn.seg.sent) turn.outs))
 
-    pub seg-asked : (x : NodeEvent) → IsThere script w e (at i) x → seg_can script (w.segs i) x ≡ true → AreReleasesLate [] (marks_in w.steps ++ (seg_rule script (w.segs i) x fails).marks) → Asked x
-    seg-asked (here.Deliver from envelope) t ok late =
+    pub seg-asked : ((from : Node) (number : ℕ) (envelope : Envelope) → found from (at i) number w.sent ≡ Some envelope → NewNeeds envelope.message)
+        → ((g : Gxid) (o : GoesOn script w i g) (q : Change) → change_of o.slice.cid o.slice.level o.slice.snapshot o.slice.slice ≡ Some q → LaterNeeds g o q)
+        → (x : NodeEvent) → IsThere script w e (at i) x → seg_can script (w.segs i) x ≡ true → AreReleasesLate [] (marks_in w.steps ++ (seg_rule script (w.segs i) x fails).marks) → Asked x
+    seg-asked new later (here.Deliver from envelope) t ok late =
         let source : from ≡ the_coordinator = from-coordinator script i from place.0 t.link in
         let d : IsFound (IsPost script w) from (at i) t.number envelope = found_is (IsPost script w) from (at i) t.number w.sent envelope (all-posts script w n k) t.found in
         let post : Posted script w (at i) envelope.message =
         subst (λ (a : Envelope). Posted script w (at i) a.message) d.told (subst (λ a. Posted script w a d.letter.envelope.message) d.target (d.is (d.source ∙ source))) in
         behind (here.Deliver from envelope)
-        (message-turns e (λ q. ap (starts_by q) t.event) (seg_rule script (w.segs i) (here.Deliver from envelope) fails).marks late fails envelope.message post (subst (λ a. Receives w.steps e a (at i) envelope.message) source t.received) _ refl)
-    seg-asked (here.Resume g) t ok late =
+        (message-turns e (λ q. ap (starts_by q) t.event) (seg_rule script (w.segs i) (here.Deliver from envelope) fails).marks late fails envelope.message post (subst (λ a. Receives w.steps e a (at i) envelope.message) source t.received)
+        (new from t.number envelope t.found) _ refl)
+    seg-asked new later (here.Resume g) t ok late =
         behind (here.Resume g)
-        (resume-turns e (λ q. ap (starts_by q) t) (seg_rule script (w.segs i) (here.Resume g) fails).marks late g (going-on script w n.well i g ok) _ refl)
-    seg-asked (here.Start x) t ok late = absurd (cc)
-    seg-asked (here.End x) t ok late = absurd (cc)
-    seg-asked (here.Resend j g) t ok late = absurd (cc)
-    seg-asked here.Round t ok late = absurd (cc)
+        (resume-turns e (λ q. ap (starts_by q) t) (seg_rule script (w.segs i) (here.Resume g) fails).marks late g (going-on script w n.well i g ok) (later g (going-on script w n.well i g ok)) _ refl)
+    seg-asked new later (here.Start x) t ok late = absurd (cc)
+    seg-asked new later (here.End x) t ok late = absurd (cc)
+    seg-asked new later (here.Resend j g) t ok late = absurd (cc)
+    seg-asked new later here.Round t ok late = absurd (cc)

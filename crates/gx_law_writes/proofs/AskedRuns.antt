@@ -1,84 +1,49 @@
 -- In every run each lock is asked for.
-use Rattle.std.proofs.Common.{◌≡◌, ◌≤◌, ℕ, List, [], ◌∷◌, ◌++◌, Bool, true, false, refl, sym, subst, if◌then◌else◌}
-use Rattle.std.proofs.lemmas.List.Elements.{Contains-append_left, Contains-append_right, Contains-push}
-use Rattle.std.specs.Prelude.{Contains}
-use Rattle.gx_ids.specs.declared.ids.Node.{Node}
+use Rattle.std.proofs.Common.{◌≡◌, ◌≤◌, ℕ, List, [], Some, Bool, true, subst}
+use Rattle.gx_ids.specs.declared.ids.Gxid.{Gxid}
 use Rattle.gx_script.specs.declared.Script.{Script}
 use Rattle.gx_store.specs.Asking.{AreAsked, IsAsked}
 use Rattle.gx_store.specs.Language.{AreLinesNumbered}
-use Rattle.gx_store.specs.Journals.{is_same_node}
 use Rattle.gx_store.specs.Ordered.{IsSegment}
-use Rattle.gx_store.specs.Points.{marks_in}
 use Rattle.gx_store.specs.Refusals.{the_coordinator}
 use Rattle.gx_store.specs.declared.event.Event.{Event}
-use Rattle.gx_store.specs.declared.mark.Mark.{Mark}
-use Rattle.gx_store.specs.declared.mark.Mark.TheVariants as mark
 use Rattle.gx_store.specs.declared.node.NodeEvent.{NodeEvent}
 use Rattle.gx_store.specs.declared.run.Step.{Step}
 use Rattle.gx_rules.specs.AtCoordinator.{coord_can, coord_turn}
 use Rattle.gx_rules.specs.AtSegment.{seg_rule}
+use Rattle.gx_rules.specs.Changes.{Change, change_of}
 use Rattle.gx_rules.specs.Machine.{World, coord_did, seg_can, seg_did, world_of}
-use Rattle.gx_rules.specs.Segments.{Version}
 use Rattle.gx_rules.specs.Sending.{clock_after}
 use Rattle.gx_law_order.specs.Moves.{Move, world_by}
 use Rattle.gx_law_order.specs.Standings.{at}
 use Rattle.gx_law_order.proofs.Induction.{IsThere, at-events}
 use Rattle.gx_law_order.proofs.Journals.{Hold, moves-hold}
 use Rattle.gx_law_order.proofs.Legality as histories
-use Rattle.gx_law_order.proofs.Letters.{same_node}
-use Rattle.gx_law_order.proofs.Lists.{each_weaker}
-use Rattle.gx_law_order.specs.Lists.{Each}
 use Rattle.gx_law_order.proofs.More.{marks-last}
-use Rattle.gx_law_order.proofs.SegItems.{writes_at}
 use Rattle.gx_law_order.proofs.Stepping as stepping
 use Rattle.gx_law_order.proofs.Whole.{Both, moves-both}
+use Rattle.gx_law_order.proofs.Waiting.{GoesOn}
+use Rattle.gx_law_reads.proofs.Ends.{Facts, moves-facts}
 use Rattle.gx_law_locks.specs.Late.{AreReleasesLate}
 use Rattle.gx_law_locks.proofs.HoldsInRuns.{Locked, moves-locked}
 use Rattle.gx_law_writes.proofs.Always.{AreAlways, always-push, always-victim}
-use Rattle.gx_law_writes.proofs.AskedEvents.{seg-asked}
+use Rattle.gx_law_writes.proofs.AskedEvents.{LaterNeeds, seg-asked}
 use Rattle.gx_law_writes.proofs.AskedHere.{coord-asked}
 use Rattle.gx_law_writes.proofs.AskedMarks.{asked-steps, victim-asked}
-use Rattle.gx_law_writes.proofs.AskedSlices.{IsNoted}
 use Rattle.gx_law_writes.proofs.Steps.{Holds}
-use Rattle.gx_law_writes.proofs.World.{moves-holds}
-
--- what a segment has of rows is what its marks have written
-writes-noted : (node : Node) (ms : List Mark) → Each (IsNoted ms node) (writes_at node ms)
-writes-noted node [] = tt
-writes-noted node (mark.Write g c n table rid image ∷ ms) = by_test (is_same_node n node) refl (each-front (writes_at node ms) (writes-noted node ms))
-  where
-    each-front : (vs : List Version) → Each (IsNoted ms node) vs → Each (IsNoted (mark.Write g c n table rid image ∷ ms) node) vs
-    each-front vs e =
-        each_weaker (IsNoted ms node) (IsNoted (mark.Write g c n table rid image ∷ ms) node) (λ v k. Contains-append_right (mark.Write g c n table rid image ∷ []) ms (mark.Write v.gxid v.cid node v.table v.rid v.image) k) vs e
-
-    v : Version
-    v = record { gxid = g; cid = c; table = table; rid = rid; image = image }
-
-    here : n ≡ node → Contains (mark.Write g c n table rid image ∷ ms) (mark.Write g c node table rid image)
-    here same =
-        subst (λ q. Contains (mark.Write g c n table rid image ∷ ms) (mark.Write g c q table rid image)) same
-        (Contains-append_left (mark.Write g c n table rid image ∷ []) ms (mark.Write g c n table rid image) (Contains-push [] (mark.Write g c n table rid image)))
-
-    by_test : (b : Bool) → is_same_node n node ≡ b → Each (IsNoted (mark.Write g c n table rid image ∷ ms) node) (writes_at node ms)
-        → Each (IsNoted (mark.Write g c n table rid image ∷ ms) node) (if b then v ∷ writes_at node ms else writes_at node ms)
-    by_test true q e = (here (same_node n node q), e)
-    by_test false q e = e
-writes-noted node (m ∷ ms) =
-    each_weaker (IsNoted ms node) (IsNoted (m ∷ ms) node) (λ v k. Contains-append_right (m ∷ []) ms (mark.Write v.gxid v.cid node v.table v.rid v.image) k) (writes_at node ms) (writes-noted node ms)
-
-all-noted : (w : World) (i : ℕ) → Hold w → 1 ≤ i → Each (IsNoted (marks_in w.steps) (at i)) (w.segs i).versions
-all-noted w i h one = subst (Each (IsNoted (marks_in w.steps) (at i))) (sym (h i one).versions) (writes-noted (at i) (marks_in w.steps))
+use Rattle.gx_law_writes.proofs.World.{moves-holds, new-needs, row-needs, table-needs}
 
 module _ (script : Script) (some : 1 ≤ script.segments) (numbered_lines : AreLinesNumbered [] script.lines) where
   record Known (w : World) : Type 0 where
     both : Both script some w
     stepping : stepping.Holds script w
     journals : Hold w
+    facts : Facts w
     locked : Locked script w
     holds : Holds script w.segs w.steps
 
   moves-known : (ms : List Move) → Known (world_by script ms)
-  moves-known ms = record { both = moves-both script some ms; stepping = histories.moves-holds script some ms; journals = moves-hold script some ms; locked = moves-locked script some ms; holds = moves-holds script some numbered_lines ms }
+  moves-known ms = record { both = moves-both script some ms; stepping = histories.moves-holds script some ms; journals = moves-hold script some ms; facts = moves-facts script some ms; locked = moves-locked script some ms; holds = moves-holds script some numbered_lines ms }
 
   abbrev All : World → Type 0
   All w = AreAlways (IsAsked script) [] w.steps
@@ -91,7 +56,15 @@ module _ (script : Script) (some : 1 ≤ script.segments) (numbered_lines : AreL
       → Known (seg_did w (at i) e (seg_rule script (w.segs i) x fails)) → All (seg_did w (at i) e (seg_rule script (w.segs i) x fails))
   seg-all w n p e x fails i place t ok next =
       let step : Step = record { stamp = record { clock = clock_after (w.segs i).clock x; node = at i }; event = e; marks = (seg_rule script (w.segs i) x fails).marks } in
-      always-push (IsAsked script) [] w.steps step p (seg-asked script numbered_lines w n.both.knows n.stepping i place (n.locked.marked.segments i place.0) n.holds.told (all-noted w i n.journals place.0) (n.locked.rows i) e fails x t ok (subst (AreReleasesLate []) (marks-last w.steps step) next.locked.late))
+      always-push (IsAsked script) [] w.steps step p (seg-asked script numbered_lines w n.both.knows n.stepping i place (n.locked.marked.segments i place.0) n.holds.told (n.locked.rows i) e fails
+      (new-needs script some numbered_lines w n.both n.stepping n.journals n.facts n.locked n.holds i place) later x t ok (subst (AreReleasesLate []) (marks-last w.steps step) next.locked.late))
+    where
+      later : (g : Gxid) (o : GoesOn script w i g) (q : Change) → change_of o.slice.cid o.slice.level o.slice.snapshot o.slice.slice ≡ Some q → LaterNeeds script numbered_lines w n.both.knows n.stepping i place (n.locked.marked.segments i place.0) n.holds.told (n.locked.rows i) g o q
+      later g o q changes =
+          record {
+            table = λ row wanted owner. table-needs script some numbered_lines w n.both n.stepping n.journals n.facts n.locked n.holds i g place o q changes row wanted owner;
+            row = λ rid row wanted owner. row-needs script some numbered_lines w n.both n.stepping n.journals n.facts n.locked n.holds i g place o q changes rid row wanted owner;
+          }
 
   pub world-asked : (es : List (Event × Bool)) → AreAsked script [] (world_of script es).steps
   world-asked es =

@@ -1,9 +1,7 @@
 -- What a slice asks for at its segment, mark by mark: its table's lock, locks on rows and on their writers' ends, and a writer's own.
-use Rattle.std.proofs.Common.{◌≡◌, ◌⊎◌, ◌&&◌, ◌||◌, ◌==◌, inl, inr, ℕ, ◌+◌, List, [], ◌∷◌, ◌++◌, Option, Some, None, Bool, true, false, refl, sym, subst, ap, ◌∙◌, append_assoc, append-nil, arith, if◌then◌else◌}
-use Rattle.std.proofs.lemmas.List.Elements.{Contains-append_left, Contains-append_right, Contains-push}
+use Rattle.std.proofs.Common.{◌≡◌, ◌⊎◌, ◌||◌, inl, inr, ℕ, ◌+◌, List, [], ◌∷◌, ◌++◌, Option, Some, None, Bool, true, false, not, refl, sym, subst, ap, ◌∙◌, append_assoc, arith, if◌then◌else◌}
 use Rattle.std.specs.List.{list_any}
-use Rattle.std.specs.Prelude.{Contains, fold}
-use Rattle.gx_lemmas.proofs.Numbers.{same-of}
+use Rattle.std.specs.Prelude.{fold}
 use Rattle.gx_ids.specs.declared.ids.Cid.{Cid}
 use Rattle.gx_ids.specs.declared.ids.Gxid.{Gxid}
 use Rattle.gx_ids.specs.declared.ids.Node.{Node}
@@ -14,6 +12,7 @@ use Rattle.gx_tree.specs.declared.query.Query.{Query}
 use Rattle.gx_tree.specs.declared.row.KeyedRow.{KeyedRow}
 use Rattle.gx_tree.specs.declared.slice.Slice.{Slice}
 use Rattle.gx_tree.specs.declared.slice.Slice.TheVariants as slice
+use Rattle.gx_tree.specs.declared.stmt.Assign.{Assign}
 use Rattle.gx_tree.specs.declared.stmt.Level.{Level}
 use Rattle.gx_tree.specs.declared.stmt.Stmt.{Stmt}
 use Rattle.gx_tree.specs.declared.stmt.Stmt.TheVariants as stmt
@@ -27,33 +26,32 @@ use Rattle.gx_waits.specs.declared.object.Object.{Object}
 use Rattle.gx_waits.specs.declared.object.Object.TheVariants.{Relation}
 use Rattle.gx_meaning.specs.declared.fault.ArithFault.{ArithFault}
 use Rattle.gx_script.specs.declared.Script.{Script}
-use Rattle.gx_store.specs.Asking.{GoesThroughRows, HasWritten, LocksItself, Needs, NeedsTable}
-use Rattle.gx_store.specs.Marks.{is_same_gxid, is_same_rid}
+use Rattle.gx_store.specs.Asking.{GoesThroughRows, LocksItself, Needs, NeedsAt, NeedsTable}
+use Rattle.gx_store.specs.Marks.{is_same_gxid}
 use Rattle.gx_store.specs.Waits.{waits_at}
 use Rattle.gx_waits.specs.Claims.{claim}
-use Rattle.gx_store.proofs.Rows.{same_rid}
 use Rattle.gx_store.specs.declared.mark.Mark.{Mark}
 use Rattle.gx_store.specs.declared.mark.Mark.TheVariants as mark
-use Rattle.gx_rules.specs.Changes.{Change, RowTurn, change_of, changes_rows, does_row, end_lock, ended as row_ended, gives_back_if_held, goes_through, selected, shown_to, suspended_at, suspends_at, tuple_lock, unless_fault, waits}
+use Rattle.gx_rules.specs.Changes.{Change, RowTurn, change_of, changes_rows, does_row, end_lock, ended as row_ended, gives_back_if_held, goes_through, is_settled, selected, shown_to, suspended_at, suspends_at, tuple_lock, unless_fault, waits}
 use Rattle.gx_rules.specs.Changes.RowEnd.{Failing, Skipped, Waiting, Written}
 use Rattle.gx_rules.specs.Locks.{hold_mark, release_mark, wait_mark}
 use Rattle.gx_rules.specs.Running.{is_granted, runs_slice}
 use Rattle.gx_store.specs.Locks.{slice_lock}
-use Rattle.gx_rules.specs.Segments.{Phase, Seg, SegTurn, Version, local_of}
+use Rattle.gx_rules.specs.Segments.{Phase, Seg, SegTurn, local_of}
 use Rattle.gx_rules.specs.Segments.Phase.{Aborted, Committed, Forgotten, Prepared, Reading, Writing}
-use Rattle.gx_rules.specs.Shown.{current_of, is_current, shown}
+use Rattle.gx_rules.specs.Shown.{shown}
 use Rattle.gx_rules.specs.Slices.{Moved, adds_version, first_fault, gives_back, inserts_row, is_holding, noted, own_lock, selects, starts_from, takes_lock, takes_own, version, writes_row}
 use Rattle.gx_rules.specs.Visits.{DidStop, Does, GoesThrough, IsPath, Visit, WaitsAt, end_of, written_in}
 use Rattle.gx_rules.proofs.Loop.{goes}
 use Rattle.gx_rules.proofs.RowEnds.{does}
 use Rattle.gx_law_order.proofs.Changing.{IsAtRow}
-use Rattle.gx_law_order.proofs.Lists.{each_append, each_weaker}
-use Rattle.gx_law_order.specs.Lists.{Each}
 use Rattle.gx_law_locks.specs.Waiting.{EachBehind}
 use Rattle.gx_law_locks.proofs.Lets.{behind-append}
-use Rattle.gx_law_writes.proofs.Current.{newest-has}
-use Rattle.gx_law_writes.proofs.Newest.{find-reverse}
+use Rattle.gx_law_writes.proofs.Changing.{change-line}
+use Rattle.gx_law_writes.proofs.Frames.{held-other}
+use Rattle.gx_law_writes.proofs.NeedsRows.{NeedsThere, Stops}
 use Rattle.gx_law_writes.proofs.Pieces.{IsSliceOf}
+use Rattle.gx_law_writes.specs.Says.{changing_stmt, stmt_of_change}
 
 -- A SLICE OF A STATEMENT
 -- an INSERT's is of its table
@@ -94,32 +92,23 @@ lock-object script g (slice.Update t a d) = refl
 lock-object script g (slice.Delete t d) = refl
 lock-object script g (slice.Lock t m) = refl
 
--- a slice that changes rows
-abbrev pub IsChanging : Slice → Type 0
-IsChanging (slice.Update t a d) = Unit {0}
-IsChanging (slice.Delete t d) = Unit {0}
-IsChanging _ = ⊥
+-- an UPDATE or DELETE goes through rows by the condition of its slice
+changes-through : (k : Change) → GoesThroughRows (stmt_of_change k) k.table k.cond
+changes-through k = by_set k.set
+  where
+    by_set : (set : Option (List Assign)) → GoesThroughRows (changing_stmt k.table k.cond set) k.table k.cond
+    by_set (Some assigns) = (refl, refl)
+    by_set None = (refl, refl)
 
-pub changing-goes : (line : Stmt) (x : Slice) → IsSliceOf line x → IsChanging x → GoesThroughRows line (table_in x)
-changing-goes (stmt.Update t a d) x e i = ap table_in e
-changing-goes (stmt.Delete t d) x e i = ap table_in e
-changing-goes (stmt.Select q) x e i = absurd (subst IsChanging e i)
-changing-goes (stmt.Lock t m) x e i = absurd (subst IsChanging e i)
-changing-goes (stmt.Insert t tuples) (slice.Insert u rows) e i = absurd i
-changing-goes (stmt.Insert t tuples) (slice.Select q) e i = absurd e
-changing-goes (stmt.Insert t tuples) (slice.Update u a d) e i = absurd e
-changing-goes (stmt.Insert t tuples) (slice.Delete u d) e i = absurd e
-changing-goes (stmt.Insert t tuples) (slice.Lock u m) e i = absurd e
-changing-goes (stmt.Begin level) x e i = absurd e
-changing-goes stmt.Commit x e i = absurd e
-changing-goes stmt.Rollback x e i = absurd e
+pub change-goes : (line : Stmt) (c : Cid) (level : Level) (snapshot : Option Snapshot) (x : Slice) (k : Change) → change_of c level snapshot x ≡ Some k → IsSliceOf line x → GoesThroughRows line k.table k.cond
+change-goes line c level snapshot x k e is = subst (λ q. GoesThroughRows q k.table k.cond) (sym (change-line c level snapshot x k e line is)) (changes-through k)
 
-pub change-changing : (c : Cid) (level : Level) (snapshot : Option Snapshot) (x : Slice) (k : Change) → change_of c level snapshot x ≡ Some k → IsChanging x × (k.cid ≡ c) × (k.table ≡ table_in x)
-change-changing c level (Some s) (slice.Update t a d) k e = (tt, ap (λ (y : Change). y.cid) (sym (same k e)), ap (λ (y : Change). y.table) (sym (same k e)))
+pub change-changing : (c : Cid) (level : Level) (snapshot : Option Snapshot) (x : Slice) (k : Change) → change_of c level snapshot x ≡ Some k → (k.level ≡ level) × (k.cid ≡ c) × (k.table ≡ table_in x)
+change-changing c level (Some s) (slice.Update t a d) k e = (ap (λ (y : Change). y.level) (sym (same k e)), ap (λ (y : Change). y.cid) (sym (same k e)), ap (λ (y : Change). y.table) (sym (same k e)))
   where
     same : {z : Change} (k : Change) → Some z ≡ Some k → z ≡ k
     same k e = cc
-change-changing c level (Some s) (slice.Delete t d) k e = (tt, ap (λ (y : Change). y.cid) (sym (same k e)), ap (λ (y : Change). y.table) (sym (same k e)))
+change-changing c level (Some s) (slice.Delete t d) k e = (ap (λ (y : Change). y.level) (sym (same k e)), ap (λ (y : Change). y.cid) (sym (same k e)), ap (λ (y : Change). y.table) (sym (same k e)))
   where
     same : {z : Change} (k : Change) → Some z ≡ Some k → z ≡ k
     same k e = cc
@@ -132,39 +121,15 @@ change-changing c level None (slice.Select q) k e = absurd (cc)
 change-changing c level None (slice.Insert t rows) k e = absurd (cc)
 change-changing c level None (slice.Lock t m) k e = absurd (cc)
 
--- VERSIONS
--- a version's write is among these marks
-abbrev pub IsNoted : List Mark → Node → Version → Type 0
-IsNoted marks node v = Contains marks (mark.Write v.gxid v.cid node v.table v.rid v.image)
-
-pub noted-more : (ms ns : List Mark) (node : Node) (vs : List Version) → Each (IsNoted ms node) vs → Each (IsNoted (ms ++ ns) node) vs
-noted-more ms ns node vs e = each_weaker (IsNoted ms node) (IsNoted (ms ++ ns) node) (λ v k. Contains-append_left ms ns (mark.Write v.gxid v.cid node v.table v.rid v.image) k) vs e
-
--- a row's current version is of a write of the row
-current-noted : (marks : List Mark) (node : Node) (s : Seg) (table : Table) (rid : Rid) (v : Version) → Each (IsNoted marks node) s.versions → current_of s table rid ≡ Some v → HasWritten marks node table rid v.gxid
-current-noted marks node s table rid v e is =
-    let a = newest-has (IsNoted marks node) (is_current s table rid) None s.versions v e (λ z. absurd (none z)) (sym (find-reverse (is_current s table rid) s.versions) ∙ is) in
-    let p = parts (v.table.0 == table.0) (is_same_rid v.rid rid) _ a.1 in
-    record { cid = v.cid; image = v.image; noted = subst (λ q. Contains marks (mark.Write v.gxid v.cid node table q v.image)) (same_rid v.rid rid p.1) (subst (λ q. Contains marks (mark.Write v.gxid v.cid node q v.rid v.image)) (same-table v.table table p.0) a.0) }
-  where
-    none : None ≡ Some v → ⊥
-    none z = cc
-
-    parts : (a b d : Bool) → (a && (b && d)) ≡ true → (a ≡ true) × (b ≡ true)
-    parts a b d e = (grind arith, grind arith)
-
-    same-table : (a b : Table) → (a.0 == b.0) ≡ true → a ≡ b
-    same-table a b e = ap (λ (q : ℕ). let x : Table = record { 0 = q } in x) (same-of a.0 b.0 e)
-
 -- MARKS OF A SLICE
 -- each is of the one command at the node, which needs what it asks for or has waited for it, and writes its slice's table
-module _ (script : Script) (ms : List Mark) (node : Node) (g : Gxid) (c : Cid) (line : Stmt) (t : Table) where
+module _ (script : Script) (ms : List Mark) (node : Node) (level : Level) (g : Gxid) (c : Cid) (line : Stmt) (t : Table) where
   abbrev pub IsWaited : List Mark → Object → Mode → Type 0
   IsWaited earlier object mode = list_any (same_claim (claim g object mode)) (waits_at (ms ++ earlier) node) ≡ true
 
   abbrev pub Right : List Mark → Mark → Type 0
-  Right earlier (mark.Hold n h object mode) = (n ≡ node) × (h ≡ g) × (Needs script (ms ++ earlier) node g line object mode ⊎ IsWaited earlier object mode ⊎ LocksItself earlier n h object mode)
-  Right earlier (mark.Wait n h object mode) = (n ≡ node) × (h ≡ g) × Needs script (ms ++ earlier) node g line object mode
+  Right earlier (mark.Hold n h object mode) = (n ≡ node) × (h ≡ g) × (Needs script (ms ++ earlier) node level g c line object mode ⊎ IsWaited earlier object mode ⊎ LocksItself earlier n h object mode)
+  Right earlier (mark.Wait n h object mode) = (n ≡ node) × (h ≡ g) × Needs script (ms ++ earlier) node level g c line object mode
   Right earlier (mark.Write h d n table r x) = (n ≡ node) × (h ≡ g) × (d ≡ c) × (table ≡ t)
   Right earlier (mark.Release n h object mode) = Unit {0}
   Right earlier (mark.Skip h d r) = Unit {0}
@@ -176,25 +141,20 @@ module _ (script : Script) (ms : List Mark) (node : Node) (g : Gxid) (c : Cid) (
     pub record Gone (m : Moved) : Type 0 where
       pub there : m.seg.node ≡ node
       pub right : EachBehind Right lead m.marks
-      pub noted : Each (IsNoted (ms ++ (lead ++ m.marks)) node) m.seg.versions
 
     abbrev pub IsRight : SegTurn → Type 0
     IsRight turn = EachBehind Right lead turn.marks
 
     -- one mark more
-    pub still-noted : (m : Moved) (more : List Mark) → Gone m → Each (IsNoted (ms ++ (lead ++ (m.marks ++ more))) node) m.seg.versions
-    still-noted m more f =
-        subst (λ q. Each (IsNoted q node) m.seg.versions) (append_assoc ms (lead ++ m.marks) more ∙ ap (λ q. ms ++ q) (append_assoc lead m.marks more)) (noted-more (ms ++ (lead ++ m.marks)) more node m.seg.versions f.noted)
-
-    takes : (wanted : Claim) (m : Moved) → wanted.gxid ≡ g → Needs script (ms ++ (lead ++ m.marks)) node g line wanted.object wanted.mode → Gone m → Gone (takes_lock wanted m)
+    takes : (wanted : Claim) (m : Moved) → wanted.gxid ≡ g → Needs script (ms ++ (lead ++ m.marks)) node level g c line wanted.object wanted.mode → Gone m → Gone (takes_lock wanted m)
     takes wanted m owner needs f =
-        record { there = f.there; right = behind-append Right lead m.marks (hold_mark m.seg.node wanted ∷ []) f.right ((f.there, owner, inl needs), tt); noted = still-noted m (hold_mark m.seg.node wanted ∷ []) f }
+        record { there = f.there; right = behind-append Right lead m.marks (hold_mark m.seg.node wanted ∷ []) f.right ((f.there, owner, inl needs), tt) }
 
     notes : (m : Moved) (told : Mark) → Right (lead ++ m.marks) told → Gone m → Gone (noted m told)
-    notes m told r f = record { there = f.there; right = behind-append Right lead m.marks (told ∷ []) f.right (r, tt); noted = still-noted m (told ∷ []) f }
+    notes m told r f = record { there = f.there; right = behind-append Right lead m.marks (told ∷ []) f.right (r, tt) }
 
     gives : (old : Claim) (m : Moved) → Gone m → Gone (gives_back old m)
-    gives old m f = record { there = f.there; right = behind-append Right lead m.marks (release_mark m.seg.node old ∷ []) f.right (tt, tt); noted = still-noted m (release_mark m.seg.node old ∷ []) f }
+    gives old m f = record { there = f.there; right = behind-append Right lead m.marks (release_mark m.seg.node old ∷ []) f.right (tt, tt) }
 
     -- a row is written, and its writer locks itself
     wrote : (d : Cid) (table : Table) (m : Moved) (rid : Rid) (image : Option (List Value)) → d ≡ c → table ≡ t → Gone m → Gone (writes_row g d table m rid image)
@@ -203,24 +163,12 @@ module _ (script : Script) (ms : List Mark) (node : Node) (g : Gxid) (c : Cid) (
         w : Mark
         w = mark.Write g d m.seg.node table rid image
 
-        v : Version
-        v = version g d table rid image
-
         m1 : Moved
         m1 = record { seg = adds_version m.seg g (version g d table rid image); marks = m.marks ++ mark.Write g d m.seg.node table rid image ∷ [] }
 
-        now : Contains (ms ++ (lead ++ (m.marks ++ mark.Write g d m.seg.node table rid image ∷ []))) (mark.Write g d node table rid image)
-        now =
-            subst (λ q. Contains (ms ++ (lead ++ (m.marks ++ mark.Write g d m.seg.node table rid image ∷ []))) (mark.Write g d q table rid image)) f.there
-            (Contains-append_right ms (lead ++ (m.marks ++ w ∷ [])) w (Contains-append_right lead (m.marks ++ w ∷ []) w (Contains-push m.marks w)))
-
         written : Gone m1
         written =
-            record {
-              there = f.there;
-              right = behind-append Right lead m.marks (w ∷ []) f.right ((f.there, refl, same, on), tt);
-              noted = each_append (IsNoted (ms ++ (lead ++ (m.marks ++ w ∷ []))) node) m.seg.versions (v ∷ []) (still-noted m (w ∷ []) f) (now, tt);
-            }
+            record { there = f.there; right = behind-append Right lead m.marks (w ∷ []) f.right ((f.there, refl, same, on), tt) }
 
         locked : Gone (takes_lock (own_lock g) m1)
         locked =
@@ -228,7 +176,6 @@ module _ (script : Script) (ms : List Mark) (node : Node) (g : Gxid) (c : Cid) (
               there = f.there;
               right = behind-append Right lead m1.marks (hold_mark m.seg.node (own_lock g) ∷ []) written.right
                   ((f.there, refl, inr (inr (record { own = (refl, refl); front = lead ++ m.marks; cid = d; table = table; rid = rid; image = image; behind = sym (append_assoc lead m.marks (w ∷ [])) }))), tt);
-              noted = still-noted m1 (hold_mark m.seg.node (own_lock g) ∷ []) written;
             }
 
         by_phase : (p : Phase) → Gone (takes_own g p m1)
@@ -240,7 +187,7 @@ module _ (script : Script) (ms : List Mark) (node : Node) (g : Gxid) (c : Cid) (
         by_phase Aborted = written
 
     -- ROWS THAT ARE CHANGED
-    module _ (k : Change) (goes-on : GoesThroughRows line k.table) (same : k.cid ≡ c) (on : k.table ≡ t) where
+    module _ (k : Change) (goes-on : GoesThroughRows line k.table k.cond) (at-level : k.level ≡ level) (same : k.cid ≡ c) (on : k.table ≡ t) where
       -- a row that is done gives its lock back
       back : (m : Moved) (rid : Rid) → Gone m → Gone (gives_back_if_held (tuple_lock g rid) m)
       back m rid f = by_test (is_holding m (tuple_lock g rid))
@@ -273,59 +220,69 @@ module _ (script : Script) (ms : List Mark) (node : Node) (g : Gxid) (c : Cid) (
       path m (v ∷ vs) last f e = path v.after vs last (by-does m v.rid (does_row m g k v.rid) v.after v.wrote f (does m g k v.rid) e.1) e.2
 
       -- it begins to wait at a row
-      waits-so : (rid : Rid) (rest : List Rid) (count : ℕ) (wanted : Claim) (m : Moved) → wanted.gxid ≡ g → Needs script (ms ++ (lead ++ m.marks)) node g line wanted.object wanted.mode → Gone m → IsRight (suspends_at (waits wanted m).moved g k (suspended_at k rid rest count))
+      waits-so : (rid : Rid) (rest : List Rid) (count : ℕ) (wanted : Claim) (m : Moved) → wanted.gxid ≡ g → Needs script (ms ++ (lead ++ m.marks)) node level g c line wanted.object wanted.mode → Gone m → IsRight (suspends_at (waits wanted m).moved g k (suspended_at k rid rest count))
       waits-so rid rest count wanted m owner needs f = behind-append Right lead m.marks (wait_mark m.seg.node wanted ∷ []) f.right ((f.there, owner, needs), tt)
 
-      stops : (m : Moved) (rid : Rid) (rest : List Rid) (count : ℕ) (turn : RowTurn) (stop : DidStop m g k rid turn) → Gone m → IsRight (suspends_at stop.stopped g k (suspended_at k rid rest count))
-      stops m rid rest count turn stop f = by_how stop.stopped stop.how
+      -- what it needs at a row at which it stops
+      abbrev Needed : Moved → Rid → Type 0
+      Needed m rid = NeedsThere (ms ++ lead) node g k m rid
+
+      needed-at : (m : Moved) (rid : Rid) (h : Gxid) → NeedsAt ((ms ++ lead) ++ m.marks) node k.level g k.cid k.table k.cond rid h → NeedsAt (ms ++ (lead ++ m.marks)) node level g c k.table k.cond rid h
+      needed-at m rid h n =
+          subst (λ b. NeedsAt b node level g c k.table k.cond rid h) (append_assoc ms lead m.marks)
+          (subst (λ l. NeedsAt ((ms ++ lead) ++ m.marks) node l g c k.table k.cond rid h) at-level (subst (λ d. NeedsAt ((ms ++ lead) ++ m.marks) node k.level g d k.table k.cond rid h) same n))
+
+      -- with the row's lock it is still another's
+      still-unsettled : (m : Moved) (rid : Rid) (h : Gxid) → is_settled m g h ≡ false → is_settled (takes_lock (tuple_lock g rid) m) g h ≡ false
+      still-unsettled m rid h e =
+          ap (λ b. is_same_gxid h g || not b) (held-other (tuple_lock g rid) (own_lock h) m.seg.locks.holds (first (is_same_gxid h g) _ e)) ∙ e
         where
-          row : HasWritten (ms ++ (lead ++ m.marks)) node k.table rid stop.version.gxid
-          row = current-noted (ms ++ (lead ++ m.marks)) node m.seg k.table rid stop.version f.noted stop.current
+          first : (a b : Bool) → (a || b) ≡ false → a ≡ false
+          first a b e = grind arith
 
-          other : is_same_gxid stop.version.gxid g ≡ false
-          other = first (is_same_gxid stop.version.gxid g) _ stop.unsettled
-            where
-              first : (a b : Bool) → (a || b) ≡ false → a ≡ false
-              first a b e = grind arith
+      stops : (m : Moved) (rid : Rid) (rest : List Rid) (count : ℕ) (turn : RowTurn) (stop : DidStop m g k rid turn) → Needed m rid × Needed (takes_lock (tuple_lock g rid) m) rid → Gone m → IsRight (suspends_at stop.stopped g k (suspended_at k rid rest count))
+      stops m rid rest count turn stop needed f = by_how stop.stopped stop.how
+        where
+          row : NeedsAt (ms ++ (lead ++ m.marks)) node level g c k.table k.cond rid stop.version.gxid
+          row = needed-at m rid stop.version.gxid (needed.0 stop.version stop.current stop.unsettled)
 
-          later : (more : List Mark) → HasWritten (ms ++ (lead ++ (m.marks ++ more))) node k.table rid stop.version.gxid
-          later more =
-              record {
-                cid = row.cid;
-                image = row.image;
-                noted = subst (λ q. Contains q (mark.Write stop.version.gxid row.cid node k.table rid row.image)) (append_assoc ms (lead ++ m.marks) more ∙ ap (λ q. ms ++ q) (append_assoc lead m.marks more))
-                    (Contains-append_left (ms ++ (lead ++ m.marks)) more (mark.Write stop.version.gxid row.cid node k.table rid row.image) row.noted);
-              }
+          with-lock : NeedsAt (ms ++ (lead ++ (takes_lock (tuple_lock g rid) m).marks)) node level g c k.table k.cond rid stop.version.gxid
+          with-lock = needed-at (takes_lock (tuple_lock g rid) m) rid stop.version.gxid (needed.1 stop.version stop.current (still-unsettled m rid stop.version.gxid stop.unsettled))
+
+          for-end : (n : Moved) → NeedsAt (ms ++ (lead ++ n.marks)) node level g c k.table k.cond rid stop.version.gxid → Needs script (ms ++ (lead ++ n.marks)) node level g c line (end_lock g stop.version.gxid).object (end_lock g stop.version.gxid).mode
+          for-end n need = inr (k.table, k.cond, goes-on, (refl, (rid, need)))
+
+          for-row : Needs script (ms ++ (lead ++ m.marks)) node level g c line (tuple_lock g rid).object (tuple_lock g rid).mode
+          for-row = inr (k.table, k.cond, goes-on, (refl, (stop.version.gxid, row)))
 
           Stopped : Moved → Type 0
           Stopped n = IsRight (suspends_at n g k (suspended_at k rid rest count))
 
           by_how : (n : Moved) → WaitsAt m g rid stop.version.gxid n → Stopped n
-          by_how n (inl h) = subst Stopped (sym h.1) (waits-so rid rest count (end_lock g stop.version.gxid) m refl (inr (k.table, goes-on, (refl, other, (rid, row)))) f)
+          by_how n (inl h) = subst Stopped (sym h.1) (waits-so rid rest count (end_lock g stop.version.gxid) m refl (for-end m row) f)
           by_how n (inr (inl h)) =
               subst Stopped (sym h.1)
-              (waits-so rid rest count (end_lock g stop.version.gxid) (takes_lock (tuple_lock g rid) m) refl (inr (k.table, goes-on, (refl, other, (rid, later (hold_mark m.seg.node (tuple_lock g rid) ∷ [])))))
-              (takes (tuple_lock g rid) m refl (inr (k.table, goes-on, (refl, (stop.version.gxid, row)))) f))
-          by_how n (inr (inr h)) = subst Stopped (sym h.1) (waits-so rid rest count (tuple_lock g rid) m refl (inr (k.table, goes-on, (refl, (stop.version.gxid, row)))) f)
+              (waits-so rid rest count (end_lock g stop.version.gxid) (takes_lock (tuple_lock g rid) m) refl (for-end (takes_lock (tuple_lock g rid) m) with-lock) (takes (tuple_lock g rid) m refl for-row f))
+          by_how n (inr (inr h)) = subst Stopped (sym h.1) (waits-so rid rest count (tuple_lock g rid) m refl for-row f)
 
-      by-stop : (m : Moved) (rid : Rid) (rest : List Rid) (count : ℕ) (turn : RowTurn) (stopped : Moved) → Gone m → Does m g k rid turn → turn ≡ row_ended stopped Waiting → IsRight (suspends_at stopped g k (suspended_at k rid rest count))
-      by-stop m rid rest count turn stopped f (inl h) e = absurd (no (ap (λ (x : RowTurn). x.end) (sym h.is ∙ e)))
+      by-stop : (m : Moved) (rid : Rid) (rest : List Rid) (count : ℕ) (turn : RowTurn) (stopped : Moved) → Needed m rid × Needed (takes_lock (tuple_lock g rid) m) rid → Gone m → Does m g k rid turn → turn ≡ row_ended stopped Waiting → IsRight (suspends_at stopped g k (suspended_at k rid rest count))
+      by-stop m rid rest count turn stopped needed f (inl h) e = absurd (no (ap (λ (x : RowTurn). x.end) (sym h.is ∙ e)))
         where
           no : Written ≡ Waiting → ⊥
           no q = cc
-      by-stop m rid rest count turn stopped f (inr (inl h)) e = absurd (no (ap (λ (x : RowTurn). x.end) (sym h.is ∙ e)))
+      by-stop m rid rest count turn stopped needed f (inr (inl h)) e = absurd (no (ap (λ (x : RowTurn). x.end) (sym h.is ∙ e)))
         where
           no : Skipped ≡ Waiting → ⊥
           no q = cc
-      by-stop m rid rest count turn stopped f (inr (inr (inl h))) e = absurd (no (ap (λ (x : RowTurn). x.end) (sym h.is ∙ e)))
+      by-stop m rid rest count turn stopped needed f (inr (inr (inl h))) e = absurd (no (ap (λ (x : RowTurn). x.end) (sym h.is ∙ e)))
         where
           no : {cause : Cause} → Failing cause ≡ Waiting → ⊥
           no q = cc
-      by-stop m rid rest count turn stopped f (inr (inr (inr (inl h)))) e = absurd (no (ap (λ (x : RowTurn). x.end) (sym h.is ∙ e)))
+      by-stop m rid rest count turn stopped needed f (inr (inr (inr (inl h)))) e = absurd (no (ap (λ (x : RowTurn). x.end) (sym h.is ∙ e)))
         where
           no : {cause : Cause} → Failing cause ≡ Waiting → ⊥
           no q = cc
-      by-stop m rid rest count turn stopped f (inr (inr (inr (inr h)))) e = subst (λ n. IsRight (suspends_at n g k (suspended_at k rid rest count))) (ap (λ (x : RowTurn). x.moved) (sym h.is ∙ e)) (stops m rid rest count turn h f)
+      by-stop m rid rest count turn stopped needed f (inr (inr (inr (inr h)))) e = subst (λ n. IsRight (suspends_at n g k (suspended_at k rid rest count))) (ap (λ (x : RowTurn). x.moved) (sym h.is ∙ e)) (stops m rid rest count turn h needed f)
 
       by-fail : (m : Moved) (rid : Rid) (turn : RowTurn) (n : Moved) (cause : Cause) → Gone m → Does m g k rid turn → turn ≡ row_ended n (Failing cause) → Gone n
       by-fail m rid turn n cause f (inl h) e = absurd (no (ap (λ (x : RowTurn). x.end) (sym h.is ∙ e)))
@@ -343,20 +300,20 @@ module _ (script : Script) (ms : List Mark) (node : Node) (g : Gxid) (c : Cid) (
           no : Waiting ≡ Failing cause → ⊥
           no q = cc
 
-      by-end : (rids : List Rid) (m : Moved) (count : ℕ) (turn : SegTurn) → Gone m → GoesThrough g k rids m count turn → IsRight turn
-      by-end rids m count turn f (inl h) = subst IsRight (sym h.is) (path m h.visits h.last f h.path).right
-      by-end rids m count turn f (inr (inl h)) = subst IsRight (sym h.is) (by-stop h.last h.rid h.rest (count + written_in h.visits) (does_row h.last g k h.rid) h.stopped (path m h.visits h.last f h.path) (does h.last g k h.rid) h.waits)
-      by-end rids m count turn f (inr (inr h)) = subst IsRight (sym h.is) (by-fail h.last h.rid (does_row h.last g k h.rid) h.failed h.cause (path m h.visits h.last f h.path) (does h.last g k h.rid) h.fails).right
+      by-end : (rids : List Rid) (m : Moved) (count : ℕ) (turn : SegTurn) → Stops (ms ++ lead) node g k rids m → Gone m → GoesThrough g k rids m count turn → IsRight turn
+      by-end rids m count turn at f (inl h) = subst IsRight (sym h.is) (path m h.visits h.last f h.path).right
+      by-end rids m count turn at f (inr (inl h)) = subst IsRight (sym h.is) (by-stop h.last h.rid h.rest (count + written_in h.visits) (does_row h.last g k h.rid) h.stopped (at h.visits h.last h.rid h.rest h.split h.path) (path m h.visits h.last f h.path) (does h.last g k h.rid) h.waits)
+      by-end rids m count turn at f (inr (inr h)) = subst IsRight (sym h.is) (by-fail h.last h.rid (does_row h.last g k h.rid) h.failed h.cause (path m h.visits h.last f h.path) (does h.last g k h.rid) h.fails).right
 
       -- from a row on
-      pub went-on : (rids : List Rid) (count : ℕ) (m : Moved) → Gone m → IsRight (goes_through g k rids m count)
-      went-on rids count m f = by-end rids m count (goes_through g k rids m count) f (goes g k rids m count)
+      pub went-on : (rids : List Rid) (count : ℕ) (m : Moved) → Stops (ms ++ lead) node g k rids m → Gone m → IsRight (goes_through g k rids m count)
+      went-on rids count m at f = by-end rids m count (goes_through g k rids m count) at f (goes g k rids m count)
 
-      changed : (s : Seg) → Gone (starts_from s) → IsRight (changes_rows s g (Some k))
-      changed s f = by_fault (first_fault k.cond (shown_to s g k))
+      changed : (s : Seg) → Stops (ms ++ lead) node g k (selected k.cond (shown_to s g k)) (starts_from s) → Gone (starts_from s) → IsRight (changes_rows s g (Some k))
+      changed s at f = by_fault (first_fault k.cond (shown_to s g k))
         where
           by_fault : (o : Option (KeyedRow × ArithFault)) → IsRight (unless_fault s g k (shown_to s g k) o)
-          by_fault None = went-on (selected k.cond (shown_to s g k)) 0 (starts_from s) f
+          by_fault None = went-on (selected k.cond (shown_to s g k)) 0 (starts_from s) at f
           by_fault (Some x) = (tt, tt)
 
     inserts : (d : Cid) (table : Table) (rows : List KeyedRow) (m : Moved) → d ≡ c → table ≡ t → Gone m → Gone (fold (inserts_row g d table) m rows)
@@ -367,29 +324,36 @@ module _ (script : Script) (ms : List Mark) (node : Node) (g : Gxid) (c : Cid) (
     select s q rows None = tt
     select s q rows (Some f) = (tt, tt)
 
-    start : (s : Seg) → s.node ≡ node → Each (IsNoted (ms ++ lead) node) s.versions → Gone (starts_from s)
-    start s n noted = record { there = n; right = tt; noted = subst (λ q. Each (IsNoted (ms ++ q) node) s.versions) (sym (append-nil lead)) noted }
+    start : (s : Seg) → s.node ≡ node → Gone (starts_from s)
+    start s n = record { there = n; right = tt }
 
-    change : (s : Seg) → Gone (starts_from s) → (o : Option Change) → ((k : Change) → o ≡ Some k → GoesThroughRows line k.table × (k.cid ≡ c) × (k.table ≡ t)) → IsRight (changes_rows s g o)
+    -- what is known of a slice that changes rows
+    pub record Changing (s : Seg) (k : Change) : Type 0 where
+      pub through : GoesThroughRows line k.table k.cond
+      pub isolation : k.level ≡ level
+      pub number : k.cid ≡ c
+      pub on : k.table ≡ t
+      pub stops : Stops (ms ++ lead) node g k (selected k.cond (shown_to s g k)) (starts_from s)
+
+    change : (s : Seg) → Gone (starts_from s) → (o : Option Change) → ((k : Change) → o ≡ Some k → Changing s k) → IsRight (changes_rows s g o)
     change s f None h = tt
-    change s f (Some k) h = let z = h k refl in changed k z.0 z.1 z.2 s f
+    change s f (Some k) h = let z = h k refl in changed k z.through z.isolation z.number z.on s z.stops f
 
     -- ALL SLICES
-    pub slice-right : (s : Seg) → s.node ≡ node → Each (IsNoted (ms ++ lead) node) s.versions → (level : Level) (snapshot : Option Snapshot) (x : Slice) → table_in x ≡ t
-        → ((k : Change) → change_of c level snapshot x ≡ Some k → GoesThroughRows line k.table × (k.cid ≡ c) × (k.table ≡ t)) → IsRight (runs_slice s g c level snapshot x)
-    slice-right s n noted level (Some seen) (slice.Select q) on f = select s q (shown s seen g c q.table) (first_fault q.cond (shown s seen g c q.table))
-    slice-right s n noted level (Some seen) (slice.Insert table rows) on f = (inserts c table rows (starts_from s) refl on (start s n noted)).right
-    slice-right s n noted level None (slice.Select q) on f = tt
-    slice-right s n noted level None (slice.Insert table rows) on f = tt
-    slice-right s n noted level snapshot (slice.Lock table mode) on f = tt
-    slice-right s n noted level snapshot (slice.Update table assigns cond) on f = change s (start s n noted) (change_of c level snapshot (slice.Update table assigns cond)) f
-    slice-right s n noted level snapshot (slice.Delete table cond) on f = change s (start s n noted) (change_of c level snapshot (slice.Delete table cond)) f
+    pub slice-right : (s : Seg) → s.node ≡ node → (snapshot : Option Snapshot) (x : Slice) → table_in x ≡ t → ((k : Change) → change_of c level snapshot x ≡ Some k → Changing s k) → IsRight (runs_slice s g c level snapshot x)
+    slice-right s n (Some seen) (slice.Select q) on f = select s q (shown s seen g c q.table) (first_fault q.cond (shown s seen g c q.table))
+    slice-right s n (Some seen) (slice.Insert table rows) on f = (inserts c table rows (starts_from s) refl on (start s n)).right
+    slice-right s n None (slice.Select q) on f = tt
+    slice-right s n None (slice.Insert table rows) on f = tt
+    slice-right s n snapshot (slice.Lock table mode) on f = tt
+    slice-right s n snapshot (slice.Update table assigns cond) on f = change s (start s n) (change_of c level snapshot (slice.Update table assigns cond)) f
+    slice-right s n snapshot (slice.Delete table cond) on f = change s (start s n) (change_of c level snapshot (slice.Delete table cond)) f
 
   -- what it has waited for at a row is granted
-  pub granted : (s : Seg) (rid : Rid) (wanted : Claim) → s.node ≡ node → Each (IsNoted ms node) s.versions → list_any (same_claim wanted) (waits_at (ms ++ []) node) ≡ true → IsAtRow g rid wanted → Gone [] (is_granted s g wanted)
-  granted s rid wanted n noted waited (inl e) =
+  pub granted : (s : Seg) (rid : Rid) (wanted : Claim) → s.node ≡ node → list_any (same_claim wanted) (waits_at (ms ++ []) node) ≡ true → IsAtRow g rid wanted → Gone [] (is_granted s g wanted)
+  granted s rid wanted n waited (inl e) =
       subst (λ x. Gone [] (is_granted s g x)) e
-      (record { there = n; right = ((n, refl, inr (inl (subst (λ x. list_any (same_claim x) (waits_at (ms ++ []) node) ≡ true) (sym e) waited))), tt); noted = noted-more ms _ node s.versions noted })
-  granted s rid wanted n noted waited (inr e) =
+      (record { there = n; right = ((n, refl, inr (inl (subst (λ x. list_any (same_claim x) (waits_at (ms ++ []) node) ≡ true) (sym e) waited))), tt) })
+  granted s rid wanted n waited (inr e) =
       subst (λ x. Gone [] (is_granted s g x)) e.is
-      (record { there = n; right = ((n, refl, inr (inl (subst (λ x. list_any (same_claim x) (waits_at (ms ++ []) node) ≡ true) (sym e.is) waited))), (tt, tt)); noted = noted-more ms _ node s.versions noted })
+      (record { there = n; right = ((n, refl, inr (inl (subst (λ x. list_any (same_claim x) (waits_at (ms ++ []) node) ≡ true) (sym e.is) waited))), (tt, tt)) })

@@ -23,7 +23,7 @@ use Rattle.gx_msg.specs.declared.message.Message.{Message}
 use Rattle.gx_msg.specs.declared.message.Message.TheVariants as message
 use Rattle.gx_msg.specs.declared.reply.Reply.TheVariants as reply
 use Rattle.gx_script.specs.declared.Script.{Script}
-use Rattle.gx_store.specs.Asking.{Asks, AsksThere, GrantsWait, IsAsked, IsAtWork, IsOrWasUnderWay, LocksItself, Needs, NeedsTable, WritesAtWork, has_told, tells, GoesThroughRows}
+use Rattle.gx_store.specs.Asking.{Asks, GrantsWait, IsAsked, IsAtWork, IsOrWasUnderWay, Needs, NeedsTable, WritesAtWork, has_told, tells, GoesThroughRows}
 use Rattle.gx_store.specs.Journals.{is_same_node}
 use Rattle.gx_store.specs.Language.{AreLinesNumbered}
 use Rattle.gx_store.specs.Marks.{is_aborted, is_command_of, is_ended}
@@ -39,12 +39,13 @@ use Rattle.gx_store.specs.declared.event.Event.{Event}
 use Rattle.gx_store.specs.declared.mark.Mark.{Mark}
 use Rattle.gx_store.specs.declared.mark.Mark.TheVariants as mark
 use Rattle.gx_store.specs.declared.run.Step.{Step}
-use Rattle.gx_rules.specs.Changes.{Change, change_of, goes_through}
+use Rattle.gx_rules.specs.Changes.{Change, change_of, goes_through, selected, shown_to}
 use Rattle.gx_rules.specs.Locks.{hold_mark, wait_mark}
 use Rattle.gx_rules.specs.Machine.{Letter, World}
 use Rattle.gx_rules.specs.Running.{is_granted, runs_slice}
 use Rattle.gx_store.specs.Locks.{slice_lock}
 use Rattle.gx_rules.specs.Segments.{Local, Seg}
+use Rattle.gx_rules.specs.Slices.{starts_from}
 use Rattle.gx_law_order.specs.Alive.{AreSilent, HasAnswered, HasRun, IsAlive, IsHeard, IsUnderWayBehind, WasUnderWay}
 use Rattle.gx_law_order.specs.Orders.{IsOrder}
 use Rattle.gx_law_order.specs.Rest.{EachMark}
@@ -64,12 +65,14 @@ use Rattle.gx_law_locks.specs.Waiting.{EachBehind}
 use Rattle.gx_law_locks.specs.Marked.{IsMarked}
 use Rattle.gx_law_locks.proofs.Lasting.{IsIn, in-new, late-behind, late-front, still-held}
 use Rattle.gx_law_locks.proofs.Tables.{own-gxid, slice-lasts}
-use Rattle.gx_law_writes.proofs.AskedSlices.{IsInsertOf, IsNoted, Right, noted-more, change-changing, changing-goes, granted, lock-object, slice-needs, slice-right, table_in, went-on}
+use Rattle.gx_law_writes.proofs.AskedSlices.{Changing, IsInsertOf, Right, change-changing, change-goes, granted, lock-object, slice-needs, slice-right, table_in, went-on}
+use Rattle.gx_law_writes.proofs.NeedsRows.{Stops}
 use Rattle.gx_law_writes.proofs.Next.{next_command}
 use Rattle.gx_law_writes.proofs.Pieces.{IsSliceOf, order-slice}
 use Rattle.gx_law_writes.proofs.Plans.{row-piece}
 use Rattle.gx_law_writes.proofs.Told.{SentTold, StepTold, taken-told}
 use Rattle.gx_store.specs.Commands.{IsUnderWay}
+use Rattle.gx_store.specs.Writes.{IsLate}
 use Rattle.gx_law_order.proofs.Changing.{IsAtRow}
 use Rattle.gx_ids.specs.declared.rid.Rid.{Rid}
 use Rattle.gx_ids.specs.declared.ids.Table.{Table}
@@ -165,25 +168,25 @@ calm-untold g c [] e = refl
 calm-untold g c (mark.Sent to number told ∷ xs) e = absurd e.0
 calm-untold g c (m ∷ xs) e = calm-untold g c xs e.1
 
-right-calm : (script : Script) (ms : List Mark) (node : Node) (g : Gxid) (c : Cid) (line : Stmt) (t : Table) (earlier : List Mark) (m : Mark) → Right script ms node g c line t earlier m → Calm m
-right-calm script ms node g c line t earlier (mark.Hold n h object mode) r = tt
-right-calm script ms node g c line t earlier (mark.Wait n h object mode) r = tt
-right-calm script ms node g c line t earlier (mark.Release n h object mode) r = tt
-right-calm script ms node g c line t earlier (mark.Write h d n table rid image) r = tt
-right-calm script ms node g c line t earlier (mark.Skip h d rid) r = tt
-right-calm script ms node g c line t earlier (mark.Fault h d rid image) r = tt
-right-calm script ms node g c line t earlier (mark.Start h s) r = absurd r
-right-calm script ms node g c line t earlier (mark.Snap h d x) r = absurd r
-right-calm script ms node g c line t earlier (mark.Commit h) r = absurd r
-right-calm script ms node g c line t earlier (mark.Abort h) r = absurd r
-right-calm script ms node g c line t earlier (mark.Answer s n a) r = absurd r
-right-calm script ms node g c line t earlier (mark.Sent to number told) r = absurd r
-right-calm script ms node g c line t earlier (mark.Prepared n h) r = absurd r
-right-calm script ms node g c line t earlier (mark.LocalCommit n h) r = absurd r
-right-calm script ms node g c line t earlier (mark.Decided h) r = absurd r
-right-calm script ms node g c line t earlier (mark.JournalFailed n h) r = absurd r
-right-calm script ms node g c line t earlier (mark.Report n x y) r = absurd r
-right-calm script ms node g c line t earlier (mark.Recheck x y z) r = absurd r
+right-calm : (script : Script) (ms : List Mark) (node : Node) (level : Level) (g : Gxid) (c : Cid) (line : Stmt) (t : Table) (earlier : List Mark) (m : Mark) → Right script ms node level g c line t earlier m → Calm m
+right-calm script ms node level g c line t earlier (mark.Hold n h object mode) r = tt
+right-calm script ms node level g c line t earlier (mark.Wait n h object mode) r = tt
+right-calm script ms node level g c line t earlier (mark.Release n h object mode) r = tt
+right-calm script ms node level g c line t earlier (mark.Write h d n table rid image) r = tt
+right-calm script ms node level g c line t earlier (mark.Skip h d rid) r = tt
+right-calm script ms node level g c line t earlier (mark.Fault h d rid image) r = tt
+right-calm script ms node level g c line t earlier (mark.Start h s) r = absurd r
+right-calm script ms node level g c line t earlier (mark.Snap h d x) r = absurd r
+right-calm script ms node level g c line t earlier (mark.Commit h) r = absurd r
+right-calm script ms node level g c line t earlier (mark.Abort h) r = absurd r
+right-calm script ms node level g c line t earlier (mark.Answer s n a) r = absurd r
+right-calm script ms node level g c line t earlier (mark.Sent to number told) r = absurd r
+right-calm script ms node level g c line t earlier (mark.Prepared n h) r = absurd r
+right-calm script ms node level g c line t earlier (mark.LocalCommit n h) r = absurd r
+right-calm script ms node level g c line t earlier (mark.Decided h) r = absurd r
+right-calm script ms node level g c line t earlier (mark.JournalFailed n h) r = absurd r
+right-calm script ms node level g c line t earlier (mark.Report n x y) r = absurd r
+right-calm script ms node level g c line t earlier (mark.Recheck x y z) r = absurd r
 
 -- WHAT IS KNOWN OF A MESSAGE OF THE COORDINATOR
 abbrev pub Posted : Script → World → Node → Message → Type 0
@@ -201,7 +204,7 @@ all-posts script w n k =
 
 -- A STEP OF A SEGMENT
 module _ (script : Script) (numbered_lines : AreLinesNumbered [] script.lines) (w : World) (n : Knows script w) (k : stepping.Holds script w) (i : ℕ) (place : IsSegment script (at i)) (marked : IsMarked (marks_in w.steps) (at i) (w.segs i).locks)
-    (told : Each (StepTold script (marks_in w.steps) (λ j g. (w.segs j).locals g)) w.steps) (noted : Each (IsNoted (marks_in w.steps) (at i)) (w.segs i).versions) (e : Event) (quiet-event : (t : SessionId) → starts_by t e ≡ 0) (whole : List Mark) (late : AreReleasesLate [] (marks_in w.steps ++ whole)) where
+    (told : Each (StepTold script (marks_in w.steps) (λ j g. (w.segs j).locals g)) w.steps) (e : Event) (quiet-event : (t : SessionId) → starts_by t e ≡ 0) (whole : List Mark) (late : AreReleasesLate [] (marks_in w.steps ++ whole)) where
   abbrev ms : List Mark
   ms = marks_in w.steps
 
@@ -223,14 +226,15 @@ module _ (script : Script) (numbered_lines : AreLinesNumbered [] script.lines) (
     was : WasUnderWay script w.steps g c
     was = post.2
 
-    at-point : (earlier later : List Mark) → Each Calm earlier → IsOrWasUnderWay script (record { steps = w.steps; event = e; earlier = earlier; later = later }) g c order.line
-    at-point earlier later calm = by_state post.0
+    -- it is under way at its level, or its transaction has aborted
+    stands-at : (earlier later : List Mark) → Each Calm earlier → ((session : SessionId) × IsUnderWay script (record { steps = w.steps; event = e; earlier = earlier; later = later }) session order.line level g c) ⊎ IsLate script (record { steps = w.steps; event = e; earlier = earlier; later = later }) g c order.line
+    stands-at earlier later calm = by_state post.0
       where
-        by_state : IsUnderWayBehind script w.steps level g c ⊎ HasAnswered (IsHeard w.steps) (at i) g c ⊎ (is_aborted ms g ≡ true) → IsOrWasUnderWay script (record { steps = w.steps; event = e; earlier = earlier; later = later }) g c order.line
+        by_state : IsUnderWayBehind script w.steps level g c ⊎ HasAnswered (IsHeard w.steps) (at i) g c ⊎ (is_aborted ms g ≡ true)
+            → ((session : SessionId) × IsUnderWay script (record { steps = w.steps; event = e; earlier = earlier; later = later }) session order.line level g c) ⊎ IsLate script (record { steps = w.steps; event = e; earlier = earlier; later = later }) g c order.line
         by_state (inl u) =
             inl (
               u.session,
-              level,
               subst (λ l. IsUnderWay script (record { steps = w.steps; event = e; earlier = earlier; later = later }) u.session l level g c) (some-same u.line order.line (sym (u.of numbered_lines) ∙ order.of))
                   (u.runs e earlier later (quiet-event u.session) (calm-silent earlier calm)),
             )
@@ -246,6 +250,22 @@ module _ (script : Script) (numbered_lines : AreLinesNumbered [] script.lines) (
               level = was.level;
               ran = subst (λ l. IsUnderWay script was.point was.session l was.level g c) (some-same was.line order.line (sym (was.of numbered_lines) ∙ order.of)) was.ran;
             })
+
+    at-point : (earlier later : List Mark) → Each Calm earlier → IsOrWasUnderWay script (record { steps = w.steps; event = e; earlier = earlier; later = later }) g c order.line
+    at-point earlier later calm = by_way (stands-at earlier later calm)
+      where
+        by_way : ((session : SessionId) × IsUnderWay script (record { steps = w.steps; event = e; earlier = earlier; later = later }) session order.line level g c) ⊎ IsLate script (record { steps = w.steps; event = e; earlier = earlier; later = later }) g c order.line
+            → IsOrWasUnderWay script (record { steps = w.steps; event = e; earlier = earlier; later = later }) g c order.line
+        by_way (inl u) = inl (u.0, level, u.1)
+        by_way (inr l) = inr l
+
+    runs-at : (earlier later : List Mark) → Each Calm earlier → is_aborted (ms ++ earlier) g ≡ false → (session : SessionId) × IsUnderWay script (record { steps = w.steps; event = e; earlier = earlier; later = later }) session order.line level g c
+    runs-at earlier later calm unaborted = by_way (stands-at earlier later calm)
+      where
+        by_way : ((session : SessionId) × IsUnderWay script (record { steps = w.steps; event = e; earlier = earlier; later = later }) session order.line level g c) ⊎ IsLate script (record { steps = w.steps; event = e; earlier = earlier; later = later }) g c order.line
+            → (session : SessionId) × IsUnderWay script (record { steps = w.steps; event = e; earlier = earlier; later = later }) session order.line level g c
+        by_way (inl u) = u
+        by_way (inr l) = absurd (true-false (is_aborted (ms ++ earlier) g) l.aborted unaborted)
 
     at-work : (earlier later : List Mark) → Each Calm earlier → IsAtWork script (record { steps = w.steps; event = e; earlier = earlier; later = later }) (at i) g c order.line
     at-work earlier later calm =
@@ -285,22 +305,22 @@ module _ (script : Script) (numbered_lines : AreLinesNumbered [] script.lines) (
     locks-table : NeedsTable script g order.line (Relation (table_in x)) (slice_lock script g x).mode
     locks-table = subst (λ o. NeedsTable script g order.line o (slice_lock script g x).mode) (lock-object script g x) table-needs
 
-    changes : (q : Change) → change_of c level snapshot x ≡ Some q → GoesThroughRows order.line q.table × (q.cid ≡ c) × (q.table ≡ table_in x)
-    changes q is = let z = change-changing c level snapshot x q is in (subst (GoesThroughRows order.line) (sym z.2) (changing-goes order.line x its-slice z.0), z.1, z.2)
+    changes : (q : Change) → change_of c level snapshot x ≡ Some q → GoesThroughRows order.line q.table q.cond × ((q.level ≡ level) × (q.cid ≡ c) × (q.table ≡ table_in x))
+    changes q is = (change-goes order.line c level snapshot x q is its-slice, change-changing c level snapshot x q is)
 
     abbrev Rightly : List Mark → Mark → Type 0
-    Rightly earlier m = Right script ms (at i) g c order.line (table_in x) earlier m
+    Rightly earlier m = Right script ms (at i) level g c order.line (table_in x) earlier m
 
     -- ITS MARKS
     -- of the command's own transaction, at the node
     owned : (P : Node → Gxid → Type 0) (node : Node) (owner : Gxid) → node ≡ at i → owner ≡ g → P (at i) g → P node owner
     owned P node owner there its p = subst (λ q. P q owner) (sym there) (subst (λ q. P (at i) q) (sym its) p)
 
-    asks : (earlier later : List Mark) → Each Calm earlier → (node : Node) (owner : Gxid) (object : Object) (mode : Mode) → node ≡ at i → owner ≡ g → Needs script (ms ++ earlier) (at i) g order.line object mode
+    asks : (earlier later : List Mark) → Each Calm earlier → (node : Node) (owner : Gxid) (object : Object) (mode : Mode) → node ≡ at i → owner ≡ g → Needs script (ms ++ earlier) (at i) level g c order.line object mode
         → Asks script (record { steps = w.steps; event = e; earlier = earlier; later = later }) node owner object mode
     asks earlier later calm node owner object mode there its needs =
         owned (λ a b. Asks script (record { steps = w.steps; event = e; earlier = earlier; later = later }) a b object mode) node owner there its
-        (inr (record { cid = c; line = order.line; at_work = at-work earlier later calm; needs = needs }))
+        (inr (record { cid = c; line = order.line; at_work = at-work earlier later calm; level = level; runs = runs-at earlier later calm; needs = needs }))
 
     grants : (earlier later : List Mark) → Each Calm earlier → (node : Node) (owner : Gxid) (object : Object) (mode : Mode) → node ≡ at i → owner ≡ g → list_any (same_claim (claim g object mode)) (waits_at (ms ++ earlier) (at i)) ≡ true
         → GrantsWait script (record { steps = w.steps; event = e; earlier = earlier; later = later }) node owner object mode
@@ -366,25 +386,29 @@ module _ (script : Script) (numbered_lines : AreLinesNumbered [] script.lines) (
       one more later rest (mark.Report a b d) calm split r = absurd r
       one more later rest (mark.Recheck a b d) calm split r = absurd r
 
-      all : (more xs later rest : List Mark) → Each Calm (lead ++ more) → whole ≡ lead ++ (more ++ (xs ++ rest)) → EachBehind (Right script ms (at i) g c order.line (table_in x)) (lead ++ more) xs → EachMark (IsAsked script) w.steps e (lead ++ more) xs later
+      all : (more xs later rest : List Mark) → Each Calm (lead ++ more) → whole ≡ lead ++ (more ++ (xs ++ rest)) → EachBehind (Right script ms (at i) level g c order.line (table_in x)) (lead ++ more) xs → EachMark (IsAsked script) w.steps e (lead ++ more) xs later
       all more [] later rest calm split r = tt
       all more (m ∷ xs) later rest calm split r = (
         one more (xs ++ later) ((m ∷ xs) ++ rest) m calm split r.0,
         subst (λ q. EachMark (IsAsked script) w.steps e q xs later) (sym (append_assoc lead more (m ∷ [])))
-            (all (more ++ m ∷ []) xs later rest (subst (Each Calm) (append_assoc lead more (m ∷ [])) (each_append Calm (lead ++ more) (m ∷ []) calm (right-calm script ms (at i) g c order.line (table_in x) (lead ++ more) m r.0, tt)))
-            (split ∙ ap (λ q. lead ++ q) (sym (append_assoc more (m ∷ []) (xs ++ rest)))) (subst (λ q. EachBehind (Right script ms (at i) g c order.line (table_in x)) q xs) (append_assoc lead more (m ∷ [])) r.1)),
+            (all (more ++ m ∷ []) xs later rest (subst (Each Calm) (append_assoc lead more (m ∷ [])) (each_append Calm (lead ++ more) (m ∷ []) calm (right-calm script ms (at i) level g c order.line (table_in x) (lead ++ more) m r.0, tt)))
+            (split ∙ ap (λ q. lead ++ q) (sym (append_assoc more (m ∷ []) (xs ++ rest)))) (subst (λ q. EachBehind (Right script ms (at i) level g c order.line (table_in x)) q xs) (append_assoc lead more (m ∷ [])) r.1)),
       )
 
     -- FROM THE START
     -- with its table's lock it runs
-    pub runs : (base : Seg) → base.node ≡ at i → base.versions ≡ (w.segs i).versions → (node : Node) → node ≡ at i → (rest : List Mark) → whole ≡ hold_mark node (slice_lock script g x) ∷ ((runs_slice base g c level snapshot x).marks ++ rest) → Goes (hold_mark node (slice_lock script g x) ∷ (runs_slice base g c level snapshot x).marks)
-    runs base there same node at_node rest split later = (
+    pub runs : (base : Seg) → base.node ≡ at i → (node : Node) → node ≡ at i → ((q : Change) → change_of c level snapshot x ≡ Some q → Stops (ms ++ hold_mark node (slice_lock script g x) ∷ []) (at i) g q (selected q.cond (shown_to base g q)) (starts_from base))
+        → (rest : List Mark) → whole ≡ hold_mark node (slice_lock script g x) ∷ ((runs_slice base g c level snapshot x).marks ++ rest) → Goes (hold_mark node (slice_lock script g x) ∷ (runs_slice base g c level snapshot x).marks)
+    runs base there node at_node stops rest split later = (
       inl (asks [] ((runs_slice base g c level snapshot x).marks ++ later) tt node (slice_lock script g x).gxid (slice_lock script g x).object (slice_lock script g x).mode at_node (own-gxid script g x) (inl table-needs)),
       subst (λ q. EachMark (IsAsked script) w.steps e q (runs_slice base g c level snapshot x).marks later) (append-nil (hold_mark node (slice_lock script g x) ∷ []))
           (all (hold_mark node (slice_lock script g x) ∷ []) held [] (runs_slice base g c level snapshot x).marks later rest (tt, tt) split
-          (slice-right script ms (at i) g c order.line (table_in x) (hold_mark node (slice_lock script g x) ∷ []) base there (subst (Each (IsNoted (ms ++ hold_mark node (slice_lock script g x) ∷ []) (at i))) (sym same) (noted-more ms (hold_mark node (slice_lock script g x) ∷ []) (at i) s.versions noted)) level snapshot x refl changes)),
+          (slice-right script ms (at i) level g c order.line (table_in x) (hold_mark node (slice_lock script g x) ∷ []) base there snapshot x refl changing)),
     )
       where
+        changing : (q : Change) → change_of c level snapshot x ≡ Some q → Changing script ms (at i) level g c order.line (table_in x) (hold_mark node (slice_lock script g x) ∷ []) base q
+        changing q is = let z = changes q is in record { through = z.0; isolation = z.1.0; number = z.1.1; on = z.1.2; stops = stops q is }
+
         itself : (a : ℕ) → (a == a) ≡ true
         itself a = grind (arith, nat_tests)
 
@@ -398,12 +422,13 @@ module _ (script : Script) (numbered_lines : AreLinesNumbered [] script.lines) (
     waits node at_node later = (asks [] later tt node (slice_lock script g x).gxid (slice_lock script g x).object (slice_lock script g x).mode at_node (own-gxid script g x) (inl table-needs), tt)
 
     -- FROM A ROW ON
-    pub row-on : (q : Change) → change_of c level snapshot x ≡ Some q → (rid : Rid) (rids : List Rid) (count : ℕ) (wanted_there : Claim) → list_any (same_claim wanted_there) (w.segs i).locks.waits ≡ true → IsAtRow g rid wanted_there → IsIn (w.segs i).locks.holds (slice_lock script g x) → s.node ≡ at i → (rest : List Mark)
+    pub row-on : (q : Change) → change_of c level snapshot x ≡ Some q → (rid : Rid) (rids : List Rid) (count : ℕ) (wanted_there : Claim) → list_any (same_claim wanted_there) (w.segs i).locks.waits ≡ true → IsAtRow g rid wanted_there → IsIn (w.segs i).locks.holds (slice_lock script g x) → s.node ≡ at i
+        → Stops (ms ++ []) (at i) g q (rid ∷ rids) (is_granted s g wanted_there) → (rest : List Mark)
         → whole ≡ (goes_through g q (rid ∷ rids) (is_granted s g wanted_there) count).marks ++ rest → Goes (goes_through g q (rid ∷ rids) (is_granted s g wanted_there) count).marks
-    row-on q is rid rids count wanted_there waited lock has there rest split later =
+    row-on q is rid rids count wanted_there waited lock has there stops rest split later =
         let z = changes q is in
         all [] (subst (λ b. IsIn (holds_at b (at i)) (slice_lock script g x)) (sym (append-nil ms)) (subst (λ b. IsIn b (slice_lock script g x)) marked.holds has))
         [] _ later rest tt split
-        (went-on script ms (at i) g c order.line (table_in x) [] q z.0 z.1 z.2 (rid ∷ rids) count (is_granted s g wanted_there)
-        (granted script ms (at i) g c order.line (table_in x) s rid wanted_there there noted
+        (went-on script ms (at i) level g c order.line (table_in x) [] q z.0 z.1.0 z.1.1 z.1.2 (rid ∷ rids) count (is_granted s g wanted_there) stops
+        (granted script ms (at i) level g c order.line (table_in x) s rid wanted_there there
         (subst (λ q. list_any (same_claim wanted_there) (waits_at q (at i)) ≡ true) (sym (append-nil ms)) (subst (λ q. list_any (same_claim wanted_there) q ≡ true) marked.waits waited)) lock))

@@ -44,7 +44,7 @@ use Rattle.gx_store.specs.Rows.{row_at}
 use Rattle.gx_store.specs.View.{image}
 use Rattle.gx_rules.specs.AtSegment as segment
 use Rattle.gx_rules.specs.AtSegment.{raised, seg_rule}
-use Rattle.gx_rules.specs.Changes.{Change, change_of, changes_rows, goes_through}
+use Rattle.gx_rules.specs.Changes.{Change, change_of, changes_rows, goes_through, selected, shown_to}
 use Rattle.gx_rules.specs.Locks.{hold_mark, with_hold}
 use Rattle.gx_rules.specs.Running.{is_granted}
 use Rattle.gx_rules.specs.Machine.{World, after, does, seg_did}
@@ -52,7 +52,7 @@ use Rattle.gx_rules.specs.Maps.{with_at}
 use Rattle.gx_rules.specs.Segments.{Phase, Seg, SegTurn, Suspended, after_marks, local_of}
 use Rattle.gx_rules.specs.Sending.{clock_after, counted, numbered}
 use Rattle.gx_rules.specs.Shown.{shown}
-use Rattle.gx_rules.specs.Slices.{first_fault, inserted, inserts, locks as locks_only, selects}
+use Rattle.gx_rules.specs.Slices.{first_fault, inserted, inserts, locks as locks_only, selects, starts_from}
 use Rattle.gx_law_order.proofs.AtSegments.{PlainAt, seg_stays}
 use Rattle.gx_law_order.proofs.Lists.{each_append, each_weaker}
 use Rattle.gx_law_order.specs.Lists.{Each}
@@ -96,10 +96,11 @@ use Rattle.gx_law_writes.proofs.Alive.{Late, Live, order-live, read-by}
 use Rattle.gx_law_writes.proofs.ChangeWorks.{change-works}
 use Rattle.gx_law_writes.proofs.Changing.{change-line, change-on-rows, granted-changed}
 use Rattle.gx_law_writes.proofs.Counting.{count-append, no-write-count, none-counted}
-use Rattle.gx_law_writes.proofs.Going.{Result, homes-more as homes-behind, on-it, row-legal as goes-legal, row-result, row-work, start-legal, start-result, start-work, undone_in}
+use Rattle.gx_law_writes.proofs.Going.{Result, homes-more as homes-behind, on-it, row-legal as goes-legal, row-result, row-stops, row-work, start-legal, start-result, start-stops, start-work, undone_in}
 use Rattle.gx_law_writes.proofs.Legal.{Behind, IsPastHere, IsPastMark, behind-hold, behind-none, no-writes-legal, sent-no-write}
 use Rattle.gx_law_writes.proofs.Live.{running}
 use Rattle.gx_law_writes.proofs.Moves.{IsBase, IsOutOf, Move, change-move, freed-base, insert-move, line-of, lock-move, piece, quiet-move, rows-move, select-move, started-base, waited-move}
+use Rattle.gx_law_writes.proofs.NeedsRows.{Stops}
 use Rattle.gx_law_writes.proofs.Next.{new-next, next_command, waits-next}
 use Rattle.gx_law_writes.proofs.Told.{IsAnswerOf, IsToldOf, IsWordOf, SentTold, StepTold, answer-more, steps-more, taken-told, told-more}
 use Rattle.gx_law_writes.proofs.Pieces.{order-slice}
@@ -242,6 +243,11 @@ module _ (script : Script) (some : 1 ≤ script.segments) (numbered_lines : AreL
         pub start-all : (later : List Mark) → EachMark (IsLegalChange script) w.steps e [] (hold_mark s.node wanted ∷ (changes_rows c g (Some q)).marks) later
         start-all later = (tt, legals-each script w.steps e c.node pre goes.marks later so-legal)
 
+        -- where it stops it needs what it asks for
+        pub there-stops : wanted.gxid ≡ g → Stops (marks_in w.steps ++ hold_mark (w.segs i).node wanted ∷ []) c.node g q (selected q.cond (shown_to c g q)) (starts_from c)
+        there-stops owner =
+            start-stops script numbered_lines w known e quiet-event i place.0 placed h.begun g q changes its-line horizon c onit pre (tt, tt) (le-next undone-yet) on.alone opens undone-yet below its-served seen (owner, tt) how
+
         start-moves : Moves (after_marks (hold_mark s.node wanted ∷ []) (changes_rows c g (Some q)))
         start-moves = change-move script numbered_lines ms w.steps e i s (h.kept i) (b.knows.well.names i) g q changes its-order fresh c on pre (tt, tt) homes-here (λ later. changes-writes script w.steps e [] (pre ++ goes.marks) later (start-all later))
           where
@@ -275,6 +281,9 @@ module _ (script : Script) (some : 1 ≤ script.segments) (numbered_lines : AreL
 
         pub row-all : (later : List Mark) → EachMark (IsLegalChange script) w.steps e [] (goes_through g q rids (is_granted s g wanted) count).marks later
         row-all later = legals-each script w.steps e s.node [] from-row.marks later row-so
+
+        pub here-stops : Stops (marks_in w.steps ++ []) (w.segs i).node g q rids (is_granted (w.segs i) g wanted)
+        here-stops = row-stops script numbered_lines w known e quiet-event i place.0 placed h.begun g q changes its-line horizon low upto opens wanted owner below rids count half how
 
         row-moves : Moves (goes_through g q rids (is_granted s g wanted) count)
         row-moves =
@@ -328,6 +337,12 @@ module _ (script : Script) (some : 1 ≤ script.segments) (numbered_lines : AreL
           subst (λ (t : SegTurn). EachMark (IsLegalChange script) w.steps e [] t.marks later) (sym z.ran)
           (start-all z.g z.change z.changes its-order still-fresh z.horizon started (started-on s z.g z.horizon z.wanted owner-is) (started-base s z.g z.horizon (with_hold s.locks z.wanted) z.alone) z.wanted z.opened (new-undone (s.locals z.g.0) z.change.cid.0 z.alone z.fresh)
           (λ unaborted. seen-so.0 (to-run unaborted)) (λ unaborted. seen-so.1 place.0 (to-run unaborted)) how-it-is later)
+
+      pub exec-stops : Stops (marks_in w.steps ++ hold_mark (w.segs i).node z.wanted ∷ []) (base (w.segs i) z.horizon (with_hold (w.segs i).locks z.wanted)).node z.g z.change
+          (selected z.change.cond (shown_to (base (w.segs i) z.horizon (with_hold (w.segs i).locks z.wanted)) z.g z.change)) (starts_from (base (w.segs i) z.horizon (with_hold (w.segs i).locks z.wanted)))
+      exec-stops =
+          there-stops z.g z.change z.changes its-order still-fresh z.horizon started (started-on s z.g z.horizon z.wanted owner-is) (started-base s z.g z.horizon (with_hold s.locks z.wanted) z.alone) z.wanted z.opened (new-undone (s.locals z.g.0) z.change.cid.0 z.alone z.fresh)
+          (λ unaborted. seen-so.0 (to-run unaborted)) (λ unaborted. seen-so.1 place.0 (to-run unaborted)) how-it-is owner-is
 
       pub exec-says : Says ms (at i) z.g z.change y
       exec-says =
@@ -430,6 +445,10 @@ module _ (script : Script) (some : 1 ≤ script.segments) (numbered_lines : AreL
           table-all =
               start-all g q parts.again later-order its-next o.waits.horizon rests rests-on-it (freed-base s g wanted) wanted rests-open rests-undone (λ unaborted. still-sees.0 (still-to-run unaborted)) (λ unaborted. still-sees.1 place.0 (still-to-run unaborted)) still-alive
 
+          pub table-stops : Stops (marks_in w.steps ++ hold_mark (w.segs i).node wanted ∷ []) (freed (w.segs i) g wanted).node g q (selected q.cond (shown_to (freed (w.segs i) g wanted) g q)) (starts_from (freed (w.segs i) g wanted))
+          table-stops =
+              there-stops g q parts.again later-order its-next o.waits.horizon rests rests-on-it (freed-base s g wanted) wanted rests-open rests-undone (λ unaborted. still-sees.0 (still-to-run unaborted)) (λ unaborted. still-sees.1 place.0 (still-to-run unaborted)) still-alive owner
+
           pub table-says : Says ms (at i) g q (after_marks (hold_mark s.node wanted ∷ []) (changes_rows (freed s g wanted) g (Some q)))
           table-says =
               start-says g q parts.again later-order its-next o.waits.horizon rests rests-on-it (freed-base s g wanted) wanted rests-open rests-undone (λ unaborted. still-sees.0 (still-to-run unaborted)) (λ unaborted. still-sees.1 place.0 (still-to-run unaborted)) still-alive
@@ -448,6 +467,9 @@ module _ (script : Script) (some : 1 ≤ script.segments) (numbered_lines : AreL
 
           pub at-row-all : (later : List Mark) → EachMark (IsLegalChange script) w.steps e [] (goes_through g q (rid ∷ z.rows) (is_granted s g wanted) z.count).marks later
           at-row-all = row-all g q parts.again later-order its-next o.waits.horizon o.waits.raised opens-so wanted owner row-upto (λ unaborted. still-sees.0 (still-to-run unaborted)) (rid ∷ z.rows) z.count its-half still-alive
+
+          pub at-row-stops : Stops (marks_in w.steps ++ []) (w.segs i).node g q (rid ∷ z.rows) (is_granted (w.segs i) g wanted)
+          at-row-stops = here-stops g q parts.again later-order its-next o.waits.horizon o.waits.raised opens-so wanted owner row-upto (λ unaborted. still-sees.0 (still-to-run unaborted)) (rid ∷ z.rows) z.count its-half still-alive
 
           pub at-row-says : Says ms (at i) g q (goes_through g q (rid ∷ z.rows) (is_granted s g wanted) z.count)
           at-row-says = row-says g q parts.again later-order its-next o.waits.horizon o.waits.raised opens-so wanted owner row-upto (λ unaborted. still-sees.0 (still-to-run unaborted)) (rid ∷ z.rows) z.count its-half still-alive

@@ -19,13 +19,13 @@ use Rattle.gx_store.specs.Points.{marks_in}
 use Rattle.gx_rules.specs.Changes.{Change, RowTurn, goes_through, selected}
 use Rattle.gx_rules.specs.Segments.{Seg, SegTurn}
 use Rattle.gx_rules.specs.Slices.{Moved, fails_on, first_fault}
-use Rattle.gx_rules.specs.Visits.{DidStop, WaitsAt}
+use Rattle.gx_rules.specs.Visits.{DidStop, IsPath, Visit, WaitsAt, visited}
 use Rattle.gx_law_order.proofs.Lists.{each_weaker}
 use Rattle.gx_law_order.specs.Lists.{Each}
 use Rattle.gx_law_order.proofs.SegItems.{writes_at}
 use Rattle.gx_law_order.specs.Rest.{EachMark}
 use Rattle.gx_law_writes.specs.Parts.{IsPartOf}
-use Rattle.gx_law_writes.proofs.Chosen.{Sight}
+use Rattle.gx_law_writes.proofs.Chosen.{IsChosen, Sight}
 use Rattle.gx_law_writes.proofs.Frames.{Inv}
 use Rattle.gx_law_writes.proofs.LegalChange.{IsStatement}
 use Rattle.gx_law_writes.proofs.Path.{AreApart, IsLock, Legals, legals-append, legals-locks}
@@ -33,7 +33,7 @@ use Rattle.gx_law_writes.proofs.Points.{IsLegalChange, IsRowOf, Ok, Runs, fault-
 use Rattle.gx_law_writes.proofs.SelectedRows.{HaveHomes, IsSelected, part-seen, part-selected, selected-are-apart}
 use Rattle.gx_law_writes.proofs.Shown.{IsFirst, first-is}
 use Rattle.gx_law_writes.proofs.Turn.{ComesTo, HasFailed, HasFinished, HasHalted, HasLost, comes}
-use Rattle.gx_law_writes.proofs.RowWalk.{Rules, own_count}
+use Rattle.gx_law_writes.proofs.RowWalk.{Rules, goes as gone-through, own_count}
 
 -- LEGAL MARKS
 -- each of these marks, whatever comes behind them
@@ -124,6 +124,13 @@ module _ (script : Script) (steps : List Step) (e : Event) (pre : List Mark) (s 
           comes (marks_in steps) pre s g k IsOne IsSo the-rules m rest count counted inv
           (apart-behind done rest (subst AreApart split (selected-are-apart before s versions homes g k sight part its)))
           rest-rows free
+
+      -- a row to which it comes it has chosen, and has still to do
+      pub rows-to-do : (visits : List Visit) (last : Moved) (rid : Rid) (next : List Rid) → rest ≡ visited visits ++ rid ∷ next → IsPath g k m visits last → IsChosen sight.rows k rid × (is_processed (before ++ last.marks) g k.cid rid ≡ false)
+      rows-to-do visits last rid next parts path =
+          let apart : AreApart rest = apart-behind done rest (subst AreApart split (selected-are-apart before s versions homes g k sight part its)) in
+          let gone = gone-through (marks_in steps) pre s g k IsOne IsSo the-rules visits (rid ∷ next) m last inv path (subst AreApart parts apart) (subst (Each IsOne) parts rest-rows) (subst (Each (λ q. is_processed (before ++ m.marks) g k.cid q ≡ false)) parts free) in
+          ((each-behind IsOne (visited visits) (rid ∷ next) (subst (Each IsOne) parts rest-rows)).0.0, gone.left.0)
 
       pub goes-legal : Legals (Ok script steps e s.node) pre m.marks → Legals (Ok script steps e s.node) pre (goes_through g k rest m count).marks
       goes-legal was = comes-legal m rest (goes_through g k rest m count) rest-rows was goes-so

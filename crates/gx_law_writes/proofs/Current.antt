@@ -31,7 +31,7 @@ use Rattle.gx_law_writes.proofs.Newest.{FailsBoth, IsWriteOf, find-reverse, is_r
 use Rattle.gx_law_writes.proofs.Sound.{IsToldOf, aborted-still, committed-still}
 
 -- LISTS
-newest-same : (p q : Version → Bool) → ((v : Version) → p v ≡ q v) → (old : Option Version) (vs : List Version) → newest p old vs ≡ newest q old vs
+pub newest-same : (p q : Version → Bool) → ((v : Version) → p v ≡ q v) → (old : Option Version) (vs : List Version) → newest p old vs ≡ newest q old vs
 newest-same p q e old [] = refl
 newest-same p q e old (v ∷ vs) = newest-same p q e (if p v then Some v else old) vs ∙ ap (λ b. newest q (if b then Some v else old) vs) (e v)
 

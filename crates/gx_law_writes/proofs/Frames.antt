@@ -106,7 +106,7 @@ no-version node before ms x e =
     sym (ap (writes_at node) (sym (append_assoc before ms (x ∷ []))) ∙ writes-append node (before ++ ms) (x ∷ []) ∙ ap (λ vs. writes_at node (before ++ ms) ++ vs) e ∙ append-nil (writes_at node (before ++ ms)))
 
 module _ (s : Seg) (before : List Mark) (g : Gxid) (c : Cid) (table : Table) where
-  lock-more : (m : Moved) (wanted : Claim) → is_same_gxid wanted.gxid g ≡ true → Inv s before g c table m → Inv s before g c table (takes_lock wanted m)
+  pub lock-more : (m : Moved) (wanted : Claim) → is_same_gxid wanted.gxid g ≡ true → Inv s before g c table m → Inv s before g c table (takes_lock wanted m)
   lock-more m wanted mine i =
       record {
         node = i.node;

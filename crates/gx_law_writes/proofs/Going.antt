@@ -4,6 +4,7 @@ use Rattle.std.proofs.Common.{◌≡◌, ◌≤◌, ◌⊎◌, inl, inr, ℕ, �
 use Rattle.std.proofs.lemmas.List.{append_assoc}
 use Rattle.std.specs.Prelude.{slice_get}
 use Rattle.gx_lemmas.proofs.Lists.{place-below}
+use Rattle.gx_lemmas.proofs.Tests.{true-false}
 use Rattle.std.proofs.lemmas.Bool.{or_left}
 use Rattle.gx_store.proofs.Marks.{is_aborted-append}
 use Rattle.gx_ids.specs.declared.ids.Cid.{Cid}
@@ -33,7 +34,8 @@ use Rattle.gx_rules.specs.Machine.{World}
 use Rattle.gx_rules.specs.Running.{is_granted}
 use Rattle.gx_rules.specs.Segments.{Seg, SegTurn, Version, after_marks, local_of}
 use Rattle.gx_rules.specs.Shown.{shown}
-use Rattle.gx_rules.specs.Slices.{first_fault, starts_from}
+use Rattle.gx_rules.specs.Slices.{Moved, first_fault, starts_from}
+use Rattle.gx_rules.specs.Visits.{IsPath, Visit, visited}
 use Rattle.gx_law_order.proofs.Lists.{each_append, each_weaker}
 use Rattle.gx_law_order.specs.Lists.{Each}
 use Rattle.gx_law_order.proofs.SegItems.{writes_at}
@@ -46,13 +48,14 @@ use Rattle.gx_law_reads.specs.Sights.{IsOnlyAt}
 use Rattle.gx_law_writes.specs.Parts.{IsPartOf}
 use Rattle.gx_law_writes.specs.Says.{Says, SaysDone, SaysFault, SaysOvertaken, stmt_of_change}
 use Rattle.gx_law_writes.proofs.Bases.{granted-inv, none-done, rests-on}
-use Rattle.gx_law_writes.proofs.Chosen.{Sight}
-use Rattle.gx_law_writes.proofs.Comes.{goes-legal, start-fault}
+use Rattle.gx_law_writes.proofs.Chosen.{IsChosen, Sight}
+use Rattle.gx_law_writes.proofs.Comes.{goes-legal, rows-to-do, start-fault}
 use Rattle.gx_law_writes.proofs.Frames.{Inv, IsWork}
 use Rattle.gx_law_writes.proofs.Half.{AreLeft, HasPart, IsHalf, IsHalfDone}
 use Rattle.gx_law_writes.proofs.Late.{late-changes, late-goes, late-granted}
 use Rattle.gx_law_writes.proofs.Locks.{granted-locks, granted-versions, image-behind, processed-behind, writes-behind}
 use Rattle.gx_law_writes.proofs.OnBase.{shown-on}
+use Rattle.gx_law_writes.proofs.NeedsRows.{IsOwned, Stops, granted-owned, marked-for, stops-so}
 use Rattle.gx_law_writes.proofs.Outcome.{Outcome, fault-out, goes-out, is-statement}
 use Rattle.gx_law_writes.proofs.Parts.{part-later}
 use Rattle.gx_law_writes.proofs.Path.{IsLock, Legals, legals-locks}
@@ -295,6 +298,19 @@ module _ (script : Script) (numbered : AreLinesNumbered [] script.lines) (w : Wo
           live-result v below served (changes_rows b g (Some k)) (by-fault-out v (first_fault k.cond (shown_to b g k)) refl (given-homes (changes_rows b g (Some k)) p, start-work.work))
       start-result (inr v) p = late-result v (changes_rows b g (Some k))
 
+      -- where it stops it needs what it asks for
+      pub start-stops : Each (IsOwned g) pre → How → Stops (marks_in w.steps ++ pre) b.node g k (selected k.cond (shown_to b g k)) (starts_from b)
+      start-stops owned how =
+          stops-so (ms ++ pre) b g k (marked-for script w known i one g horizon b on opens pre owned homes-pre b-versions b-named) (starts_from b) begins tt (selected k.cond (shown_to b g k)) (λ unaborted. by_way unaborted how)
+        where
+          by_way : is_aborted (marks_in w.steps ++ pre) g ≡ false → How → (sight : Sight (marks_in w.steps ++ pre) b g k) × ((visits : List Visit) (last : Moved) (rid : Rid) (rest : List Rid) → selected k.cond (shown_to b g k) ≡ visited visits ++ rid ∷ rest → IsPath g k (starts_from b) visits last
+              → IsChosen sight.rows k rid × (is_processed ((marks_in w.steps ++ pre) ++ last.marks) g k.cid rid ≡ false))
+          by_way unaborted (inl v) = (
+            its-sight v (below (alive v)) served,
+            rows-to-do script w.steps e pre b g k (runs v b.node pre locks) (its-sight v (below (alive v)) served) b-versions homes-pre part (behind-part v) [] (selected k.cond part) refl (starts_from b) begins (all-free v) 0 (none-counted v),
+          )
+          by_way unaborted (inr v) = absurd (true-false (is_aborted (ms ++ pre) g) (is_aborted-append ms pre g ∙ or_left (is_aborted ms g) (is_aborted pre g) v.aborted) unaborted)
+
   -- FROM A ROW ON
   module _ (horizon : Gxid) (low : horizon.0 ≤ (w.segs i).horizon.0) (upto : undone ((w.segs i).locals g.0) ≤ k.cid.0 + 1) (opens : is_open (local_of (w.segs i) g).phase ≡ true) (wanted : Claim) (owner : wanted.gxid ≡ g) (below : IsBelow horizon)
       (rids : List Rid) (count : ℕ) (half : is_aborted (marks_in w.steps) g ≡ false → IsHalfDone (marks_in w.steps) (w.segs i).versions (at i) g k rids count) where
@@ -351,6 +367,19 @@ module _ (script : Script) (numbered : AreLinesNumbered [] script.lines) (w : Wo
       live-row-out given =
           goes-out script w.steps e [] s g k (runs v s.node [] tt) (its-sight horizon s on-it [] tt upto v (below (alive v)) h.has.served) changes here-versions here-homes (has-behind horizon s on-it [] tt upto h.has) part-place h.done rids h.split (is_granted s g wanted) goes-on row-ready row-free count row-counted row-was
           (given, row-work.work)
+
+    -- where it stops it needs what it asks for
+    pub row-stops : How → Stops (marks_in w.steps ++ []) (w.segs i).node g k rids (is_granted (w.segs i) g wanted)
+    row-stops how =
+        stops-so (ms ++ []) s g k (marked-for script w known i one g horizon s on-it opens [] tt here-homes here-versions named) (is_granted s g wanted) goes-on (granted-owned s g wanted owner) rids (λ unaborted. by_way unaborted how)
+      where
+        by_way : is_aborted (marks_in w.steps ++ []) g ≡ false → How → (sight : Sight (marks_in w.steps ++ []) (w.segs i) g k) × ((visits : List Visit) (last : Moved) (rid : Rid) (rest : List Rid) → rids ≡ visited visits ++ rid ∷ rest → IsPath g k (is_granted (w.segs i) g wanted) visits last
+            → IsChosen sight.rows k rid × (is_processed ((marks_in w.steps ++ []) ++ last.marks) g k.cid rid ≡ false))
+        by_way unaborted (inl v) = (
+          its-sight horizon s on-it [] tt upto v (below (alive v)) (h v).has.served,
+          rows-to-do script w.steps e [] s g k (runs v s.node [] tt) (its-sight horizon s on-it [] tt upto v (below (alive v)) (h v).has.served) here-versions here-homes (h v).has.part (row-part v) (h v).done rids (h v).split (is_granted s g wanted) goes-on (row-free v) count (row-counted v),
+        )
+        by_way unaborted (inr v) = absurd (true-false (is_aborted (ms ++ []) g) (ap (λ z. is_aborted z g) (append-nil ms) ∙ v.aborted) unaborted)
 
     pub row-legal : How → Legals (Ok script w.steps e (w.segs i).node) [] (goes_through g k rids (is_granted (w.segs i) g wanted) count).marks
     row-legal (inl v) = live-row-legal v

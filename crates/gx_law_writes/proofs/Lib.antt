@@ -12,6 +12,7 @@ pub mod Versions
 pub mod Rows
 pub mod Changing
 pub mod Moves
+pub mod NeedsRows
 pub mod Steps
 pub mod AtSegments
 pub mod World

@@ -65,7 +65,7 @@ in-of u table rid (mark.Write g c n t r x ∷ ms) o (inr i) = in-of u table rid 
 in-of u table rid (m ∷ ms) o i = in-of u table rid ms o i
 
 -- so its versions are of the table
-of-versions : (node : Node) (table : Table) (rid : Rid) (ms : List Mark) → IsOfTable table rid ms → Each (λ (v : Version). is_same_rid v.rid rid ≡ true → (v.table.0 == table.0) ≡ true) (writes_at node ms)
+pub of-versions : (node : Node) (table : Table) (rid : Rid) (ms : List Mark) → IsOfTable table rid ms → Each (λ (v : Version). is_same_rid v.rid rid ≡ true → (v.table.0 == table.0) ≡ true) (writes_at node ms)
 of-versions node table rid [] o = tt
 of-versions node table rid (mark.Write g c n t r x ∷ ms) o = by_node (is_same_node n node) (of-versions node table rid ms o.1)
   where

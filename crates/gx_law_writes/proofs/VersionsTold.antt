@@ -81,7 +81,7 @@ either-one : (a b : Bool) → (a || b) ≡ true → b ≡ false → a ≡ true
 either-one a b e f = grind arith
 
 -- each has its transaction among those who have written there
-each-version : (vs : List Version) → Each (λ (v : Version). has_version v.gxid.0 vs ≡ true) vs
+pub each-version : (vs : List Version) → Each (λ (v : Version). has_version v.gxid.0 vs ≡ true) vs
 each-version [] = tt
 each-version (v ∷ vs) = (self v.gxid (has_version v.gxid.0 vs), each_weaker (λ (u : Version). has_version u.gxid.0 vs ≡ true) (λ (u : Version). has_version u.gxid.0 (v ∷ vs) ≡ true) (λ u e. second (is_same_gxid v.gxid u.gxid) (has_version u.gxid.0 vs) e) vs (each-version vs))
   where

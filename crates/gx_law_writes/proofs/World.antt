@@ -1,9 +1,11 @@
 -- Over every run of the machine: writes are placed and legal, and what segments tell of commands is so.
-use Rattle.std.proofs.Common.{◌≡◌, ◌≤◌, inl, inr, ℕ, ◌+◌, List, [], ◌∷◌, ◌++◌, Some, Bool, true, false, refl, sym, subst, ap, ◌∙◌}
+use Rattle.std.proofs.Common.{◌≡◌, ◌≤◌, inl, inr, ℕ, ◌+◌, List, [], ◌∷◌, ◌++◌, None, Some, Bool, true, false, refl, sym, subst, ap, ◌∙◌}
 use Rattle.gx_lemmas.proofs.Numbers.{one-le-zero}
 use Rattle.gx_ids.specs.declared.ids.Gxid.{Gxid}
 use Rattle.gx_ids.specs.declared.ids.Node.{Node}
 use Rattle.gx_ids.specs.declared.ids.SessionId.{SessionId}
+use Rattle.gx_ids.specs.declared.rid.Rid.{Rid}
+use Rattle.gx_waits.specs.declared.claim.Claim.{Claim}
 use Rattle.gx_msg.specs.declared.message.Envelope.{Envelope}
 use Rattle.gx_msg.specs.declared.message.Message.{Message}
 use Rattle.gx_msg.specs.declared.message.Message.TheVariants as message
@@ -19,11 +21,12 @@ use Rattle.gx_store.specs.Points.{marks_in, starts_by}
 use Rattle.gx_store.specs.Refusals.{the_coordinator}
 use Rattle.gx_rules.specs.AtSegment as segment
 use Rattle.gx_rules.specs.AtSegment.{seg_rule}
-use Rattle.gx_rules.specs.Changes.{changes_rows, goes_through}
-use Rattle.gx_rules.specs.Locks.{hold_mark}
+use Rattle.gx_rules.specs.Changes.{Change, change_of, changes_rows, goes_through, selected, shown_to}
+use Rattle.gx_rules.specs.Locks.{hold_mark, with_hold}
 use Rattle.gx_rules.specs.Running.{is_granted}
 use Rattle.gx_rules.specs.Machine.{Letter, World, after, found, happens, new_world, seg_did, world_of, seg_can}
-use Rattle.gx_rules.specs.Segments.{SegTurn}
+use Rattle.gx_rules.specs.Segments.{Seg, SegTurn}
+use Rattle.gx_rules.specs.Slices.{starts_from}
 use Rattle.gx_rules.specs.Sending.{counted}
 use Rattle.gx_law_order.proofs.Letters.{IsFound, IsLetter, found_is}
 use Rattle.gx_law_order.specs.Lists.{Each}
@@ -48,7 +51,7 @@ use Rattle.gx_law_writes.specs.Changes.{IsTrueTurn}
 use Rattle.gx_law_writes.specs.Homes.{IsPlacedMark}
 use Rattle.gx_law_writes.proofs.Homes.{homes-placed}
 use Rattle.gx_law_writes.proofs.Told.{each-get}
-use Rattle.gx_law_writes.proofs.Turns.{ChangeGoesOn, Changed, RowGoesOn, message-turns, resumption-turns}
+use Rattle.gx_law_writes.proofs.Turns.{ChangeGoesOn, Changed, RowGoesOn, base, message-turns, resumption-turns}
 use Rattle.gx_law_order.specs.Moves.{Move, moved, world_by}
 use Rattle.gx_law_order.proofs.Induction.{IsThere, is-there, place-of}
 use Rattle.gx_law_order.proofs.Moves.{all-keep, happens-keeps, moved-ways, moves_after, next-move, world-moves}
@@ -58,7 +61,8 @@ use Rattle.gx_law_reads.proofs.Ends.{moves-facts}
 use Rattle.gx_law_reads.proofs.Staying.{moved-views-stay}
 use Rattle.gx_law_locks.proofs.HoldsInRuns.{moves-locked}
 use Rattle.gx_law_writes.proofs.Steps.{CountsStay, Leads, cancel-leads, coord-leads}
-use Rattle.gx_law_writes.proofs.AtSegments.{at-row-all, at-row-says, changes-faults, exec-all, exec-says, message-goes, resumption-goes, seg-leads, table-all, table-says}
+use Rattle.gx_law_writes.proofs.AtSegments.{at-row-all, at-row-says, at-row-stops, changes-faults, exec-all, exec-says, exec-stops, message-goes, resumption-goes, seg-leads, table-all, table-says, table-stops}
+use Rattle.gx_law_writes.proofs.NeedsRows.{Stops}
 pub use Rattle.gx_law_writes.proofs.Steps.{Holds, locals_in, nexts_in}
 
 module _ (script : Script) (some : 1 ≤ script.segments) (numbered_lines : AreLinesNumbered [] script.lines) where
@@ -140,6 +144,15 @@ module _ (script : Script) (some : 1 ≤ script.segments) (numbered_lines : AreL
         sight : IsSeenBelow w to m × IsShownView w to m
         sight = subst (λ (a : Message). IsSeenBelow w to a × IsShownView w to a) is (its-sight from to number envelope d)
 
+    -- where it stops it needs what it asks for
+    pub new-needs : (i : ℕ) → IsSegment script (at i) → (from : Node) (number : ℕ) (envelope : Envelope) → found from (at i) number w.sent ≡ Some envelope → (y : SegTurn) (z : Changed script (w.segs i) envelope.message y)
+        → let c : Seg = base (w.segs i) z.horizon (with_hold (w.segs i).locks z.wanted) in Stops (marks_in w.steps ++ hold_mark (w.segs i).node z.wanted ∷ []) c.node z.g z.change (selected z.change.cond (shown_to c z.g z.change)) (starts_from c)
+    new-needs i place from number envelope f y z =
+        let d = found_is IsPost from (at i) number w.sent envelope posts f in
+        let p = comes-there from (at i) number envelope d place.0 d.is.0.link in
+        exec-stops script some numbered_lines w b k hold facts locked h (event.Receive from (at i) number) (λ t. refl) (here.Deliver from envelope) false i place envelope.message number (its-order-is from (at i) number envelope d p.1) (its-run from (at i) number envelope d p.1)
+        (its-back from (at i) number envelope d p.1) (its-sight from (at i) number envelope d) y z
+
     -- what is known of a letter of the coordinator
     known-letter : (l : Letter) (i : ℕ) (m : Message) → IsPost l → l.from ≡ the_coordinator → l.to ≡ at i → l.envelope.message ≡ m → MessageIs script (marks_in w.steps) (at i) m × HasRun script w.steps m × SentBack w.coord w.steps the_coordinator (mark.Sent (at i) l.envelope.number m) × IsSeenBelow w (at i) m × IsShownView w (at i) m
     known-letter l i m p source target told =
@@ -159,6 +172,14 @@ module _ (script : Script) (some : 1 ≤ script.segments) (numbered_lines : AreL
     came-so : (i : ℕ) (g : Gxid) (o : GoesOn script w i g)
         → let m : Message = message.Exec g o.slice.cid o.slice.level o.slice.snapshot o.waits.horizon o.slice.slice in MessageIs script (marks_in w.steps) (at i) m × HasRun script w.steps m × SentBack w.coord w.steps the_coordinator (mark.Sent (at i) o.waits.come.letter.envelope.number m) × IsSeenBelow w (at i) m × IsShownView w (at i) m
     came-so i g o = known-letter o.waits.come.letter i _ (each-among IsPost w.sent o.waits.come.letter posts o.waits.come.among) o.waits.come.source o.waits.come.target o.waits.come.told
+
+    pub table-needs : (i : ℕ) (g : Gxid) (place : IsSegment script (at i)) (o : GoesOn script w i g) (q : Change) → change_of o.slice.cid o.slice.level o.slice.snapshot o.slice.slice ≡ Some q → o.slice.row ≡ None → (wanted : Claim) → wanted.gxid ≡ g
+        → Stops (marks_in w.steps ++ hold_mark (w.segs i).node wanted ∷ []) (freed (w.segs i) g wanted).node g q (selected q.cond (shown_to (freed (w.segs i) g wanted) g q)) (starts_from (freed (w.segs i) g wanted))
+    table-needs i g place o q changes row wanted owner = table-stops script some numbered_lines w b k hold facts locked h (event.Resume (at i) g) (λ t. refl) (here.Resume g) false i place g o q changes (came-so i g o) wanted owner row
+
+    pub row-needs : (i : ℕ) (g : Gxid) (place : IsSegment script (at i)) (o : GoesOn script w i g) (q : Change) → change_of o.slice.cid o.slice.level o.slice.snapshot o.slice.slice ≡ Some q → (rid : Rid) → o.slice.row ≡ Some rid → (wanted : Claim) → wanted.gxid ≡ g
+        → Stops (marks_in w.steps ++ []) (w.segs i).node g q (rid ∷ o.slice.rows) (is_granted (w.segs i) g wanted)
+    row-needs i g place o q changes rid row wanted owner = at-row-stops script some numbered_lines w b k hold facts locked h (event.Resume (at i) g) (λ t. refl) (here.Resume g) false i place g o q changes (came-so i g o) wanted owner rid row
 
     pub table-true : (i : ℕ) (g : Gxid) (place : IsSegment script (at i)) (o : GoesOn script w i g) (y : SegTurn) (q : ChangeGoesOn (w.segs i) g o.slice y) → IsTrueTurn script w (event.Resume (at i) g) (at i) g q.change y
     table-true i g place o y q =

@@ -1,8 +1,10 @@
 -- Why runs are refused in which a lock is waited for or granted that nobody has asked for.
-use Rattle.std.proofs.Common.{◌≡◌, ◌⊎◌, inl, inr, ℕ, ◌+◌, ◌&&◌, List, [], ◌∷◌, ◌++◌, Option, Some, None, Bool, true, false, refl, sym, subst, ap, ◌∙◌, if◌then◌else◌, arith}
+use Rattle.std.proofs.Common.{◌≡◌, ◌⊎◌, inl, inr, ℕ, ◌+◌, ◌&&◌, ◌||◌, ◌==◌, drop, take, List, [], ◌∷◌, ◌++◌, Option, Some, None, Bool, true, false, refl, sym, subst, ap, ◌∙◌, if◌then◌else◌, arith}
+use Rattle.std.proofs.lemmas.List.{take-append-drop}
 use Rattle.std.proofs.lemmas.List.Elements.{All-cons, All-contains, All-nil}
 use Rattle.std.specs.List.{list_any}
 use Rattle.std.specs.Prelude.{All}
+use Rattle.gx_ids.specs.declared.ids.Cid.{Cid}
 use Rattle.gx_ids.specs.declared.ids.Gxid.{Gxid}
 use Rattle.gx_ids.specs.declared.ids.Node.{Node}
 use Rattle.gx_ids.specs.declared.ids.SessionId.{SessionId}
@@ -14,7 +16,9 @@ use Rattle.gx_modes.specs.declared.modes.Mode.{Mode}
 use Rattle.gx_modes.specs.declared.modes.Mode.TheVariants.{AccessExclusive, AccessShare, Exclusive, RowExclusive, Share}
 use Rattle.gx_script.specs.declared.Script.{Script}
 use Rattle.gx_tree.specs.declared.cond.Cond.{Cond}
+use Rattle.gx_tree.specs.declared.expr.Expr.{Expr}
 use Rattle.gx_tree.specs.declared.query.Query.{Query}
+use Rattle.gx_tree.specs.declared.row.KeyedRow.{KeyedRow}
 use Rattle.gx_tree.specs.declared.stmt.Assign.{Assign}
 use Rattle.gx_tree.specs.declared.stmt.Level.{Level}
 use Rattle.gx_tree.specs.declared.stmt.Stmt.{Stmt}
@@ -23,20 +27,22 @@ use Rattle.gx_waits.specs.Claim.{same_claim}
 use Rattle.gx_waits.specs.declared.claim.Claim.{Claim}
 use Rattle.gx_waits.specs.declared.object.Object.{Object}
 use Rattle.gx_waits.specs.declared.object.Object.TheVariants.{Relation, Transaction}
-use Rattle.gx_store.specs.Asking.{AreAsked, Asks, AsksThere, GrantsWait, IsOrWasUnderWay, LocksItself, Needs, NeedsTable, has_told}
+use Rattle.gx_store.specs.Asking.{AreAsked, Asks, AsksThere, GrantsWait, IsOrWasUnderWay, IsToDo, LocksItself, Needs, NeedsTable, has_told}
 use Rattle.gx_store.specs.Commands.{RunsCommand}
 use Rattle.gx_store.specs.Lines.{Outside, cid_of, next_stmt, state_of}
-use Rattle.gx_store.specs.Marks.{answer_count, is_aborted, is_same_session}
+use Rattle.gx_store.specs.Marks.{answer_count, is_aborted, is_committed, is_same_rid, is_same_session}
 use Rattle.gx_store.specs.Points.{Point, before, starts_at}
-use Rattle.gx_store.specs.RefusedAsking.{done_while_waiting, idle_wait, locks_itself_early, locks_too_little, one_change, the_table, two_locks, two_queried, waits_elsewhere, waits_for_a_reader, waits_for_more, waits_here_for_more, waits_when_done, writes_when_done}
+use Rattle.gx_store.specs.RefusedAsking.{change_and_insert, done_while_waiting, idle_wait, locks_itself_early, locks_too_little, one_change, the_table, two_locks, two_queried, waits_elsewhere, waits_for_a_reader, waits_for_more, waits_for_the_ended, waits_for_unselected, waits_here_for_more, waits_when_done, writes_when_done}
 use Rattle.gx_store.specs.RefusedParts.{anna, bert, first_cid, first_txn, other_segment, second_txn, the_segment}
 use Rattle.gx_store.specs.RefusedWaits.{first_table, on_first, one_query}
 use Rattle.gx_store.specs.Refusals.{the_coordinator}
 use Rattle.gx_store.specs.Silent.{AreWaitersSilent}
-use Rattle.gx_store.specs.Waits.{waits_at}
+use Rattle.gx_store.specs.View.{image_after, is_shown_to}
+use Rattle.gx_store.specs.Waits.{is_held, waits_at}
 use Rattle.gx_waits.specs.Claims.{claim}
 use Rattle.gx_store.specs.declared.mark.Mark.{Mark}
 use Rattle.gx_store.specs.declared.mark.Mark.TheVariants as mark
+use Rattle.gx_store.proofs.Marks.{is_committed-append}
 use Rattle.gx_store.proofs.RefusedCauses.{AreEvents, NoReceipt, none-came}
 use Rattle.gx_store.proofs.RefusedParts.{clash}
 
@@ -91,21 +97,21 @@ only-line : (b : Bool) (its line : Stmt) → (if b && true then (let o : Option 
 only-line true its line e = some-same its line e
 only-line false its line e = absurd (cc)
 
-no-share : (script : Script) (marks : List Mark) (query : Query) (line : Stmt) → stmt.Select query ≡ line → Needs script marks the_segment first_txn line the_table AccessExclusive → ⊥
-no-share script marks query line e n = wrong (subst (λ l. Needs script marks the_segment first_txn l the_table AccessExclusive) (sym e) n)
+no-share : (script : Script) (marks : List Mark) (level : Level) (c : Cid) (query : Query) (line : Stmt) → stmt.Select query ≡ line → Needs script marks the_segment level first_txn c line the_table AccessExclusive → ⊥
+no-share script marks level c query line e n = wrong (subst (λ l. Needs script marks the_segment level first_txn c l the_table AccessExclusive) (sym e) n)
   where
     other : AccessExclusive ≡ AccessShare → ⊥
     other q = cc
 
-    wrong : Needs script marks the_segment first_txn (stmt.Select query) the_table AccessExclusive → ⊥
-    wrong (inl z) = other (sym (ap (λ (c : Claim). c.mode) (some-same _ _ z)))
-    wrong (inr z) = z.1
+    wrong : Needs script marks the_segment level first_txn c (stmt.Select query) the_table AccessExclusive → ⊥
+    wrong (inl z) = other (sym (ap (λ (x : Claim). x.mode) (some-same _ _ z)))
+    wrong (inr z) = z.2
 
 no-more-there : {script : Script} {point : Point} (query : Query) → Asks script point the_segment first_txn the_table AccessExclusive → is_aborted (before point) first_txn ≡ false
     → ((session : SessionId) → next_stmt session script (before point) ≡ (if is_same_session anna session && true then Some (stmt.Select query) else None)) → ⊥
 no-more-there {script = script} {point = point} query a none only =
     let u = under a none in
-    no-share script (before point) query u.asks.line (only-line (is_same_session anna u.session) (stmt.Select query) u.asks.line (sym (only u.session) ∙ u.runs.line.line)) u.asks.needs
+    no-share script (before point) u.asks.level u.asks.cid query u.asks.line (only-line (is_same_session anna u.session) (stmt.Select query) u.asks.line (sym (only u.session) ∙ u.runs.line.line)) u.asks.needs
 
 pub not-more : (script : Script) (query : Query) (snapshot : Snapshot) → AreAsked (one_query script query) [] (waits_for_more query snapshot) → ⊥
 not-more script query snapshot h = no-more-there (on_first query) h.1.0.0 refl (λ session. refl)
@@ -113,7 +119,7 @@ not-more script query snapshot h = no-more-there (on_first query) h.1.0.0 refl (
 no-more-here : {script : Script} {point : Point} (query : Query) → Asks script point the_coordinator first_txn the_table AccessExclusive → AreEvents NoReceipt point.steps → NoReceipt point.event
     → ((session : SessionId) → next_stmt session script (before point) ≡ (if is_same_session anna session && true then Some (stmt.Select query) else None)) → ⊥
 no-more-here {script = script} {point = point} query (inl a) none nothing only =
-    no-share script (before point) query a.line (only-line (is_same_session anna a.session) (stmt.Select query) a.line (sym (only a.session) ∙ a.under_way.runs.line.line)) (inl a.needs)
+    no-share script (before point) a.level a.cid query a.line (only-line (is_same_session anna a.session) (stmt.Select query) a.line (sym (only a.session) ∙ a.under_way.runs.line.line)) (inl a.needs)
 no-more-here {script = script} {point = point} query (inr a) none nothing only = none-came NoReceipt point the_coordinator the_coordinator _ none nothing (λ number q. q) a.at_work.received
 
 pub not-more-here : (script : Script) (query : Query) → AreAsked (one_query script query) [] waits_here_for_more → ⊥
@@ -147,21 +153,21 @@ pub not-written : (script : Script) (assigns : List Assign) (cond : Option Cond)
 not-written script assigns cond snapshot rid image h = clash true refl h.1.1.0.0.at_work.untold
 
 -- A MODE THAT IS TOO WEAK
-no-weak : (script : Script) (marks : List Mark) (assigns : List Assign) (cond : Option Cond) (line : Stmt) → script.detector ≡ false → stmt.Update first_table assigns cond ≡ line → Needs script marks the_segment first_txn line the_table RowExclusive → ⊥
-no-weak script marks assigns cond line off e n = wrong (subst (λ l. Needs script marks the_segment first_txn l the_table RowExclusive) (sym e) n)
+no-weak : (script : Script) (marks : List Mark) (level : Level) (c : Cid) (assigns : List Assign) (cond : Option Cond) (line : Stmt) → script.detector ≡ false → stmt.Update first_table assigns cond ≡ line → Needs script marks the_segment level first_txn c line the_table RowExclusive → ⊥
+no-weak script marks level c assigns cond line off e n = wrong (subst (λ l. Needs script marks the_segment level first_txn c l the_table RowExclusive) (sym e) n)
   where
     other : RowExclusive ≡ Exclusive → ⊥
     other q = cc
 
-    wrong : Needs script marks the_segment first_txn (stmt.Update first_table assigns cond) the_table RowExclusive → ⊥
-    wrong (inl z) = other (sym (ap (λ (c : Claim). c.mode) (some-same _ _ z)) ∙ ap (λ b. if b then RowExclusive else Exclusive) off)
-    wrong (inr z) = z.2
+    wrong : Needs script marks the_segment level first_txn c (stmt.Update first_table assigns cond) the_table RowExclusive → ⊥
+    wrong (inl z) = other (sym (ap (λ (x : Claim). x.mode) (some-same _ _ z)) ∙ ap (λ b. if b then RowExclusive else Exclusive) off)
+    wrong (inr z) = z.3
 
 no-weak-there : {script : Script} {point : Point} (assigns : List Assign) (cond : Option Cond) → Asks script point the_segment first_txn the_table RowExclusive ⊎ GrantsWait script point the_segment first_txn the_table RowExclusive ⊎ LocksItself point.earlier the_segment first_txn the_table RowExclusive → script.detector ≡ false → is_aborted (before point) first_txn ≡ false → waits_at (before point) the_segment ≡ []
     → ((session : SessionId) → next_stmt session script (before point) ≡ (if is_same_session anna session && true then Some (stmt.Update first_table assigns cond) else None)) → ⊥
 no-weak-there {script = script} {point = point} assigns cond (inl a) off none nobody only =
     let u = under a none in
-    no-weak script (before point) assigns cond u.asks.line off (only-line (is_same_session anna u.session) (stmt.Update first_table assigns cond) u.asks.line (sym (only u.session) ∙ u.runs.line.line)) u.asks.needs
+    no-weak script (before point) u.asks.level u.asks.cid assigns cond u.asks.line off (only-line (is_same_session anna u.session) (stmt.Update first_table assigns cond) u.asks.line (sym (only u.session) ∙ u.runs.line.line)) u.asks.needs
 no-weak-there {point = point} assigns cond (inr (inl waited)) off none nobody only =
     clash (list_any (same_claim (claim first_txn the_table RowExclusive)) (waits_at (before point) the_segment)) waited.waited (ap (list_any (same_claim (claim first_txn the_table RowExclusive))) nobody)
 no-weak-there assigns cond (inr (inr own)) off none nobody only = no-own own.own.1
@@ -208,19 +214,19 @@ on-a-table script g h line mode = by_line line
     by_line stmt.Commit e = none e
     by_line stmt.Rollback e = none e
 
-no-writer : (marks : List Mark) (line : Stmt) (script : Script) → All NoWrite marks → Needs script marks the_segment first_txn line (Transaction second_txn) Share → ⊥
-no-writer marks line script none (inl z) = on-a-table script first_txn second_txn line Share z
-no-writer marks line script none (inr z) = let w = z.2.2.1 in All-contains NoWrite marks (mark.Write second_txn w.cid the_segment z.0 z.2.2.0 w.image) none w.noted
+no-writer : (marks : List Mark) (level : Level) (c : Cid) (line : Stmt) (script : Script) → All NoWrite marks → Needs script marks the_segment level first_txn c line (Transaction second_txn) Share → ⊥
+no-writer marks level c line script none (inl z) = on-a-table script first_txn second_txn line Share z
+no-writer marks level c line script none (inr z) = let way = z.3.1.1.0 in All-contains NoWrite marks (mark.Write second_txn way.write.cid the_segment z.0 z.3.1.0 way.write.image) none way.made
 
 no-writer-there : {script : Script} {point : Point} → Asks script point the_segment first_txn (Transaction second_txn) Share → is_aborted (before point) first_txn ≡ false → AreNoWrites (before point) → ⊥
-no-writer-there {script = script} {point = point} a none nobody = let u = under a none in no-writer (before point) u.asks.line script (no-writes (before point) nobody) u.asks.needs
+no-writer-there {script = script} {point = point} a none nobody = let u = under a none in no-writer (before point) u.asks.level u.asks.cid u.asks.line script (no-writes (before point) nobody) u.asks.needs
 
 pub not-for-a-reader : (script : Script) (assigns : List Assign) (cond : Option Cond) (snapshot : Snapshot) → AreAsked (one_change script assigns cond) [] (waits_for_a_reader assigns cond snapshot) → ⊥
 not-for-a-reader script assigns cond snapshot h = no-writer-there h.1.0.1.0 refl (tt, (tt, (tt, (tt, (tt, tt)))))
 
-no-own-need : (script : Script) (marks : List Mark) (line : Stmt) → Needs script marks the_segment first_txn line (Transaction first_txn) Exclusive → ⊥
-no-own-need script marks line (inl z) = on-a-table script first_txn first_txn line Exclusive z
-no-own-need script marks line (inr z) = other z.2.0
+no-own-need : (script : Script) (marks : List Mark) (level : Level) (c : Cid) (line : Stmt) → Needs script marks the_segment level first_txn c line (Transaction first_txn) Exclusive → ⊥
+no-own-need script marks level c line (inl z) = on-a-table script first_txn first_txn line Exclusive z
+no-own-need script marks level c line (inr z) = other z.3.0
   where
     other : Exclusive ≡ Share → ⊥
     other q = cc
@@ -240,13 +246,72 @@ hold-is-write (x ∷ y ∷ front) h w n o e = longer h x y (front ++ w ∷ []) e
     longer a b c rest q = cc
 
 no-own-there : {script : Script} {point : Point} → Asks script point the_segment first_txn (Transaction first_txn) Exclusive ⊎ GrantsWait script point the_segment first_txn (Transaction first_txn) Exclusive ⊎ LocksItself point.earlier the_segment first_txn (Transaction first_txn) Exclusive → is_aborted (before point) first_txn ≡ false → waits_at (before point) the_segment ≡ [] → point.earlier ≡ mark.Hold the_segment first_txn the_table Exclusive ∷ [] → ⊥
-no-own-there {script = script} {point = point} (inl a) none nobody one = let u = under a none in no-own-need script (before point) u.asks.line u.asks.needs
+no-own-there {script = script} {point = point} (inl a) none nobody one = let u = under a none in no-own-need script (before point) u.asks.level u.asks.cid u.asks.line u.asks.needs
 no-own-there {point = point} (inr (inl waited)) none nobody one =
     clash (list_any (same_claim (claim first_txn (Transaction first_txn) Exclusive)) (waits_at (before point) the_segment)) waited.waited (ap (list_any (same_claim (claim first_txn (Transaction first_txn) Exclusive))) nobody)
 no-own-there (inr (inr own)) none nobody one = hold-is-write own.front (mark.Hold the_segment first_txn the_table Exclusive) (mark.Write first_txn own.cid the_segment own.table own.rid own.image) tt (λ e. e) (sym one ∙ own.behind)
 
 pub not-itself : (script : Script) (assigns : List Assign) (cond : Option Cond) (snapshot : Snapshot) → AreAsked (one_change script assigns cond) [] (locks_itself_early assigns cond snapshot) → ⊥
 not-itself script assigns cond snapshot h = no-own-there h.1.0.1.0 refl refl refl
+
+-- A ROW THAT IT HASN'T SELECTED
+-- nobody is shown any of these writes
+abbrev AreUnshown : (Gxid → Cid → Bool) → List Mark → Type 0
+AreUnshown shown [] = Unit {0}
+AreUnshown shown (mark.Write g c node t r image ∷ ms) = (shown g c ≡ false) × AreUnshown shown ms
+AreUnshown shown (_ ∷ ms) = AreUnshown shown ms
+
+none-shown : (shown : Gxid → Cid → Bool) (table : Table) (rid : Rid) (ms : List Mark) → AreUnshown shown ms → image_after shown table rid None ms ≡ None
+none-shown shown table rid [] e = refl
+none-shown shown table rid (mark.Write g c node t r image ∷ ms) e =
+    ap (λ b. image_after shown table rid (if b && ((t.0 == table.0) && is_same_rid r rid) then image else None) ms) e.0 ∙ none-shown shown table rid ms e.1
+none-shown shown table rid (m ∷ ms) e = none-shown shown table rid ms e
+
+-- who has committed at no point has committed at none before
+not-in-front : (place : ℕ) (ms : List Mark) (h : Gxid) → is_committed ms h ≡ false → is_committed (take place ms) h ≡ false
+not-in-front place ms h e =
+    left-no (is_committed (take place ms) h) (is_committed (drop place ms) h) (sym (is_committed-append (take place ms) (drop place ms) h) ∙ ap (λ ns. is_committed ns h) (take-append-drop place ms) ∙ e)
+  where
+    left-no : (a b : Bool) → (a || b) ≡ false → a ≡ false
+    left-no a b e = grind arith
+
+-- so a command of another sees none of the rows
+none-seen : {level : Level} {c : Cid} {table : Table} {cond : Option Cond} {rid : Rid} {marks : List Mark} → is_committed marks second_txn ≡ false
+    → ((shown : Gxid → Cid → Bool) → shown second_txn first_cid ≡ false → AreUnshown shown marks) → IsToDo marks level first_txn c table cond rid → ⊥
+none-seen {c = c} {table = table} {rid = rid} {marks = marks} running writes todo = none-some (sym (todo.sees.view.images rid ∙ none-shown shown table rid marks (writes shown unshown)) ∙ todo.shown)
+  where
+    shown : Gxid → Cid → Bool
+    shown = is_shown_to (Some (first_txn, c)) (take todo.sees.place marks)
+
+    unshown : shown second_txn first_cid ≡ false
+    unshown = ap (λ b. b || false) (not-in-front todo.sees.place marks second_txn running)
+
+    none-some : None ≡ Some todo.row → ⊥
+    none-some e = cc
+
+at-no-row : {script : Script} {point : Point} → Asks script point the_segment first_txn (Transaction second_txn) Share → is_aborted (before point) first_txn ≡ false → is_committed (before point) second_txn ≡ false
+    → ((shown : Gxid → Cid → Bool) → shown second_txn first_cid ≡ false → AreUnshown shown (before point)) → ⊥
+at-no-row {script = script} {point = point} a none running writes = let u = under a none in by_need u.asks.level u.asks.cid u.asks.line u.asks.needs
+  where
+    by_need : (level : Level) (c : Cid) (line : Stmt) → Needs script (before point) the_segment level first_txn c line (Transaction second_txn) Share → ⊥
+    by_need level c line (inl z) = on-a-table script first_txn second_txn line Share z
+    by_need level c line (inr z) = none-seen running writes (z.3.1.1.1 none)
+
+pub not-unselected : (script : Script) (rows : List KeyedRow) (image : List Value) (assigns : List Assign) (cond : Option Cond) (tuples : List (List Expr)) (snapshot : Snapshot)
+    → AreAsked (change_and_insert script assigns cond tuples) [] (waits_for_unselected rows image assigns cond snapshot) → ⊥
+not-unselected script rows image assigns cond tuples snapshot h = at-no-row h.1.1.1.1.0.1.0 refl refl (λ shown e. (e, tt))
+
+-- WHO HAS ENDED
+no-end : {script : Script} {point : Point} → Asks script point the_segment first_txn (Transaction second_txn) Share → is_aborted (before point) first_txn ≡ false → is_held (before point) the_segment second_txn (Transaction second_txn) Exclusive ≡ false → ⊥
+no-end {script = script} {point = point} a none free = let u = under a none in by_need u.asks.level u.asks.cid u.asks.line u.asks.needs
+  where
+    by_need : (level : Level) (c : Cid) (line : Stmt) → Needs script (before point) the_segment level first_txn c line (Transaction second_txn) Share → ⊥
+    by_need level c line (inl z) = on-a-table script first_txn second_txn line Share z
+    by_need level c line (inr z) = clash (is_held (before point) the_segment second_txn (Transaction second_txn) Exclusive) z.3.1.1.0.unended free
+
+pub not-for-the-ended : (script : Script) (rows : List KeyedRow) (image : List Value) (assigns : List Assign) (cond : Option Cond) (tuples : List (List Expr)) (snapshot : Snapshot)
+    → AreAsked (change_and_insert script assigns cond tuples) [] (waits_for_the_ended rows image assigns cond snapshot) → ⊥
+not-for-the-ended script rows image assigns cond tuples snapshot h = no-end h.1.1.1.1.1.1.0.1.0 refl refl
 
 -- WHO WAITS
 pub not-silent : (query : Query) (snapshot : Snapshot) → AreWaitersSilent [] (done_while_waiting query snapshot) → ⊥

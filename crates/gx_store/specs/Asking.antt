@@ -1,6 +1,6 @@
 -- Who asks for locks: a transaction waits for one, or is granted it, for a command that is at work at the node, and asks for what its
 -- statement needs there (PostgreSQL manual 13.3).
-use Rattle.std.specs.Prelude.{◌≡◌, ◌⊎◌, Bool, true, false, ◌&&◌, ◌||◌, List, [], ◌∷◌, ◌++◌, Some, Contains}
+use Rattle.std.specs.Prelude.{◌≡◌, ◌⊎◌, Bool, true, false, not, ◌&&◌, ◌||◌, List, [], ◌∷◌, ◌++◌, Some, None, Ok, Contains}
 use Rattle.std.specs.List.{list_any}
 use Rattle.std.specs.declared.option.Option.{Option}
 use Rattle.gx_ids.specs.declared.ids.Cid.{Cid}
@@ -9,6 +9,8 @@ use Rattle.gx_ids.specs.declared.ids.Node.{Node}
 use Rattle.gx_ids.specs.declared.ids.SessionId.{SessionId}
 use Rattle.gx_ids.specs.declared.ids.Table.{Table}
 use Rattle.gx_ids.specs.declared.rid.Rid.{Rid}
+use Rattle.gx_tree.specs.declared.cond.Cond.{Cond}
+use Rattle.gx_tree.specs.declared.row.KeyedRow.{KeyedRow}
 use Rattle.gx_tree.specs.declared.slice.Slice.{Slice}
 use Rattle.gx_tree.specs.declared.stmt.Level.{Level}
 use Rattle.gx_tree.specs.declared.stmt.Stmt.{Stmt}
@@ -27,43 +29,66 @@ use Rattle.gx_store.specs.declared.event.Event.{Event}
 use Rattle.gx_store.specs.declared.mark.Mark.{Mark}
 use Rattle.gx_store.specs.declared.mark.Mark.TheVariants.{Hold, Sent, Wait, Write}
 use Rattle.gx_store.specs.declared.run.Step.{Step}
-use Rattle.gx_store.specs.Commands.{IsUnderWay}
+use Rattle.gx_store.specs.Commands.{IsUnderWay, Sees, condition_on}
 use Rattle.gx_store.specs.Journals.{is_same_node}
 use Rattle.gx_store.specs.Locks.{table_lock}
-use Rattle.gx_store.specs.Marks.{is_aborted, is_command_of, is_same_gxid}
+use Rattle.gx_store.specs.Marks.{is_aborted, is_command_of, is_processed, is_same_gxid}
 use Rattle.gx_store.specs.Messages.{HasReceived}
 use Rattle.gx_store.specs.Points.{Point, before}
 use Rattle.gx_store.specs.Refusals.{the_coordinator}
+use Rattle.gx_store.specs.Rows.{row_at}
 use Rattle.gx_store.specs.Waits.{is_held, waits_at}
 use Rattle.gx_waits.specs.Claims.{claim}
-use Rattle.gx_store.specs.Writes.{IsLate}
+use Rattle.gx_store.specs.Writes.{IsLate, Written, last_write}
 
 -- WHAT A STATEMENT NEEDS
 -- the lock on its table
 abbrev pub NeedsTable : Script → Gxid → Stmt → Object → Mode → Type 0
 NeedsTable script g line object mode = table_lock script g line ≡ Some (claim g object mode)
 
--- UPDATE and DELETE go through rows of their table, one behind the other
-abbrev pub GoesThroughRows : Stmt → Table → Type 0
-GoesThroughRows (stmt.Update t assigns cond) table = table ≡ t
-GoesThroughRows (stmt.Delete t cond) table = table ≡ t
-GoesThroughRows _ table = ⊥
+-- UPDATE and DELETE go through the rows of their table that they have selected by their condition, one behind the other
+abbrev pub GoesThroughRows : Stmt → Table → Option Cond → Type 0
+GoesThroughRows (stmt.Update t assigns d) table cond = (table ≡ t) × (cond ≡ d)
+GoesThroughRows (stmt.Delete t d) table cond = (table ≡ t) × (cond ≡ d)
+GoesThroughRows _ table cond = ⊥
 
--- the transaction has written this row of the table at the node
-pub record HasWritten (marks : List Mark) (node : Node) (table : Table) (rid : Rid) (h : Gxid) : Type 0 where
-  pub cid : Cid
-  pub image : Option (List Value)
-  pub noted : Contains marks (Write h cid node table rid image)
+-- The command has selected the row: it sees it, and the condition is true on what it sees. It has neither written nor skipped it yet.
+pub record IsToDo (marks : List Mark) (level : Level) (g : Gxid) (c : Cid) (table : Table) (cond : Option Cond) (rid : Rid) : Type 0 where
+  pub rows : List KeyedRow
+  pub sees : Sees marks level g c table rows
+  pub row : List Value
+  pub shown : row_at rows rid ≡ Some row
+  pub chosen : condition_on cond row ≡ Ok true
+  pub left : is_processed marks g c rid ≡ false
 
--- They need a row that stands at the node, or, in mode Share, the end of another transaction that has written a row of the table there.
-abbrev pub NeedsRow : List Mark → Node → Gxid → Table → Object → Mode → Type 0
-NeedsRow marks node g table (Tuple rid) mode = (mode ≡ Exclusive) × ((h : Gxid) × HasWritten marks node table rid h)
-NeedsRow marks node g table (Transaction h) mode = (mode ≡ Share) × (is_same_gxid h g ≡ false) × ((rid : Rid) × HasWritten marks node table rid h)
-NeedsRow marks node g table (Relation other) mode = ⊥
+-- whose writes count at a node: who hasn't aborted, or hasn't ended there yet, where a writer holds itself until then
+abbrev pub counts_at : List Mark → Node → Gxid → Bool
+counts_at marks node h = is_held marks node h (Transaction h) Exclusive || not (is_aborted marks h)
 
--- what a statement needs at a segment
-abbrev pub Needs : Script → List Mark → Node → Gxid → Stmt → Object → Mode → Type 0
-Needs script marks node g line object mode = NeedsTable script g line object mode ⊎ ((table : Table) × GoesThroughRows line table × NeedsRow marks node g table object mode)
+-- Another transaction is in the way at a row of the table: the newest write of the row that counts at the node is its, made there, and it
+-- hasn't ended there.
+pub record IsInTheWay (marks : List Mark) (node : Node) (g : Gxid) (table : Table) (rid : Rid) (h : Gxid) : Type 0 where
+  pub other : is_same_gxid h g ≡ false
+  pub write : Written
+  pub newest : last_write (λ i d. counts_at marks node i) rid 0 None marks ≡ Some write
+  pub writer : write.gxid ≡ h
+  pub made : Contains marks (Write h write.cid node table rid write.image)
+  pub unended : is_held marks node h (Transaction h) Exclusive ≡ true
+
+-- At a row at which another is in the way they need the row, or, in mode Share, the other's end. It is one that they have selected, unless
+-- their transaction has aborted, whose view counts for nothing.
+abbrev pub NeedsAt : List Mark → Node → Level → Gxid → Cid → Table → Option Cond → Rid → Gxid → Type 0
+NeedsAt marks node level g c table cond rid h = IsInTheWay marks node g table rid h × (is_aborted marks g ≡ false → IsToDo marks level g c table cond rid)
+
+abbrev pub NeedsRow : List Mark → Node → Level → Gxid → Cid → Table → Option Cond → Object → Mode → Type 0
+NeedsRow marks node level g c table cond (Tuple rid) mode = (mode ≡ Exclusive) × ((h : Gxid) × NeedsAt marks node level g c table cond rid h)
+NeedsRow marks node level g c table cond (Transaction h) mode = (mode ≡ Share) × ((rid : Rid) × NeedsAt marks node level g c table cond rid h)
+NeedsRow marks node level g c table cond (Relation other) mode = ⊥
+
+-- what a command needs at a segment
+abbrev pub Needs : Script → List Mark → Node → Level → Gxid → Cid → Stmt → Object → Mode → Type 0
+Needs script marks node level g c line object mode =
+    NeedsTable script g line object mode ⊎ ((table : Table) × (cond : Option Cond) × GoesThroughRows line table cond × NeedsRow marks node level g c table cond object mode)
 
 -- AT WORK
 -- these marks send DONE or FAILED of the command
@@ -105,12 +130,14 @@ pub record AsksHere (script : Script) (point : Point) (node : Node) (g : Gxid) (
   pub under_way : IsUnderWay script point session line level g cid
   pub needs : NeedsTable script g line object mode
 
--- at a segment for what a command at work there needs
+-- at a segment for what a command at work there needs, at the level at which it is under way, unless its transaction has aborted
 pub record AsksThere (script : Script) (point : Point) (node : Node) (g : Gxid) (object : Object) (mode : Mode) : Type 0 where
   pub cid : Cid
   pub line : Stmt
   pub at_work : IsAtWork script point node g cid line
-  pub needs : Needs script (before point) node g line object mode
+  pub level : Level
+  pub runs : is_aborted (before point) g ≡ false → (session : SessionId) × IsUnderWay script point session line level g cid
+  pub needs : Needs script (before point) node level g cid line object mode
 
 abbrev pub Asks : Script → Point → Node → Gxid → Object → Mode → Type 0
 Asks script point node g object mode = AsksHere script point node g object mode ⊎ AsksThere script point node g object mode

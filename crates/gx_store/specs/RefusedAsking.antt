@@ -1,12 +1,14 @@
 -- Small runs in which a lock is waited for or granted that nobody has asked for.
-use Rattle.std.specs.Prelude.{false, List, [], ◌∷◌, ◌++◌, None, Some}
+use Rattle.std.specs.Prelude.{ℕ, ◌+◌, false, true, List, [], ◌∷◌, ◌++◌, None, Some}
 use Rattle.std.specs.declared.option.Option.{Option}
 use Rattle.gx_ids.specs.declared.ids.Gxid.{Gxid}
 use Rattle.gx_ids.specs.declared.rid.Rid.{Rid}
 use Rattle.gx_modes.specs.declared.modes.Mode.TheVariants.{AccessExclusive, AccessShare, Exclusive, RowExclusive, RowShare, Share}
 use Rattle.gx_tree.specs.declared.cond.Cond.{Cond}
+use Rattle.gx_tree.specs.declared.expr.Expr.{Expr}
 use Rattle.gx_tree.specs.declared.part.Part.TheVariants.{Rows}
 use Rattle.gx_tree.specs.declared.query.Query.{Query}
+use Rattle.gx_tree.specs.declared.row.KeyedRow.{KeyedRow}
 use Rattle.gx_tree.specs.declared.slice.Slice.{Slice}
 use Rattle.gx_tree.specs.declared.slice.Slice.TheVariants as slice
 use Rattle.gx_tree.specs.declared.stmt.Assign.{Assign}
@@ -25,7 +27,7 @@ use Rattle.gx_store.specs.declared.event.Event.TheVariants as event
 use Rattle.gx_store.specs.declared.mark.Mark.{Mark}
 use Rattle.gx_store.specs.declared.mark.Mark.TheVariants as mark
 use Rattle.gx_store.specs.declared.run.Step.{Step}
-use Rattle.gx_store.specs.RefusedParts.{anna, bert, block_begins, first_cid, first_txn, line_of, other_segment, second_txn, step_at, the_segment, with_lines, with_two}
+use Rattle.gx_store.specs.RefusedParts.{anna, bert, block_begins, first_cid, first_txn, line_of, other_segment, row_of, second_txn, step_at, the_segment, with_lines, with_two}
 use Rattle.gx_store.specs.RefusedWaits.{first_table, on_first}
 use Rattle.gx_store.specs.Refusals.{the_coordinator}
 
@@ -144,3 +146,44 @@ waits_for_a_reader assigns cond snapshot =
 abbrev pub locks_itself_early : List Assign → Option Cond → Snapshot → List Step
 locks_itself_early assigns cond snapshot =
     change_runs assigns cond snapshot (mark.Hold the_segment first_txn the_table Exclusive ∷ mark.Hold the_segment first_txn (Transaction first_txn) Exclusive ∷ [])
+
+-- A ROW THAT IT HASN'T SELECTED
+-- Anna's block changes rows, and Bert inserts some
+abbrev pub change_and_insert : Script → List Assign → Option Cond → List (List Expr) → Script
+change_and_insert script assigns cond tuples =
+    with_lines (record script { detector = true })
+    (line_of anna 1 (stmt.Begin ReadCommitted) ∷ line_of anna 2 (stmt.Update first_table assigns cond) ∷ line_of bert 1 (stmt.Insert first_table tuples) ∷ [])
+
+-- Bert's INSERT writes a row, and then Anna's UPDATE goes to the segment, where it makes these marks behind those
+abbrev pub insert_runs : List KeyedRow → List Value → Snapshot → List Step
+insert_runs rows image snapshot =
+    block_begins
+    ∷ step_at the_coordinator 2 (event.Start bert)
+    (mark.Start second_txn bert ∷ mark.Hold the_coordinator second_txn the_table RowExclusive ∷ mark.Snap second_txn first_cid snapshot
+    ∷ mark.Sent the_segment 1 (order_of second_txn (Some snapshot) (slice.Insert first_table rows)) ∷ [])
+    ∷ step_at the_segment 3 (event.Receive the_coordinator the_segment 1)
+    (mark.Hold the_segment second_txn the_table RowExclusive ∷ mark.Write second_txn first_cid the_segment first_table (row_of second_txn) (Some image)
+    ∷ mark.Hold the_segment second_txn (Transaction second_txn) Exclusive ∷ []) ∷ []
+
+abbrev pub change_behind : ℕ → List Assign → Option Cond → Snapshot → List Mark → List Step
+change_behind clock assigns cond snapshot marks =
+    step_at the_coordinator clock (event.Start anna)
+    (mark.Hold the_coordinator first_txn the_table RowExclusive ∷ mark.Snap first_txn first_cid snapshot
+    ∷ mark.Sent the_segment 2 (order_of first_txn (Some snapshot) (slice.Update first_table assigns cond)) ∷ [])
+    ∷ step_at the_segment (clock + 1) (event.Receive the_coordinator the_segment 2) marks ∷ []
+
+-- it waits for Bert's end, whose row its snapshot doesn't show
+abbrev pub waits_for_unselected : List KeyedRow → List Value → List Assign → Option Cond → Snapshot → List Step
+waits_for_unselected rows image assigns cond snapshot =
+    insert_runs rows image snapshot
+    ++ change_behind 4 assigns cond snapshot (mark.Hold the_segment first_txn the_table RowExclusive ∷ mark.Wait the_segment first_txn (Transaction second_txn) Share ∷ [])
+
+-- WHO HAS ENDED
+-- Bert's INSERT is done and commits, and the segment is told of his end; there Anna's UPDATE, which sees his row, waits for him.
+abbrev pub waits_for_the_ended : List KeyedRow → List Value → List Assign → Option Cond → Snapshot → List Step
+waits_for_the_ended rows image assigns cond snapshot =
+    insert_runs rows image snapshot
+    ++ step_at the_coordinator 4 (event.Receive the_segment the_coordinator 1)
+    (mark.Commit second_txn ∷ mark.Answer bert 1 (answer.Inserted 1) ∷ mark.Sent the_segment 3 (message.Forget second_txn) ∷ [])
+    ∷ step_at the_segment 5 (event.Receive the_coordinator the_segment 3) (mark.Release the_segment second_txn (Transaction second_txn) Exclusive ∷ [])
+    ∷ change_behind 6 assigns cond snapshot (mark.Hold the_segment first_txn the_table RowExclusive ∷ mark.Wait the_segment first_txn (Transaction second_txn) Share ∷ [])

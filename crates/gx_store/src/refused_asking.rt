@@ -3,11 +3,13 @@ ghost use Rattle.gx_dsnap.specs.declared.snapshot.Snapshot.{Snapshot};
 ghost use Rattle.gx_ids.specs.declared.rid.Rid.{Rid as OneRid};
 ghost use Rattle.gx_script.specs.declared.Script.{Script};
 ghost use Rattle.gx_store.specs.Asking.{AreAsked};
-ghost use Rattle.gx_store.specs.RefusedAsking.{done_while_waiting, idle_wait, locks_itself_early, locks_too_little, one_change, two_locks, two_queried, waits_elsewhere, waits_for_a_reader, waits_for_more, waits_here_for_more, waits_when_done, writes_when_done};
+ghost use Rattle.gx_store.specs.RefusedAsking.{change_and_insert, done_while_waiting, idle_wait, locks_itself_early, locks_too_little, one_change, two_locks, two_queried, waits_elsewhere, waits_for_a_reader, waits_for_more, waits_for_the_ended, waits_for_unselected, waits_here_for_more, waits_when_done, writes_when_done};
 ghost use Rattle.gx_store.specs.Silent.{AreWaitersSilent};
 ghost use Rattle.gx_store.specs.RefusedWaits.{one_query};
 ghost use Rattle.gx_tree.specs.declared.cond.Cond.{Cond as OneCond};
+ghost use Rattle.gx_tree.specs.declared.expr.Expr.{Expr as OneExpr};
 ghost use Rattle.gx_tree.specs.declared.query.Query.{Query as OneQuery};
+ghost use Rattle.gx_tree.specs.declared.row.KeyedRow.{KeyedRow as OneRow};
 ghost use Rattle.gx_tree.specs.declared.stmt.Assign.{Assign as OneAssign};
 ghost use Rattle.gx_tree.specs.declared.value.Value.{Value as OneValue};
 ghost use Rattle.std.specs.Prelude.{List, []};
@@ -39,6 +41,14 @@ pub fn written_behind_done()
 pub fn asked_for_without_need()
     ensures reader { (script : Script) (assigns : List OneAssign) (cond : Perhaps OneCond) (snapshot : Snapshot) → AreAsked (one_change script assigns cond) [] (waits_for_a_reader assigns cond snapshot) → ⊥ }
     ensures itself { (script : Script) (assigns : List OneAssign) (cond : Perhaps OneCond) (snapshot : Snapshot) → AreAsked (one_change script assigns cond) [] (locks_itself_early assigns cond snapshot) → ⊥ }
+{}
+
+/// An UPDATE waits at a row that it has selected, and for nobody who has ended there.
+pub fn waited_for_at_no_row_of_its_own()
+    ensures unselected { (script : Script) (rows : List OneRow) (image : List OneValue) (assigns : List OneAssign) (cond : Perhaps OneCond) (tuples : List (List OneExpr)) (snapshot : Snapshot)
+        → AreAsked (change_and_insert script assigns cond tuples) [] (waits_for_unselected rows image assigns cond snapshot) → ⊥ }
+    ensures ended { (script : Script) (rows : List OneRow) (image : List OneValue) (assigns : List OneAssign) (cond : Perhaps OneCond) (tuples : List (List OneExpr)) (snapshot : Snapshot)
+        → AreAsked (change_and_insert script assigns cond tuples) [] (waits_for_the_ended rows image assigns cond snapshot) → ⊥ }
 {}
 
 /// A segment that has said that a command is done there has it wait for nothing more.
