@@ -48,42 +48,108 @@ module _ (script : Script) (point : Point) (session : SessionId) where
 
   reply-of : (state : BlockState) (line : Stmt) (reply : StmtAnswer) → IsAnswer script point session state line reply → IsReply script point session state line reply
   reply-of state line (Refused reason) h = tt
-  reply-of Outside (stmt.Begin level) Begin h = h
+  reply-of Outside (stmt.Begin l) Begin h = h
+  reply-of Outside (stmt.Begin l) reply h = done-succeeded Outside (stmt.Begin l) reply h
   reply-of Outside stmt.Commit Commit h = h
+  reply-of Outside stmt.Commit reply h = done-succeeded Outside stmt.Commit reply h
   reply-of Outside stmt.Rollback Rollback h = h
-  reply-of (InBlock level commands) (stmt.Begin other) Begin h = h
+  reply-of Outside stmt.Rollback reply h = done-succeeded Outside stmt.Rollback reply h
+  reply-of Outside (stmt.Select query) reply h = done-succeeded Outside (stmt.Select query) reply h
+  reply-of Outside (stmt.Insert table tuples) reply h = done-succeeded Outside (stmt.Insert table tuples) reply h
+  reply-of Outside (stmt.Update table assigns found) reply h = done-succeeded Outside (stmt.Update table assigns found) reply h
+  reply-of Outside (stmt.Delete table found) reply h = done-succeeded Outside (stmt.Delete table found) reply h
+  reply-of Outside (stmt.Lock table mode) reply h = done-succeeded Outside (stmt.Lock table mode) reply h
+  reply-of (InBlock level commands) (stmt.Begin l) Begin h = h
+  reply-of (InBlock level commands) (stmt.Begin l) reply h = done-succeeded (InBlock level commands) (stmt.Begin l) reply h
   reply-of (InBlock level commands) stmt.Commit Commit h = h
+  reply-of (InBlock level commands) stmt.Commit reply h = done-succeeded (InBlock level commands) stmt.Commit reply h
   reply-of (InBlock level commands) stmt.Rollback Rollback h = h
+  reply-of (InBlock level commands) stmt.Rollback reply h = done-succeeded (InBlock level commands) stmt.Rollback reply h
+  reply-of (InBlock level commands) (stmt.Select query) reply h = done-succeeded (InBlock level commands) (stmt.Select query) reply h
+  reply-of (InBlock level commands) (stmt.Insert table tuples) reply h = done-succeeded (InBlock level commands) (stmt.Insert table tuples) reply h
+  reply-of (InBlock level commands) (stmt.Update table assigns found) reply h = done-succeeded (InBlock level commands) (stmt.Update table assigns found) reply h
+  reply-of (InBlock level commands) (stmt.Delete table found) reply h = done-succeeded (InBlock level commands) (stmt.Delete table found) reply h
+  reply-of (InBlock level commands) (stmt.Lock table mode) reply h = done-succeeded (InBlock level commands) (stmt.Lock table mode) reply h
+  reply-of Failed (stmt.Begin l) reply h = absurd h
   reply-of Failed stmt.Commit Rollback h = h
+  reply-of Failed stmt.Commit reply h = absurd h
   reply-of Failed stmt.Rollback Rollback h = h
-  reply-of Failed line reply h = h
-  reply-of state line reply h = done-succeeded state line reply h
+  reply-of Failed stmt.Rollback reply h = absurd h
+  reply-of Failed (stmt.Select query) reply h = absurd h
+  reply-of Failed (stmt.Insert table tuples) reply h = absurd h
+  reply-of Failed (stmt.Update table assigns found) reply h = absurd h
+  reply-of Failed (stmt.Delete table found) reply h = absurd h
+  reply-of Failed (stmt.Lock table mode) reply h = absurd h
 
   back-of : (state : BlockState) (line : Stmt) (reply : StmtAnswer) → IsAnswer script point session state line reply → IsBackFor state line reply
   back-of state line (Refused reason) h = tt
-  back-of Outside (stmt.Begin level) Begin h = λ command. absurd (cc)
+  back-of Outside (stmt.Begin l) Begin h = λ command. absurd (cc)
+  back-of Outside (stmt.Begin l) reply h = done-back Outside (stmt.Begin l) reply h
   back-of Outside stmt.Commit Commit h = λ command. absurd (cc)
+  back-of Outside stmt.Commit reply h = done-back Outside stmt.Commit reply h
   back-of Outside stmt.Rollback Rollback h = λ command. absurd (cc)
-  back-of (InBlock level commands) (stmt.Begin other) Begin h = λ command. absurd (cc)
+  back-of Outside stmt.Rollback reply h = done-back Outside stmt.Rollback reply h
+  back-of Outside (stmt.Select query) reply h = done-back Outside (stmt.Select query) reply h
+  back-of Outside (stmt.Insert table tuples) reply h = done-back Outside (stmt.Insert table tuples) reply h
+  back-of Outside (stmt.Update table assigns found) reply h = done-back Outside (stmt.Update table assigns found) reply h
+  back-of Outside (stmt.Delete table found) reply h = done-back Outside (stmt.Delete table found) reply h
+  back-of Outside (stmt.Lock table mode) reply h = done-back Outside (stmt.Lock table mode) reply h
+  back-of (InBlock level commands) (stmt.Begin l) Begin h = λ command. absurd (cc)
+  back-of (InBlock level commands) (stmt.Begin l) reply h = done-back (InBlock level commands) (stmt.Begin l) reply h
   back-of (InBlock level commands) stmt.Commit Commit h = λ command. absurd (cc)
+  back-of (InBlock level commands) stmt.Commit reply h = done-back (InBlock level commands) stmt.Commit reply h
   back-of (InBlock level commands) stmt.Rollback Rollback h = λ command. absurd (cc)
+  back-of (InBlock level commands) stmt.Rollback reply h = done-back (InBlock level commands) stmt.Rollback reply h
+  back-of (InBlock level commands) (stmt.Select query) reply h = done-back (InBlock level commands) (stmt.Select query) reply h
+  back-of (InBlock level commands) (stmt.Insert table tuples) reply h = done-back (InBlock level commands) (stmt.Insert table tuples) reply h
+  back-of (InBlock level commands) (stmt.Update table assigns found) reply h = done-back (InBlock level commands) (stmt.Update table assigns found) reply h
+  back-of (InBlock level commands) (stmt.Delete table found) reply h = done-back (InBlock level commands) (stmt.Delete table found) reply h
+  back-of (InBlock level commands) (stmt.Lock table mode) reply h = done-back (InBlock level commands) (stmt.Lock table mode) reply h
+  back-of Failed (stmt.Begin l) reply h = absurd h
   back-of Failed stmt.Commit Rollback h = λ command. absurd (cc)
+  back-of Failed stmt.Commit reply h = absurd h
   back-of Failed stmt.Rollback Rollback h = λ command. absurd (cc)
-  back-of Failed line reply h = absurd h
-  back-of state line reply h = done-back state line reply h
+  back-of Failed stmt.Rollback reply h = absurd h
+  back-of Failed (stmt.Select query) reply h = absurd h
+  back-of Failed (stmt.Insert table tuples) reply h = absurd h
+  back-of Failed (stmt.Update table assigns found) reply h = absurd h
+  back-of Failed (stmt.Delete table found) reply h = absurd h
+  back-of Failed (stmt.Lock table mode) reply h = absurd h
 
   reply-answers : (state : BlockState) (line : Stmt) (reply : StmtAnswer) → is_refusal reply ≡ false → IsReply script point session state line reply → Back state line → IsAnswer script point session state line reply
-  reply-answers state line (Refused reason) no h back = absurd (cc)
-  reply-answers Outside (stmt.Begin level) Begin no h back = h
-  reply-answers Outside stmt.Commit Commit no h back = h
-  reply-answers Outside stmt.Rollback Rollback no h back = h
-  reply-answers (InBlock level commands) (stmt.Begin other) Begin no h back = h
-  reply-answers (InBlock level commands) stmt.Commit Commit no h back = h
-  reply-answers (InBlock level commands) stmt.Rollback Rollback no h back = h
-  reply-answers Failed stmt.Commit Rollback no h back = h
-  reply-answers Failed stmt.Rollback Rollback no h back = h
-  reply-answers Failed line reply no h back = absurd h
-  reply-answers state line reply no h back = succeeded-done state line reply h back
+  reply-answers state line (Refused reason) plain h back = absurd (cc)
+  reply-answers Outside (stmt.Begin l) Begin plain h back = h
+  reply-answers Outside (stmt.Begin l) reply plain h back = succeeded-done Outside (stmt.Begin l) reply h back
+  reply-answers Outside stmt.Commit Commit plain h back = h
+  reply-answers Outside stmt.Commit reply plain h back = succeeded-done Outside stmt.Commit reply h back
+  reply-answers Outside stmt.Rollback Rollback plain h back = h
+  reply-answers Outside stmt.Rollback reply plain h back = succeeded-done Outside stmt.Rollback reply h back
+  reply-answers Outside (stmt.Select query) reply plain h back = succeeded-done Outside (stmt.Select query) reply h back
+  reply-answers Outside (stmt.Insert table tuples) reply plain h back = succeeded-done Outside (stmt.Insert table tuples) reply h back
+  reply-answers Outside (stmt.Update table assigns found) reply plain h back = succeeded-done Outside (stmt.Update table assigns found) reply h back
+  reply-answers Outside (stmt.Delete table found) reply plain h back = succeeded-done Outside (stmt.Delete table found) reply h back
+  reply-answers Outside (stmt.Lock table mode) reply plain h back = succeeded-done Outside (stmt.Lock table mode) reply h back
+  reply-answers (InBlock level commands) (stmt.Begin l) Begin plain h back = h
+  reply-answers (InBlock level commands) (stmt.Begin l) reply plain h back = succeeded-done (InBlock level commands) (stmt.Begin l) reply h back
+  reply-answers (InBlock level commands) stmt.Commit Commit plain h back = h
+  reply-answers (InBlock level commands) stmt.Commit reply plain h back = succeeded-done (InBlock level commands) stmt.Commit reply h back
+  reply-answers (InBlock level commands) stmt.Rollback Rollback plain h back = h
+  reply-answers (InBlock level commands) stmt.Rollback reply plain h back = succeeded-done (InBlock level commands) stmt.Rollback reply h back
+  reply-answers (InBlock level commands) (stmt.Select query) reply plain h back = succeeded-done (InBlock level commands) (stmt.Select query) reply h back
+  reply-answers (InBlock level commands) (stmt.Insert table tuples) reply plain h back = succeeded-done (InBlock level commands) (stmt.Insert table tuples) reply h back
+  reply-answers (InBlock level commands) (stmt.Update table assigns found) reply plain h back = succeeded-done (InBlock level commands) (stmt.Update table assigns found) reply h back
+  reply-answers (InBlock level commands) (stmt.Delete table found) reply plain h back = succeeded-done (InBlock level commands) (stmt.Delete table found) reply h back
+  reply-answers (InBlock level commands) (stmt.Lock table mode) reply plain h back = succeeded-done (InBlock level commands) (stmt.Lock table mode) reply h back
+  reply-answers Failed (stmt.Begin l) reply plain h back = absurd h
+  reply-answers Failed stmt.Commit Rollback plain h back = h
+  reply-answers Failed stmt.Commit reply plain h back = absurd h
+  reply-answers Failed stmt.Rollback Rollback plain h back = h
+  reply-answers Failed stmt.Rollback reply plain h back = absurd h
+  reply-answers Failed (stmt.Select query) reply plain h back = absurd h
+  reply-answers Failed (stmt.Insert table tuples) reply plain h back = absurd h
+  reply-answers Failed (stmt.Update table assigns found) reply plain h back = absurd h
+  reply-answers Failed (stmt.Delete table found) reply plain h back = absurd h
+  reply-answers Failed (stmt.Lock table mode) reply plain h back = absurd h
 
   -- A REFUSAL
   refusal-caused : (state : BlockState) (line : Stmt) (reason : Reason) → IsRefusal script point session state line reason → Caused state line reason
@@ -96,28 +162,103 @@ module _ (script : Script) (point : Point) (session : SessionId) where
   for-refusal state line reason is caused = record { kind = is.kind; g = is.g; transaction = is.transaction; aborted = is.aborted; cause = caused is.kind is.g is.transaction }
 
   refused-of : (state : BlockState) (line : Stmt) (reason : Reason) → IsAnswer script point session state line (Refused reason) → IsRefused point session state line reason
+  refused-of Outside (stmt.Begin l) reason h = refusal-for Outside (stmt.Begin l) reason h
+  refused-of Outside stmt.Commit reason h = refusal-for Outside stmt.Commit reason h
+  refused-of Outside stmt.Rollback reason h = refusal-for Outside stmt.Rollback reason h
+  refused-of Outside (stmt.Select query) reason h = refusal-for Outside (stmt.Select query) reason h
+  refused-of Outside (stmt.Insert table tuples) reason h = refusal-for Outside (stmt.Insert table tuples) reason h
+  refused-of Outside (stmt.Update table assigns found) reason h = refusal-for Outside (stmt.Update table assigns found) reason h
+  refused-of Outside (stmt.Delete table found) reason h = refusal-for Outside (stmt.Delete table found) reason h
   refused-of Outside (stmt.Lock table mode) NotInBlock h = h
-  refused-of Failed stmt.Commit reason h = h
-  refused-of Failed stmt.Rollback reason h = h
-  refused-of Failed line InFailedBlock h = h
-  refused-of Failed line reason h = h
-  refused-of state line reason h = refusal-for state line reason h
+  refused-of Outside (stmt.Lock table mode) reason h = refusal-for Outside (stmt.Lock table mode) reason h
+  refused-of (InBlock level commands) (stmt.Begin l) reason h = refusal-for (InBlock level commands) (stmt.Begin l) reason h
+  refused-of (InBlock level commands) stmt.Commit reason h = refusal-for (InBlock level commands) stmt.Commit reason h
+  refused-of (InBlock level commands) stmt.Rollback reason h = refusal-for (InBlock level commands) stmt.Rollback reason h
+  refused-of (InBlock level commands) (stmt.Select query) reason h = refusal-for (InBlock level commands) (stmt.Select query) reason h
+  refused-of (InBlock level commands) (stmt.Insert table tuples) reason h = refusal-for (InBlock level commands) (stmt.Insert table tuples) reason h
+  refused-of (InBlock level commands) (stmt.Update table assigns found) reason h = refusal-for (InBlock level commands) (stmt.Update table assigns found) reason h
+  refused-of (InBlock level commands) (stmt.Delete table found) reason h = refusal-for (InBlock level commands) (stmt.Delete table found) reason h
+  refused-of (InBlock level commands) (stmt.Lock table mode) reason h = refusal-for (InBlock level commands) (stmt.Lock table mode) reason h
+  refused-of Failed (stmt.Begin l) InFailedBlock h = h
+  refused-of Failed (stmt.Begin l) reason h = absurd h
+  refused-of Failed stmt.Commit reason h = absurd h
+  refused-of Failed stmt.Rollback reason h = absurd h
+  refused-of Failed (stmt.Select query) InFailedBlock h = h
+  refused-of Failed (stmt.Select query) reason h = absurd h
+  refused-of Failed (stmt.Insert table tuples) InFailedBlock h = h
+  refused-of Failed (stmt.Insert table tuples) reason h = absurd h
+  refused-of Failed (stmt.Update table assigns found) InFailedBlock h = h
+  refused-of Failed (stmt.Update table assigns found) reason h = absurd h
+  refused-of Failed (stmt.Delete table found) InFailedBlock h = h
+  refused-of Failed (stmt.Delete table found) reason h = absurd h
+  refused-of Failed (stmt.Lock table mode) InFailedBlock h = h
+  refused-of Failed (stmt.Lock table mode) reason h = absurd h
 
   caused-of : (state : BlockState) (line : Stmt) (reason : Reason) → IsAnswer script point session state line (Refused reason) → Caused state line reason
+  caused-of Outside (stmt.Begin l) reason h = refusal-caused Outside (stmt.Begin l) reason h
+  caused-of Outside stmt.Commit reason h = refusal-caused Outside stmt.Commit reason h
+  caused-of Outside stmt.Rollback reason h = refusal-caused Outside stmt.Rollback reason h
+  caused-of Outside (stmt.Select query) reason h = refusal-caused Outside (stmt.Select query) reason h
+  caused-of Outside (stmt.Insert table tuples) reason h = refusal-caused Outside (stmt.Insert table tuples) reason h
+  caused-of Outside (stmt.Update table assigns found) reason h = refusal-caused Outside (stmt.Update table assigns found) reason h
+  caused-of Outside (stmt.Delete table found) reason h = refusal-caused Outside (stmt.Delete table found) reason h
   caused-of Outside (stmt.Lock table mode) NotInBlock h = λ may. absurd (cc)
+  caused-of Outside (stmt.Lock table mode) reason h = refusal-caused Outside (stmt.Lock table mode) reason h
+  caused-of (InBlock level commands) (stmt.Begin l) reason h = refusal-caused (InBlock level commands) (stmt.Begin l) reason h
+  caused-of (InBlock level commands) stmt.Commit reason h = refusal-caused (InBlock level commands) stmt.Commit reason h
+  caused-of (InBlock level commands) stmt.Rollback reason h = refusal-caused (InBlock level commands) stmt.Rollback reason h
+  caused-of (InBlock level commands) (stmt.Select query) reason h = refusal-caused (InBlock level commands) (stmt.Select query) reason h
+  caused-of (InBlock level commands) (stmt.Insert table tuples) reason h = refusal-caused (InBlock level commands) (stmt.Insert table tuples) reason h
+  caused-of (InBlock level commands) (stmt.Update table assigns found) reason h = refusal-caused (InBlock level commands) (stmt.Update table assigns found) reason h
+  caused-of (InBlock level commands) (stmt.Delete table found) reason h = refusal-caused (InBlock level commands) (stmt.Delete table found) reason h
+  caused-of (InBlock level commands) (stmt.Lock table mode) reason h = refusal-caused (InBlock level commands) (stmt.Lock table mode) reason h
+  caused-of Failed (stmt.Begin l) InFailedBlock h = λ may. absurd (cc)
+  caused-of Failed (stmt.Begin l) reason h = absurd h
   caused-of Failed stmt.Commit reason h = absurd h
   caused-of Failed stmt.Rollback reason h = absurd h
-  caused-of Failed line InFailedBlock h = λ may. absurd (cc)
-  caused-of Failed line reason h = absurd h
-  caused-of state line reason h = refusal-caused state line reason h
+  caused-of Failed (stmt.Select query) InFailedBlock h = λ may. absurd (cc)
+  caused-of Failed (stmt.Select query) reason h = absurd h
+  caused-of Failed (stmt.Insert table tuples) InFailedBlock h = λ may. absurd (cc)
+  caused-of Failed (stmt.Insert table tuples) reason h = absurd h
+  caused-of Failed (stmt.Update table assigns found) InFailedBlock h = λ may. absurd (cc)
+  caused-of Failed (stmt.Update table assigns found) reason h = absurd h
+  caused-of Failed (stmt.Delete table found) InFailedBlock h = λ may. absurd (cc)
+  caused-of Failed (stmt.Delete table found) reason h = absurd h
+  caused-of Failed (stmt.Lock table mode) InFailedBlock h = λ may. absurd (cc)
+  caused-of Failed (stmt.Lock table mode) reason h = absurd h
 
   refused-answers : (state : BlockState) (line : Stmt) (reason : Reason) → IsRefused point session state line reason → Caused state line reason → IsAnswer script point session state line (Refused reason)
+  refused-answers Outside (stmt.Begin l) reason h caused = for-refusal Outside (stmt.Begin l) reason h caused
+  refused-answers Outside stmt.Commit reason h caused = for-refusal Outside stmt.Commit reason h caused
+  refused-answers Outside stmt.Rollback reason h caused = for-refusal Outside stmt.Rollback reason h caused
+  refused-answers Outside (stmt.Select query) reason h caused = for-refusal Outside (stmt.Select query) reason h caused
+  refused-answers Outside (stmt.Insert table tuples) reason h caused = for-refusal Outside (stmt.Insert table tuples) reason h caused
+  refused-answers Outside (stmt.Update table assigns found) reason h caused = for-refusal Outside (stmt.Update table assigns found) reason h caused
+  refused-answers Outside (stmt.Delete table found) reason h caused = for-refusal Outside (stmt.Delete table found) reason h caused
   refused-answers Outside (stmt.Lock table mode) NotInBlock h caused = h
-  refused-answers Failed stmt.Commit reason h caused = h
-  refused-answers Failed stmt.Rollback reason h caused = h
-  refused-answers Failed line InFailedBlock h caused = h
-  refused-answers Failed line reason h caused = h
-  refused-answers state line reason h caused = for-refusal state line reason h caused
+  refused-answers Outside (stmt.Lock table mode) reason h caused = for-refusal Outside (stmt.Lock table mode) reason h caused
+  refused-answers (InBlock level commands) (stmt.Begin l) reason h caused = for-refusal (InBlock level commands) (stmt.Begin l) reason h caused
+  refused-answers (InBlock level commands) stmt.Commit reason h caused = for-refusal (InBlock level commands) stmt.Commit reason h caused
+  refused-answers (InBlock level commands) stmt.Rollback reason h caused = for-refusal (InBlock level commands) stmt.Rollback reason h caused
+  refused-answers (InBlock level commands) (stmt.Select query) reason h caused = for-refusal (InBlock level commands) (stmt.Select query) reason h caused
+  refused-answers (InBlock level commands) (stmt.Insert table tuples) reason h caused = for-refusal (InBlock level commands) (stmt.Insert table tuples) reason h caused
+  refused-answers (InBlock level commands) (stmt.Update table assigns found) reason h caused = for-refusal (InBlock level commands) (stmt.Update table assigns found) reason h caused
+  refused-answers (InBlock level commands) (stmt.Delete table found) reason h caused = for-refusal (InBlock level commands) (stmt.Delete table found) reason h caused
+  refused-answers (InBlock level commands) (stmt.Lock table mode) reason h caused = for-refusal (InBlock level commands) (stmt.Lock table mode) reason h caused
+  refused-answers Failed (stmt.Begin l) InFailedBlock h caused = h
+  refused-answers Failed (stmt.Begin l) reason h caused = absurd h
+  refused-answers Failed stmt.Commit reason h caused = absurd h
+  refused-answers Failed stmt.Rollback reason h caused = absurd h
+  refused-answers Failed (stmt.Select query) InFailedBlock h caused = h
+  refused-answers Failed (stmt.Select query) reason h caused = absurd h
+  refused-answers Failed (stmt.Insert table tuples) InFailedBlock h caused = h
+  refused-answers Failed (stmt.Insert table tuples) reason h caused = absurd h
+  refused-answers Failed (stmt.Update table assigns found) InFailedBlock h caused = h
+  refused-answers Failed (stmt.Update table assigns found) reason h caused = absurd h
+  refused-answers Failed (stmt.Delete table found) InFailedBlock h caused = h
+  refused-answers Failed (stmt.Delete table found) reason h caused = absurd h
+  refused-answers Failed (stmt.Lock table mode) InFailedBlock h caused = h
+  refused-answers Failed (stmt.Lock table mode) reason h caused = absurd h
 
   -- AN ANSWER
   same-line : (line other : Stmt) → RunsLine script point session line → RunsLine script point session other → line ≡ other
@@ -133,18 +274,18 @@ module _ (script : Script) (point : Point) (session : SessionId) where
   answer-caused number reason h line runs = subst (λ l. Caused (state_at script session point) l reason) (same-line h.line line h.runs runs) (caused-of (state_at script session point) h.line reason h.is)
 
   is-back : (state : BlockState) (line : Stmt) (reply : StmtAnswer) → is_refusal reply ≡ false → IsBackFor state line reply → Back state line
-  is-back state line (Refused reason) no h = absurd (cc)
-  is-back state line reply no h = h
+  is-back state line (Refused reason) plain h = absurd (cc)
+  is-back state line reply plain h = h
 
   answer-back : (number : ℕ) (reply : StmtAnswer) → is_refusal reply ≡ false → LegalAnswer script point session number reply → HasReturned script point session
-  answer-back number reply no h line runs = subst (λ l. Back (state_at script session point) l) (same-line h.line line h.runs runs)
-      (is-back (state_at script session point) h.line reply no (back-of (state_at script session point) h.line reply h.is))
+  answer-back number reply plain h line runs = subst (λ l. Back (state_at script session point) l) (same-line h.line line h.runs runs)
+      (is-back (state_at script session point) h.line reply plain (back-of (state_at script session point) h.line reply h.is))
 
   legal-refused : (number : ℕ) (reason : Reason) → IsLegalReply script point session number (Refused reason) → IsLegalRefused script point session reason → HasCause script point session reason → LegalAnswer script point session number (Refused reason)
   legal-refused number reason reply refused caused = record { order = reply.order; line = refused.line; runs = refused.runs; is = refused-answers (state_at script session point) refused.line reason refused.is (caused refused.line refused.runs) }
 
   legal-reply : (number : ℕ) (reply : StmtAnswer) → is_refusal reply ≡ false → IsLegalReply script point session number reply → HasReturned script point session → LegalAnswer script point session number reply
-  legal-reply number reply no is back = record { order = is.order; line = is.line; runs = is.runs; is = reply-answers (state_at script session point) is.line reply no is.is (back is.line is.runs) }
+  legal-reply number reply plain is back = record { order = is.order; line = is.line; runs = is.runs; is = reply-answers (state_at script session point) is.line reply plain is.is (back is.line is.runs) }
 
 abbrev pub Parts : Script → Point → Mark → Type 0
 Parts script point m = IsLegalRow script point m × IsLegalStatement script point m × IsLegalRefusal script point m × IsLegalBeside script point m
