@@ -1,49 +1,67 @@
--- What an answer that is judged so has to meet is what the definition asks of it.
-use Rattle.std.proofs.Common.{◌≡◌, ◌↔◌, ◌∙◌, Bool, IsTrue, List, sym, subst, ap}
+-- What an answer or a refusal that is judged so has to meet is what the definition asks of it.
+use Rattle.std.proofs.Common.{◌≡◌, ◌↔◌, ◌∙◌, Bool, true, false, IsTrue, List, sym, subst, ap}
 use Rattle.gx_ids.specs.declared.ids.SessionId.{SessionId}
 use Rattle.gx_script.specs.declared.Script.{Script}
+use Rattle.gx_store.specs.declared.answer.Refused.{Refused as Reason}
 use Rattle.gx_store.specs.declared.answer.Refused.TheVariants.{InFailedBlock, NotInBlock}
 use Rattle.gx_store.specs.declared.answer.StmtAnswer.{StmtAnswer}
 use Rattle.gx_store.specs.declared.answer.StmtAnswer.TheVariants.{Begin, Commit, Rollback, Refused}
 use Rattle.gx_store.specs.declared.mark.Mark.{Mark}
-use Rattle.gx_store.specs.Answers.{IsAnswer}
+use Rattle.gx_store.specs.Parts.{IsRefused, IsReply}
 use Rattle.gx_store.specs.Commands.{state_at}
 use Rattle.gx_store.specs.Lines.{BlockState, Outside, InBlock, Failed, state_of}
 use Rattle.gx_store.specs.Points.{Point, before}
 use Rattle.gx_tree.specs.declared.stmt.Stmt.{Stmt}
 use Rattle.gx_tree.specs.declared.stmt.Stmt.TheVariants as stmt
-use Rattle.gx_legal.specs.Answers.{Meets, judged}
+use Rattle.gx_legal.specs.Answers.{Meets, MeetsAs, is_refusal, judged, judged_refusal}
 use Rattle.gx_legal.specs.declared.judgement.Judgement.{Judgement}
 
 same : {A : Type 0} → A ↔ A
 same = (λ x. x, λ x. x)
 
 module _ (script : Script) (point : Point) (session : SessionId) where
-  judged-is : (state : BlockState) (line : Stmt) (reply : StmtAnswer) → Meets script point session state line reply (judged state line reply) ↔ IsAnswer script point session state line reply
-  judged-is Outside (stmt.Begin level) Begin = same
-  judged-is Outside stmt.Commit Commit = same
-  judged-is Outside stmt.Rollback Rollback = same
-  judged-is Outside (stmt.Lock table mode) (Refused NotInBlock) = same
-  judged-is (InBlock level commands) (stmt.Begin other) Begin = same
-  judged-is (InBlock level commands) stmt.Commit Commit = same
-  judged-is (InBlock level commands) stmt.Rollback Rollback = same
-  judged-is Failed stmt.Commit Rollback = same
-  judged-is Failed stmt.Rollback Rollback = same
-  judged-is Failed stmt.Commit (Refused reason) = same
-  judged-is Failed stmt.Rollback (Refused reason) = same
-  judged-is Failed line (Refused InFailedBlock) = same
-  judged-is Failed line reply = same
-  judged-is state line (Refused reason) = same
-  judged-is state line reply = same
+  judged-is : (state : BlockState) (line : Stmt) (reply : StmtAnswer) → is_refusal reply ≡ false → Meets script point session state line reply (judged state line reply) ↔ IsReply script point session state line reply
+  judged-is state line (Refused reason) e = absurd cc
+  judged-is Outside (stmt.Begin level) Begin e = same
+  judged-is Outside stmt.Commit Commit e = same
+  judged-is Outside stmt.Rollback Rollback e = same
+  judged-is (InBlock level commands) (stmt.Begin other) Begin e = same
+  judged-is (InBlock level commands) stmt.Commit Commit e = same
+  judged-is (InBlock level commands) stmt.Rollback Rollback e = same
+  judged-is Failed stmt.Commit Rollback e = same
+  judged-is Failed stmt.Rollback Rollback e = same
+  judged-is Failed line reply e = same
+  judged-is state line reply e = same
 
-  pub answer-is : (state : BlockState) (marks : List Mark) (line : Stmt) (reply : StmtAnswer) (judgement : Judgement) (b : Bool) → state ≡ state_of script session marks → marks ≡ before point
-      → judgement ≡ judged state line reply
-      → IsTrue b ↔ Meets script point session (state_at script session point) line reply judgement → IsTrue b ↔ IsAnswer script point session (state_at script session point) line reply
-  answer-is state marks line reply judgement b stands whole is meets = (λ t. here.0 (meets.0 t), λ answers. meets.1 (here.1 answers))
+  refusal-is : (state : BlockState) (line : Stmt) (reason : Reason) → MeetsAs point session state line reason (judged_refusal state line reason) ↔ IsRefused point session state line reason
+  refusal-is Outside (stmt.Lock table mode) NotInBlock = same
+  refusal-is Failed stmt.Commit reason = same
+  refusal-is Failed stmt.Rollback reason = same
+  refusal-is Failed line InFailedBlock = same
+  refusal-is Failed line reason = same
+  refusal-is state line reason = same
+
+  at-point : (state : BlockState) (marks : List Mark) → state ≡ state_of script session marks → marks ≡ before point → state ≡ state_at script session point
+  at-point state marks stands whole = stands ∙ ap (state_of script session) whole
+
+  pub reply-is : (state : BlockState) (marks : List Mark) (line : Stmt) (reply : StmtAnswer) (judgement : Judgement) (b : Bool) → state ≡ state_of script session marks → marks ≡ before point
+      → is_refusal reply ≡ false → judgement ≡ judged state line reply
+      → IsTrue b ↔ Meets script point session (state_at script session point) line reply judgement → IsTrue b ↔ IsReply script point session (state_at script session point) line reply
+  reply-is state marks line reply judgement b stands whole no is meets = (λ t. here.0 (meets.0 t), λ answers. meets.1 (here.1 answers))
     where
-      there : judgement ≡ judged (state_at script session point) line reply
-      there = is ∙ ap (λ s. judged s line reply) (stands ∙ ap (state_of script session) whole)
+      here : Meets script point session (state_at script session point) line reply judgement ↔ IsReply script point session (state_at script session point) line reply
+      here = subst (λ j. Meets script point session (state_at script session point) line reply j ↔ IsReply script point session (state_at script session point) line reply)
+          (sym (is ∙ ap (λ s. judged s line reply) (at-point state marks stands whole))) (judged-is (state_at script session point) line reply no)
 
-      here : Meets script point session (state_at script session point) line reply judgement ↔ IsAnswer script point session (state_at script session point) line reply
-      here = subst (λ j. Meets script point session (state_at script session point) line reply j ↔ IsAnswer script point session (state_at script session point) line reply) (sym there)
-          (judged-is (state_at script session point) line reply)
+  pub refused-is : (state : BlockState) (marks : List Mark) (line : Stmt) (reason : Reason) (judgement : Judgement) (b : Bool) → state ≡ state_of script session marks → marks ≡ before point
+      → judgement ≡ judged_refusal state line reason
+      → IsTrue b ↔ MeetsAs point session (state_at script session point) line reason judgement → IsTrue b ↔ IsRefused point session (state_at script session point) line reason
+  refused-is state marks line reason judgement b stands whole is meets = (λ t. here.0 (meets.0 t), λ answers. meets.1 (here.1 answers))
+    where
+      here : MeetsAs point session (state_at script session point) line reason judgement ↔ IsRefused point session (state_at script session point) line reason
+      here = subst (λ j. MeetsAs point session (state_at script session point) line reason j ↔ IsRefused point session (state_at script session point) line reason)
+          (sym (is ∙ ap (λ s. judged_refusal s line reason) (at-point state marks stands whole))) (refusal-is (state_at script session point) line reason)
+
+  pub refusal-replies : (state : BlockState) (line : Stmt) (reply : StmtAnswer) → is_refusal reply ≡ true → IsReply script point session state line reply
+  refusal-replies state line (Refused reason) e = tt
+  refusal-replies state line reply e = absurd cc

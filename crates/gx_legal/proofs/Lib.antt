@@ -41,3 +41,6 @@ pub mod Stretching
 pub mod Stepping
 pub mod Tallying
 pub mod UnderWay
+pub mod Numbering
+pub mod Reasons
+pub mod Parting

@@ -83,3 +83,14 @@ module _ (script : Script) (point : Point) (session : SessionId) (Q : Stmt → T
     where
       none : {A : Type 0} {x : A} → None ≡ Some x → ⊥
       none e = cc
+
+  -- what is asked of whichever line is under way
+  pub every-some : (line : Stmt) (b : Bool) → ((stmt : Stmt) → (Some line ≡ Some stmt) ↔ RunsLine script point session stmt) → IsTrue b ↔ Q line
+      → IsTrue b ↔ ((stmt : Stmt) → RunsLine script point session stmt → Q stmt)
+  every-some line b runs is = (λ t stmt of. subst Q (some-same line stmt ((runs stmt).1 of)) (is.0 t), λ all. is.1 (all line ((runs line).0 refl)))
+
+  pub every-none : ((stmt : Stmt) → (None ≡ Some stmt) ↔ RunsLine script point session stmt) → (stmt : Stmt) → RunsLine script point session stmt → Q stmt
+  every-none runs stmt of = absurd (none ((runs stmt).1 of))
+    where
+      none : {A : Type 0} {x : A} → None ≡ Some x → ⊥
+      none e = cc

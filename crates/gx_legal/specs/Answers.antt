@@ -1,16 +1,17 @@
 -- By what an answer to a line is judged.
-use Rattle.std.specs.Prelude.{◌≡◌, ◌+◌, ℕ, true}
+use Rattle.std.specs.Prelude.{◌≡◌, ◌+◌, ℕ, Bool, true, false}
 use Rattle.gx_ids.specs.declared.ids.SessionId.{SessionId}
 use Rattle.gx_script.specs.declared.Script.{Script}
+use Rattle.gx_store.specs.declared.answer.Refused.{Refused as Reason}
 use Rattle.gx_store.specs.declared.answer.Refused.TheVariants.{InFailedBlock, NotInBlock}
 use Rattle.gx_store.specs.declared.answer.StmtAnswer.{StmtAnswer}
 use Rattle.gx_store.specs.declared.answer.StmtAnswer.TheVariants.{Begin, Commit, Rollback, Refused}
-use Rattle.gx_store.specs.Answers.{HasAborted, HasCommitted, IsAnswer, IsDone}
+use Rattle.gx_store.specs.Answers.{HasAborted, HasCommitted}
 use Rattle.gx_store.specs.Commands.{state_at}
 use Rattle.gx_store.specs.Lines.{BlockState, Outside, InBlock, Failed}
 use Rattle.gx_store.specs.Marks.{answer_count, is_begun}
 use Rattle.gx_store.specs.Points.{Point, before}
-use Rattle.gx_store.specs.Refusals.{IsRefusal}
+use Rattle.gx_store.specs.Parts.{HasSucceeded, IsRefusedFor, IsReply}
 use Rattle.gx_tree.specs.declared.stmt.Stmt.{Stmt}
 use Rattle.gx_tree.specs.declared.stmt.Stmt.TheVariants as stmt
 use Rattle.gx_legal.specs.declared.judgement.Judgement.{Judgement}
@@ -46,17 +47,36 @@ judged Outside line reply = judged_outside line reply
 judged (InBlock level commands) line reply = judged_inside line reply
 judged Failed line reply = judged_failed line reply
 
--- what so judged an answer has to meet
+-- and a refusal
+abbrev pub judged_refusal : BlockState → Stmt → Reason → Judgement
+judged_refusal Outside (stmt.Lock table mode) NotInBlock = by.Holds
+judged_refusal Failed stmt.Commit reason = by.Fails
+judged_refusal Failed stmt.Rollback reason = by.Fails
+judged_refusal Failed line InFailedBlock = by.Holds
+judged_refusal Failed line reason = by.Fails
+judged_refusal state line reason = by.Refused reason
+
+abbrev pub is_refusal : StmtAnswer → Bool
+is_refusal (Refused reason) = true
+is_refusal _ = false
+
+-- what so judged an answer that is no refusal has to meet
 abbrev pub Meets : Script → Point → SessionId → BlockState → Stmt → StmtAnswer → Judgement → Type 0
 Meets script point session state line reply by.Holds = Unit {0}
 Meets script point session state line reply by.Fails = ⊥
 Meets script point session state line reply by.Begun = is_begun session (before point) ≡ true
 Meets script point session state line reply by.Committed = HasCommitted point session state
 Meets script point session state line reply by.Aborted = HasAborted point session state
-Meets script point session state line reply (by.Refused reason) = IsRefusal script point session state line reason
-Meets script point session state line reply by.Done = IsDone script point session state line reply
+Meets script point session state line reply (by.Refused reason) = Unit {0}
+Meets script point session state line reply by.Done = HasSucceeded script point session state line reply
 
--- the session's line of this number, which is this one, may have the answer
-abbrev pub MayAnswer : Script → Point → SessionId → ℕ → StmtAnswer → Stmt → Type 0
-MayAnswer script point session number answer line =
-    (number ≡ answer_count session (before point) + 1) × IsAnswer script point session (state_at script session point) line answer
+-- and a refusal
+abbrev pub MeetsAs : Point → SessionId → BlockState → Stmt → Reason → Judgement → Type 0
+MeetsAs point session state line reason by.Holds = Unit {0}
+MeetsAs point session state line reason (by.Refused other) = IsRefusedFor point session state line reason
+MeetsAs point session state line reason _ = ⊥
+
+-- the session's line of this number, which is this one, may have the answer, if that is no refusal
+abbrev pub MayReply : Script → Point → SessionId → ℕ → StmtAnswer → Stmt → Type 0
+MayReply script point session number answer line =
+    (number ≡ answer_count session (before point) + 1) × IsReply script point session (state_at script session point) line answer

@@ -1,5 +1,5 @@
 -- Why a line is refused, part by part.
-use Rattle.std.specs.Prelude.{◌≡◌, ℕ, true, false, List, take, slice_get, Some, Contains}
+use Rattle.std.specs.Prelude.{◌≡◌, ◌≤◌, ℕ, Bool, true, false, List, length, take, slice_get, Some, Contains}
 use Rattle.std.specs.declared.option.Option.{Option}
 use Rattle.gx_ids.specs.declared.ids.Cid.{Cid}
 use Rattle.gx_ids.specs.declared.ids.Gxid.{Gxid}
@@ -7,6 +7,7 @@ use Rattle.gx_ids.specs.declared.ids.Node.{Node}
 use Rattle.gx_ids.specs.declared.ids.Table.{Table}
 use Rattle.gx_ids.specs.declared.rid.Rid.{Rid}
 use Rattle.gx_meaning.specs.declared.fault.ArithFault.{ArithFault}
+use Rattle.gx_meaning.specs.declared.fault.ArithFault.TheVariants as arith
 use Rattle.gx_msg.specs.declared.message.Message.TheVariants as message
 use Rattle.gx_msg.specs.declared.reply.Cause.{Cause}
 use Rattle.gx_msg.specs.declared.reply.Cause.TheVariants as cause
@@ -17,20 +18,19 @@ use Rattle.gx_store.specs.declared.run.Step.{Step}
 use Rattle.gx_store.specs.Faults.{IsFaultOf}
 use Rattle.gx_store.specs.Marks.{is_aborted}
 use Rattle.gx_store.specs.Messages.{IsFirstSent, Receives}
-use Rattle.gx_store.specs.Points.{Point, before}
-use Rattle.gx_store.specs.Refusals.{IsCause, IsHeard, IsOvertakenRow, the_coordinator}
+use Rattle.gx_store.specs.Parts.{IsFaulted, IsReason}
+use Rattle.gx_store.specs.Points.{Point, before, marks_in}
+use Rattle.gx_store.specs.Refusals.{HasFaulted, HasJournalFailed, IsNamed, IsOvertaken, IsOvertakenRow, IsWord, the_coordinator}
 use Rattle.gx_store.specs.declared.answer.Refused.{Refused}
+use Rattle.gx_store.specs.declared.answer.Refused.TheVariants as why
 use Rattle.gx_tree.specs.declared.cond.Cond.{Cond}
 use Rattle.gx_tree.specs.declared.stmt.Level.{Level}
 use Rattle.gx_tree.specs.declared.stmt.Stmt.{Stmt}
+use Rattle.gx_tree.specs.declared.stmt.Stmt.TheVariants as stmt
 use Rattle.gx_tree.specs.declared.value.Value.{Value}
 use Rattle.gx_waits.specs.declared.graph.LocalGraph.{LocalGraph}
 use Rattle.gx_waits.specs.declared.verdict.Verdict.{Verdict}
 use Rattle.gx_waits.specs.declared.verdict.Verdict.TheVariants.{Victims}
-
--- the transaction has aborted in the point's step, and for this cause
-abbrev pub IsRefusedFor : Point → Stmt → Level → Gxid → Cid → Refused → Type 0
-IsRefusedFor point stmt level g c reason = (is_aborted point.earlier g ≡ true) × IsCause point stmt level g c reason
 
 -- VICTIMS
 -- the verdict names the transaction
@@ -57,14 +57,42 @@ abbrev pub NotesInStep : Gxid → Cid → Rid → Option (List Value) → Node �
 NotesInStep g c rid image node steps place = (step : Step) × (slice_get steps place ≡ Some step) × NotesIn g c rid image node step
 
 -- FAULTS
--- the mark notes a fault of the command, which was one behind these marks, and is why it is refused
-abbrev pub FaultsBy : Point → List Mark → ℕ → Stmt → Level → Gxid → Cid → ArithFault → Cause → Mark → Type 0
-FaultsBy point marks place stmt level g c fault reason mark = (rid : Rid) × (image : Option (List Value)) × (mark ≡ Fault g c rid image)
-    × (is_aborted marks g ≡ false) × IsFaultOf marks level g c stmt rid image fault × IsHeard point place stmt g c rid image reason
+-- a segment's word is received, which has noted the fault where that is asked for
+abbrev pub IsTold : Bool → Point → Gxid → Cid → Rid → Option (List Value) → Cause → Type 0
+IsTold true point g c rid image reason = IsWord point g c rid image reason
+IsTold false point g c rid image reason = (segment : Node) × Receives point.steps point.event segment the_coordinator (message.Answer g (reply.Failed c reason))
 
-abbrev pub FaultsAt : Point → Stmt → Level → Gxid → Cid → ArithFault → Cause → ℕ → Type 0
-FaultsAt point stmt level g c fault reason place = (mark : Mark) × (slice_get (before point) place ≡ Some mark)
-    × FaultsBy point (take place (before point)) place stmt level g c fault reason mark
+abbrev pub IsHeardOf : Bool → Point → ℕ → Stmt → Gxid → Cid → Rid → Option (List Value) → Cause → Type 0
+IsHeardOf noted point place (stmt.Insert table tuples) g c rid image reason = length (marks_in point.steps) ≤ place
+IsHeardOf noted point place _ g c rid image reason = IsTold noted point g c rid image reason
+
+-- the mark notes a fault of the command, which was one behind these marks, and is why it is refused
+abbrev pub FaultsBy : Bool → Point → List Mark → ℕ → Stmt → Level → Gxid → Cid → ArithFault → Cause → Mark → Type 0
+FaultsBy noted point marks place line level g c fault reason mark = (rid : Rid) × (image : Option (List Value)) × (mark ≡ Fault g c rid image)
+    × (is_aborted marks g ≡ false) × IsFaultOf marks level g c line rid image fault × IsHeardOf noted point place line g c rid image reason
+
+abbrev pub FaultsAt : Bool → Point → Stmt → Level → Gxid → Cid → ArithFault → Cause → ℕ → Type 0
+FaultsAt noted point line level g c fault reason place = (mark : Mark) × (slice_get (before point) place ≡ Some mark)
+    × FaultsBy noted point (take place (before point)) place line level g c fault reason mark
+
+abbrev pub HasFaultedBy : Bool → Point → Stmt → Level → Gxid → Cid → ArithFault → Cause → Type 0
+HasFaultedBy true point line level g c fault reason = HasFaulted point line level g c fault reason
+HasFaultedBy false point line level g c fault reason = IsFaulted point line level g c fault reason
+
+-- CAUSES
+-- the cause of a refusal, with a segment that has noted the fault where that is asked for
+abbrev pub IsCauseBy : Bool → Point → Stmt → Level → Gxid → Cid → Refused → Type 0
+IsCauseBy noted point line level g c (why.Serialization rid h) = IsOvertaken point line level g c rid h
+IsCauseBy noted point line level g c (why.Victim round) = IsNamed point.earlier round g
+IsCauseBy noted point line level g c why.Overflow = HasFaultedBy noted point line level g c arith.Overflow cause.Overflow
+IsCauseBy noted point line level g c why.DivisionByZero = HasFaultedBy noted point line level g c arith.DivisionByZero cause.DivisionByZero
+IsCauseBy noted point line level g c (why.JournalFault node) = HasJournalFailed point g node
+IsCauseBy noted point line level g c why.InFailedBlock = ⊥
+IsCauseBy noted point line level g c why.NotInBlock = ⊥
+
+-- the transaction has aborted in the point's step, and for this reason
+abbrev pub IsAbortedFor : Point → Stmt → Level → Gxid → Cid → Refused → Type 0
+IsAbortedFor point line level g c reason = (is_aborted point.earlier g ≡ true) × IsReason point line level g c reason
 
 -- OVERTAKEN ROWS
 -- a segment's word that a row of the table was overtaken is received, and it was so when the segment first said so

@@ -27,7 +27,6 @@ IsPieceBack point g c piece = IsReturned point g c piece.node
 abbrev pub IsBack : Script → Point → Gxid → Cid → Stmt → Type 0
 IsBack script point g c line = (node : Node) → GoesTo script g c line node → IsReturned point g c node
 
--- the transaction's command did what its answer says, it is back, and the answer stands where it may
-abbrev pub IsDoneBy : Script → Point → BlockState → Gxid → Stmt → StmtAnswer → Type 0
-IsDoneBy script point state g line answer =
-    IsAtItsEnd state point g × Tells script (before point) (level_of state) g (cid_of state) line answer × IsBack script point g (cid_of state) line
+-- the transaction's command did what its answer says, which stands where it may
+abbrev pub HasSucceededBy : Script → Point → BlockState → Gxid → Stmt → StmtAnswer → Type 0
+HasSucceededBy script point state g line answer = IsAtItsEnd state point g × Tells script (before point) (level_of state) g (cid_of state) line answer

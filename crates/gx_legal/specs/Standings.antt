@@ -1,5 +1,5 @@
 -- Where a session stands behind marks.
-use Rattle.std.specs.Prelude.{◌≡◌, ℕ, ◌+◌, ◌≤◌, List, None}
+use Rattle.std.specs.Prelude.{◌≡◌, ℕ, ◌+◌, ◌<◌, ◌≤◌, ◌^◌, List, None}
 use Rattle.gx_ids.specs.declared.ids.SessionId.{SessionId}
 use Rattle.gx_script.specs.declared.Script.{Script}
 use Rattle.gx_store.specs.declared.mark.Mark.{Mark}
@@ -19,6 +19,14 @@ state_in block.Failed = lines.Failed
 abbrev pub commands_in : Block → ℕ
 commands_in (block.Inside level commands) = commands
 commands_in _ = 0
+
+abbrev pub commands_of : BlockState → ℕ
+commands_of (InBlock level commands) = commands
+commands_of _ = 0
+
+-- its next command has a number of 32 bits
+abbrev pub HasNumber : BlockState → Type 0
+HasNumber state = commands_of state + 1 < 2 ^ 32
 
 -- a session that stood so stands so behind these marks
 pub record IsMoved (script : Script) (session : SessionId) (old : Standing) (marks : List Mark) (new : Standing) : Type 0 where

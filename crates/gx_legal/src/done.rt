@@ -1,18 +1,20 @@
-// Whether a command has succeeded.
+// Whether a command has succeeded, and whether it is back from each node to which it went.
 ghost use Rattle.std.specs.Prelude.{◌≡◌, ◌↔◌, IfOk, IsTrue};
 ghost use Rattle.std.specs.List.{AllByRecursion};
 ghost use Rattle.gx_meaning.specs.Statements.{IsStmtOf};
-ghost use Rattle.gx_store.specs.Answers.{IsAtItsEnd, IsDone};
+ghost use Rattle.gx_store.specs.Answers.{IsAtItsEnd};
 ghost use Rattle.gx_store.specs.Commands.{state_at};
 ghost use Rattle.gx_store.specs.Language.{IsScript};
+ghost use Rattle.gx_store.specs.Parts.{HasReturned, HasSucceeded, IsLineBack};
 ghost use Rattle.gx_store.specs.Protocol.{IsReturned};
-ghost use Rattle.gx_legal.specs.Done.{IsBack, IsDoneBy, IsPieceBack};
+ghost use Rattle.gx_legal.specs.Done.{HasSucceededBy, IsBack, IsPieceBack};
 ghost use Rattle.gx_legal.specs.Moments.{point_of};
-ghost use Rattle.gx_legal.specs.Standings.{state_in};
+ghost use Rattle.gx_legal.specs.Standings.{HasNumber, state_in};
+ghost use Rattle.gx_legal.specs.Tables.{IsShort};
 
 use crate::command::Command;
 use crate::heard::has_heard;
-use crate::lines::{is_command, level_in, number_in, transaction_at};
+use crate::lines::{is_command, level_in, line_under_way, number_in, transaction_at};
 use crate::marks::is_committed;
 use crate::moment::Moment;
 use crate::pieces::pieces_of;
@@ -62,6 +64,7 @@ fn are_back(moment: &Moment<'_, '_>, command: Command, pieces: &[Piece]) -> bool
 fn is_back(alloc: Global, moment: &Moment<'_, '_>, command: Command, stmt: &Stmt) -> Mem<bool>
     requires script { IsScript moment.now.script.now }
     requires line { IsStmtOf moment.now.script.now.tables stmt.now }
+    requires short { IsShort stmt.now }
     ensures { IfOk result (λ is. IsTrue is ↔ IsBack moment.now.script.now (point_of moment.now) command.gxid command.cid stmt.now) }
 {
     let pieces = pieces_of(alloc, moment.script, command, stmt)?;
@@ -69,7 +72,7 @@ fn is_back(alloc: Global, moment: &Moment<'_, '_>, command: Command, stmt: &Stmt
 }
 
 // Whether the transaction's command did what its answer says.
-fn is_done_by(
+fn has_succeeded_by(
     alloc: Global,
     moment: &Moment<'_, '_>,
     block: Block,
@@ -77,9 +80,8 @@ fn is_done_by(
     line: &Stmt,
     answer: &StmtAnswer,
 ) -> Mem<bool>
-    requires script { IsScript moment.now.script.now }
-    requires line { IsStmtOf moment.now.script.now.tables line.now }
-    ensures { IfOk result (λ is. IsTrue is ↔ IsDoneBy moment.now.script.now (point_of moment.now) (state_in block) gxid line.now answer.now) }
+    requires { HasNumber (state_in block) }
+    ensures { IfOk result (λ is. IsTrue is ↔ HasSucceededBy moment.now.script.now (point_of moment.now) (state_in block) gxid line.now answer.now) }
 {
     if !is_at_its_end(block, moment, gxid) {
         return Ok(false);
@@ -87,25 +89,21 @@ fn is_done_by(
     let command = Command {
         level: level_in(block),
         gxid,
-        cid: number_in(block)?,
+        cid: number_in(block),
     };
-    if !tells(alloc, moment.script, moment.before, command, line, answer)? {
-        return Ok(false);
-    }
-    is_back(alloc, moment, command, line)
+    tells(alloc, moment.script, moment.before, command, line, answer)
 }
 
 /// Whether the session's line is a command, which succeeded with this answer.
-pub fn is_done(
+pub fn has_succeeded(
     alloc: Global,
     moment: &Moment<'_, '_>,
     session: SessionId,
     line: &Stmt,
     answer: &StmtAnswer,
 ) -> Mem<bool>
-    requires script { IsScript moment.now.script.now }
-    requires line { IsStmtOf moment.now.script.now.tables line.now }
-    ensures { IfOk result (λ is. IsTrue is ↔ IsDone moment.now.script.now (point_of moment.now) session (state_at moment.now.script.now session (point_of moment.now)) line.now answer.now) }
+    requires { HasNumber (state_at moment.now.script.now session (point_of moment.now)) }
+    ensures { IfOk result (λ is. IsTrue is ↔ HasSucceeded moment.now.script.now (point_of moment.now) session (state_at moment.now.script.now session (point_of moment.now)) line.now answer.now) }
 {
     let block = standing_at(moment, session).block;
     if !is_command(block, line) {
@@ -114,5 +112,39 @@ pub fn is_done(
     let Some(gxid) = transaction_at(moment, session) else {
         return Ok(false);
     };
-    is_done_by(alloc, moment, block, gxid, line, answer)
+    has_succeeded_by(alloc, moment, block, gxid, line, answer)
+}
+
+// Where the line is a command, whether it is back.
+fn is_line_back(alloc: Global, moment: &Moment<'_, '_>, session: SessionId, line: &Stmt) -> Mem<bool>
+    requires script { IsScript moment.now.script.now }
+    requires line { IsStmtOf moment.now.script.now.tables line.now }
+    requires short { IsShort line.now }
+    requires number { HasNumber (state_at moment.now.script.now session (point_of moment.now)) }
+    ensures { IfOk result (λ is. IsTrue is ↔ IsLineBack moment.now.script.now (point_of moment.now) session line.now) }
+{
+    let block = standing_at(moment, session).block;
+    if !is_command(block, line) {
+        return Ok(true);
+    }
+    let Some(gxid) = transaction_at(moment, session) else {
+        return Ok(true);
+    };
+    let command = Command {
+        level: level_in(block),
+        gxid,
+        cid: number_in(block),
+    };
+    is_back(alloc, moment, command, line)
+}
+
+/// Whether each node to which the session's command goes has returned.
+pub fn has_returned(alloc: Global, moment: &Moment<'_, '_>, session: SessionId) -> Mem<bool>
+    requires { IsScript moment.now.script.now }
+    ensures { IfOk result (λ is. IsTrue is ↔ HasReturned moment.now.script.now (point_of moment.now) session) }
+{
+    match line_under_way(moment, session) {
+        Some(line) => is_line_back(alloc, moment, session, line),
+        None => Ok(true),
+    }
 }

@@ -1,7 +1,6 @@
 // Whether an evaluation of a command faulted, which is why it is refused.
 ghost use Rattle.std.specs.Prelude.{◌≡◌, ◌↔◌, ◌<◌, IfOk, IsTrue, length, slice_get, Some, take};
-ghost use Rattle.gx_store.specs.Refusals.{HasFaulted};
-ghost use Rattle.gx_legal.specs.Causes.{FaultsAt, FaultsBy};
+ghost use Rattle.gx_legal.specs.Causes.{FaultsAt, FaultsBy, HasFaultedBy};
 ghost use Rattle.gx_legal.specs.Moments.{point_of};
 
 use crate::command::Command;
@@ -23,11 +22,11 @@ fn is_fault_by(
     place: usize,
     stmt: &Stmt,
     command: Command,
-    why: (ArithFault, Cause),
+    why: (ArithFault, Cause, bool),
     mark: &Mark,
 ) -> Mem<bool>
     requires { place < length moment.now.before.now }
-    ensures { IfOk result (λ is. IsTrue is ↔ FaultsBy (point_of moment.now) (take place moment.now.before.now) place stmt.now command.level command.gxid command.cid why.0 why.1 mark.now) }
+    ensures { IfOk result (λ is. IsTrue is ↔ FaultsBy why.2 (point_of moment.now) (take place moment.now.before.now) place stmt.now command.level command.gxid command.cid why.0 why.1 mark.now) }
 {
     let Mark::Fault {
         gxid,
@@ -48,7 +47,7 @@ fn is_fault_by(
     if *gxid != command.gxid || *cid != command.cid || is_aborted(marks, command.gxid) {
         return Ok(false);
     }
-    if !is_heard(moment, place, stmt, evaluation, why.1) {
+    if !is_heard(moment, place, stmt, evaluation, why.1, why.2) {
         return Ok(false);
     }
     is_fault_of(alloc, marks, command, stmt, *rid, image, why.0)
@@ -60,10 +59,10 @@ fn is_fault_at(
     place: usize,
     stmt: &Stmt,
     command: Command,
-    why: (ArithFault, Cause),
+    why: (ArithFault, Cause, bool),
 ) -> Mem<bool>
     requires { place < length moment.now.before.now }
-    ensures { IfOk result (λ is. IsTrue is ↔ FaultsAt (point_of moment.now) stmt.now command.level command.gxid command.cid why.0 why.1 place) }
+    ensures { IfOk result (λ is. IsTrue is ↔ FaultsAt why.2 (point_of moment.now) stmt.now command.level command.gxid command.cid why.0 why.1 place) }
 {
     is_fault_by(
         alloc,
@@ -76,15 +75,16 @@ fn is_fault_at(
     )
 }
 
-/// Whether an evaluation of the command gave this fault before its transaction aborted, and is why it is refused.
+/// Whether an evaluation of the command gave this fault before its transaction aborted, and is why it is refused; by the word of a segment
+/// that has noted it, where that is asked for.
 pub fn has_faulted(
     alloc: Global,
     moment: &Moment<'_, '_>,
     stmt: &Stmt,
     command: Command,
-    why: (ArithFault, Cause),
+    why: (ArithFault, Cause, bool),
 ) -> Mem<bool>
-    ensures { IfOk result (λ is. IsTrue is ↔ HasFaulted (point_of moment.now) stmt.now command.level command.gxid command.cid why.0 why.1) }
+    ensures { IfOk result (λ is. IsTrue is ↔ HasFaultedBy why.2 (point_of moment.now) stmt.now command.level command.gxid command.cid why.0 why.1) }
 {
     for place in 0..moment.before.len() {
         if is_fault_at(alloc, moment, place, stmt, command, why)? {

@@ -1,6 +1,6 @@
 // What decides whether a line may have an answer.
 ghost use Rattle.std.specs.Prelude.{◌≡◌};
-ghost use Rattle.gx_legal.specs.Answers.{judged_failed, judged_inside, judged_outside, judged_reply, judged};
+ghost use Rattle.gx_legal.specs.Answers.{judged_failed, judged_inside, judged_outside, judged_refusal, judged_reply, judged};
 ghost use Rattle.gx_legal.specs.Standings.{state_in};
 
 use crate::standing::Block;
@@ -79,5 +79,19 @@ pub fn judge(block: Block, line: &Stmt, answer: &StmtAnswer) -> Judgement
         Block::Outside => judge_outside(line, answer),
         Block::Inside { .. } => judge_inside(line, answer),
         Block::Failed => judge_failed(line, answer),
+    }
+}
+
+/// By what a refusal of the line is judged there.
+pub fn judge_refusal(block: Block, line: &Stmt, reason: Refused) -> Judgement
+    ensures { result ≡ judged_refusal (state_in block) line.now reason }
+{
+    match (block, line, reason) {
+        (Block::Outside, Stmt::Lock(_, _), Refused::NotInBlock) => Judgement::Holds,
+        (Block::Failed, Stmt::Commit, _) => Judgement::Fails,
+        (Block::Failed, Stmt::Rollback, _) => Judgement::Fails,
+        (Block::Failed, _, Refused::InFailedBlock) => Judgement::Holds,
+        (Block::Failed, _, _) => Judgement::Fails,
+        _ => Judgement::Refused(reason),
     }
 }

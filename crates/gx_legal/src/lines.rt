@@ -1,5 +1,5 @@
 // The line that a session has under way, and what it may do there.
-ghost use Rattle.std.specs.Prelude.{◌≡◌, ◌↔◌, ◌+◌, ◌<◌, ◌^◌, IfOk, IsTrue, Some};
+ghost use Rattle.std.specs.Prelude.{◌≡◌, ◌↔◌, ◌+◌, ◌<◌, ◌^◌, IsTrue, Some};
 ghost use Rattle.std.specs.Option.{option_copied};
 ghost use Rattle.gx_store.specs.Commands.{RunsLine, state_at};
 ghost use Rattle.gx_store.specs.Legal.{draws as may_draw, is_in_block as has_block, may_abort as can_abort};
@@ -8,13 +8,13 @@ ghost use Rattle.gx_store.specs.Marks.{answer_count};
 ghost use Rattle.gx_store.specs.Points.{before, ends_in, starts_at as starts_up_to, starts_in};
 ghost use Rattle.gx_tree.specs.declared.stmt.Stmt.{Stmt as OneStmt};
 ghost use Rattle.gx_legal.specs.Moments.{point_of};
-ghost use Rattle.gx_legal.specs.Standings.{commands_in, state_in};
+ghost use Rattle.gx_legal.specs.Standings.{HasNumber, commands_in, state_in};
 
 use crate::counts::is_start_of;
 use crate::moment::Moment;
 use crate::seats::{standing_at, start_count_at};
 use crate::standing::{Block, stmt_at};
-use gx_ids::{Cid, Gxid, Mem, OutOfMemory, SessionId};
+use gx_ids::{Cid, Gxid, SessionId};
 use gx_tree::{Level, Stmt};
 
 /// The statement of the session's first line that isn't answered.
@@ -91,22 +91,21 @@ pub fn is_number_in(block: Block, cid: Cid) -> bool
     }
 }
 
-fn cid_behind(commands: usize) -> Mem<Cid>
-    ensures { IfOk result (λ number. number.0 ≡ commands + 1) }
+fn cid_behind(commands: usize) -> Cid
+    requires { commands + 1 < 2 ^ 32 }
+    ensures { result.0 ≡ commands + 1 }
 {
-    if commands >= 4_294_967_295 {
-        return Err(OutOfMemory);
-    }
-    Ok(Cid(commands as u32 + 1))
+    Cid(commands as u32 + 1)
 }
 
-/// The number of the command there. A block of more commands than there are numbers has no room.
-pub fn number_in(block: Block) -> Mem<Cid>
-    ensures { IfOk result (λ number. number ≡ cid_of (state_in block)) }
+/// The number of the command there.
+pub fn number_in(block: Block) -> Cid
+    requires { HasNumber (state_in block) }
+    ensures { result ≡ cid_of (state_in block) }
 {
     match block {
         Block::Inside { commands, .. } => cid_behind(commands),
-        _ => Ok(Cid(1)),
+        _ => Cid(1),
     }
 }
 

@@ -1,8 +1,12 @@
 // Whether a segment has noted a fault, and said so.
 ghost use Rattle.std.specs.Prelude.{◌≡◌, ◌↔◌, ℕ, IsTrue};
 ghost use Rattle.gx_store.specs.declared.mark.Mark.TheVariants.{Fault};
-ghost use Rattle.gx_store.specs.Refusals.{IsHeard, IsWord};
-ghost use Rattle.gx_legal.specs.Causes.{NotesIn, NotesInStep, StandsAt};
+ghost use Rattle.gx_ids.specs.declared.ids.Node.{Node as OneNode};
+ghost use Rattle.gx_msg.specs.declared.message.Message.TheVariants.{Answer};
+ghost use Rattle.gx_msg.specs.declared.reply.Reply.TheVariants.{Failed};
+ghost use Rattle.gx_store.specs.Messages.{Receives};
+ghost use Rattle.gx_store.specs.Refusals.{IsWord, the_coordinator};
+ghost use Rattle.gx_legal.specs.Causes.{IsHeardOf, IsTold, NotesIn, NotesInStep, StandsAt};
 ghost use Rattle.gx_legal.specs.Moments.{point_of};
 
 use crate::images::is_same_image;
@@ -90,19 +94,46 @@ fn is_word(moment: &Moment<'_, '_>, evaluation: Evaluation<'_>, reason: Cause) -
     delivers(moment.steps, moment.event, report) && has_noted(moment.steps, evaluation, from)
 }
 
+// The step receives the word of a segment.
+fn is_said(moment: &Moment<'_, '_>, gxid: Gxid, cid: Cid, reason: Cause) -> bool
+    ensures { IsTrue result ↔ ((segment : OneNode) × Receives moment.now.steps.now moment.now.event segment the_coordinator (Answer gxid (Failed cid reason))) }
+{
+    let Event::Receive { from, .. } = moment.event else {
+        return false;
+    };
+    let report = Report {
+        gxid,
+        word: Word::Failed(cid, reason),
+        from,
+        to: Node(0),
+    };
+    delivers(moment.steps, moment.event, report)
+}
+
+fn is_told(moment: &Moment<'_, '_>, evaluation: Evaluation<'_>, reason: Cause, noted: bool) -> bool
+    ensures { IsTrue result ↔ IsTold noted (point_of moment.now) evaluation.entry.gxid evaluation.entry.cid evaluation.entry.rid evaluation.entry.image.now reason }
+{
+    if noted {
+        is_word(moment, evaluation, reason)
+    } else {
+        is_said(moment, evaluation.gxid, evaluation.cid, reason)
+    }
+}
+
 /// Whether the fault that is noted at this place is why the command is refused: an INSERT's in the point's own step, another's by the word
-/// of a segment.
+/// of a segment, which has noted the fault where that is asked for.
 pub fn is_heard(
     moment: &Moment<'_, '_>,
     place: usize,
     stmt: &Stmt,
     evaluation: Evaluation<'_>,
     reason: Cause,
+    noted: bool,
 ) -> bool
-    ensures { IsTrue result ↔ IsHeard (point_of moment.now) place stmt.now evaluation.entry.gxid evaluation.entry.cid evaluation.entry.rid evaluation.entry.image.now reason }
+    ensures { IsTrue result ↔ IsHeardOf noted (point_of moment.now) place stmt.now evaluation.entry.gxid evaluation.entry.cid evaluation.entry.rid evaluation.entry.image.now reason }
 {
     match stmt {
         Stmt::Insert(_, _) => moment.before.len() - moment.earlier.len() <= place,
-        _ => is_word(moment, evaluation, reason),
+        _ => is_told(moment, evaluation, reason, noted),
     }
 }

@@ -1,5 +1,5 @@
 // The nodes to which a command goes.
-ghost use Rattle.std.specs.Prelude.{◌≡◌, ◌<◌, ◌^◌, [], IfOk, Some, true};
+ghost use Rattle.std.specs.Prelude.{◌≡◌, [], IfOk, Some};
 ghost use Rattle.std.specs.Option.{option_copied};
 ghost use Rattle.gx_meaning.specs.Statements.{IsStmtOf, table_of as its_table};
 ghost use Rattle.gx_store.specs.Language.{IsScript};
@@ -43,15 +43,6 @@ fn schema_of<'a>(script: &'a Script, stmt: &Stmt) -> Option<&'a Schema>
     schema_at(script.tables.as_slice(), table_of(stmt))
 }
 
-fn is_short(stmt: &Stmt) -> bool
-    ensures { result ≡ true → IsShort stmt.now }
-{
-    match stmt {
-        Stmt::Insert(_, tuples) => tuples.len() < 4_294_967_296,
-        _ => true,
-    }
-}
-
 fn no_pieces(alloc: Global) -> Vec<Piece>
     ensures { result.items ≡ [] }
 {
@@ -87,15 +78,13 @@ fn planned(
     }
 }
 
-/// The pieces of the command's plan, or none where it has no plan. Rows without numbers have no room.
+/// The pieces of the command's plan, or none where it has no plan.
 pub fn pieces_of(alloc: Global, script: &Script, command: Command, stmt: &Stmt) -> Mem<Vec<Piece>>
     requires script { IsScript script.now }
     requires line { IsStmtOf script.now.tables stmt.now }
+    requires short { IsShort stmt.now }
     ensures { IfOk result (λ pieces. AreSent script.now command.gxid command.cid stmt.now pieces.items) }
 {
-    if !is_short(stmt) {
-        return Err(OutOfMemory);
-    }
     match schema_of(script, stmt) {
         Some(schema) => planned(alloc, script, schema, command, stmt),
         None => Ok(no_pieces(alloc)),

@@ -1,67 +1,21 @@
 // Whether the steps of a run are legal, one behind the other.
 ghost use Rattle.std.specs.Prelude.{◌≡◌, ◌↔◌, ◌++◌, [], IfOk, IsTrue};
 ghost use Rattle.gx_store.specs.Language.{IsScript};
-ghost use Rattle.gx_store.specs.Legal.{AreLegalMarks, AreLegalSteps, LegalMark};
+ghost use Rattle.gx_store.specs.Legal.{AreLegalMarks, AreLegalSteps};
 ghost use Rattle.gx_store.specs.Points.{marks_in};
 ghost use Rattle.gx_store.specs.Runs.{IsLegalHistory};
-ghost use Rattle.gx_legal.specs.Moments.{point_of};
 ghost use Rattle.gx_legal.specs.Stretches.{MayBegin, MayFollow};
 ghost use Rattle.gx_legal.specs.Tallies.{IsTally};
 
-use crate::answers::is_legal_answer;
 use crate::copying::{all_marks, all_steps};
-use crate::doing::{is_legal_fault, is_legal_skip, is_legal_write};
-use crate::ends::{is_legal_abort, is_legal_commit};
 use crate::events::{is_drawn, is_legal_event};
-use crate::moment::Moment;
-use crate::snaps::is_legal_snap;
-use crate::starts::is_legal_start;
+use crate::parts::is_legal_mark;
 use crate::stretch::{Stretch, moment_at};
 use crate::tally::{Tally, count_event, count_mark, no_tally};
-use crate::verdicts::is_legal_verdict;
 use gx_ids::Mem;
 use gx_script::Script;
 use gx_store::{Mark, Run, Step};
 use std::alloc::Global;
-
-/// Whether the mark may stand at this point.
-pub fn is_legal_mark(alloc: Global, moment: &Moment<'_, '_>, mark: &Mark) -> Mem<bool>
-    requires { IsScript moment.now.script.now }
-    ensures { IfOk result (λ is. IsTrue is ↔ LegalMark moment.now.script.now (point_of moment.now) mark.now) }
-{
-    match mark {
-        Mark::Start { gxid, session } => Ok(is_legal_start(moment, *gxid, *session)),
-        Mark::Snap {
-            gxid,
-            cid,
-            snapshot,
-        } => is_legal_snap(alloc, moment, (*gxid, *cid), snapshot),
-        Mark::Write {
-            gxid,
-            cid,
-            node,
-            table,
-            rid,
-            image,
-        } => is_legal_write(alloc, moment, (*gxid, *cid), (*node, *table, *rid), image),
-        Mark::Skip { gxid, cid, rid } => is_legal_skip(alloc, moment, (*gxid, *cid), *rid),
-        Mark::Fault {
-            gxid,
-            cid,
-            rid,
-            image,
-        } => is_legal_fault(alloc, moment, (*gxid, *cid), *rid, image),
-        Mark::Commit { gxid } => Ok(is_legal_commit(moment, *gxid)),
-        Mark::Abort { gxid } => Ok(is_legal_abort(moment, *gxid)),
-        Mark::Answer {
-            session,
-            number,
-            answer,
-        } => is_legal_answer(alloc, moment, (*session, *number), answer),
-        Mark::Recheck { round, verdict, .. } => Ok(is_legal_verdict(moment, *round, verdict)),
-        _ => Ok(true),
-    }
-}
 
 fn are_legal_marks(alloc: Global, stretch: &Stretch<'_>, tally: &mut Tally) -> Mem<bool>
     requires script { IsScript stretch.now.script.now }

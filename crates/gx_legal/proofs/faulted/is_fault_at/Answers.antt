@@ -15,7 +15,7 @@ returns c =
     let bs = a.moment.now.before.now in
     let x = get_or bs a.place c.index-moment-place.result in
     let at : slice_get bs a.place ≡ Some x = slice_get-get_or bs a.place c.index-moment-place.result c.requires in
-    let Faults : List Mark → Mark → Type 0 = λ ms. FaultsBy (point_of a.moment.now) (take a.place ms) a.place a.stmt.now k.level k.gxid k.cid a.why.0 a.why.1 in
+    let Faults : List Mark → Mark → Type 0 = λ ms. FaultsBy a.why.2 (point_of a.moment.now) (take a.place ms) a.place a.stmt.now k.level k.gxid k.cid a.why.0 a.why.1 in
     let Holds : List Mark → Type 0 = λ ms. IfOk c.is_fault_by.result (λ is. IsTrue is ↔ ((mark : Mark) × (slice_get ms a.place ≡ Some mark) × Faults ms mark)) in
     subst Holds a.moment.now.whole
     (IfOk-weaker c.is_fault_by.result _ _ (λ is by. (λ t. (x, at, by.0 t), λ has. by.1 (subst (Faults bs) (some-same has.0 x (sym has.1 ∙ at)) has.2))) c.is_fault_by.ensures)

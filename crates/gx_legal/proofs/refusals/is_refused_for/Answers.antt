@@ -1,6 +1,8 @@
-use Rattle.std.proofs.Common.{sym, ◌∙◌}
-use Rattle.gx_legal.proofs.Oks.{if_ok}
+use Rattle.gx_legal.proofs.Numbering.{number-in}
+use Rattle.gx_legal.specs.Moments.{point_of}
 use Rattle.gx_legal.proofs.refusals.is_refused_for.Goals as goal
 
-pub returns : goal.returns
-returns c = if_ok c.is_cause.result (λ b h. (λ t. (sym c.is_aborted.ensures ∙ c.if-not-is_aborted.false, h.0 t), λ refused. h.1 refused.1)) c.is_cause.ensures
+pub number_in-requires : goal.number_in-requires
+number_in-requires c =
+    let m = c.args.moment.now in
+    number-in m.script.now (point_of m) c.args.session m.before.now c.standing_at-block.result.block m.whole c.standing_at-block.ensures.is.state c.requires
