@@ -6,15 +6,16 @@ use Rattle.std.specs.Prelude.{Contains, filter, fold}
 use Rattle.std.specs.List.{Any, list_any}
 use Rattle.gx_waits.specs.declared.claim.Claim.{Claim}
 use Rattle.gx_waits.specs.declared.edge.Edge.{Edge}
-use Rattle.gx_waits.specs.Claim.{AreEdges, IsEdge, IsEdgeOf, edge_of, meets, same_object}
-use Rattle.gx_waits.specs.LocalGraph.{AddsAll, AddsOnce}
-use Rattle.gx_waits.proofs.Adds.{Here, adds_none, adds_one, adds_then, all_edges}
+use Rattle.gx_waits.specs.Claim.{AreEdges, IsEdgeOf, edge_of, in_the_way, meets, same_object}
+use Rattle.gx_waits.specs.LocalGraph.{AddsOnce}
 use Rattle.gx_waits.proofs.Determined.{same_gxid}
 use Rattle.gx_waits.proofs.Members.{Has, any_from_has, contains_from_has, has_from_any, has_from_contains}
 use Rattle.gx_locks.specs.declared.hold.Hold.{Hold}
 use Rattle.gx_locks.specs.declared.key.Key.TheVariants.{On}
 use Rattle.gx_waits.specs.Graph.{edges_at, same_edge, with_edge, with_hold, with_wait}
+use Rattle.gx_locks.specs.Graphs.{with_holds}
 use Rattle.gx_locks.specs.Holds.{claims_of, is_under}
+use Rattle.gx_locks.proofs.Adds.{AddsAll, Here, adds_none, adds_one, adds_then, all_edges}
 use Rattle.gx_locks.proofs.Meets.{Meets_from_test, parts, test_from_Meets}
 
 -- ONE EDGE
@@ -111,26 +112,31 @@ adds_hold wait hold edges = go (meets wait hold) refl
         }
     go false t = adds_none (Here wait hold) (λ e h. true_false (sym (test_from_Meets wait hold h.0) ∙ t)) edges
 
-adds_wait : (wait : Claim) (holds : List Claim) (edges : List Edge) → AddsAll (IsEdgeOf wait holds) edges (with_wait holds edges wait)
-adds_wait wait [] edges = adds_none (IsEdgeOf wait []) (λ e is. (has_from_any (λ h. Here wait h e) [] is).1) edges
-adds_wait wait (hold ∷ holds) edges =
-    adds_then (Here wait hold) (IsEdgeOf wait holds) (IsEdgeOf wait (hold ∷ holds)) edges (with_hold wait edges hold) (with_wait holds (with_hold wait edges hold) wait)
-    (λ e is. any_parts (λ h. Here wait h e) hold holds is)
-    (λ e h. any_first (λ h. Here wait h e) hold holds h)
-    (λ e is. any_later (λ h. Here wait h e) hold holds is)
-    (adds_hold wait hold edges) (adds_wait wait holds (with_hold wait edges hold))
+adds_claims : (wait : Claim) (claims : List Claim) (edges : List Edge) → AddsAll (IsEdgeOf wait claims) edges (with_holds claims edges wait)
+adds_claims wait [] edges = adds_none (IsEdgeOf wait []) (λ e is. (has_from_any (λ c. Here wait c e) [] is).1) edges
+adds_claims wait (claim ∷ claims) edges =
+    adds_then (Here wait claim) (IsEdgeOf wait claims) (IsEdgeOf wait (claim ∷ claims)) edges (with_hold wait edges claim) (with_holds claims (with_hold wait edges claim) wait)
+    (λ e is. any_parts (λ c. Here wait c e) claim claims is)
+    (λ e h. any_first (λ c. Here wait c e) claim claims h)
+    (λ e is. any_later (λ c. Here wait c e) claim claims is)
+    (adds_hold wait claim edges) (adds_claims wait claims (with_hold wait edges claim))
 
-adds_waits : (waits holds : List Claim) (edges : List Edge) → AddsAll (IsEdge waits holds) edges (fold (with_wait holds) edges waits)
-adds_waits [] holds edges = adds_none (IsEdge [] holds) (λ e is. (has_from_any (λ w. IsEdgeOf w holds e) [] is).1) edges
-adds_waits (wait ∷ waits) holds edges =
-    adds_then (IsEdgeOf wait holds) (IsEdge waits holds) (IsEdge (wait ∷ waits) holds) edges (with_wait holds edges wait) (fold (with_wait holds) (with_wait holds edges wait) waits)
-    (λ e is. any_parts (λ w. IsEdgeOf w holds e) wait waits is)
-    (λ e h. any_first (λ w. IsEdgeOf w holds e) wait waits h)
-    (λ e is. any_later (λ w. IsEdgeOf w holds e) wait waits is)
-    (adds_wait wait holds edges) (adds_waits waits holds (with_wait holds edges wait))
+-- the edges of some of the waits
+module _ (all holds : List Claim) where
+  abbrev Of : Edge → Claim → Type 0
+  Of e wait = IsEdgeOf wait (in_the_way holds all wait) e
+
+  adds_waits : (waits : List Claim) (edges : List Edge) → AddsAll (λ e. Any (Of e) waits) edges (fold (with_wait holds all) edges waits)
+  adds_waits [] edges = adds_none (λ e. Any (Of e) []) (λ e is. (has_from_any (Of e) [] is).1) edges
+  adds_waits (wait ∷ waits) edges =
+      adds_then (IsEdgeOf wait (in_the_way holds all wait)) (λ e. Any (Of e) waits) (λ e. Any (Of e) (wait ∷ waits)) edges (with_wait holds all edges wait) (fold (with_wait holds all) (with_wait holds all edges wait) waits)
+      (λ e is. any_parts (Of e) wait waits is)
+      (λ e h. any_first (Of e) wait waits h)
+      (λ e is. any_later (Of e) wait waits is)
+      (adds_claims wait (in_the_way holds all wait) edges) (adds_waits waits (with_wait holds all edges wait))
 
 pub are_edges : (waits holds : List Claim) → AreEdges waits holds (edges_at waits holds)
-are_edges waits holds = all_edges waits holds (edges_at waits holds) (adds_waits waits holds [])
+are_edges waits holds = all_edges waits holds (edges_at waits holds) (adds_waits waits holds waits [])
 
 -- THE HOLDS ON AN OBJECT
 elsewhere : (wait : Claim) (h : Hold) (edges : List Edge) → is_under (On wait.object) h.claim ≡ false → with_hold wait edges h.claim ≡ edges
@@ -147,12 +153,12 @@ abbrev on_object : Claim → List Hold → List Hold
 on_object wait hs = filter (λ h. is_under (On wait.object) h.claim) hs
 
 -- only the holds on its object count for a wait
-pub edges-filed : (wait : Claim) (hs : List Hold) (edges : List Edge) → with_wait (claims_of (on_object wait hs)) edges wait ≡ with_wait (claims_of hs) edges wait
+pub edges-filed : (wait : Claim) (hs : List Hold) (edges : List Edge) → with_holds (claims_of (on_object wait hs)) edges wait ≡ with_holds (claims_of hs) edges wait
 edges-filed wait [] edges = refl
 edges-filed wait (h ∷ hs) edges = go (is_under (On wait.object) h.claim) refl (edges-filed wait hs)
   where
     go : (b : Bool) → is_under (On wait.object) h.claim ≡ b
-        → ((es : List Edge) → with_wait (claims_of (on_object wait hs)) es wait ≡ with_wait (claims_of hs) es wait)
-        → with_wait (claims_of (cond b (h ∷ on_object wait hs) (on_object wait hs))) edges wait ≡ with_wait (claims_of (h ∷ hs)) edges wait
+        → ((es : List Edge) → with_holds (claims_of (on_object wait hs)) es wait ≡ with_holds (claims_of hs) es wait)
+        → with_holds (claims_of (cond b (h ∷ on_object wait hs) (on_object wait hs))) edges wait ≡ with_holds (claims_of (h ∷ hs)) edges wait
     go true t rest = rest (with_hold wait edges h.claim)
-    go false t rest = rest edges ∙ ap (λ es. with_wait (claims_of hs) es wait) (sym (elsewhere wait h edges t))
+    go false t rest = rest edges ∙ ap (λ es. with_holds (claims_of hs) es wait) (sym (elsewhere wait h edges t))

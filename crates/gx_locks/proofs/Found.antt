@@ -1,5 +1,5 @@
 -- What is asked of all holds is found among those of an object.
-use Rattle.std.proofs.Common.{◌≡◌, List, [], ◌∷◌, refl, sym, ap, ◌∙◌, Bool, true, false, not, eqb, ◌||◌}
+use Rattle.std.proofs.Common.{◌≡◌, List, [], ◌∷◌, refl, sym, ap, ◌∙◌, Bool, true, false, not, eqb, ◌||◌, ◌&&◌}
 use Rattle.std.proofs.lemmas.Simd.{map-map}
 use Rattle.std.specs.Prelude.{filter, find, map}
 use Rattle.std.specs.List.{list_any}
@@ -43,6 +43,17 @@ module _ (c : Claim) where
         ∙ ap (map (λ (h : Hold). h.claim.gxid)) (filter-weaker (λ h. meets c h.claim) (λ h. same_object c.object h.claim.object) met_on hs)
         ∙ sym (map-map (λ (d : Claim). d.gxid) (λ (h : Hold). h.claim) (filter (λ h. meets c h.claim) hs))
         ∙ ap (map (λ (d : Claim). d.gxid)) (claims_of-filter (meets c) hs)
+
+    -- whether it meets what a transaction holds
+    pub own-filed : (g : Gxid) → list_any (λ h. eqb h.claim.gxid.0 g.0 && meets c h.claim) held ≡ list_any (λ d. eqb d.gxid.0 g.0 && meets c d) (claims_of hs)
+    own-filed g =
+        ap (list_any (λ h. eqb h.claim.gxid.0 g.0 && meets c h.claim)) on
+        ∙ list_any-weaker (λ h. eqb h.claim.gxid.0 g.0 && meets c h.claim) (λ h. same_object c.object h.claim.object) (λ h is. met_on h (later (eqb h.claim.gxid.0 g.0) (meets c h.claim) is)) hs
+        ∙ list_any-claims (λ d. eqb d.gxid.0 g.0 && meets c d) hs
+      where
+        later : (a b : Bool) → (a && b) ≡ true → b ≡ true
+        later true b e = e
+        later false b e = absurd (cc)
 
     pub find-filed : find (λ h. same_claim c h.claim) held ≡ find (λ h. same_claim c h.claim) hs
     find-filed =

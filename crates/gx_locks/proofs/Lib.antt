@@ -1,3 +1,4 @@
+pub mod Adds
 pub mod Edges
 pub mod Emptied
 pub mod Entered
@@ -11,5 +12,6 @@ pub mod Ready
 pub mod Risen
 pub mod Runs
 pub mod Slots
+pub mod Ways
 pub mod Whole
 pub mod Written

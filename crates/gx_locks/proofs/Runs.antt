@@ -14,6 +14,7 @@ use Rattle.gx_waits.specs.Claims.{is_free, is_of, with_claim, without}
 use Rattle.gx_locks.specs.Kept.{AreExclusive, AreOnce}
 use Rattle.gx_locks.specs.Locks.{Locks, IsAnswer, is_ready, wait_of, resumed}
 use Rattle.gx_locks.specs.Runs.{Call, Request, Resume, Release, ReleaseAll, IsStep, IsRun, IsSound}
+use Rattle.gx_locks.proofs.Ways.{clear-free}
 use Rattle.gx_locks.proofs.Whole.{none_passes, free_is}
 
 turned : (a b : Gxid) → eqb a.0 b.0 ≡ false → eqb b.0 a.0 ≡ false
@@ -58,13 +59,13 @@ IsSound-fewer_waits p locks sound = record {
 }
 
 answered : (old new : Locks) (claim : Claim) (answer : LockAnswer) → IsSound old → list_any (is_of claim.gxid) old.waits ≡ false → IsAnswer old claim answer new → IsSound new
-answered old new claim Granted sound none is = subst IsSound (sym is.1) (IsSound-held old claim sound is.0)
+answered old new claim Granted sound none is = subst IsSound (sym is.1) (IsSound-held old claim sound (clear-free old.holds old.waits claim is.0))
 answered old new claim (Waits gxids) sound none is = subst IsSound (sym is.1.1) (IsSound-waits old claim sound none)
 
-went_on : (old new : Locks) (g : Gxid) (o : Option Claim) → IsSound old → is_ready old.holds o ≡ true → new ≡ resumed old g o → IsSound new
+went_on : (old new : Locks) (g : Gxid) (o : Option Claim) → IsSound old → is_ready old o ≡ true → new ≡ resumed old g o → IsSound new
 went_on old new g None sound ready is = absurd (cc)
 went_on old new g (Some wait) sound ready is =
-    subst IsSound (sym is) (IsSound-fewer_waits (λ claim. not (is_of g claim)) (record old { holds = with_claim wait old.holds }) (IsSound-held old wait sound ready))
+    subst IsSound (sym is) (IsSound-fewer_waits (λ claim. not (is_of g claim)) (record old { holds = with_claim wait old.holds }) (IsSound-held old wait sound (clear-free old.holds old.waits wait ready)))
 
 pub IsSound-step : (old new : Locks) (call : Call) → IsSound old → IsStep old call new → IsSound new
 IsSound-step old new (Request claim answer) sound is = answered old new claim answer sound is.0 is.1

@@ -8,6 +8,7 @@ use Rattle.std.specs.Prelude.{filter, find, Option, Some, None}
 use Rattle.std.specs.List.{list_any}
 use Rattle.gx_ids.specs.declared.ids.Gxid.{Gxid}
 use Rattle.gx_waits.specs.declared.claim.Claim.{Claim}
+use Rattle.gx_waits.specs.declared.object.Object.{Object}
 use Rattle.gx_locks.specs.declared.book.Book.{Book}
 use Rattle.gx_locks.specs.declared.key.Key.{Key}
 use Rattle.gx_locks.specs.declared.key.Key.TheVariants.{On, Of}
@@ -17,9 +18,10 @@ use Rattle.gx_waits.specs.Claims.{is_free, is_of, without}
 use Rattle.gx_locks.specs.Holds.{is_under, claims_of}
 use Rattle.gx_locks.specs.Index.{places_at}
 use Rattle.gx_locks.specs.Kept.{AreExclusive, AreOnce, WaitOnce}
-use Rattle.gx_locks.specs.Locks.{is_ready}
+use Rattle.gx_locks.specs.Locks.{Locks, is_ready}
 use Rattle.gx_locks.specs.Room.{bit, awaited}
 use Rattle.gx_locks.proofs.Filed.{filter-all, filter-unfound, filter-none}
+use Rattle.gx_locks.proofs.Ways.{clear-free}
 use Rattle.gx_locks.proofs.Ready.{once_head, once_tail, same_gxid_is}
 
 pub none_passes : (p : Claim → Bool) (xs : List Claim) (k : ℕ) (d : Claim) (b : Bool) → p (get_or xs k d) ≡ b → list_any p xs ≡ false → k < length xs → b ≡ false
@@ -160,8 +162,8 @@ pub without-unfound : (g : Gxid) (ws : List Claim) → find (is_of g) ws ≡ Non
 without-unfound g ws none = filter-unfound (is_of g) ws none
 
 -- the wait that was found is ready
-pub ready_is_free : (holds : List Claim) (o : Option Claim) (wait : Claim) → is_ready holds o ≡ true → o ≡ Some wait → is_free holds wait ≡ true
-ready_is_free holds o wait ready found = subst (λ (p : Option Claim). is_ready holds p ≡ true) found ready
+pub ready_is_free : (locks : Locks) (o : Option Claim) (wait : Claim) → is_ready locks o ≡ true → o ≡ Some wait → is_free locks.holds wait ≡ true
+ready_is_free locks o wait ready found = clear-free locks.holds locks.waits wait (subst (λ (p : Option Claim). is_ready locks p ≡ true) found ready)
 
 nothing_long : (xs : List Claim) → length xs ≤ 0 → xs ≡ []
 nothing_long [] none = refl
@@ -188,3 +190,8 @@ module _ (b : Book) (ws : List Claim) (g : Gxid) (whole : IsWhole b ws) (full : 
 
   pub list_any-full : list_any (is_of g) ws ≡ false
   list_any-full = list_any-filter_none (is_of g) ws no_wait
+
+-- where there is no place on an object, nobody waits for it
+pub none-awaits : (b : Book) (ws : List Claim) (o : Object) → IsWhole b ws → eqb (places_at b.index (On o)) 0 ≡ true → list_any (is_under (On o)) ws ≡ false
+none-awaits b ws o whole full =
+    list_any-filter_none (is_under (On o)) ws (nothing_long (filter (is_under (On o)) ws) (omega (arith, whole.room (On o), no_place (places_at b.index (On o)) full)))

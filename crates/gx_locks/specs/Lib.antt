@@ -9,6 +9,7 @@ pub mod Kept
 pub mod Ledger
 pub mod Locks
 pub mod Owners
+pub mod Queue
 pub mod Rack
 pub mod Room
 pub mod Runs

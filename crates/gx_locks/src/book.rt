@@ -6,9 +6,10 @@ ghost use Rattle.gx_waits.specs.Claims.{is_free, is_of, without};
 ghost use Rattle.gx_locks.specs.Holds.{same_hold, claims_of, is_under};
 ghost use Rattle.gx_locks.specs.HoldLists.{held};
 ghost use Rattle.gx_locks.specs.Kept.{AreOnce};
-ghost use Rattle.gx_locks.specs.Locks.{blockers, AreRisen};
+ghost use Rattle.gx_locks.specs.Locks.{blockers};
+ghost use Rattle.gx_locks.specs.Queue.{holds_up};
 
-use crate::claims::{copy_claims, find_same, is_any_met, is_any_same, risen_blockers};
+use crate::claims::{all_blockers, copy_claims, find_same, is_any_met, is_any_own, is_any_same, is_met};
 use crate::hold::Hold;
 use crate::hold_list::HoldList;
 use crate::index::Index;
@@ -100,12 +101,28 @@ impl Book {
         }
     }
 
-    /// The transactions whose holds a claim meets, rising.
+    /// Whether a wait holds a claim up that came after it: the claim meets it, and it meets nothing that the claim's
+    /// transaction holds.
+    pub fn holds_up(&self, wait: &Claim, claim: &Claim) -> bool
+        requires { IsFiled self.now }
+        ensures { result ≡ holds_up (claims_in self.now) claim.now wait.now }
+    {
+        is_met(claim, wait) && !is_any_own(self.on(wait.object), claim.gxid, wait)
+    }
+
+    /// The transactions whose holds a claim meets, by hold.
     pub fn blockers(&self, alloc: Global, claim: &Claim) -> Mem<Vec<Gxid>>
         requires { IsFiled self.now }
-        ensures { IfOk result (λ gxids. AreRisen gxids.items (blockers (claims_in self.now) claim.now)) }
+        ensures { IfOk result (λ gxids. gxids.items ≡ blockers (claims_in self.now) claim.now) }
     {
-        risen_blockers(alloc, self.on(claim.object), claim)
+        all_blockers(alloc, self.on(claim.object), claim)
+    }
+
+    /// Whether there is no place for a claim on an object: nobody waits for it.
+    pub fn is_unawaited(&self, object: Object) -> bool
+        ensures { result ≡ (places_at self.now.index (On object) == 0) }
+    {
+        self.index.is_full(Key::On(object))
     }
 
     /// Whether there is no place for a claim of a transaction.

@@ -1,4 +1,4 @@
-ghost use Rattle.std.specs.Prelude.{◌≡◌, ◌<◌, ◌++◌, ◌∷◌, [], map, filter, not, find, IfOk, vec_len};
+ghost use Rattle.std.specs.Prelude.{◌≡◌, ◌<◌, ◌++◌, ◌∷◌, [], ◌==◌, ◌&&◌, map, filter, find, IfOk, vec_len};
 ghost use Rattle.std.specs.Vec.{vec_capacity};
 ghost use Rattle.std.specs.List.{list_any};
 ghost use Rattle.gx_waits.specs.Claim.{meets, same_claim, same_object};
@@ -24,13 +24,13 @@ pub fn is_same_object(a: &Object, b: &Object) -> bool
     }
 }
 
-// Whether a claim meets a hold.
-pub(crate) fn is_met(claim: &Claim, hold: &Claim) -> bool
-    ensures { result ≡ meets claim.now hold.now }
+// Whether a claim meets another that is held, or waited for.
+pub(crate) fn is_met(claim: &Claim, other: &Claim) -> bool
+    ensures { result ≡ meets claim.now other.now }
 {
-    claim.gxid != hold.gxid
-        && is_same_object(&claim.object, &hold.object)
-        && conflicts(claim.mode, hold.mode)
+    claim.gxid != other.gxid
+        && is_same_object(&claim.object, &other.object)
+        && conflicts(claim.mode, other.mode)
 }
 
 /// Whether two claims are one.
@@ -71,18 +71,27 @@ pub(crate) fn find_same(holds: &[Hold], claim: &Claim) -> Option<Hold>
         .find(|hold| is_same_claim(claim, &hold.claim))
 }
 
-// The transactions whose holds a claim meets, rising.
-pub(crate) fn risen_blockers(alloc: Global, holds: &[Hold], claim: &Claim) -> Mem<Vec<Gxid>>
-    ensures { IfOk result (λ gxids. AreRisen gxids.items (map (λ hold. hold.claim.gxid) (filter (λ hold. meets claim.now hold.claim) holds.now))) }
+// Whether a wait meets what a transaction holds among these.
+pub(crate) fn is_any_own(holds: &[Hold], gxid: Gxid, wait: &Claim) -> bool
+    ensures { result ≡ list_any (λ hold. (hold.claim.gxid.0 == gxid.0) && meets wait.now hold.claim) holds.now }
 {
-    let mut gxids = all_blockers(alloc, holds, claim)?;
-    gxids.sort()?;
-    gxids.dedup();
-    Ok(gxids)
+    holds
+        .iter()
+        .any(|hold| hold.claim.gxid == gxid && is_met(wait, &hold.claim))
+}
+
+// The transactions of a list, rising, each once.
+pub(crate) fn risen(gxids: Vec<Gxid>) -> Mem<Vec<Gxid>>
+    ensures { IfOk result (λ risen. AreRisen risen.items gxids.items) }
+{
+    let mut risen = gxids;
+    risen.sort()?;
+    risen.dedup();
+    Ok(risen)
 }
 
 // The transactions whose holds a claim meets, by hold.
-fn all_blockers(alloc: Global, holds: &[Hold], claim: &Claim) -> Mem<Vec<Gxid>>
+pub(crate) fn all_blockers(alloc: Global, holds: &[Hold], claim: &Claim) -> Mem<Vec<Gxid>>
     ensures { IfOk result (λ gxids. gxids.items ≡ map (λ hold. hold.claim.gxid) (filter (λ hold. meets claim.now hold.claim) holds.now)) }
 {
     let gxids: Vec<Gxid> = holds

@@ -1,4 +1,4 @@
-//! The lock table of a node: relation, tuple and transaction locks in eight modes, and those who wait for them.
+//! The lock table of a node: relation, tuple and transaction locks in eight modes, and those who wait for them in a queue.
 #![tactic(auto)]
 
 pub mod answer;
@@ -14,6 +14,7 @@ mod ledger;
 mod owner;
 mod pair;
 mod probe;
+mod queue;
 mod shelf;
 mod slot;
 pub mod table;

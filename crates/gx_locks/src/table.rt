@@ -1,20 +1,22 @@
 ghost use Rattle.std.specs.Prelude.{◌≡◌, [], ◌∷◌, false, true, None, Some, map, filter, IfOk, IfSome, OnErr};
 ghost use Rattle.std.specs.List.{list_any};
 ghost use Rattle.gx_ids.specs.declared.ids.Gxid.{Gxid};
-ghost use Rattle.gx_waits.specs.Claim.{AreEdges, same_claim};
-ghost use Rattle.gx_waits.specs.Claims.{is_free, is_of, without, without_claim};
+ghost use Rattle.gx_waits.specs.Claim.{AreEdges, ahead, same_claim};
+ghost use Rattle.gx_waits.specs.Claims.{is_clear, is_of, without, without_claim};
 ghost use Rattle.gx_locks.specs.Graphs.{graph_at};
 ghost use Rattle.gx_locks.specs.HoldLists.{held};
 ghost use Rattle.gx_locks.specs.Holds.{claims_of};
 ghost use Rattle.gx_locks.specs.Locks.{IsAnswer, IsLeast, blockers, is_ready, least_with, may_take, next_ready, ready_ones, resumed, wait_of};
 ghost use Rattle.gx_locks.specs.Kept.{AreExclusive, AreOnce, WaitOnce};
 ghost use Rattle.gx_locks.specs.Book.{IsFiled, claims_in};
+ghost use Rattle.gx_locks.specs.Queue.{holds_up};
 
 use crate::answer::LockAnswer;
 use crate::book::Book;
 use crate::claims::{find_of, is_any_of, put, take_out};
 use crate::graph::graph_of;
 use crate::hold_list::HoldList;
+use crate::queue::{blockers_of, is_clear, is_held_up};
 use gx_ids::{Gxid, Mem, Node, Seq};
 use gx_modes::Mode;
 use gx_waits::{Claim, LocalGraph, Object};
@@ -22,7 +24,8 @@ use std::alloc::Global;
 use std::marker::Model;
 
 /// The locks at a node. Contracts see the holds and the standing waits as two lists, each in the order in which they
-/// came. Holds are found by object and by transaction, so a call costs by those, and by the waits.
+/// came. Holds are found by object and by transaction: a request costs by the holds on its object, and, where somebody
+/// waits for that, by the waits.
 #[derive(Drop)]
 pub struct LockTable {
     alloc: Global,
@@ -89,9 +92,9 @@ impl LockTable {
         is_any_of(self.waits.as_slice(), gxid)
     }
 
-    /// Asks for a lock, where the transaction has no standing wait. Waiters don't count: the request is granted where
-    /// no other transaction holds a conflicting mode, and else it stands as a wait, for which there is room among the
-    /// holds from then on.
+    /// Asks for a lock, where the transaction has no standing wait. The request is granted where no other transaction
+    /// holds a conflicting mode, or waits for one, unless that waits for what the asking transaction itself holds.
+    /// Else it stands as the last wait, for which there is room among the holds from then on.
     pub fn request(&mut self, gxid: Gxid, object: Object, mode: Mode) -> Mem<LockAnswer>
         requires { list_any (is_of gxid) self.old.waits ≡ false }
         ensures ok { IfOk result (λ answer. IsAnswer self.old (record { gxid = gxid; object = object; mode = mode }) answer self.new) }
@@ -99,30 +102,41 @@ impl LockTable {
     {
         let claim = Claim { gxid, object, mode };
         let standing = self.book.standing(&claim);
-        if !standing.is_free {
+        if standing.is_held {
+            return Ok(LockAnswer::Granted);
+        }
+        if !standing.is_free || self.is_behind(&claim) {
             return self.wait(claim);
         }
-        if !standing.is_held {
-            self.book.add(claim)?;
-        }
+        self.book.add(claim)?;
         Ok(LockAnswer::Granted)
+    }
+
+    // Whether a wait holds up a claim that is asked for.
+    fn is_behind(&self, claim: &Claim) -> bool
+        ensures { result ≡ list_any (holds_up self.now.holds claim.now) (ahead claim.now self.now.waits) }
+    {
+        if self.waits.is_empty() || self.book.is_unawaited(claim.object) {
+            return false;
+        }
+        is_held_up(&self.book, self.waits.as_slice(), claim)
     }
 
     // Stands as a wait from now on.
     fn wait(&mut self, claim: Claim) -> Mem<LockAnswer>
-        requires free { is_free self.old.holds claim ≡ false }
+        requires met { is_clear self.old.holds self.old.waits claim ≡ false }
         requires once { list_any (is_of claim.gxid) self.old.waits ≡ false }
         ensures ok { IfOk result (λ answer. IsAnswer self.old claim answer self.new) }
         ensures err { OnErr result (self.new ≡ self.old) }
     {
-        let blockers = self.book.blockers(self.alloc, &claim)?;
+        let blockers = blockers_of(self.alloc, &self.book, self.waits.as_slice(), &claim)?;
         self.waits.reserve(1)?;
         self.book.expect(&claim)?;
         put(&mut self.waits, claim);
         Ok(LockAnswer::Waits(Seq::from_vec(blockers)))
     }
 
-    /// The least transaction whose wait is ready: no other transaction holds a conflicting mode any more.
+    /// The least transaction whose wait is ready: it meets nobody any more, neither who holds nor who waits ahead of it.
     pub fn ready(&self) -> Option<Gxid>
         ensures value { result ≡ next_ready self.now }
         ensures least { IsLeast result (ready_ones self.now) }
@@ -136,7 +150,7 @@ impl LockTable {
         ensures { result ≡ may_take self.now gxid }
     {
         match find_of(self.waits.as_slice(), gxid) {
-            Some(wait) => self.book.is_free(&wait),
+            Some(wait) => is_clear(&self.book, self.waits.as_slice(), &wait),
             None => false,
         }
     }
@@ -195,7 +209,8 @@ impl LockTable {
         }
     }
 
-    /// The edges from the waits to the holds that they meet, dotted exactly for tuples, by wait and then by hold.
+    /// The edges from the waits to whom they meet, dotted exactly for tuples, by wait, and then by hold and by the waits
+    /// ahead of it.
     pub fn graph(&self) -> Mem<LocalGraph>
         ensures node { IfOk result (λ graph. graph.node ≡ self.now.node) }
         ensures edges { IfOk result (λ graph. AreEdges self.now.waits self.now.holds graph.edges) }
@@ -208,11 +223,11 @@ impl LockTable {
 // The least transaction whose wait is ready.
 fn least_ready(waits: &[Claim], book: &Book) -> Option<Gxid>
     requires { IsFiled book.now }
-    ensures { result ≡ least_with None (map (λ wait. wait.gxid) (filter (is_free (claims_in book.now)) waits.now)) }
+    ensures { result ≡ least_with None (map (λ wait. wait.gxid) (filter (is_clear (claims_in book.now) waits.now) waits.now)) }
 {
     let mut least = None;
     for wait in waits {
-        if book.is_free(wait) {
+        if is_clear(book, waits, wait) {
             least = Some(lesser_of(least, wait.gxid));
         }
     }
