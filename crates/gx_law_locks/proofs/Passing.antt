@@ -3,7 +3,6 @@ use Rattle.std.proofs.Common.{◌≡◌, ◌==◌, ◌&&◌, inl, inr, Bool, tru
 use Rattle.std.proofs.lemmas.Bool.Decides.{nat_tests}
 use Rattle.std.proofs.lemmas.List.Elements.{All-contains}
 use Rattle.std.proofs.lemmas.List.Folds.{Any-from_list_any}
-use Rattle.std.specs.List.{list_any}
 use Rattle.std.specs.Prelude.{Any, Contains}
 use Rattle.gx_ids.specs.declared.ids.Gxid.{Gxid}
 use Rattle.gx_ids.specs.declared.ids.Node.{Node}
@@ -18,7 +17,7 @@ use Rattle.gx_store.specs.declared.mark.Mark.{Mark}
 use Rattle.gx_store.specs.declared.mark.Mark.TheVariants as mark
 use Rattle.gx_store.specs.Locks.{AreGranted, LegalHold}
 use Rattle.gx_store.specs.Waits.{holds_at, waits_at}
-use Rattle.gx_law_locks.specs.Queue.{IsEarlier, PassesNobody}
+use Rattle.gx_law_locks.specs.Queue.{PassesNobody}
 use Rattle.gx_law_locks.specs.Waiting.{EachBehind}
 use Rattle.gx_law_locks.proofs.Fair.{GrantsLegally, each-granted}
 use Rattle.gx_law_locks.proofs.Lets.{behind-weaker}

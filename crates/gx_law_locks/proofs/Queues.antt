@@ -11,7 +11,7 @@ use Rattle.gx_waits.specs.declared.claim.Claim.{Claim}
 use Rattle.gx_law_order.proofs.Lists.{each_filter}
 use Rattle.gx_law_order.specs.Lists.{Each}
 use Rattle.gx_law_locks.proofs.Claims.{any-none}
-use Rattle.gx_law_locks.proofs.SameClaims.{claim-same, from-filter, has-filter, has-front}
+use Rattle.gx_law_locks.proofs.SameClaims.{from-filter, has-filter, has-front}
 
 -- WHAT IS IN THE WAY
 has-behind : {A : Type 0} (x : A) (xs ys : List A) → Has x ys → Has x (xs ++ ys)
