@@ -3,6 +3,7 @@ use Rattle.std.proofs.Common.{◌≡◌, ◌≤◌, inl, inr, ℕ, List, [], ◌
 use Rattle.std.proofs.lemmas.Bool.Decides.{nat_tests}
 use Rattle.std.specs.Prelude.{is_some, not}
 use Rattle.gx_lemmas.proofs.Numbers.{one-le-none}
+use Rattle.gx_lemmas.proofs.Tests.{true-false}
 use Rattle.gx_ids.specs.declared.ids.Gxid.{Gxid}
 use Rattle.gx_ids.specs.declared.ids.Node.{Node}
 use Rattle.gx_dtx.specs.Table.{Table, find_txn}
@@ -20,11 +21,12 @@ use Rattle.gx_store.specs.Ordered.{IsLink}
 use Rattle.gx_store.specs.Refusals.{the_coordinator}
 use Rattle.gx_rules.specs.AtSegment.{seg_rule}
 use Rattle.gx_rules.specs.Machine.{Letter, World, found, new_world, seg_did, world_of}
-use Rattle.gx_rules.specs.Segments.{Local, Phase, Suspended, has_ended, local_of}
+use Rattle.gx_rules.specs.Segments.{Local, Phase, Seg, Suspended, has_ended, local_of}
 use Rattle.gx_law_order.proofs.Induction.{IsThere, at-events}
 use Rattle.gx_law_order.proofs.Letters.{IsFound, found_is}
 use Rattle.gx_law_order.proofs.Waiting.{each-among}
 use Rattle.gx_law_order.proofs.World.{Knows}
+use Rattle.gx_law_order.specs.Lists.{Each}
 use Rattle.gx_law_order.specs.Horizons.{AreBelowIn, AreHorizonsLow, AreHoldersAbove, AreLowIn, IsBelowHolders, IsBelowIn, IsLow, IsLowIn}
 use Rattle.gx_law_order.specs.Pairs.{is_open}
 use Rattle.gx_law_order.specs.Said.{gxid_in}
@@ -159,3 +161,27 @@ module _ (script : Script) (some : 1 ≤ script.segments) where
       let low : AreHorizonsLow w = world-low script some es in
       let u : Waits w = world-waits es in
       record { segments = λ i. below-one w u (w.segs i).horizon.0 i (low.segments i); commands = below-all w u w.sent low.commands }
+
+  -- A command's horizon isn't above its own transaction, unless that has ended at the segment.
+  abbrev pub IsBelowOwn : (ℕ → Seg) → ℕ → Message → Type 0
+  IsBelowOwn segs i (message.Exec g c level snapshot horizon slice) = has_ended ((segs i).locals g.0).phase ≡ false → horizon.0 ≤ g.0
+  IsBelowOwn segs i _ = Unit {0}
+
+  own-in : (w : World) (i : ℕ) (m : Message) → HeldFor (ended_at w.segs) w.coord.table i m → IsLowIn w.coord.table m → IsBelowOwn w.segs i m
+  own-in w i (message.Exec g c level x h y) (inl held) l = λ live. held-low w.coord.table h.0 i g.0 l held
+  own-in w i (message.Exec g c level x h y) (inr ended) l = λ live. absurd (true-false (ended_at w.segs i g.0) ended live)
+  own-in w i (message.Prepare g) f l = tt
+  own-in w i (message.Commit g) f l = tt
+  own-in w i (message.CommitPrepared g) f l = tt
+  own-in w i (message.Abort g) f l = tt
+  own-in w i (message.Forget g) f l = tt
+  own-in w i (message.Collect round) f l = tt
+  own-in w i (message.Answer g r) f l = tt
+  own-in w i (message.Graph round graph) f l = tt
+
+  own-all : (w : World) (ls : List Letter) → Each (LetterHeld w) ls → AreLowIn w.coord.table ls → Each (λ (l : Letter). IsBelowOwn w.segs l.to.0 l.envelope.message) ls
+  own-all w [] e f = tt
+  own-all w (l ∷ ls) e f = (own-in w l.to.0 l.envelope.message e.0.held f.0, own-all w ls e.1 f.1)
+
+  pub world-above-own : (es : List (Event × Bool)) → Each (λ (l : Letter). IsBelowOwn (world_of script es).segs l.to.0 l.envelope.message) (world_of script es).sent
+  world-above-own es = own-all (world_of script es) (world_of script es).sent (world-waits es).sent (world-low script some es).commands

@@ -49,3 +49,4 @@ pub mod Marks
 pub mod AtSegments
 pub mod AtCoordinators
 pub mod Steps
+pub mod OrdersFit

@@ -6,3 +6,4 @@ pub mod Reached
 pub mod Endings
 pub mod Awaiting
 pub mod Failures
+pub mod Fits

@@ -5,6 +5,7 @@
 
 pub mod endings;
 pub mod failures;
+pub mod fits;
 pub mod progress;
 pub mod reached;
 pub mod replays;

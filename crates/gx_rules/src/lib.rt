@@ -2,6 +2,7 @@
 //! item goes to the journal. And the machine that the nodes make together over every message ever sent.
 #![tactic(auto)]
 
+pub mod pieces;
 pub mod rows;
 pub mod views;
 

@@ -29,7 +29,6 @@ pub mod NewestOf
 pub mod Stops
 pub mod Awaiting
 pub mod OwnMoves
-pub mod ValueKinds
 pub mod RightChanges
 pub mod RowLocks
 pub mod RowMoves

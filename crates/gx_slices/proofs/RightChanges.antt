@@ -26,7 +26,7 @@ use Rattle.gx_slices.specs.Picked.{AreTypedOn}
 use Rattle.gx_slices.specs.Setting.{AreSettable, IsSettable}
 use Rattle.gx_slices.proofs.Lists.{and_parts}
 use Rattle.gx_slices.proofs.Rightness.{kinds_are, same_kind, some_script, typed_by}
-use Rattle.gx_slices.proofs.ValueKinds.{inside-column, kind-value}
+use Rattle.gx_rules.proofs.ValueKinds.{inside-column, kind-value}
 
 -- A SET LIST
 same_row : (a b : List Value) → (let r : Result (List Value) ArithFault = Ok a in r) ≡ Ok b → a ≡ b

@@ -1,6 +1,6 @@
--- INSERTs and UPDATEs as the language has them: each INSERT with a tuple, and each tuple with a value for the distribution column,
--- which no UPDATE sets.
-use Rattle.std.specs.Prelude.{List, [], ◌∷◌}
+-- Statements as the language has them: each INSERT with a tuple, and each tuple with a value for the distribution column, which no
+-- UPDATE sets; each query with an item.
+use Rattle.std.specs.Prelude.{◌≤◌, List, [], ◌∷◌, length}
 use Rattle.gx_tree.specs.declared.expr.Expr.{Expr}
 use Rattle.gx_tree.specs.declared.schema.Dist.{Dist}
 use Rattle.gx_tree.specs.declared.schema.Schema.{Schema}
@@ -24,3 +24,12 @@ IsWholeStmt tables _ = Unit {0}
 abbrev pub AreInsertsWhole : List Schema → List Line → Type 0
 AreInsertsWhole tables [] = Unit {0}
 AreInsertsWhole tables (l ∷ ls) = IsWholeStmt tables l.stmt × AreInsertsWhole tables ls
+
+-- each query has an item
+abbrev pub HasItem : Stmt → Type 0
+HasItem (stmt.Select query) = 1 ≤ length query.items
+HasItem _ = Unit {0}
+
+abbrev pub HaveItems : List Line → Type 0
+HaveItems [] = Unit {0}
+HaveItems (l ∷ ls) = HasItem l.stmt × HaveItems ls
