@@ -69,7 +69,7 @@ use Rattle.gx_law_answers.specs.Earned.{Events}
 use Rattle.gx_rules.specs.Locks.{has_there, release_mark, release_marks, with_hold}
 use Rattle.gx_waits.specs.declared.claim.Claim.{Claim}
 use Rattle.gx_locks.specs.Locks.{Locks, resumed, wait_of}
-use Rattle.gx_waits.specs.Claims.{is_free}
+use Rattle.gx_waits.specs.Claims.{is_clear}
 
 -- MARKS WITH ONE SNAPSHOT AT MOST
 abbrev NoSnaps : List Mark → Type 0
@@ -151,7 +151,7 @@ module _ (P : Gxid → Type 0) where
   -- with its table's lock
   request-one : (script : Script) (c : Coord) (g : Gxid) (line : Stmt) → ((work_of c g).snapshot ≡ None → P g) → (o : Option Claim) → OneSnap P (requests script c g line o).marks
   request-one script c g line p None = locked-one script c g line p
-  request-one script c g line p (Some wanted) = by_test (is_free c.locks.holds wanted)
+  request-one script c g line p (Some wanted) = by_test (is_clear c.locks.holds c.locks.waits wanted)
     where
       by_test : (b : Bool) → OneSnap P (if_granted script c g line wanted b).marks
       by_test true = locked-one script (record c { locks = with_hold c.locks wanted }) g line p

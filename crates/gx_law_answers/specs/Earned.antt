@@ -30,7 +30,7 @@ use Rattle.gx_rules.specs.Locks.{hold_mark}
 use Rattle.gx_rules.specs.Running.{goes_on, is_granted, runs_slice}
 use Rattle.gx_store.specs.Locks.{slice_lock}
 use Rattle.gx_locks.specs.Locks.{Locks, wait_of}
-use Rattle.gx_waits.specs.Claims.{is_free}
+use Rattle.gx_waits.specs.Claims.{is_clear}
 use Rattle.gx_waits.specs.declared.claim.Claim.{Claim}
 use Rattle.gx_law_order.specs.Orders.{IsOrder}
 use Rattle.gx_law_answers.specs.Truth.{IsTruth}
@@ -91,7 +91,7 @@ pub record RunsBehindWait (script : Script) (w : World) (event : Event) (segment
   pub wanted : Claim
   pub wants : wait_of (w.segs segment.0).locks g ≡ Some wanted
   pub lock : WaitsFor script g slice waiting.row wanted
-  pub free : is_free (w.segs segment.0).locks.holds wanted ≡ true
+  pub free : is_clear (w.segs segment.0).locks.holds (w.segs segment.0).locks.waits wanted ≡ true
   pub ran : resumes (w.segs segment.0) g (wait_of (w.segs segment.0).locks g) (local_of (w.segs segment.0) g).suspended
       ≡ goes_on (is_granted (w.segs segment.0) g wanted) g waiting waiting.row
   pub given : (resumes (w.segs segment.0) g (wait_of (w.segs segment.0).locks g) (local_of (w.segs segment.0) g).suspended).outs ≡ reply g answer ∷ []

@@ -36,7 +36,7 @@ use Rattle.gx_store.specs.declared.node.NodeEvent.TheVariants as event
 use Rattle.gx_store.specs.Refusals.{the_coordinator}
 use Rattle.gx_store.specs.Writes.{dist_of}
 use Rattle.gx_locks.specs.Locks.{resumed, wait_of}
-use Rattle.gx_waits.specs.Claims.{is_free}
+use Rattle.gx_waits.specs.Claims.{is_clear}
 use Rattle.gx_waits.specs.declared.claim.Claim.{Claim}
 use Rattle.gx_rules.specs.AtCoordinator.{Reading, awaited, awaited_collect, begins, behind, cancels, completes, dispatches, ends_in, enlisted_all, fault_mark, follows, goes, goes_on, goes_on_locked, if_granted, is_awaited, is_refused, next_cid, next_line, nodes_in, on_answer, on_done, on_event, on_failed, on_line, on_message, on_status, reads_by, reads_for, reason_of, refusal_of, requests, resends, resumes, starts, starts_line, table_of, takes_done, unless_kept, with_done, writers_with}
 use Rattle.gx_store.specs.Locks.{table_lock}
@@ -101,7 +101,7 @@ module _ (c : Coord) where
 
     request : (d : Coord) (g : Gxid) (line : Stmt) (o : Option Claim) → Still d → Asked (requests script d g line o)
     request d g line None e = go_locked d g line e
-    request d g line (Some wanted) e = by_test (is_free d.locks.holds wanted)
+    request d g line (Some wanted) e = by_test (is_clear d.locks.holds d.locks.waits wanted)
       where
         by_test : (b : Bool) → Asked (if_granted script d g line wanted b)
         by_test true = go_held (record d { locks = with_hold d.locks wanted }) g line wanted e

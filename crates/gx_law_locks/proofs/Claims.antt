@@ -25,7 +25,7 @@ each-passes p (x ∷ xs) = by_test (p x) refl (each-passes p xs)
     by_test true e h = (e, h)
     by_test false e h = h
 
-any-none : (p : Claim → Bool) (xs : List Claim) → Each (λ x. p x ≡ false) xs → list_any p xs ≡ false
+pub any-none : (p : Claim → Bool) (xs : List Claim) → Each (λ x. p x ≡ false) xs → list_any p xs ≡ false
 any-none p [] e = refl
 any-none p (x ∷ xs) e = ap (λ b. b || list_any p xs) e.0 ∙ any-none p xs e.1
 

@@ -16,7 +16,7 @@ use Rattle.gx_dtx.specs.Rules.{awaited_order}
 use Rattle.gx_dtx.specs.declared.order.Order.{Order}
 use Rattle.gx_dtx.specs.declared.order.Order.TheVariants as order
 use Rattle.gx_locks.specs.Locks.{Locks, wait_of}
-use Rattle.gx_waits.specs.Claims.{is_free, with_claim, without}
+use Rattle.gx_waits.specs.Claims.{is_clear, with_claim, without}
 use Rattle.gx_locks.specs.Locks as locks
 use Rattle.gx_meaning.specs.Constants.{rows_of}
 use Rattle.gx_meaning.specs.Expressions.{and_then}
@@ -269,7 +269,7 @@ module _ (script : Script) where
     where
       none : {wanted : Claim} → None ≡ Some wanted → ⊥
       none q = cc
-  request c g line (Some wanted) is e = by_test (is_free c.locks.holds wanted)
+  request c g line (Some wanted) is e = by_test (is_clear c.locks.holds c.locks.waits wanted)
     where
       by_test : (b : Bool) → Going script (if_granted script c g line wanted b)
       by_test true =

@@ -18,7 +18,7 @@ use Rattle.gx_dsnap.specs.declared.snapshot.Snapshot.{Snapshot}
 use Rattle.gx_dtx.specs.Rules.{Turn, on_abort, on_commit, on_reply}
 use Rattle.gx_dtx.specs.declared.outcome.Outcome.{Outcome}
 use Rattle.gx_dtx.specs.declared.outcome.Outcome.TheVariants as outcome
-use Rattle.gx_waits.specs.Claims.{is_free, is_of}
+use Rattle.gx_waits.specs.Claims.{is_clear, is_of}
 use Rattle.gx_locks.specs.Locks.{Locks, is_ready, resumed, wait_of}
 use Rattle.gx_meaning.specs.declared.fault.ArithFault.{ArithFault}
 use Rattle.gx_meaning.specs.declared.piece.Piece.{Piece}
@@ -197,12 +197,12 @@ for-table script g stmt.Rollback wanted e = absurd (cc)
 request : (script : Script) (before : List Mark) (c : Coord) (g : Gxid) (line : Stmt) → wait_of c.locks g ≡ None → (o : Option Claim) → table_lock script g line ≡ o
     → Holding before c (requests script c g line o)
 request script before c g line none None e = go_locked script before c g line
-request script before c g line none (Some wanted) e = by_test (is_free c.locks.holds wanted) refl
+request script before c g line none (Some wanted) e = by_test (is_clear c.locks.holds c.locks.waits wanted) refl
   where
     none-own : wait_of c.locks wanted.gxid ≡ None
     none-own = ap (wait_of c.locks) (lock-of script g line wanted e) ∙ none
 
-    by_test : (b : Bool) → is_free c.locks.holds wanted ≡ b → Holding before c (if_granted script c g line wanted b)
+    by_test : (b : Bool) → is_clear c.locks.holds c.locks.waits wanted ≡ b → Holding before c (if_granted script c g line wanted b)
     by_test true f = go_held script before c (record c { locks = with_hold c.locks wanted }) g line wanted (grant the_coordinator before c.locks wanted f none-own)
     by_test false f = wait the_coordinator before c.locks wanted (for-table script g line wanted e) f none-own
 
@@ -211,7 +211,7 @@ dispatch script before c g line none = request script before c g line none (tabl
 
 -- whose transaction has one wait here
 resume : (script : Script) (before : List Mark) (c : Coord) (g : Gxid) (w : Option Claim) (line : Option Stmt)
-    → ((wanted : Claim) → w ≡ Some wanted → filter (is_of g) c.locks.waits ≡ wanted ∷ []) → is_ready c.locks.holds w ≡ true
+    → ((wanted : Claim) → w ≡ Some wanted → filter (is_of g) c.locks.waits ≡ wanted ∷ []) → is_ready c.locks w ≡ true
     → Holding before c (resumes script c g w line)
 resume script before c g (Some wanted) (Some line) e free =
     go_held script before c (with_work (record c { locks = resumed c.locks g (Some wanted) }) g (record (work_of c g) { waiting = None })) g line wanted (resumption the_coordinator before c.locks g wanted free (e wanted refl))

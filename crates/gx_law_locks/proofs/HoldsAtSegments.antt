@@ -24,7 +24,7 @@ use Rattle.gx_modes.specs.declared.modes.Mode.TheVariants.{Exclusive, RowExclusi
 use Rattle.gx_waits.specs.Claim.{meets, same_claim, same_object}
 use Rattle.gx_waits.specs.declared.claim.Claim.{Claim}
 use Rattle.gx_waits.specs.declared.object.Object.TheVariants.{Relation, Transaction}
-use Rattle.gx_waits.specs.Claims.{claim, is_free, is_of, without}
+use Rattle.gx_waits.specs.Claims.{claim, is_clear, is_free, is_of, without}
 use Rattle.gx_locks.specs.Graphs.{graph_at}
 use Rattle.gx_locks.specs.Locks.{wait_of}
 use Rattle.gx_meaning.specs.declared.fault.ArithFault.{ArithFault}
@@ -64,7 +64,8 @@ use Rattle.gx_law_locks.proofs.AtRows.{AtRows, HoldsAtRow, HoldsWaiting, rows-wi
 use Rattle.gx_law_locks.proofs.Claims.{gxid-of}
 use Rattle.gx_law_locks.proofs.Lasting.{IsIn, in-added, in-new, in-released}
 use Rattle.gx_law_locks.proofs.Marks.{Locking, MayGive, NoLock, both, no-lock, wait}
-use Rattle.gx_law_locks.proofs.Moves.{AreWritesHeld, IsWriting, Runs, WritesOwn, given-back, granted, held-append, phase-at, resumed-end, resumed-so, row-written, started, told-so, writing-of}
+use Rattle.gx_law_locks.proofs.Moves.{AreWritesHeld, IsUnawaited, IsWriting, Runs, WritesOwn, given-back, granted, held-append, phase-at, resumed-end, resumed-so, row-written, started, told-so, unawaited-of, writing-of}
+use Rattle.gx_law_locks.proofs.Queues.{met-unclear}
 use Rattle.gx_law_locks.proofs.Released.{gives-back}
 use Rattle.gx_law_locks.proofs.Tables.{Changes, HasTable, change-table, own-gxid, slice-lasts, slice-table}
 
@@ -220,7 +221,7 @@ module _ (script : Script) (P : Gxid → Table → Type 0) (here : Node) (before
 
   -- it begins to wait at a row, with its slice's lock
   waits-so : (k : Change) → IsIn s.locks.holds (slice_lock script g k.slice) → (rid : Rid) (rest : List Rid) (count : ℕ) (wanted : Claim) (m : Moved) → wanted.gxid ≡ g
-      → IsForEnd wanted.object wanted.mode → is_free m.seg.locks.holds wanted ≡ false → Gone m
+      → IsForEnd wanted.object wanted.mode → is_clear m.seg.locks.holds m.seg.locks.waits wanted ≡ false → Gone m
       → Ended (suspends_at (waits wanted m).moved g k (suspended_at k rid rest count))
   waits-so k held rid rest count wanted m is end met f =
       record {
@@ -254,11 +255,13 @@ module _ (script : Script) (P : Gxid → Table → Type 0) (here : Node) (before
 
       by_how : (n : Moved) → WaitsAt m g rid d.version.gxid n → Stopped n
       by_how n (inl h) =
-          subst Stopped (sym h.1) (waits-so k held rid rest count (end_lock g d.version.gxid) m refl refl (end-met g d.version.gxid m.seg.locks.holds unsettled.0 unsettled.1) f)
+          subst Stopped (sym h.1) (waits-so k held rid rest count (end_lock g d.version.gxid) m refl refl
+          (met-unclear m.seg.locks.holds m.seg.locks.waits (end_lock g d.version.gxid) (end-met g d.version.gxid m.seg.locks.holds unsettled.0 unsettled.1)) f)
       by_how n (inr (inl h)) =
           subst Stopped (sym h.1)
           (waits-so k held rid rest count (end_lock g d.version.gxid) (takes_lock (tuple_lock g rid) m) refl refl
-          (end-met g d.version.gxid (with_hold m.seg.locks (tuple_lock g rid)).holds unsettled.0 (in-added (tuple_lock g rid) (own_lock d.version.gxid) m.seg.locks.holds unsettled.1))
+          (met-unclear (with_hold m.seg.locks (tuple_lock g rid)).holds m.seg.locks.waits (end_lock g d.version.gxid)
+          (end-met g d.version.gxid (with_hold m.seg.locks (tuple_lock g rid)).holds unsettled.0 (in-added (tuple_lock g rid) (own_lock d.version.gxid) m.seg.locks.holds unsettled.1)))
           (granted script P here before s g (tuple_lock g rid) m refl tt h.0 f))
       by_how n (inr (inr h)) = subst Stopped (sym h.1) (waits-so k held rid rest count (tuple_lock g rid) m refl tt h.0 f)
 
@@ -275,10 +278,10 @@ for-change script P holds g c level snapshot x k e held p =
 
 -- SLICES
 module _ (script : Script) (P : Gxid → Table → Type 0) (here : Node) (before : List Mark) (s : Seg) (away : here ≡ the_coordinator → ⊥) (g : Gxid) (n : s.node ≡ here)
-    (owns : Each IsOwn s.locks.holds) (writing : IsWriting s g) (alone : wait_of s.locks g ≡ None) (opens : is_open_phase (local_of s g).phase ≡ true) (rows : AtRows script s s.locks.holds)
+    (owns : Each IsOwn s.locks.holds) (writing : IsWriting s g) (unawaited : IsUnawaited s g) (alone : wait_of s.locks g ≡ None) (opens : is_open_phase (local_of s g).phase ≡ true) (rows : AtRows script s s.locks.holds)
   where
     start : Runs script P here before s g (starts_from s)
-    start = started script P here before s g s.horizon n owns writing alone opens rows
+    start = started script P here before s g s.horizon n owns writing unawaited alone opens rows
 
     insert-rows : (c : Cid) (table : Table) (rows : List KeyedRow) (m : Moved) → HasTable script s.locks.holds g table → P g table → Runs script P here before s g m
         → Runs script P here before s g (fold (inserts_row g c table) m rows)
@@ -365,7 +368,7 @@ module _ (script : Script) (P : Gxid → Table → Type 0) (here : Node) (before
     starts : (h g : Gxid) (c : Cid) (level : Level) (snapshot : Option Snapshot) (x : Slice) → wait_of s.locks g ≡ None → is_open_phase (local_of s g).phase ≡ true
         → ((table : Table) → Changes x table → P g table)
         → Goes (starts_slice script (raised s h) g c level snapshot x)
-    starts h g c level snapshot x none opens p = by_test (is_free s.locks.holds wanted) refl
+    starts h g c level snapshot x none opens p = by_test (is_clear s.locks.holds s.locks.waits wanted) refl
       where
         wanted : Claim
         wanted = slice_lock script g x
@@ -380,17 +383,17 @@ module _ (script : Script) (P : Gxid → Table → Type 0) (here : Node) (before
         for-table (slice.Delete table cond) = tt
         for-table (slice.Lock table mode) = tt
 
-        with-lock : is_free s.locks.holds wanted ≡ true → Runs script P here before s g (takes_lock wanted (starts_from (raised s h)))
+        with-lock : is_clear s.locks.holds s.locks.waits wanted ≡ true → Runs script P here before s g (takes_lock wanted (starts_from (raised s h)))
         with-lock free =
             granted script P here before s g wanted (starts_from (raised s h)) (own-gxid script g x) (rows-own wanted (slice-rows script g x)) free
-            (started script P here before s g (raised s h).horizon n writers.owns (writing-of s g writers) none opens rows)
+            (started script P here before s g (raised s h).horizon n writers.owns (writing-of s g writers) (unawaited-of s g writers) none opens rows)
 
-        by_test : (b : Bool) → is_free s.locks.holds wanted ≡ b → Goes (if b then runs_locked (raised s h) g c level snapshot x wanted else suspends (raised s h) g c level snapshot x wanted)
+        by_test : (b : Bool) → is_clear s.locks.holds s.locks.waits wanted ≡ b → Goes (if b then runs_locked (raised s h) g c level snapshot x wanted else suspends (raised s h) g c level snapshot x wanted)
         by_test true free =
             let m : Moved = takes_lock wanted (starts_from (raised s h)) in
             let f = with-lock free in
             behind script P here before s g m (runs_slice m.seg g c level snapshot x) f (tt, tt)
-            (slice-runs script P here (before ++ m.marks) m.seg away g f.node f.owns f.writing f.alone f.opens f.rows c level snapshot x (in-new wanted s.locks.holds) p)
+            (slice-runs script P here (before ++ m.marks) m.seg away g f.node f.owns f.writing f.unawaited f.alone f.opens f.rows c level snapshot x (in-new wanted s.locks.holds) p)
         by_test false met =
             record {
               locking = subst (λ k. Locking here before s.locks (wait_mark k wanted ∷ []) (with_wait s.locks wanted)) (sym n) (wait here before s.locks wanted (for-table x) met none-own);
@@ -559,7 +562,7 @@ module _ (script : Script) (P : Gxid → Table → Type 0) (here : Node) (before
     message_locks fails (message.Graph round graph) e has = stay
 
     -- A slice that has waited goes on: with its table's lock from the start, or at a row, holding its table.
-    pub resume_locks : (g : Gxid) (wanted : Claim) (x : Suspended) → (local_of s g).suspended ≡ Some x → HasDone x → IsWanted script g x wanted → is_free s.locks.holds wanted ≡ true
+    pub resume_locks : (g : Gxid) (wanted : Claim) (x : Suspended) → (local_of s g).suspended ≡ Some x → HasDone x → IsWanted script g x wanted → is_clear s.locks.holds s.locks.waits wanted ≡ true
         → wait_of s.locks g ≡ Some wanted → is_open_phase (local_of s g).phase ≡ true
         → ((table : Table) → Changes x.slice table → P g table) → Goes (resumes s g (Some wanted) (Some x))
     resume_locks g wanted x has done is free claims opens p = by_place (goes-on-ways script s g x wanted done is)
@@ -574,23 +577,23 @@ module _ (script : Script) (P : Gxid → Table → Type 0) (here : Node) (before
         at-table : IsAtTable script g x wanted → Goes (after_marks m.marks (runs_slice m.seg g x.cid x.level x.snapshot x.slice))
         at-table d =
             behind script P here before s g m (runs_slice m.seg g x.cid x.level x.snapshot x.slice) f (tt, tt)
-            (slice-runs script P here (before ++ m.marks) m.seg away g f.node f.owns f.writing f.alone f.opens f.rows x.cid x.level x.snapshot x.slice
+            (slice-runs script P here (before ++ m.marks) m.seg away g f.node f.owns f.writing f.unawaited f.alone f.opens f.rows x.cid x.level x.snapshot x.slice
             (subst (IsIn m.seg.locks.holds) (sym d.lock) (in-new wanted s.locks.holds)) p)
           where
             f : Runs script P here before s g m
             f =
-                resumed-so script P here before s g n (writing-of s g writers) opens rows wanted writers.owns
+                resumed-so script P here before s g n (writing-of s g writers) (unawaited-of s g writers) opens rows wanted writers.owns
                 (subst IsOwn d.lock (rows-own (slice_lock script g x.slice) (slice-rows script g x.slice))) free once-there
 
         -- at a row
         granted-so : (rid : Rid) → IsAtRow g rid wanted → Runs script P here before s g (is_granted s g wanted)
         granted-so rid (inl e) =
             subst (λ c. Runs script P here before s g (is_granted s g c)) e
-            (resumed-so script P here before s g n (writing-of s g writers) opens rows (tuple_lock g rid) writers.owns tt (subst (λ c. is_free s.locks.holds c ≡ true) (sym e) free)
+            (resumed-so script P here before s g n (writing-of s g writers) (unawaited-of s g writers) opens rows (tuple_lock g rid) writers.owns tt (subst (λ c. is_clear s.locks.holds s.locks.waits c ≡ true) (sym e) free)
             (subst (λ c. filter (is_of g) s.locks.waits ≡ c ∷ []) (sym e) once-there))
         granted-so rid (inr e) =
             subst (λ c. Runs script P here before s g (is_granted s g c)) e.is
-            (resumed-end script P here before s g n (writing-of s g writers) opens rows away e.writer writers.owns (subst (λ c. is_free s.locks.holds c ≡ true) (sym e.is) free)
+            (resumed-end script P here before s g n (writing-of s g writers) (unawaited-of s g writers) opens rows away e.writer writers.owns (subst (λ c. is_clear s.locks.holds s.locks.waits c ≡ true) (sym e.is) free)
             (subst (λ c. filter (is_of g) s.locks.waits ≡ c ∷ []) (sym e.is) once-there))
 
         at-row : (d : IsAtARow g x wanted) → Goes (goes_through g d.change (d.rid ∷ x.rows) (is_granted s g wanted) x.count)

@@ -7,8 +7,8 @@ use Rattle.gx_store.specs.Points.{marks_in}
 use Rattle.gx_store.specs.Rounds.{IsBlocked}
 use Rattle.gx_law_order.specs.Moves.{Move, world_by}
 use Rattle.gx_law_order.specs.Runs.{steps_after}
-use Rattle.gx_law_locks.specs.Waiting.{EachBehind, KeepsWhileWaiting, WaitsForEnd}
-use Rattle.gx_law_locks.proofs.Lets.{LetsWait, behind-front, behind-rest, behind-weaker, lets-end, lets-keep}
+use Rattle.gx_law_locks.specs.Waiting.{EachBehind, GetsWhatItWaitsFor, KeepsWhileWaiting, WaitsForEnd}
+use Rattle.gx_law_locks.proofs.Lets.{LetsWait, behind-front, behind-rest, behind-weaker, lets-end, lets-get, lets-keep}
 use Rattle.gx_law_locks.specs.Blocked.{DoStayBlocked}
 use Rattle.gx_law_locks.proofs.Committing.{Free, moves-free, world-free}
 use Rattle.gx_law_locks.proofs.Fair.{IsFair, each-fair}
@@ -33,7 +33,8 @@ fair-stays marks fair before between later edges split blocked none = (still, no
 free-fair : (script : Script) (w : World) → Free script w → EachBehind IsFair [] (marks_in w.steps)
 free-fair script w free =
     let marks : List Mark = marks_in w.steps in
-    each-fair marks free.locked.granted free.locked.late (behind-weaker LetsWait KeepsWhileWaiting lets-keep [] marks free.locked.lets) free.commits (behind-weaker LetsWait WaitsForEnd lets-end [] marks free.locked.lets)
+    each-fair marks free.locked.granted free.locked.late (behind-weaker LetsWait KeepsWhileWaiting lets-keep [] marks free.locked.lets)
+    (behind-weaker LetsWait GetsWhatItWaitsFor lets-get [] marks free.locked.lets) free.commits (behind-weaker LetsWait WaitsForEnd lets-end [] marks free.locked.lets)
 
 module _ (script : Script) (some : 1 ≤ script.segments) where
   pub moves-fair : (ms : List Move) → EachBehind IsFair [] (marks_in (world_by script ms).steps)

@@ -7,7 +7,7 @@ use Rattle.std.specs.Prelude.{All, Any, find}
 use Rattle.gx_lemmas.proofs.Tests.{true-false}
 use Rattle.gx_ids.specs.declared.ids.Gxid.{Gxid}
 use Rattle.gx_ids.specs.declared.ids.Node.{Node}
-use Rattle.gx_waits.specs.Claim.{Meets, meets}
+use Rattle.gx_waits.specs.Claim.{Meets, in_the_way, meets}
 use Rattle.gx_waits.specs.declared.claim.Claim.{Claim}
 use Rattle.gx_locks.proofs.Meets.{Meets_from_test, test_from_Meets}
 use Rattle.gx_waits.specs.Claims.{claim, is_free, is_of}
@@ -64,7 +64,7 @@ right-next node marks m ms b =
 pub right-granted : (script : Script) (node : Node) (marks ms : List Mark) → Each (IsAtNode script node) ms → IsRightAt node marks ms → AreGranted marks ms
 right-granted script node marks [] e f = tt
 right-granted script node marks (mark.Hold n g object mode ∷ ms) e f = (
-  subst (λ (k : Node). LegalHold marks k (claim g object mode)) (sym e.0) (free-meets (claim g object mode) (holds_at marks node) f.0),
+  subst (λ (k : Node). LegalHold marks k (claim g object mode)) (sym e.0) (free-meets (claim g object mode) (in_the_way (holds_at marks node) (waits_at marks node) (claim g object mode)) f.0),
   right-granted script node (marks ++ mark.Hold n g object mode ∷ []) ms e.1 (right-next node marks (mark.Hold n g object mode) ms f.1),
 )
 right-granted script node marks (mark.Wait n g object mode ∷ ms) e f = right-granted script node (marks ++ mark.Wait n g object mode ∷ []) ms e.1 (right-next node marks (mark.Wait n g object mode) ms f.1)
@@ -74,7 +74,7 @@ right-granted script node marks (m ∷ ms) e f = right-granted script node (mark
 pub right-waits : (script : Script) (node : Node) (marks ms : List Mark) → Each (IsAtNode script node) ms → IsRightAt node marks ms → AreWaitsLegal marks ms
 right-waits script node marks [] e b = tt
 right-waits script node marks (mark.Wait n g object mode ∷ ms) e b = (
-  subst (λ (k : Node). IsWaitLegal marks k (claim g object mode)) (sym e.0) (record { meets = met-some (claim g object mode) (holds_at marks node) b.0.met; alone = none-listed g (waits_at marks node) b.0.alone }),
+  subst (λ (k : Node). IsWaitLegal marks k (claim g object mode)) (sym e.0) (record { meets = met-some (claim g object mode) (in_the_way (holds_at marks node) (waits_at marks node) (claim g object mode)) b.0.met; alone = none-listed g (waits_at marks node) b.0.alone }),
   right-waits script node (marks ++ mark.Wait n g object mode ∷ []) ms e.1 (right-next node marks (mark.Wait n g object mode) ms b.1),
 )
 right-waits script node marks (mark.Hold n g object mode ∷ ms) e b = right-waits script node (marks ++ mark.Hold n g object mode ∷ []) ms e.1 (right-next node marks (mark.Hold n g object mode) ms b.1)

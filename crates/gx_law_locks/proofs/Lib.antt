@@ -1,4 +1,6 @@
 pub mod Claims
+pub mod SameClaims
+pub mod Queues
 pub mod Marks
 pub mod Released
 pub mod Lasting
@@ -37,8 +39,8 @@ pub mod Listed
 pub mod Active
 pub mod Rechecks
 pub mod Whole
-pub mod SameClaims
 pub mod Fair
+pub mod Passing
 pub mod Sharing
 pub mod Standing
 pub mod Staying

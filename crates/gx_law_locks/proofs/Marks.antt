@@ -1,12 +1,12 @@
 -- What marks of locks make of a node's holds and waits.
-use Rattle.std.proofs.Common.{◌≡◌, ◌==◌, ◌||◌, ◌⊎◌, inl, Bool, true, false, List, [], ◌∷◌, ◌++◌, None, Some, refl, sym, subst, ap, ◌∙◌, if◌then◌else◌, append_assoc, append-nil, arith}
+use Rattle.std.proofs.Common.{◌≡◌, ◌==◌, ◌||◌, ◌⊎◌, inl, inr, Bool, true, false, List, [], ◌∷◌, ◌++◌, None, Some, refl, sym, subst, ap, ◌∙◌, if◌then◌else◌, append_assoc, append-nil, arith}
 use Rattle.std.proofs.lemmas.Bool.Decides.{nat_tests}
 use Rattle.std.proofs.lemmas.Bool.{or_left, or_right}
 use Rattle.std.specs.Prelude.{filter, find}
 use Rattle.gx_ids.specs.declared.ids.Gxid.{Gxid}
 use Rattle.gx_ids.specs.declared.ids.Node.{Node}
 use Rattle.gx_waits.specs.declared.claim.Claim.{Claim}
-use Rattle.gx_waits.specs.Claims.{claim, is_free, is_of, with_claim, without_claim}
+use Rattle.gx_waits.specs.Claims.{claim, is_clear, is_of, with_claim, without_claim}
 use Rattle.gx_locks.specs.Locks.{Locks, resumed, wait_of}
 use Rattle.gx_script.specs.declared.Script.{Script}
 use Rattle.gx_store.proofs.Exclusive.{holds_from-append}
@@ -23,29 +23,33 @@ use Rattle.gx_law_order.specs.Lists.{Each}
 use Rattle.gx_law_order.proofs.Past.{aborted-append, committed-append}
 use Rattle.gx_law_locks.specs.Late.{AreReleasesLate}
 use Rattle.gx_law_locks.specs.Waiting.{IsForEnd}
-use Rattle.gx_law_locks.proofs.Claims.{not-among, without-none, without-only}
+use Rattle.gx_law_locks.proofs.Claims.{gxid-of, not-among, passes, without-none, without-only}
 
--- who begins to wait meets one of these holds, and has none of these waits
+-- who begins to wait meets somebody in its way, and has none of these waits
 pub record Begins (holds waits : List Claim) (wanted : Claim) : Type 0 where
-  pub met : is_free holds wanted ≡ false
+  pub met : is_clear holds waits wanted ≡ false
   pub alone : find (is_of wanted.gxid) waits ≡ None
 
--- each hold among these marks of a node is free where it stands, and each wait begins so
+-- each hold among these marks of a node has its way clear where it stands, and each wait begins so
 abbrev pub AreRight : Node → List Claim → List Claim → List Mark → Type 0
 AreRight node holds waits [] = Unit {0}
 AreRight node holds waits (mark.Wait n g object mode ∷ ms) = Begins holds waits (claim g object mode) × AreRight node holds (waits_from node waits (mark.Wait n g object mode ∷ [])) ms
 AreRight node holds waits (mark.Hold n g object mode ∷ ms) =
-    (is_free holds (claim g object mode) ≡ true) × AreRight node (holds_from node holds (mark.Hold n g object mode ∷ [])) (waits_from node waits (mark.Hold n g object mode ∷ [])) ms
+    (is_clear holds waits (claim g object mode) ≡ true) × AreRight node (holds_from node holds (mark.Hold n g object mode ∷ [])) (waits_from node waits (mark.Hold n g object mode ∷ [])) ms
 AreRight node holds waits (mark.Release n g object mode ∷ ms) = AreRight node (holds_from node holds (mark.Release n g object mode ∷ [])) (waits_from node waits (mark.Release n g object mode ∷ [])) ms
 AreRight node holds waits (m ∷ ms) = AreRight node holds waits ms
 
--- who gives back has none of these waits, or has aborted; who begins to wait for another's end does so in mode Share; who commits
--- has none of them
+-- who gives back has none of these waits, or has aborted; who is granted something has none of them, or waits for just that; who
+-- begins to wait for another's end does so in mode Share; who commits has none of them
 abbrev pub MayGive : List Mark → List Claim → Gxid → Type 0
 MayGive before waits g = (find (is_of g) waits ≡ None) ⊎ (is_aborted before g ≡ true)
 
+abbrev pub MayGet : List Claim → Claim → Type 0
+MayGet waits wanted = (find (is_of wanted.gxid) waits ≡ None) ⊎ (filter (is_of wanted.gxid) waits ≡ wanted ∷ [])
+
 abbrev pub Lets : List Mark → List Claim → Mark → Type 0
 Lets before waits (mark.Release n g object mode) = MayGive before waits g
+Lets before waits (mark.Hold n g object mode) = MayGet waits (claim g object mode)
 Lets before waits (mark.Wait n g object mode) = IsForEnd object mode
 Lets before waits (mark.Commit g) = find (is_of g) waits ≡ None
 Lets before waits _ = Unit {0}
@@ -172,7 +176,7 @@ pub node-itself : (node : Node) → (node.0 == node.0) ≡ true
 node-itself node = grind (arith, nat_tests)
 
 -- a lock is granted to who has no wait there
-pub grant : (node : Node) (before : List Mark) (l : Locks) (wanted : Claim) → is_free l.holds wanted ≡ true → wait_of l wanted.gxid ≡ None
+pub grant : (node : Node) (before : List Mark) (l : Locks) (wanted : Claim) → is_clear l.holds l.waits wanted ≡ true → wait_of l wanted.gxid ≡ None
     → Locking node before l (hold_mark node wanted ∷ []) (with_hold l wanted)
 grant node before l wanted free e =
     record {
@@ -180,11 +184,11 @@ grant node before l wanted free e =
       waits = ap (λ b. if b then without_claim wanted l.waits else l.waits) (node-itself node) ∙ without-none wanted l.waits e;
       right = (free, tt);
       late = tt;
-      lets = (tt, tt);
+      lets = (inl e, tt);
     }
 
 -- who has no wait there begins to wait
-pub wait : (node : Node) (before : List Mark) (l : Locks) (wanted : Claim) → IsForEnd wanted.object wanted.mode → is_free l.holds wanted ≡ false → wait_of l wanted.gxid ≡ None
+pub wait : (node : Node) (before : List Mark) (l : Locks) (wanted : Claim) → IsForEnd wanted.object wanted.mode → is_clear l.holds l.waits wanted ≡ false → wait_of l wanted.gxid ≡ None
     → Locking node before l (wait_mark node wanted ∷ []) (with_wait l wanted)
 wait node before l wanted end met e =
     record {
@@ -212,7 +216,7 @@ pub commit : (node : Node) (before : List Mark) (l : Locks) (g : Gxid) → wait_
 commit node before l g e = record { holds = refl; waits = refl; right = tt; late = tt; lets = (e, tt) }
 
 -- what a transaction has waited for, its only wait there, is granted
-pub resumption : (node : Node) (before : List Mark) (l : Locks) (g : Gxid) (wanted : Claim) → is_free l.holds wanted ≡ true → filter (is_of g) l.waits ≡ wanted ∷ []
+pub resumption : (node : Node) (before : List Mark) (l : Locks) (g : Gxid) (wanted : Claim) → is_clear l.holds l.waits wanted ≡ true → filter (is_of g) l.waits ≡ wanted ∷ []
     → Locking node before l (hold_mark node wanted ∷ []) (resumed l g (Some wanted))
 resumption node before l g wanted free e =
     record {
@@ -220,7 +224,7 @@ resumption node before l g wanted free e =
       waits = ap (λ b. if b then without_claim wanted l.waits else l.waits) (node-itself node) ∙ without-only g wanted l.waits e;
       right = (free, tt);
       late = tt;
-      lets = (tt, tt);
+      lets = (inr (subst (λ (h : Gxid). filter (is_of h) l.waits ≡ wanted ∷ []) (sym (gxid-of wanted.gxid g (passes (is_of g) l.waits wanted [] e))) e), tt);
     }
 
 -- ENDS

@@ -4,7 +4,7 @@ use Rattle.std.proofs.lemmas.Bool.{eqb-true}
 use Rattle.std.specs.List.{list_any}
 use Rattle.std.specs.Prelude.{filter, find}
 use Rattle.gx_lemmas.proofs.Numbers.{eqb-self}
-use Rattle.gx_lemmas.proofs.Tests.{and-false, false-true}
+use Rattle.gx_lemmas.proofs.Tests.{and-false, false-true, true-false}
 use Rattle.gx_ids.specs.declared.ids.Cid.{Cid}
 use Rattle.gx_ids.specs.declared.ids.Gxid.{Gxid}
 use Rattle.gx_ids.specs.declared.ids.Node.{Node}
@@ -15,7 +15,7 @@ use Rattle.gx_waits.specs.Claim.{meets, same_claim}
 use Rattle.gx_waits.specs.declared.claim.Claim.{Claim}
 use Rattle.gx_waits.specs.declared.object.Object.{Object}
 use Rattle.gx_waits.specs.declared.object.Object.TheVariants.{Relation, Transaction, Tuple}
-use Rattle.gx_waits.specs.Claims.{is_free, is_of, with_claim}
+use Rattle.gx_waits.specs.Claims.{is_clear, is_free, is_of, with_claim, without}
 use Rattle.gx_locks.specs.Locks.{Locks, resumed, wait_of}
 use Rattle.gx_script.specs.declared.Script.{Script}
 use Rattle.gx_store.specs.declared.mark.Mark.{Mark}
@@ -31,7 +31,7 @@ use Rattle.gx_rules.specs.Running.{is_granted}
 use Rattle.gx_rules.specs.Slices.{Moved, adds_version, gives_back, noted, own_lock, starts_from, takes_lock, takes_own, version, writes_row}
 use Rattle.gx_law_order.proofs.Lists.{each_append, each_filter, each_weaker}
 use Rattle.gx_law_order.specs.Lists.{Each}
-use Rattle.gx_law_order.proofs.OwnLocks.{IsOwn, IsOwnOn, SaysWritten, WritersLock, each-held, end-back, has_version}
+use Rattle.gx_law_order.proofs.OwnLocks.{IsAwaited, IsOwn, IsOwnOn, SaysWritten, WritersLock, each-held, end-back, has_version}
 use Rattle.gx_law_order.proofs.Suspended.{is_open_phase}
 use Rattle.gx_law_order.proofs.Waiting.{freed}
 use Rattle.gx_law_locks.specs.Lasting.{IsLasting}
@@ -39,6 +39,7 @@ use Rattle.gx_law_locks.proofs.AtRows.{AtRows, rows-later, rows-with}
 use Rattle.gx_law_locks.proofs.Claims.{find-without, gxid-of}
 use Rattle.gx_law_locks.proofs.Lasting.{IsIn, in-added, in-given, in-new}
 use Rattle.gx_law_locks.proofs.Tables.{HasTable}
+use Rattle.gx_law_locks.proofs.Queues.{clear-of}
 use Rattle.gx_law_locks.proofs.Marks.{Locking, NoLock, both, give, grant, no-lock, resumption}
 
 -- A TRANSACTION'S OWN LOCK
@@ -54,6 +55,32 @@ own-apart g hold (Transaction h) e own = ap (meets (own_lock g)) own ∙ either 
 pub own-free : (g : Gxid) (holds : List Claim) → Each IsOwn holds → is_free holds (own_lock g) ≡ true
 own-free g [] e = refl
 own-free g (h ∷ hs) e = ap (λ b. not (b || list_any (meets (own_lock g)) hs)) (own-apart g h h.object refl e.0) ∙ own-free g hs e.1
+
+-- who hasn't written is waited for by nobody
+abbrev pub IsUnawaited : Seg → Gxid → Type 0
+IsUnawaited s g = (local_of s g).phase ≡ Reading → Each (λ wait. meets (own_lock g) wait ≡ false) s.locks.waits
+
+pub unawaited-of : (s : Seg) (g : Gxid) → WritersLock s → IsUnawaited s g
+unawaited-of s g k e =
+    each_weaker (λ (wait : Claim). IsAwaited s.versions wait.object) (λ wait. meets (own_lock g) wait ≡ false) (λ wait. by_object wait wait.object refl) s.locks.waits k.awaited
+  where
+    none : (p : Phase) → p ≡ Reading → (written : Bool) → SaysWritten p written → written ≡ false
+    none p e written = subst (λ q. SaysWritten q written → written ≡ false) (sym e) (λ w. w)
+
+    unwritten : has_version g.0 s.versions ≡ false
+    unwritten = none (local_of s g).phase e (has_version g.0 s.versions) (k.each g.0).says
+
+    apart : (h : Gxid) → has_version h.0 s.versions ≡ true → (b : Bool) → (g.0 == h.0) ≡ b → b ≡ false
+    apart h w true q = absurd (true-false (has_version g.0 s.versions) (subst (λ n. has_version n s.versions ≡ true) (sym (eqb-true g.0 h.0 q)) w) unwritten)
+    apart h w false q = refl
+
+    last : (a b d : Bool) → b ≡ false → (not a && (b && d)) ≡ false
+    last a b d e = grind arith
+
+    by_object : (wait : Claim) (o : Object) → wait.object ≡ o → IsAwaited s.versions o → meets (own_lock g) wait ≡ false
+    by_object wait (Relation table) q w = ap (λ o. meets (own_lock g) (record wait { object = o })) q ∙ and-false (not (g.0 == wait.gxid.0))
+    by_object wait (Tuple rid) q w = ap (λ o. meets (own_lock g) (record wait { object = o })) q ∙ and-false (not (g.0 == wait.gxid.0))
+    by_object wait (Transaction h) q w = ap (λ o. meets (own_lock g) (record wait { object = o })) q ∙ last (g.0 == wait.gxid.0) (g.0 == h.0) _ (apart h w (g.0 == h.0) refl)
 
 pub own-lasts : (node : Node) (g : Gxid) → IsLasting node (own_lock g)
 own-lasts node g m = cc
@@ -124,6 +151,7 @@ module _ (script : Script) (P : Gxid → Table → Type 0) (here : Node) (before
     pub locking : Locking here before s.locks m.marks m.seg.locks
     pub owns : Each IsOwn m.seg.locks.holds
     pub writing : IsWriting m.seg g
+    pub unawaited : IsUnawaited m.seg g
     pub lasting : (c : Claim) → IsLasting here c → IsIn s.locks.holds c → IsIn m.seg.locks.holds c
     pub alone : wait_of m.seg.locks g ≡ None
     pub opens : is_open_phase (local_of m.seg g).phase ≡ true
@@ -133,14 +161,15 @@ module _ (script : Script) (P : Gxid → Table → Type 0) (here : Node) (before
     pub written : Each (WritesOwn m.seg.locks.holds) m.marks
 
   -- it starts, whatever the horizon has become
-  pub started : (horizon : Gxid) → s.node ≡ here → Each IsOwn s.locks.holds → IsWriting s g → wait_of s.locks g ≡ None → is_open_phase (local_of s g).phase ≡ true
-      → AtRows script s s.locks.holds → Runs (starts_from (record s { horizon = horizon }))
-  started horizon n owns writing alone opens rows =
+  pub started : (horizon : Gxid) → s.node ≡ here → Each IsOwn s.locks.holds → IsWriting s g → IsUnawaited s g → wait_of s.locks g ≡ None
+      → is_open_phase (local_of s g).phase ≡ true → AtRows script s s.locks.holds → Runs (starts_from (record s { horizon = horizon }))
+  started horizon n owns writing unawaited alone opens rows =
       record {
         node = n;
         locking = no-lock here before s.locks [] tt;
         owns = owns;
         writing = writing;
+        unawaited = unawaited;
         lasting = λ c l i. i;
         alone = alone;
         opens = opens;
@@ -151,18 +180,21 @@ module _ (script : Script) (P : Gxid → Table → Type 0) (here : Node) (before
       }
 
   -- it goes on behind its wait, with these locks
-  module _ (n : s.node ≡ here) (writing : IsWriting s g) (opens : is_open_phase (local_of s g).phase ≡ true) (rows : AtRows script s s.locks.holds) where
+  module _ (n : s.node ≡ here) (writing : IsWriting s g) (unawaited : IsUnawaited s g) (opens : is_open_phase (local_of s g).phase ≡ true) (rows : AtRows script s s.locks.holds) where
     freed-so : (k : Locks) (ms : List Mark) → Locking here before s.locks ms k → Each IsOwn k.holds → ((c : Claim) → IsLasting here c → IsIn s.locks.holds c → IsIn k.holds c)
-        → wait_of k g ≡ None → AreWritesHeld script P here s.locks.holds ms → Each (WritesOwn k.holds) ms
+        → k.waits ≡ without g s.locks.waits → AreWritesHeld script P here s.locks.holds ms → Each (WritesOwn k.holds) ms
         → Runs (record { seg = record (with_local s g (record (local_of s g) { suspended = None })) { locks = k }; marks = ms })
-    freed-so k ms l owns more alone writes written =
+    freed-so k ms l owns more left writes written =
         record {
           node = n;
           locking = l;
           owns = owns;
           writing = λ e. more (own_lock g) (own-lasts here g) (writing (sym (same g) ∙ e));
+          unawaited = λ e.
+              subst (Each (λ wait. meets (own_lock g) wait ≡ false)) (sym left)
+              (each_filter (λ wait. meets (own_lock g) wait ≡ false) (λ wait. not (is_of g wait)) s.locks.waits (unawaited (sym (same g) ∙ e)));
           lasting = more;
-          alone = alone;
+          alone = ap (find (is_of g)) left ∙ find-without g s.locks.waits;
           opens = ap is_open_phase (same g) ∙ opens;
           ended = λ h. ap has_ended (same h);
           rows = rows-with script s g (record (local_of s g) { suspended = None }) k.holds tt (rows-later script here s s.locks.holds k.holds more rows);
@@ -174,15 +206,15 @@ module _ (script : Script) (P : Gxid → Table → Type 0) (here : Node) (before
         same = phase-at s g (record (local_of s g) { suspended = None }) refl
 
     -- with the lock that it has waited for, which was its only wait
-    pub resumed-so : (wanted : Claim) → Each IsOwn s.locks.holds → IsOwn wanted → is_free s.locks.holds wanted ≡ true → filter (is_of g) s.locks.waits ≡ wanted ∷ []
+    pub resumed-so : (wanted : Claim) → Each IsOwn s.locks.holds → IsOwn wanted → is_clear s.locks.holds s.locks.waits wanted ≡ true → filter (is_of g) s.locks.waits ≡ wanted ∷ []
         → Runs (record { seg = freed s g wanted; marks = hold_mark s.node wanted ∷ [] })
     resumed-so wanted owns own free once =
         freed-so (resumed s.locks g (Some wanted)) (hold_mark s.node wanted ∷ [])
         (subst (λ k. Locking here before s.locks (hold_mark k wanted ∷ []) (resumed s.locks g (Some wanted))) (sym n) (resumption here before s.locks g wanted free once))
-        (each-held s.locks.holds wanted owns own) (λ c l i. in-added wanted c s.locks.holds i) (find-without g s.locks.waits) tt (tt, tt)
+        (each-held s.locks.holds wanted owns own) (λ c l i. in-added wanted c s.locks.holds i) refl tt (tt, tt)
 
     -- or at another's end, whose lock is given back at once
-    pub resumed-end : (here ≡ the_coordinator → ⊥) → (writer : Gxid) → Each IsOwn s.locks.holds → is_free s.locks.holds (end_lock g writer) ≡ true
+    pub resumed-end : (here ≡ the_coordinator → ⊥) → (writer : Gxid) → Each IsOwn s.locks.holds → is_clear s.locks.holds s.locks.waits (end_lock g writer) ≡ true
         → filter (is_of g) s.locks.waits ≡ end_lock g writer ∷ []
         → Runs (is_granted s g (end_lock g writer))
     resumed-end away writer owns free once =
@@ -191,7 +223,7 @@ module _ (script : Script) (P : Gxid → Table → Type 0) (here : Node) (before
         (both here before s.locks (hold_mark here (end_lock g writer) ∷ []) k (release_mark here (end_lock g writer) ∷ []) (without_hold k (end_lock g writer))
         (resumption here before s.locks g (end_lock g writer) free once)
         (give here (before ++ hold_mark here (end_lock g writer) ∷ []) k (end_lock g writer) (away, refl) (find-without g s.locks.waits))))
-        (subst (Each IsOwn) (sym same) owns) (λ c l i. subst (λ hs. IsIn hs c) (sym same) i) (find-without g s.locks.waits) tt (tt, (tt, tt))
+        (subst (Each IsOwn) (sym same) owns) (λ c l i. subst (λ hs. IsIn hs c) (sym same) i) refl tt (tt, (tt, tt))
       where
         k : Locks
         k = resumed s.locks g (Some (end_lock g writer))
@@ -202,16 +234,17 @@ module _ (script : Script) (P : Gxid → Table → Type 0) (here : Node) (before
   -- its locks change by one mark, or a mark tells of no lock
   relocked : (k : Locks) (x : Mark) (m : Moved) → ((hs : List Claim) → AreWritesHeld script P here hs (x ∷ [])) → WritesOwn k.holds x
       → Locking here (before ++ m.marks) m.seg.locks (x ∷ []) k → Each IsOwn k.holds
-      → ((c : Claim) → IsLasting here c → IsIn m.seg.locks.holds c → IsIn k.holds c) → wait_of k g ≡ None → Runs m
+      → ((c : Claim) → IsLasting here c → IsIn m.seg.locks.holds c → IsIn k.holds c) → k.waits ≡ m.seg.locks.waits → Runs m
       → Runs (record { seg = record m.seg { locks = k }; marks = m.marks ++ x ∷ [] })
-  relocked k x m unheld unwritten l owns more alone f =
+  relocked k x m unheld unwritten l owns more waits f =
       record {
         node = f.node;
         locking = both here before s.locks m.marks m.seg.locks (x ∷ []) k f.locking l;
         owns = owns;
         writing = λ e. more (own_lock g) (own-lasts here g) (f.writing e);
+        unawaited = λ e. subst (Each (λ wait. meets (own_lock g) wait ≡ false)) (sym waits) (f.unawaited e);
         lasting = λ c q i. more c q (f.lasting c q i);
-        alone = alone;
+        alone = ap (find (is_of g)) waits ∙ f.alone;
         opens = f.opens;
         ended = f.ended;
         rows = rows-later script here m.seg m.seg.locks.holds k.holds more f.rows;
@@ -220,12 +253,12 @@ module _ (script : Script) (P : Gxid → Table → Type 0) (here : Node) (before
       }
 
   -- a lock is granted to it
-  pub granted : (wanted : Claim) (m : Moved) → wanted.gxid ≡ g → IsOwn wanted → is_free m.seg.locks.holds wanted ≡ true → Runs m → Runs (takes_lock wanted m)
+  pub granted : (wanted : Claim) (m : Moved) → wanted.gxid ≡ g → IsOwn wanted → is_clear m.seg.locks.holds m.seg.locks.waits wanted ≡ true → Runs m → Runs (takes_lock wanted m)
   granted wanted m is own free f =
       relocked (with_hold m.seg.locks wanted) (hold_mark m.seg.node wanted) m (λ hs. tt) tt
       (subst (λ k. Locking here (before ++ m.marks) m.seg.locks (hold_mark k wanted ∷ []) (with_hold m.seg.locks wanted)) (sym f.node)
       (grant here (before ++ m.marks) m.seg.locks wanted free (subst (λ h. wait_of m.seg.locks h ≡ None) (sym is) f.alone)))
-      (each-held m.seg.locks.holds wanted f.owns own) (λ c l i. in-added wanted c m.seg.locks.holds i) f.alone f
+      (each-held m.seg.locks.holds wanted f.owns own) (λ c l i. in-added wanted c m.seg.locks.holds i) refl f
 
   -- it gives one back that doesn't last
   pub given-back : (old : Claim) (m : Moved) → old.gxid ≡ g → IsMomentary here old.object old.mode → Runs m → Runs (gives_back old m)
@@ -233,11 +266,11 @@ module _ (script : Script) (P : Gxid → Table → Type 0) (here : Node) (before
       relocked (without_hold m.seg.locks old) (release_mark m.seg.node old) m (λ hs. tt) tt
       (subst (λ k. Locking here (before ++ m.marks) m.seg.locks (release_mark k old ∷ []) (without_hold m.seg.locks old)) (sym f.node)
       (give here (before ++ m.marks) m.seg.locks old brief (subst (λ h. wait_of m.seg.locks h ≡ None) (sym is) f.alone)))
-      (each_filter IsOwn (λ other. not (same_claim old other)) m.seg.locks.holds f.owns) (λ c l i. in-given here old c m.seg.locks.holds brief l i) f.alone f
+      (each_filter IsOwn (λ other. not (same_claim old other)) m.seg.locks.holds f.owns) (λ c l i. in-given here old c m.seg.locks.holds brief l i) refl f
 
   -- a mark tells of no lock and no row that is written
   pub told-so : (x : Mark) (m : Moved) → NoLock x → ((hs : List Claim) → AreWritesHeld script P here hs (x ∷ [])) → WritesOwn m.seg.locks.holds x → Runs m → Runs (noted m x)
-  told-so x m still unheld unwritten f = relocked m.seg.locks x m unheld unwritten (no-lock here (before ++ m.marks) m.seg.locks (x ∷ []) (still, tt)) f.owns (λ c l i. i) f.alone f
+  told-so x m still unheld unwritten f = relocked m.seg.locks x m unheld unwritten (no-lock here (before ++ m.marks) m.seg.locks (x ∷ []) (still, tt)) f.owns (λ c l i. i) refl f
 
   -- it writes a row, and takes its own lock if that is its first
   pub row-written : (c : Cid) (table : Table) (m : Moved) (rid : Rid) (image : Option (List Value)) → HasTable script m.seg.locks.holds g table → P g table → Runs m
@@ -266,6 +299,7 @@ module _ (script : Script) (P : Gxid → Table → Type 0) (here : Node) (before
             locking = l;
             owns = own;
             writing = λ e. has_own;
+            unawaited = λ e. absurd (reads-not (local_of m.seg g) (eqb g.0 g.0) (eqb-self g.0) e);
             lasting = λ x l i. more x (f.lasting x l i);
             alone = ap (find (is_of g)) waits ∙ f.alone;
             opens = ap (λ (b : Bool). is_open_phase (if b then record (local_of m.seg g) { phase = Writing } else local_of m.seg g).phase) (eqb-self g.0);
@@ -275,6 +309,10 @@ module _ (script : Script) (P : Gxid → Table → Type 0) (here : Node) (before
             written = each;
           }
         where
+          reads-not : (l : Local) (b : Bool) → b ≡ true → (if b then record l { phase = Writing } else l).phase ≡ Reading → ⊥
+          reads-not l true q e = absurd (cc)
+          reads-not l false q e = absurd (cc)
+
           stay : AtRows script m.seg k.holds
           stay = rows-later script here m.seg m.seg.locks.holds k.holds (λ x l i. more x i) f.rows
 
@@ -283,12 +321,12 @@ module _ (script : Script) (P : Gxid → Table → Type 0) (here : Node) (before
           ended-so h false q = f.ended h
 
       -- its first write takes the lock, which is free
-      first : Runs (takes_lock (own_lock g) one)
-      first =
+      first : (local_of m.seg g).phase ≡ Reading → Runs (takes_lock (own_lock g) one)
+      first reads =
           so (record m.seg.locks { holds = with_claim (own_lock g) m.seg.locks.holds }) (one.marks ++ hold_mark m.seg.node (own_lock g) ∷ [])
           (both here before s.locks one.marks m.seg.locks (hold_mark m.seg.node (own_lock g) ∷ []) (record m.seg.locks { holds = with_claim (own_lock g) m.seg.locks.holds }) locking
           (subst (λ k. Locking here (before ++ one.marks) m.seg.locks (hold_mark k (own_lock g) ∷ []) (record m.seg.locks { holds = with_claim (own_lock g) m.seg.locks.holds })) (sym f.node)
-          (grant here (before ++ one.marks) m.seg.locks (own_lock g) (own-free g m.seg.locks.holds f.owns) f.alone)))
+          (grant here (before ++ one.marks) m.seg.locks (own_lock g) (clear-of m.seg.locks.holds m.seg.locks.waits (own_lock g) (own-free g m.seg.locks.holds f.owns) (f.unawaited reads)) f.alone)))
           (held-append script P here s.locks.holds one.marks (hold_mark m.seg.node (own_lock g) ∷ []) writes tt)
           (each_append (WritesOwn (with_claim (own_lock g) m.seg.locks.holds)) one.marks (hold_mark m.seg.node (own_lock g) ∷ [])
           (each_append (WritesOwn (with_claim (own_lock g) m.seg.locks.holds)) m.marks (write ∷ [])
@@ -302,7 +340,7 @@ module _ (script : Script) (P : Gxid → Table → Type 0) (here : Node) (before
           so m.seg.locks one.marks locking writes (each_append (WritesOwn m.seg.locks.holds) m.marks (write ∷ []) f.written (i, tt)) f.owns i (λ x j. j) refl
 
       by_phase : (q : Phase) → (local_of m.seg g).phase ≡ q → Runs (takes_own g q one)
-      by_phase Reading e = first
+      by_phase Reading e = first e
       by_phase Writing e = later (f.writing e)
       by_phase Prepared e = absurd (false-true (sym (ap is_open_phase e) ∙ f.opens))
       by_phase Committed e = absurd (false-true (sym (ap is_open_phase e) ∙ f.opens))

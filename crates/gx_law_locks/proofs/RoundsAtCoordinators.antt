@@ -43,7 +43,7 @@ use Rattle.gx_store.specs.declared.node.NodeEvent.TheVariants as event
 use Rattle.gx_store.specs.Refusals.{the_coordinator}
 use Rattle.gx_store.specs.Writes.{dist_of}
 use Rattle.gx_locks.specs.Locks.{Locks, resumed, wait_of}
-use Rattle.gx_waits.specs.Claims.{is_free}
+use Rattle.gx_waits.specs.Claims.{is_clear}
 use Rattle.gx_waits.specs.declared.claim.Claim.{Claim}
 use Rattle.gx_waits.specs.declared.graph.LocalGraph.{LocalGraph}
 use Rattle.gx_rules.specs.AtCoordinator.{answer_mark, answers, answers_at_once, awaited_collect, begins, behind, cancels, command_order, commits, completes, dispatches, ends_in, failure_marks, fault_mark, follows, goes, goes_on, goes_on_locked, if_granted, is_awaited, is_committed, is_refused, next_cid, on_answer, on_done, on_event, on_failed, on_line, on_message, on_status, order_to, orders_of, reads_by, reads_for, reason_of, requests, resends, resumes, rolls_back, starts, starts_line, status_order, table_of, takes_done, Reading}
@@ -216,7 +216,7 @@ module _ (c : Coord) where
 
     request : (d : Coord) (g : Gxid) (line : Stmt) (o : Option Claim) → Like d → Quiet (requests script d g line o)
     request d g line None e = go_locked d g line e
-    request d g line (Some wanted) e = by_test (is_free d.locks.holds wanted)
+    request d g line (Some wanted) e = by_test (is_clear d.locks.holds d.locks.waits wanted)
       where
         by_test : (b : Bool) → Quiet (if_granted script d g line wanted b)
         by_test true = go_held d g line (with_hold d.locks wanted) wanted e e.place

@@ -18,7 +18,7 @@ use Rattle.gx_waits.specs.declared.claim.Claim.{Claim}
 use Rattle.gx_waits.specs.declared.object.Object.{Object}
 use Rattle.gx_waits.specs.declared.object.Object.TheVariants.{Relation, Transaction, Tuple}
 use Rattle.gx_locks.specs.Locks.{wait_of}
-use Rattle.gx_waits.specs.Claims.{is_free}
+use Rattle.gx_waits.specs.Claims.{is_clear}
 use Rattle.gx_meaning.specs.declared.fault.ArithFault.{ArithFault}
 use Rattle.gx_msg.specs.declared.message.Envelope.{Envelope}
 use Rattle.gx_msg.specs.declared.message.Message.{Message}
@@ -173,7 +173,7 @@ module _ (script : Script) (s : Seg) where
   -- with its table's lock, or a wait for it
   starts : (t : Seg) → Near t → (g : Gxid) (c : Cid) (level : Level) (snapshot : Option Snapshot) (x : Slice) (wanted : Claim) → Stays (requests t g c level snapshot x wanted)
   starts t n g c level snapshot x wanted =
-      both (is_free t.locks.holds wanted) _ _
+      both (is_clear t.locks.holds t.locks.waits wanted) _ _
       (behind (hold_mark t.node wanted ∷ []) _ (tt, tt) (slice_runs (record t { locks = with_hold t.locks wanted }) (record { place = n.place; round = n.round; graph = n.graph }) g c level snapshot x))
       (record { place = n.place; round = n.round; graph = n.graph; marks = (tt, tt); outs = tt })
 

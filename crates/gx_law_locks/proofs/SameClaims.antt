@@ -1,5 +1,5 @@
 -- Claims that are one, and what a list of claims keeps.
-use Rattle.std.proofs.Common.{◌≡◌, ◌==◌, ◌&&◌, ◌⊎◌, inl, inr, ⊎_elim, ℕ, Bool, true, false, not, cond, List, [], ◌∷◌, ◌++◌, refl, sym, subst, ap, ◌∙◌, if◌then◌else◌, arith}
+use Rattle.std.proofs.Common.{◌≡◌, ◌==◌, ◌&&◌, ◌||◌, ◌⊎◌, inl, inr, ⊎_elim, ℕ, Bool, true, false, not, cond, List, [], ◌∷◌, ◌++◌, refl, sym, subst, ap, ◌∙◌, if◌then◌else◌, arith}
 use Rattle.std.proofs.lemmas.Bool.{or_left, or_right}
 use Rattle.std.proofs.lemmas.Bool.Decides.{nat_tests}
 use Rattle.std.specs.List.{list_any}
@@ -81,6 +81,26 @@ has-added new c xs h = by_test (list_any (same_claim new) xs)
     by_test : (b : Bool) → Has c (if b then xs else xs ++ new ∷ [])
     by_test true = h
     by_test false = has-front c xs (new ∷ []) h
+
+-- it is there then
+has-same : (new : Claim) (xs : List Claim) → list_any (same_claim new) xs ≡ true → Has new xs
+has-same new [] e = absurd (cc)
+has-same new (x ∷ xs) e = by_head (same_claim new x) refl e (has-same new xs)
+  where
+    by_head : (b : Bool) → same_claim new x ≡ b → (b || list_any (same_claim new) xs) ≡ true → (list_any (same_claim new) xs ≡ true → Has new xs) → (x ≡ new) ⊎ Has new xs
+    by_head true q f more = inl (sym (claim-same new x q))
+    by_head false q f more = inr (more f)
+
+pub has-new : (new : Claim) (xs : List Claim) → Has new (with_claim new xs)
+has-new new xs = by_test (list_any (same_claim new) xs) refl
+  where
+    last : (ys : List Claim) → Has new (ys ++ new ∷ [])
+    last [] = inl refl
+    last (y ∷ ys) = inr (last ys)
+
+    by_test : (b : Bool) → list_any (same_claim new) xs ≡ b → Has new (if b then xs else xs ++ new ∷ [])
+    by_test true e = has-same new xs e
+    by_test false e = last xs
 
 -- another one is taken away
 pub has-without : (old c : Claim) (xs : List Claim) → (old ≡ c → ⊥) → Has c xs → Has c (without_claim old xs)

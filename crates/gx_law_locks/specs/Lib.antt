@@ -5,6 +5,7 @@ pub mod Orders
 pub mod Writes
 pub mod Own
 pub mod Waiting
+pub mod Queue
 pub mod Held
 pub mod Steps
 pub mod Committing

@@ -22,7 +22,7 @@ pub record AreLocksMarked (w : World) : Type 0 where
   pub coordinator : IsMarked (marks_in w.steps) the_coordinator w.coord.locks
   pub segments : (i : ℕ) → 1 ≤ i → IsMarked (marks_in w.steps) (record { 0 = i }) (w.segs i).locks
 
--- who begins to wait at a node meets a hold there, and has no other wait there
+-- who begins to wait at a node meets somebody there, who holds or waits ahead, and has no other wait there
 pub record IsWaitLegal (marks : List Mark) (node : Node) (wanted : Claim) : Type 0 where
   pub meets : LegalWait marks node wanted
   pub alone : list_any (is_of wanted.gxid) (waits_at marks node) ≡ false

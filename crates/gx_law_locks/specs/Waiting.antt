@@ -1,15 +1,15 @@
 -- What a transaction does while it waits, and in which mode another's end is waited for.
 use Rattle.std.specs.List.{list_any}
-use Rattle.std.specs.Prelude.{◌≡◌, ◌⊎◌, Bool, true, false, List, [], ◌∷◌, ◌++◌}
+use Rattle.std.specs.Prelude.{◌≡◌, ◌⊎◌, Bool, true, false, List, [], ◌∷◌, ◌++◌, filter}
 use Rattle.gx_ids.specs.declared.ids.Gxid.{Gxid}
 use Rattle.gx_ids.specs.declared.ids.Node.{Node}
 use Rattle.gx_modes.specs.declared.modes.Mode.{Mode}
 use Rattle.gx_modes.specs.declared.modes.Mode.TheVariants.{Share}
 use Rattle.gx_waits.specs.declared.object.Object.{Object}
 use Rattle.gx_waits.specs.declared.object.Object.TheVariants.{Transaction}
-use Rattle.gx_waits.specs.Claims.{is_of}
+use Rattle.gx_waits.specs.Claims.{claim, is_of}
 use Rattle.gx_store.specs.declared.mark.Mark.{Mark}
-use Rattle.gx_store.specs.declared.mark.Mark.TheVariants.{Release, Wait}
+use Rattle.gx_store.specs.declared.mark.Mark.TheVariants.{Hold, Release, Wait}
 use Rattle.gx_store.specs.Marks.{is_aborted}
 use Rattle.gx_store.specs.Waits.{waits_at}
 
@@ -26,6 +26,11 @@ EachBehind P before (m ∷ ms) = P before m × EachBehind P (before ++ m ∷ [])
 abbrev pub KeepsWhileWaiting : List Mark → Mark → Type 0
 KeepsWhileWaiting before (Release node g object mode) = (is_waiting before node g ≡ false) ⊎ (is_aborted before g ≡ true)
 KeepsWhileWaiting before _ = Unit {0}
+
+-- nor is it granted anything there but what it waits for
+abbrev pub GetsWhatItWaitsFor : List Mark → Mark → Type 0
+GetsWhatItWaitsFor before (Hold node g object mode) = (is_waiting before node g ≡ false) ⊎ (filter (is_of g) (waits_at before node) ≡ claim g object mode ∷ [])
+GetsWhatItWaitsFor before _ = Unit {0}
 
 -- a transaction's end is waited for in mode Share: those who wait for it are in nobody's way
 abbrev pub IsForEnd : Object → Mode → Type 0

@@ -5,7 +5,8 @@ ghost use Rattle.gx_law_locks.specs.Late.{AreReleasesLate};
 ghost use Rattle.gx_law_locks.specs.Marked.{AreLocksMarked, AreWaitsLegal};
 ghost use Rattle.gx_law_locks.specs.Orders.{AreOrdersLocked};
 ghost use Rattle.gx_law_locks.specs.Own.{DoHoldOwn, DoWritersHold};
-ghost use Rattle.gx_law_locks.specs.Waiting.{EachBehind, KeepsWhileWaiting, WaitsForEnd};
+ghost use Rattle.gx_law_locks.specs.Queue.{PassesNobody};
+ghost use Rattle.gx_law_locks.specs.Waiting.{EachBehind, GetsWhatItWaitsFor, KeepsWhileWaiting, WaitsForEnd};
 ghost use Rattle.gx_law_locks.specs.Writes.{AreWritesLocked};
 ghost use Rattle.gx_law_order.specs.Runs.{steps_after};
 ghost use Rattle.gx_rules.specs.Machine.{world_of};
@@ -20,13 +21,19 @@ pub fn locks_are_marked()
     ensures { (script : Script) (events : List (OneEvent × Bool)) → 1 ≤ script.segments → AreLocksMarked (world_of script events) }
 {}
 
-/// A lock is granted only where it meets no hold.
+/// A lock is granted only where it meets nobody: neither a hold, nor a wait ahead of it that its own transaction's holds don't block.
 pub fn locks_are_granted_where_they_meet_none()
     ensures { (script : Script) (events : List (OneEvent × Bool)) → 1 ≤ script.segments → AreGranted [] (marks_in (steps_after script events)) }
 {}
 
-/// Whoever begins to wait at a node meets a hold there, and has no other wait there.
-pub fn waits_meet_a_hold()
+/// At one node nobody is granted a lock while an earlier wait for a conflicting mode stands, unless it holds a mode on the object that
+/// conflicts with the waiter's.
+pub fn nobody_is_passed()
+    ensures { (script : Script) (events : List (OneEvent × Bool)) → 1 ≤ script.segments → EachBehind PassesNobody [] (marks_in (steps_after script events)) }
+{}
+
+/// Whoever begins to wait at a node meets somebody there, who holds or waits ahead, and has no other wait there.
+pub fn waits_meet_somebody()
     ensures { (script : Script) (events : List (OneEvent × Bool)) → 1 ≤ script.segments → AreWaitsLegal [] (marks_in (steps_after script events)) }
 {}
 
@@ -71,6 +78,11 @@ pub fn writers_hold_until_they_end()
 /// While a transaction waits at a node it gives nothing back there, the wait itself included, unless it has aborted.
 pub fn who_waits_gives_nothing_back()
     ensures { (script : Script) (events : List (OneEvent × Bool)) → 1 ≤ script.segments → EachBehind KeepsWhileWaiting [] (marks_in (steps_after script events)) }
+{}
+
+/// Nor is it granted anything there but what it waits for.
+pub fn who_waits_is_granted_what_it_waits_for()
+    ensures { (script : Script) (events : List (OneEvent × Bool)) → 1 ≤ script.segments → EachBehind GetsWhatItWaitsFor [] (marks_in (steps_after script events)) }
 {}
 
 /// Another transaction's end is waited for in mode Share alone, so that a hold on it for a moment is in nobody's way.

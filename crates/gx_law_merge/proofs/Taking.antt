@@ -24,7 +24,7 @@ use Rattle.gx_store.specs.declared.node.NodeEvent.TheVariants as here
 use Rattle.gx_store.specs.Journals.{items_from}
 use Rattle.gx_store.specs.Refusals.{the_coordinator}
 use Rattle.gx_waits.specs.declared.claim.Claim.{Claim}
-use Rattle.gx_waits.specs.Claims.{is_free}
+use Rattle.gx_waits.specs.Claims.{is_clear}
 use Rattle.gx_locks.specs.Locks.{wait_of}
 use Rattle.gx_rules.specs.AtCoordinator.{and_cancels, cancel_turn, cancels, coord_rule, coord_turn, on_event}
 use Rattle.gx_rules.specs.AtSegment as segment
@@ -133,7 +133,7 @@ slice-quiet s g c level snapshot (slice.Delete table cond) = change-quiet s g (c
 slice-quiet s g c level snapshot (slice.Lock table mode) = refl
 
 request-quiet : (s : Seg) (g : Gxid) (c : Cid) (level : Level) (snapshot : Option Snapshot) (work : Slice) (wanted : Claim) → IsQuiet (requests s g c level snapshot work wanted)
-request-quiet s g c level snapshot work wanted = if-quiet (is_free s.locks.holds wanted) (runs_locked s g c level snapshot work wanted) (suspends s g c level snapshot work wanted) (slice-quiet _ g c level snapshot work) refl
+request-quiet s g c level snapshot work wanted = if-quiet (is_clear s.locks.holds s.locks.waits wanted) (runs_locked s g c level snapshot work wanted) (suspends s g c level snapshot work wanted) (slice-quiet _ g c level snapshot work) refl
 
 repeat-quiet : (s : Seg) (g : Gxid) (c : Cid) (l : Local) → IsQuiet (segment.repeats s g c l)
 repeat-quiet s g c l = if-quiet _ (tells_kept s g l.answer) (stays s) (kept-quiet s g l.answer) refl

@@ -61,7 +61,7 @@ use Rattle.gx_law_order.proofs.Ways.{Stands}
 use Rattle.gx_law_order.proofs.Waiting.{GoesOut}
 use Rattle.gx_law_order.proofs.Dispatching.{goes-out-is}
 use Rattle.gx_locks.specs.Locks.{Locks, resumed, wait_of}
-use Rattle.gx_waits.specs.Claims.{is_free}
+use Rattle.gx_waits.specs.Claims.{is_clear}
 use Rattle.gx_rules.specs.Locks.{hold_mark, with_hold}
 use Rattle.gx_waits.specs.declared.claim.Claim.{Claim}
 use Rattle.gx_store.specs.Refusals.{the_coordinator}
@@ -191,7 +191,7 @@ module _ (script : Script) (P : ℕ → ℕ → Part) (c : Coord) (ms : List Mar
 
     request-tidy : (o : Option Claim) → TidyIn d.sessions earlier (requests script d (gx g) line o)
     request-tidy None = locked-tidy d g others earlier idle line
-    request-tidy (Some wanted) = by_test (is_free d.locks.holds wanted)
+    request-tidy (Some wanted) = by_test (is_clear d.locks.holds d.locks.waits wanted)
       where
         by_test : (b : Bool) → TidyIn d.sessions earlier (if_granted script d (gx g) line wanted b)
         by_test true = held-tidy (with_hold d.locks wanted) wanted

@@ -60,7 +60,7 @@ use Rattle.gx_law_order.specs.Places.{AreIn, IsOneOf, OutIn, PhaseIn, TableIn}
 use Rattle.gx_law_order.proofs.Tables.{FoundIn, TurnIn, begun_in, enlisted_in, find_in, has_in, live_in, on_abort_in, on_commit_in, on_reply_in, with_in, without_in}
 use Rattle.gx_rules.specs.Locks.{hold_mark, release_marks, with_hold}
 use Rattle.gx_locks.specs.Locks.{Locks, resumed, wait_of}
-use Rattle.gx_waits.specs.Claims.{is_free}
+use Rattle.gx_waits.specs.Claims.{is_clear}
 use Rattle.gx_waits.specs.declared.claim.Claim.{Claim}
 use Rattle.gx_waits.specs.declared.graph.LocalGraph.{LocalGraph}
 use Rattle.gx_rules.specs.Rounds.{begins_round, noted_in, on_graph, with_report}
@@ -214,7 +214,7 @@ module _ (script : Script) where
 
     request : (c : Coord) (g : Gxid) (line : Stmt) (o : Option Claim) → CoordIn script c → CoordStays c.sent (requests script c g line o)
     request c g line None e = go_locked c g line e
-    request c g line (Some wanted) e = by_test (is_free c.locks.holds wanted)
+    request c g line (Some wanted) e = by_test (is_clear c.locks.holds c.locks.waits wanted)
       where
         by_test : (b : Bool) → CoordStays c.sent (if_granted script c g line wanted b)
         by_test true = go_held c g line (with_hold c.locks wanted) wanted e

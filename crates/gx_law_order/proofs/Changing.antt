@@ -10,7 +10,8 @@ use Rattle.gx_tree.specs.declared.slice.Slice.TheVariants as slice
 use Rattle.gx_tree.specs.declared.stmt.Level.{Level}
 use Rattle.gx_dsnap.specs.declared.snapshot.Snapshot.{Snapshot}
 use Rattle.gx_waits.specs.declared.claim.Claim.{Claim}
-use Rattle.gx_waits.specs.declared.object.Object.TheVariants.{Relation}
+use Rattle.gx_waits.specs.declared.object.Object.{Object}
+use Rattle.gx_waits.specs.declared.object.Object.TheVariants.{Relation, Transaction}
 use Rattle.gx_meaning.specs.declared.fault.ArithFault.{ArithFault}
 use Rattle.gx_script.specs.declared.Script.{Script}
 use Rattle.gx_store.specs.Locks.{changing_mode, slice_lock}
@@ -57,12 +58,19 @@ pub record IsEndLock (g : Gxid) (wanted : Claim) : Type 0 where
 abbrev pub IsAtRow : Gxid → Rid → Claim → Type 0
 IsAtRow g rid wanted = (tuple_lock g rid ≡ wanted) ⊎ IsEndLock g wanted
 
--- where it stops it adds one wait
-pub record Stops (P : Moved → Type 0) (g : Gxid) (rid : Rid) (stopped : Moved) : Type 0 where
+-- no transaction's end but this one's
+abbrev pub IsEndOf : Gxid → Object → Type 0
+IsEndOf writer (Transaction h) = h ≡ writer
+IsEndOf writer _ = Unit {0}
+
+-- where it stops, at a row of that writer, it adds one wait, and has written nothing more
+pub record Stops (P : Moved → Type 0) (g : Gxid) (rid : Rid) (m : Moved) (writer : Gxid) (stopped : Moved) : Type 0 where
   pub before : Moved
   pub kept : P before
+  pub versions : before.seg.versions ≡ m.seg.versions
   pub wanted : Claim
   pub lock : IsAtRow g rid wanted
+  pub end : IsEndOf writer wanted.object
   pub is : (waits wanted before).moved ≡ stopped
 
 or-first : (a b : Bool) → (a || b) ≡ false → a ≡ false
@@ -70,19 +78,21 @@ or-first true b e = absurd (cc)
 or-first false b e = refl
 
 module _ (g : Gxid) (k : Change) (P : Moved → Type 0) (keeps : Keeps g k P) where
-  stops-at : (m : Moved) (rid : Rid) (writer : Gxid) (stopped : Moved) → is_same_gxid writer g ≡ false → P m → WaitsAt m g rid writer stopped → Stops P g rid stopped
-  stops-at m rid writer stopped o p (inl h) = record { before = m; kept = p; wanted = end_lock g writer; lock = inr (record { writer = writer; other = o; is = refl }); is = sym h.1 }
+  stops-at : (m : Moved) (rid : Rid) (writer : Gxid) (stopped : Moved) → is_same_gxid writer g ≡ false → P m → WaitsAt m g rid writer stopped → Stops P g rid m writer stopped
+  stops-at m rid writer stopped o p (inl h) = record { before = m; kept = p; versions = refl; wanted = end_lock g writer; lock = inr (record { writer = writer; other = o; is = refl }); end = refl; is = sym h.1 }
   stops-at m rid writer stopped o p (inr (inl h)) =
       record {
         before = takes_lock (tuple_lock g rid) m;
         kept = keeps.takes m rid h.0 p;
+        versions = refl;
         wanted = end_lock g writer;
         lock = inr (record { writer = writer; other = o; is = refl });
+        end = refl;
         is = sym h.1;
       }
-  stops-at m rid writer stopped o p (inr (inr h)) = record { before = m; kept = p; wanted = tuple_lock g rid; lock = inl refl; is = sym h.1 }
+  stops-at m rid writer stopped o p (inr (inr h)) = record { before = m; kept = p; versions = refl; wanted = tuple_lock g rid; lock = inl refl; end = tt; is = sym h.1 }
 
-  pub stop-keeps : (m : Moved) (rid : Rid) (t : RowTurn) (stop : DidStop m g k rid t) → P m → Stops P g rid stop.stopped
+  pub stop-keeps : (m : Moved) (rid : Rid) (t : RowTurn) (stop : DidStop m g k rid t) → P m → Stops P g rid m stop.version.gxid stop.stopped
   stop-keeps m rid t stop p = stops-at m rid stop.version.gxid stop.stopped (or-first _ _ stop.unsettled) p stop.how
 
 -- ALL OF IT

@@ -39,7 +39,7 @@ use Rattle.gx_law_order.specs.Stages.Stage.{Closing, Live}
 use Rattle.gx_law_order.proofs.Turns.{Base, Good, base-kept, home-is, merged, same-sessions, stage-is, work-is}
 use Rattle.gx_rules.specs.Locks.{hold_mark, wait_mark, with_hold}
 use Rattle.gx_locks.specs.Locks.{Locks}
-use Rattle.gx_waits.specs.Claims.{is_free}
+use Rattle.gx_waits.specs.Claims.{is_clear}
 use Rattle.gx_waits.specs.declared.claim.Claim.{Claim}
 use Rattle.gx_law_order.proofs.Queued.{Queues, queue-stays, queue-waits, queued-by}
 use Rattle.gx_store.specs.Refusals.{the_coordinator}
@@ -247,7 +247,7 @@ module _ (script : Script) (c c1 : Coord) (g s : ℕ) (w1 : Work) (y : Session) 
 
   request-good : (o : Option Claim) → table_lock script (gx g) line ≡ o → Good script before (requests script c1 (gx g) line o)
   request-good None e = locked-good c c1 g s w1 y k b before p unqueued live working line
-  request-good (Some wanted) e = by_test (is_free c1.locks.holds wanted)
+  request-good (Some wanted) e = by_test (is_clear c1.locks.holds c1.locks.waits wanted)
     where
       by_test : (q : Bool) → Good script before (if_granted script c1 (gx g) line wanted q)
       by_test true = held-good (with_hold c1.locks wanted) wanted refl

@@ -51,7 +51,7 @@ use Rattle.gx_law_order.specs.Lists.{Each}
 use Rattle.gx_law_order.proofs.SegItems.{Dull, dull-items}
 use Rattle.gx_rules.specs.Locks.{hold_mark, release_marks, with_hold}
 use Rattle.gx_locks.specs.Locks.{Locks, wait_of, resumed}
-use Rattle.gx_waits.specs.Claims.{is_free}
+use Rattle.gx_waits.specs.Claims.{is_clear}
 use Rattle.gx_waits.specs.declared.claim.Claim.{Claim}
 use Rattle.gx_waits.specs.declared.graph.LocalGraph.{LocalGraph}
 use Rattle.gx_rules.specs.Rounds.{begins_round, on_graph, with_report}
@@ -144,7 +144,7 @@ held-dull script c g line wanted = let x = locked-dull script c g line in record
 
 request-dull : (script : Script) (c : Coord) (g : Gxid) (line : Stmt) (o : Option Claim) → IsDull (requests script c g line o)
 request-dull script c g line None = locked-dull script c g line
-request-dull script c g line (Some wanted) = by_test (is_free c.locks.holds wanted)
+request-dull script c g line (Some wanted) = by_test (is_clear c.locks.holds c.locks.waits wanted)
   where
     by_test : (b : Bool) → IsDull (if_granted script c g line wanted b)
     by_test true = held-dull script (record c { locks = with_hold c.locks wanted }) g line wanted

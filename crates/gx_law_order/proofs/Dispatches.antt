@@ -5,7 +5,7 @@ use Rattle.gx_ids.specs.declared.ids.Gxid.{Gxid}
 use Rattle.gx_tree.specs.declared.stmt.Stmt.{Stmt}
 use Rattle.gx_waits.specs.declared.claim.Claim.{Claim}
 use Rattle.gx_locks.specs.Locks.{resumed, wait_of}
-use Rattle.gx_waits.specs.Claims.{is_free}
+use Rattle.gx_waits.specs.Claims.{is_clear}
 use Rattle.gx_script.specs.declared.Script.{Script}
 use Rattle.gx_store.specs.Refusals.{the_coordinator}
 use Rattle.gx_rules.specs.AtCoordinator.{behind, dispatches, goes_on_locked, if_granted, requests, resumes, waits_for}
@@ -17,16 +17,16 @@ use Rattle.gx_rules.specs.Locks.{hold_mark, with_hold}
 abbrev pub with_lock : Script → Coord → Gxid → Stmt → Claim → CoordTurn
 with_lock script c g line wanted = behind (hold_mark the_coordinator wanted ∷ []) (goes_on_locked script (record c { locks = with_hold c.locks wanted }) g line)
 
-pub dispatch-ways : (P : CoordTurn → Type 0) (script : Script) (c : Coord) (g : Gxid) (line : Stmt) → (table_lock script g line ≡ None → P (goes_on_locked script c g line)) → ((wanted : Claim) → table_lock script g line ≡ Some wanted → is_free c.locks.holds wanted ≡ true → P (with_lock script c g line wanted)) → ((wanted : Claim) → table_lock script g line ≡ Some wanted → is_free c.locks.holds wanted ≡ false → P (waits_for c g line wanted)) → P (dispatches script c g line)
+pub dispatch-ways : (P : CoordTurn → Type 0) (script : Script) (c : Coord) (g : Gxid) (line : Stmt) → (table_lock script g line ≡ None → P (goes_on_locked script c g line)) → ((wanted : Claim) → table_lock script g line ≡ Some wanted → is_clear c.locks.holds c.locks.waits wanted ≡ true → P (with_lock script c g line wanted)) → ((wanted : Claim) → table_lock script g line ≡ Some wanted → is_clear c.locks.holds c.locks.waits wanted ≡ false → P (waits_for c g line wanted)) → P (dispatches script c g line)
 dispatch-ways P script c g line alone locked waits = by_lock (table_lock script g line) refl
   where
-    by_test : (wanted : Claim) (b : Bool) → table_lock script g line ≡ Some wanted → is_free c.locks.holds wanted ≡ b → P (if_granted script c g line wanted b)
+    by_test : (wanted : Claim) (b : Bool) → table_lock script g line ≡ Some wanted → is_clear c.locks.holds c.locks.waits wanted ≡ b → P (if_granted script c g line wanted b)
     by_test wanted true e f = locked wanted e f
     by_test wanted false e f = waits wanted e f
 
     by_lock : (o : Option Claim) → table_lock script g line ≡ o → P (requests script c g line o)
     by_lock None e = alone e
-    by_lock (Some wanted) e = by_test wanted (is_free c.locks.holds wanted) e refl
+    by_lock (Some wanted) e = by_test wanted (is_clear c.locks.holds c.locks.waits wanted) e refl
 
 -- a statement that has waited
 abbrev pub without_wait : Coord → Gxid → Claim → Coord

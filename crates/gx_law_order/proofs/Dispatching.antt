@@ -52,7 +52,7 @@ use Rattle.gx_law_order.proofs.Nodes.{AreApart, apart-with, each-has, has-with, 
 use Rattle.gx_law_order.proofs.Shifts.{Shift, is-sent, learn-shift, send-shift, sending, shift-same}
 use Rattle.gx_law_order.proofs.Ways.{Agrees, AgreesIn, CommandOf, Fol, IsOrderOf, Led, Same, SaidOut, Stands, Way, Working, at-one, fol-no-part, rest-led, same-then, way-same, way-then}
 use Rattle.gx_locks.specs.Locks.{Locks, resumed, wait_of}
-use Rattle.gx_waits.specs.Claims.{is_free}
+use Rattle.gx_waits.specs.Claims.{is_clear}
 use Rattle.gx_rules.specs.Locks.{release_marks, hold_mark, wait_mark, with_hold, with_wait}
 use Rattle.gx_waits.specs.declared.claim.Claim.{Claim}
 use Rattle.gx_store.specs.Refusals.{the_coordinator}
@@ -351,7 +351,7 @@ module _ (script : Script) (P : ℕ → ℕ → Part) (c : Coord) (ms : List Mar
 
   request-led : (line : Stmt) (o : Option Claim) → Led script P c ms (requests script c (gx g) line o)
   request-led line None = locked-led script P c ms s whole g live idle line
-  request-led line (Some wanted) = by_test (is_free c.locks.holds wanted)
+  request-led line (Some wanted) = by_test (is_clear c.locks.holds c.locks.waits wanted)
     where
       held : Coord
       held = record c { locks = with_hold c.locks wanted }

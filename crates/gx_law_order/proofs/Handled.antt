@@ -23,7 +23,7 @@ use Rattle.gx_waits.specs.declared.claim.Claim.{Claim}
 use Rattle.gx_waits.specs.declared.object.Object.{Object}
 use Rattle.gx_waits.specs.declared.object.Object.TheVariants.{Relation, Transaction, Tuple}
 use Rattle.gx_locks.specs.Locks.{Locks}
-use Rattle.gx_waits.specs.Claims.{is_free}
+use Rattle.gx_waits.specs.Claims.{is_clear}
 use Rattle.gx_meaning.specs.declared.fault.ArithFault.{ArithFault}
 use Rattle.gx_msg.specs.declared.item.JournalItem.{JournalItem}
 use Rattle.gx_msg.specs.declared.message.Message.{Message}
@@ -806,7 +806,7 @@ module _ (told : Message) (k : Known) (s : Seg) (i g : ℕ) (named : s.node ≡ 
           (starts c m may-run (raised s h) raised-base [] tt) (tt, tt, tt))
 
       request : (wanted : Claim) → Does (requests (raised s h) (gx g) c level x y wanted)
-      request wanted = by_free wanted (is_free s.locks.holds wanted)
+      request wanted = by_free wanted (is_clear s.locks.holds s.locks.waits wanted)
 
     take : Does (takes script s (gx g) c level x h y l)
     take = by_test (nat_lt l.last c.0) refl

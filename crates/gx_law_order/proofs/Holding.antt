@@ -71,7 +71,7 @@ use Rattle.gx_law_order.proofs.Held.{ChangeHeld, GoesOn, SaysEnded, abort-held, 
 use Rattle.gx_law_order.proofs.Lowered.{NoExec, NoneOf, abort-none, commit-none, reply-none}
 use Rattle.gx_law_order.proofs.Nodes.{each-has, has-with}
 use Rattle.gx_locks.specs.Locks.{resumed, wait_of}
-use Rattle.gx_waits.specs.Claims.{is_free}
+use Rattle.gx_waits.specs.Claims.{is_clear}
 use Rattle.gx_rules.specs.Locks.{with_hold}
 use Rattle.gx_waits.specs.declared.claim.Claim.{Claim}
 use Rattle.gx_waits.specs.declared.graph.LocalGraph.{LocalGraph}
@@ -383,7 +383,7 @@ module _ (E : ℕ → ℕ → Bool) where
   module _ (c : Coord) (whole : IsWhole c.table) (ol : OrdersHeld c.table c.works) (g : ℕ) (live : IsLive c g) (script : Script) (line : Stmt) where
     request-holds : (o : Option Claim) → Holding c (requests script c (gx g) line o)
     request-holds None = locked-holds c whole ol g live script line
-    request-holds (Some wanted) = by_test (is_free c.locks.holds wanted)
+    request-holds (Some wanted) = by_test (is_clear c.locks.holds c.locks.waits wanted)
       where
         by_test : (b : Bool) → Holding c (if_granted script c (gx g) line wanted b)
         by_test true = let x = locked-holds (record c { locks = with_hold c.locks wanted }) whole ol g (record { txn = live.txn; found = live.found; active = live.active }) script line in record { table = x.table; orders = x.orders; outs = x.outs }

@@ -16,7 +16,7 @@ use Rattle.gx_dsnap.specs.declared.snapshot.Snapshot.{Snapshot}
 use Rattle.gx_waits.specs.declared.claim.Claim.{Claim}
 use Rattle.gx_waits.specs.declared.object.Object.{Object}
 use Rattle.gx_waits.specs.declared.object.Object.TheVariants.{Relation, Transaction, Tuple}
-use Rattle.gx_waits.specs.Claims.{is_free}
+use Rattle.gx_waits.specs.Claims.{is_clear}
 use Rattle.gx_meaning.specs.declared.fault.ArithFault.{ArithFault}
 use Rattle.gx_msg.specs.declared.message.Out.{Out}
 use Rattle.gx_msg.specs.declared.reply.Cause.{Cause}
@@ -129,7 +129,7 @@ module _ (g : Gxid) (c : Cid) (P : Out → Type 0) (done : (wrote : Bool) (count
 
   -- with its table's lock, or a wait for it
   pub request-leaves : (s : Seg) (level : Level) (snapshot : Option Snapshot) (x : Slice) (wanted : Claim) → Leaves P s.horizon (requests s g c level snapshot x wanted)
-  request-leaves s level snapshot x wanted = by_free (is_free s.locks.holds wanted)
+  request-leaves s level snapshot x wanted = by_free (is_clear s.locks.holds s.locks.waits wanted)
     where
       by_free : (b : Bool) → Leaves P s.horizon (if b then runs_locked s g c level snapshot x wanted else suspends s g c level snapshot x wanted)
       by_free true = let run = slice-leaves (record s { locks = with_hold s.locks wanted }) level snapshot x in record { horizon = run.horizon; outs = run.outs }

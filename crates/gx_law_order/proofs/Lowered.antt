@@ -58,7 +58,7 @@ use Rattle.gx_law_order.specs.Stages.{IsWhole}
 use Rattle.gx_law_order.specs.Horizons.{IsLow, IsLowIn}
 use Rattle.gx_law_order.proofs.Lows.{Fits, IsDense, all-fits, begun-dense, begun-fits, changed-fits, horizon-fits, live-dense, live-fits, none-fits}
 use Rattle.gx_locks.specs.Locks.{Locks, resumed, wait_of}
-use Rattle.gx_waits.specs.Claims.{is_free}
+use Rattle.gx_waits.specs.Claims.{is_clear}
 use Rattle.gx_rules.specs.Locks.{hold_mark, with_hold}
 use Rattle.gx_waits.specs.declared.claim.Claim.{Claim}
 use Rattle.gx_store.specs.Refusals.{the_coordinator}
@@ -391,7 +391,7 @@ module _ (script : Script) (c : Coord) (whole : IsWhole c.table) (dense : IsDens
 
   request-low : (line : Stmt) (o : Option Claim) → Lowered c (requests script c g line o)
   request-low line None = locked-low script c whole dense ol g line
-  request-low line (Some wanted) = by_test (is_free c.locks.holds wanted)
+  request-low line (Some wanted) = by_test (is_clear c.locks.holds c.locks.waits wanted)
     where
       by_test : (b : Bool) → Lowered c (if_granted script c g line wanted b)
       by_test true = held-low line (with_hold c.locks wanted) wanted

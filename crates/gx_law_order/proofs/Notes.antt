@@ -22,7 +22,7 @@ use Rattle.gx_waits.specs.declared.object.Object.{Object}
 use Rattle.gx_waits.specs.declared.object.Object.TheVariants.{Relation, Transaction, Tuple}
 use Rattle.gx_locks.specs.Graphs.{graph_at}
 use Rattle.gx_locks.specs.Locks.{wait_of}
-use Rattle.gx_waits.specs.Claims.{is_free}
+use Rattle.gx_waits.specs.Claims.{is_clear}
 use Rattle.gx_meaning.specs.declared.fault.ArithFault.{ArithFault}
 use Rattle.gx_msg.specs.declared.item.JournalItem.{JournalItem}
 use Rattle.gx_msg.specs.declared.message.Message.{Message}
@@ -314,7 +314,7 @@ on-noted ms node m all g x (Some rid) = on-row ms node m all g (change_of x.cid 
 
 module _ (ms : List Mark) (node : Node) where
   starts : (s : Seg) → SegNoted ms node s → (g : Gxid) (c : Cid) (level : Level) (snapshot : Option Snapshot) (x : Slice) (wanted : Claim) → Notes ms node (requests s g c level snapshot x wanted)
-  starts s all g c level snapshot x wanted = by_test (is_free s.locks.holds wanted)
+  starts s all g c level snapshot x wanted = by_test (is_clear s.locks.holds s.locks.waits wanted)
     where
       by_test : (b : Bool) → Notes ms node (if b then runs_locked s g c level snapshot x wanted else suspends s g c level snapshot x wanted)
       by_test true = locked ms (hold_mark s.node wanted ∷ []) node (record s { locks = with_hold s.locks wanted }) all g c level snapshot x

@@ -48,7 +48,7 @@ use Rattle.gx_law_order.specs.Lists.{Each}
 use Rattle.gx_law_order.specs.Numbers.{AreStartsNumbered}
 use Rattle.gx_rules.specs.Locks.{hold_mark, release_marks, with_hold}
 use Rattle.gx_locks.specs.Locks.{Locks, resumed, wait_of}
-use Rattle.gx_waits.specs.Claims.{is_free}
+use Rattle.gx_waits.specs.Claims.{is_clear}
 use Rattle.gx_waits.specs.declared.claim.Claim.{Claim}
 use Rattle.gx_rules.specs.Rounds.{begins_round}
 use Rattle.gx_rules.proofs.Rounds.{cancel-ways, graph-ways}
@@ -148,7 +148,7 @@ held-calm script c g line wanted = let x = locked-calm script c g line in record
 
 request-calm : (script : Script) (c : Coord) (g : Gxid) (line : Stmt) (o : Option Claim) → IsCalm c.table.next (requests script c g line o)
 request-calm script c g line None = locked-calm script c g line
-request-calm script c g line (Some wanted) = by_test (is_free c.locks.holds wanted)
+request-calm script c g line (Some wanted) = by_test (is_clear c.locks.holds c.locks.waits wanted)
   where
     by_test : (b : Bool) → IsCalm c.table.next (if_granted script c g line wanted b)
     by_test true = held-calm script (record c { locks = with_hold c.locks wanted }) g line wanted

@@ -355,7 +355,7 @@ module _ (script : Script) (w : World) (good : Well script w) (e : Event) (x : N
             (λ j no k. good.answered j k ∙ sym (other-adds (at j) the_coordinator w.steps seg_step (apart-two i j no)));
         letters = posted_letters script w.steps seg_step w.sent seg_marks good.letters;
         waiting = at-both (λ j t. AreSuspended script (HasCome seg_next j) t) w.segs i _ (record { each = (seg_waiting come).each; own = (seg_waiting come).own }) (λ j no. waiting_later j);
-        writers = at-both (λ j t. WritersLock t) w.segs i _ (record { owns = seg_writers.owns; each = seg_writers.each }) (λ j no. good.writers j);
+        writers = at-both (λ j t. WritersLock t) w.segs i _ (record { owns = seg_writers.owns; each = seg_writers.each; awaited = seg_writers.awaited }) (λ j no. good.writers j);
       }
     where
       same-le : {a b : ℕ} → a ≡ b → a ≤ b
@@ -465,7 +465,7 @@ module _ (script : Script) (some : 1 ≤ script.segments) where
         answered = λ i h. refl;
         letters = tt;
         waiting = λ i. record { each = λ h x none. absurd (cc); own = λ h. refl };
-        writers = λ i. record { owns = tt; each = λ h. record { says = refl; holds = refl } };
+        writers = λ i. record { owns = tt; each = λ h. record { says = refl; holds = refl }; awaited = tt };
       }
     where
       least : (k : ℕ) → 0 ≤ k

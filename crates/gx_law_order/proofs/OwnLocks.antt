@@ -23,7 +23,7 @@ use Rattle.gx_store.specs.Locks.{slice_lock}
 use Rattle.gx_rules.specs.Segments.{Phase, Seg, Version, has_ended}
 use Rattle.gx_rules.specs.Segments.Phase.{Reading, Writing}
 use Rattle.gx_rules.specs.Slices.{own_lock}
-use Rattle.gx_law_order.proofs.Lists.{each_append}
+use Rattle.gx_law_order.proofs.Lists.{each_append, each_weaker}
 use Rattle.gx_law_order.specs.Lists.{Each}
 use Rattle.gx_law_order.specs.Standings.{gx}
 
@@ -57,9 +57,18 @@ pub record LocksItself (phase : Phase) (written held : Bool) : Type 0 where
 abbrev pub LocksIn : Seg → ℕ → List Claim → Type 0
 LocksIn s h holds = LocksItself (s.locals h).phase (has_version h s.versions) (holds_own h holds)
 
+-- whose end is waited for has written there
+abbrev pub IsAwaited : List Version → Object → Type 0
+IsAwaited versions (Transaction h) = has_version h.0 versions ≡ true
+IsAwaited versions _ = Unit {0}
+
+abbrev pub AreAwaited : List Version → List Claim → Type 0
+AreAwaited versions waits = Each (λ wait. IsAwaited versions wait.object) waits
+
 pub record WritersLock (s : Seg) : Type 0 where
   pub owns : Each IsOwn s.locks.holds
   pub each : (h : ℕ) → LocksIn s h s.locks.holds
+  pub awaited : AreAwaited s.versions s.locks.waits
 
 -- HOLDS
 pub each-held : (holds : List Claim) (wanted : Claim) → Each IsOwn holds → IsOwn wanted → Each IsOwn (with_claim wanted holds)
@@ -114,6 +123,20 @@ held-own h g holds = by_both (holds_own g holds) (eqb h g) refl refl
     by_both false q e f =
         list_any-append (same_claim (own_lock (gx h))) holds (own_lock (gx g) ∷ [])
         ∙ ap (λ b. holds_own h holds || b) (or-false (same_claim (own_lock (gx h)) (own_lock (gx g))) ∙ same q f)
+
+-- so it is of a wait for no transaction's end, and where more is written
+pub awaited-rows : (versions : List Version) (o : Object) → IsOfRows o → IsAwaited versions o
+awaited-rows versions (Relation t) e = tt
+awaited-rows versions (Tuple r) e = tt
+awaited-rows versions (Transaction h) e = absurd e
+
+pub awaited-more : (old new : List Version) → ((h : ℕ) → has_version h old ≡ true → has_version h new ≡ true) → (waits : List Claim) → AreAwaited old waits → AreAwaited new waits
+awaited-more old new f waits e = each_weaker (λ wait. IsAwaited old wait.object) (λ wait. IsAwaited new wait.object) (λ wait a. by_object wait.object a) waits e
+  where
+    by_object : (o : Object) → IsAwaited old o → IsAwaited new o
+    by_object (Relation t) a = tt
+    by_object (Tuple r) a = tt
+    by_object (Transaction h) a = f h.0 a
 
 -- a lock that is no transaction's is given back
 pub left-rows : (h : ℕ) (holds : List Claim) (old : Claim) → IsOfRows old.object → holds_own h (without_claim old holds) ≡ holds_own h holds

@@ -22,7 +22,7 @@ use Rattle.gx_waits.specs.declared.claim.Claim.{Claim}
 use Rattle.gx_waits.specs.declared.object.Object.{Object}
 use Rattle.gx_waits.specs.declared.object.Object.TheVariants.{Relation, Transaction, Tuple}
 use Rattle.gx_locks.specs.Locks.{Locks, wait_of}
-use Rattle.gx_waits.specs.Claims.{is_free}
+use Rattle.gx_waits.specs.Claims.{is_clear}
 use Rattle.gx_meaning.specs.declared.fault.ArithFault.{ArithFault}
 use Rattle.gx_msg.specs.declared.item.JournalItem.{JournalItem}
 use Rattle.gx_msg.specs.declared.item.JournalItem.TheVariants as item
@@ -379,7 +379,7 @@ module _ (script : Script) (s : Seg) (opens : AreOpen s) (before : List Mark) (k
   -- it runs with its lock, or waits for it
   starts : (fails : Bool) (h g : Gxid) (c : Cid) (level : Level) (snapshot : Option Snapshot) (x : Slice) (wanted : Claim) → is_prepared before s.node g ≡ false → Good fails (requests (raised s h) g c level snapshot x wanted)
   starts fails h g c level snapshot x wanted n =
-      both s before k fails (is_free s.locks.holds wanted) (runs_locked (raised s h) g c level snapshot x wanted) (suspends (raised s h) g c level snapshot x wanted)
+      both s before k fails (is_clear s.locks.holds s.locks.waits wanted) (runs_locked (raised s h) g c level snapshot x wanted) (suspends (raised s h) g c level snapshot x wanted)
       (run fails (record { seg = record (raised s h) { locks = with_hold s.locks wanted }; marks = hold_mark s.node wanted ∷ [] }) g c level snapshot x n
       (record { node = refl; dull = (tt, tt); versions = sym (append-nil s.versions); bound = k.bound }))
       (dull-turn s before k fails _ (tt, tt) refl (none-kept s before k fails) refl (bound-with s.locals g.0 _ (λ i. is_prepared before s.node (gx i)) k.bound (k.bound g.0)))

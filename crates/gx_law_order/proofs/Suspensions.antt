@@ -20,7 +20,7 @@ use Rattle.gx_dsnap.specs.declared.snapshot.Snapshot.{Snapshot}
 use Rattle.gx_waits.specs.declared.claim.Claim.{Claim}
 use Rattle.gx_waits.specs.declared.object.Object.{Object}
 use Rattle.gx_waits.specs.declared.object.Object.TheVariants.{Relation, Transaction, Tuple}
-use Rattle.gx_waits.specs.Claims.{is_free, is_of, without}
+use Rattle.gx_waits.specs.Claims.{is_clear, is_of, without}
 use Rattle.gx_locks.specs.Locks.{Locks, wait_of}
 use Rattle.gx_meaning.specs.declared.fault.ArithFault.{ArithFault}
 use Rattle.gx_msg.specs.declared.message.Message.{Message}
@@ -327,7 +327,7 @@ module _ (script : Script) (Come : Message → Type 0) where
   start : (t : Seg) (g : Gxid) (c : Cid) (level : Level) (snapshot : Option Snapshot) (x : Slice) → Rightly t → Comes g c level snapshot x t.horizon → (local_of t g).suspended ≡ None
       → is_open_phase (local_of t g).phase ≡ true → Keeps (requests t g c level snapshot x (slice_lock script g x))
   start t g c level snapshot x k come rests opens =
-      both (is_free t.locks.holds (slice_lock script g x)) (runs_locked t g c level snapshot x (slice_lock script g x)) (suspends t g c level snapshot x (slice_lock script g x))
+      both (is_clear t.locks.holds t.locks.waits (slice_lock script g x)) (runs_locked t g c level snapshot x (slice_lock script g x)) (suspends t g c level snapshot x (slice_lock script g x))
       (slice_runs (record t { locks = with_hold t.locks (slice_lock script g x) }) g c level snapshot x come (record { each = k.each; own = k.own }) rests opens)
       (wait t g (suspended_slice c level snapshot x) (slice_lock script g x) k rests opens come (refl, refl) refl)
 

@@ -11,7 +11,7 @@ use Rattle.gx_tree.specs.declared.slice.Slice.{Slice}
 use Rattle.gx_tree.specs.declared.slice.Slice.TheVariants as slice
 use Rattle.gx_tree.specs.declared.stmt.Stmt.{Stmt}
 use Rattle.gx_waits.specs.declared.claim.Claim.{Claim}
-use Rattle.gx_waits.specs.Claims.{is_free, is_of}
+use Rattle.gx_waits.specs.Claims.{is_clear, is_of}
 use Rattle.gx_locks.specs.Locks.{is_ready, may_take, resumed, wait_of}
 use Rattle.gx_script.specs.declared.Script.{Script}
 use Rattle.gx_store.specs.declared.node.NodeEvent.TheVariants as event
@@ -47,7 +47,7 @@ pub record GoesOn (script : Script) (w : World) (i : ℕ) (g : Gxid) : Type 0 wh
   pub wanted : Claim
   pub claims : wait_of (w.segs i).locks g ≡ Some wanted
   pub lock : IsWanted script g slice wanted
-  pub free : is_free (w.segs i).locks.holds wanted ≡ true
+  pub free : is_clear (w.segs i).locks.holds (w.segs i).locks.waits wanted ≡ true
 
 -- a wait in the locks of a segment: the slice that waits for it, whose lock it is; its transaction has no other
 pub record HasSlice (script : Script) (s : Seg) (g : Gxid) (wanted : Claim) : Type 0 where
@@ -106,7 +106,7 @@ going-on script w good i g ok = by_wait (wait_of s.locks g) refl (and-second (is
     s : Seg
     s = w.segs i
 
-    by_wait : (o : Option Claim) → wait_of s.locks g ≡ o → is_ready s.locks.holds o ≡ true → GoesOn script w i g
+    by_wait : (o : Option Claim) → wait_of s.locks g ≡ o → is_ready s.locks o ≡ true → GoesOn script w i g
     by_wait None e f = absurd (cc)
     by_wait (Some wanted) e f =
         let has = has-slice script w good i g wanted e in
@@ -192,7 +192,7 @@ pub record GoesOut (script : Script) (c : Coord) (g : Gxid) : Type 0 where
   pub wanted : Claim
   pub claims : wait_of c.locks g ≡ Some wanted
   pub lock : table_lock script g line ≡ Some wanted
-  pub free : is_free c.locks.holds wanted ≡ true
+  pub free : is_clear c.locks.holds c.locks.waits wanted ≡ true
   pub idle : (work_of c g).command ≡ None
   pub live : stage_of c g.0 ≡ Live
   pub home : (session_of c (work_of c g).session).transaction ≡ g
@@ -225,9 +225,9 @@ has-statement script w n g wanted e = statement-of w.coord n.kept g wanted e
 pub going-out : (script : Script) (w : World) → Knows script w → (g : Gxid) → coord_can script w.coord (event.Resume g) ≡ true → GoesOut script w.coord g
 going-out script w n g ok = by_wait (wait_of w.coord.locks g) refl ok
   where
-    line-waits : (wanted : Claim) → wait_of w.coord.locks g ≡ Some wanted → is_free w.coord.locks.holds wanted ≡ true → HasStatement script w.coord g wanted → GoesOut script w.coord g
+    line-waits : (wanted : Claim) → wait_of w.coord.locks g ≡ Some wanted → is_clear w.coord.locks.holds w.coord.locks.waits wanted ≡ true → HasStatement script w.coord g wanted → GoesOut script w.coord g
     line-waits wanted e free f = record { line = f.line; is = f.is; wanted = wanted; claims = e; lock = f.lock; free = free; idle = f.idle; live = f.live; home = f.home; working = f.working }
 
-    by_wait : (o : Option Claim) → wait_of w.coord.locks g ≡ o → is_ready w.coord.locks.holds o ≡ true → GoesOut script w.coord g
+    by_wait : (o : Option Claim) → wait_of w.coord.locks g ≡ o → is_ready w.coord.locks o ≡ true → GoesOut script w.coord g
     by_wait None e f = absurd (cc)
     by_wait (Some wanted) e f = line-waits wanted e f (has-statement script w n g wanted e)

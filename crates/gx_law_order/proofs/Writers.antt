@@ -7,7 +7,7 @@ use Rattle.std.proofs.lemmas.List.Folds.{list_any-append}
 use Rattle.std.specs.Prelude.{filter, fold}
 use Rattle.gx_lemmas.proofs.Numbers.{eqb-self}
 use Rattle.gx_lemmas.proofs.Options.{some-same}
-use Rattle.gx_lemmas.proofs.Tests.{and-false, or-false}
+use Rattle.gx_lemmas.proofs.Tests.{and-false, and-first, or-false}
 use Rattle.gx_ids.specs.declared.ids.Cid.{Cid}
 use Rattle.gx_ids.specs.declared.ids.Gxid.{Gxid}
 use Rattle.gx_ids.specs.declared.ids.Table.{Table}
@@ -24,7 +24,7 @@ use Rattle.gx_waits.specs.Claim.{same_claim}
 use Rattle.gx_waits.specs.declared.claim.Claim.{Claim}
 use Rattle.gx_waits.specs.declared.object.Object.{Object}
 use Rattle.gx_waits.specs.declared.object.Object.TheVariants.{Relation, Transaction, Tuple}
-use Rattle.gx_waits.specs.Claims.{is_free, is_of, with_claim, without}
+use Rattle.gx_waits.specs.Claims.{is_clear, is_of, with_claim, without}
 use Rattle.gx_locks.specs.Locks.{Locks, wait_of}
 use Rattle.gx_meaning.specs.declared.fault.ArithFault.{ArithFault}
 use Rattle.gx_msg.specs.declared.message.Message.{Message}
@@ -40,7 +40,7 @@ use Rattle.gx_store.specs.Marks.{is_same_gxid}
 use Rattle.gx_rules.specs.AtSegment.{commits, ends, finishes, if_fits, on_abort, on_commit, on_commit_prepared, on_event, on_exec, on_forget, on_message, on_prepare, once, promises, raised, repeats, resumes, takes, unless_below, was_prepared}
 use Rattle.gx_rules.specs.Changes.{Change, RowTurn, change_of, changes_rows, end_lock, goes_on_at, suspended_at, suspends_at, tuple_lock, waits}
 use Rattle.gx_rules.specs.Fits.{fits_exec, is_waiting}
-use Rattle.gx_rules.specs.Locks.{with_hold, without_hold}
+use Rattle.gx_rules.specs.Locks.{with_hold, with_wait, without_hold}
 use Rattle.gx_rules.specs.Running.{goes_on, is_granted, requests, runs_slice, suspended_slice, unless_end}
 use Rattle.gx_store.specs.Locks.{slice_lock}
 use Rattle.gx_rules.specs.Segments.{Local, Phase, Seg, SegTurn, Suspended, Version, has_ended, local_of, tells_kept, with_local}
@@ -51,17 +51,17 @@ use Rattle.gx_rules.specs.Visits.{DidStop}
 use Rattle.gx_rules.proofs.Moving.{Ends}
 use Rattle.gx_rules.proofs.Rounds.{collect-ways}
 use Rattle.gx_rules.proofs.Moving as Loop
-use Rattle.gx_law_order.proofs.Changing.{IsAtRow, row-goes-on, rows-change, stop-keeps}
-use Rattle.gx_law_order.proofs.Lists.{each_filter}
+use Rattle.gx_law_order.proofs.Changing.{IsAtRow, IsEndOf, row-goes-on, rows-change, stop-keeps}
+use Rattle.gx_law_order.proofs.Lists.{each_append, each_filter}
 use Rattle.gx_law_order.specs.Lists.{Each}
-use Rattle.gx_law_order.proofs.OwnLocks.{IsOfRows, IsOwn, LocksIn, LocksItself, SaysWritten, WritersLock, each-held, end-back, has_version, held-own, held-rows, holds_own, left-rows, none-left, others-left, rows-own, slice-rows}
+use Rattle.gx_law_order.proofs.OwnLocks.{AreAwaited, IsAwaited, IsOfRows, IsOwn, LocksIn, LocksItself, SaysWritten, WritersLock, awaited-more, awaited-rows, each-held, end-back, has_version, held-own, held-rows, holds_own, left-rows, none-left, others-left, rows-own, slice-rows}
 use Rattle.gx_law_order.specs.Standings.{gx}
 use Rattle.gx_law_order.proofs.Suspended.{AreSuspended, AreWaits, IsWanted, IsWantedAt, find-filter, is_open_phase}
 
 -- CHANGES OF A SEGMENT
 -- one transaction changes, with its phase
 changed : (s : Seg) (g : Gxid) (l : Local) → WritersLock s → ((a b : Bool) → LocksItself (local_of s g).phase a b → LocksItself l.phase a b) → WritersLock (with_local s g l)
-changed s g l k f = record { owns = k.owns; each = λ h. by_test h (eqb h g.0) refl }
+changed s g l k f = record { owns = k.owns; each = λ h. by_test h (eqb h g.0) refl; awaited = k.awaited }
   where
     by_test : (h : ℕ) (b : Bool) → eqb h g.0 ≡ b → LocksItself (if b then l else s.locals h).phase (has_version h s.versions) (holds_own h s.locks.holds)
     by_test h true e = subst (λ i. LocksItself l.phase (has_version i s.versions) (holds_own i s.locks.holds)) (sym (eqb-true h g.0 e)) (f _ _ (k.each g.0))
@@ -76,6 +76,7 @@ locked s wanted k e =
     record {
       owns = each-held s.locks.holds wanted k.owns (rows-own wanted e);
       each = λ h. subst (LocksItself (s.locals h).phase (has_version h s.versions)) (sym (held-rows h s.locks.holds wanted e)) (k.each h);
+      awaited = k.awaited;
     }
 
 -- and one that is given back
@@ -84,11 +85,19 @@ unlocked s old k e =
     record {
       owns = each_filter IsOwn (λ other. not (same_claim old other)) s.locks.holds k.owns;
       each = λ h. subst (LocksItself (s.locals h).phase (has_version h s.versions)) (sym (left-rows h s.locks.holds old e)) (k.each h);
+      awaited = k.awaited;
     }
 
 -- the same holds
-same-holds : (s : Seg) (locks : Locks) → locks.holds ≡ s.locks.holds → WritersLock s → WritersLock (record s { locks = locks })
-same-holds s locks e k = record { owns = subst (Each IsOwn) (sym e) k.owns; each = λ h. subst (LocksIn s h) (sym e) (k.each h) }
+same-holds : (s : Seg) (locks : Locks) → locks.holds ≡ s.locks.holds → AreAwaited s.versions locks.waits → WritersLock s → WritersLock (record s { locks = locks })
+same-holds s locks e awaited k = record { owns = subst (Each IsOwn) (sym e) k.owns; each = λ h. subst (LocksIn s h) (sym e) (k.each h); awaited = awaited }
+
+-- one wait more, and the waits of one less
+waited : (s : Seg) (wanted : Claim) → WritersLock s → IsAwaited s.versions wanted.object → WritersLock (record s { locks = with_wait s.locks wanted })
+waited s wanted k e = record { owns = k.owns; each = k.each; awaited = each_append (λ (wait : Claim). IsAwaited s.versions wait.object) s.locks.waits (wanted ∷ []) k.awaited (e, tt) }
+
+left-awaited : (s : Seg) (g : Gxid) → WritersLock s → AreAwaited s.versions (without g s.locks.waits)
+left-awaited s g k = each_filter (λ (wait : Claim). IsAwaited s.versions wait.object) (λ claim. not (is_of g claim)) s.locks.waits k.awaited
 
 -- SLICES
 -- what the moves so far have made of the segment: its writers hold their locks, and the transaction may write
@@ -105,8 +114,8 @@ back_goes g old m e f = record { writers = unlocked m.seg old f.writers e; opens
 note_goes : (g : Gxid) (m : Moved) (told : Mark) → Goes g m → Goes g (noted m told)
 note_goes g m told f = record { writers = f.writers; opens = f.opens }
 
-wait_goes : (g : Gxid) (wanted : Claim) (m : Moved) → Goes g m → Goes g (waits wanted m).moved
-wait_goes g wanted m f = record { writers = record { owns = f.writers.owns; each = f.writers.each }; opens = f.opens }
+wait_goes : (g : Gxid) (wanted : Claim) (m : Moved) → IsAwaited m.seg.versions wanted.object → Goes g m → Goes g (waits wanted m).moved
+wait_goes g wanted m e f = record { writers = waited m.seg wanted f.writers e; opens = f.opens }
 
 -- a write, with the writer's own lock
 write_goes : (g : Gxid) (c : Cid) (table : Table) (m : Moved) (rid : Rid) (image : Option (List Value)) → Goes g m → Goes g (writes_row g c table m rid image)
@@ -129,6 +138,12 @@ write_goes g c table m rid image f = by_phase (local_of m.seg g).phase refl f.op
 
     self : (adds_version s g v).locals g.0 ≡ now
     self = ap (λ b. if b then now else s.locals g.0) (eqb-self g.0)
+
+    wrote : (h : ℕ) → has_version h s.versions ≡ true → has_version h (s.versions ++ v ∷ []) ≡ true
+    wrote h e = more h (eqb h g.0) refl ∙ ap (λ b. b || eqb h g.0) e
+
+    awaited : AreAwaited (s.versions ++ v ∷ []) s.locks.waits
+    awaited = awaited-more s.versions (s.versions ++ v ∷ []) wrote s.locks.waits f.writers.awaited
 
     opened : is_open_phase (local_of (adds_version s g v) g).phase ≡ true
     opened = ap (λ (l : Local). is_open_phase l.phase) self
@@ -166,10 +181,11 @@ write_goes g c table m rid image f = by_phase (local_of m.seg g).phase refl f.op
             owns = each-held s.locks.holds (own_lock g) f.writers.owns refl;
             each = each_by (with_claim (own_lock g) s.locks.holds) (λ h n. held-own h g.0 s.locks.holds ∙ ap (λ b. holds_own h s.locks.holds || b) n ∙ or-false (holds_own h s.locks.holds))
                 (subst (LocksItself Writing (has_version g.0 s.versions || true)) (sym (held-own g.0 g.0 s.locks.holds ∙ ap (λ b. holds_own g.0 s.locks.holds || b) (eqb-self g.0))) (first _ _ (itself Reading e)));
+            awaited = awaited;
           };
           opens = opened;
         }
-    by_phase Writing e o = record { writers = record { owns = f.writers.owns; each = each_by s.locks.holds (λ h n. refl) (again _ _ (itself Writing e)) }; opens = opened }
+    by_phase Writing e o = record { writers = record { owns = f.writers.owns; each = each_by s.locks.holds (λ h n. refl) (again _ _ (itself Writing e)); awaited = awaited }; opens = opened }
     by_phase Prepared e o = absurd (cc)
     by_phase Committed e o = absurd (cc)
     by_phase (Forgotten b) e o = absurd (cc)
@@ -200,11 +216,26 @@ change_goes g k =
 answered : (g : Gxid) (c : Cid) (m : Moved) (r : Reply) → Goes g m → Keeps (answers m.seg g c m.marks r)
 answered g c m r f = same-phase m.seg g _ f.writers refl
 
+-- whoever holds its own lock has written
+written-so : (s : Seg) (h : ℕ) → WritersLock s → holds_own h s.locks.holds ≡ true → has_version h s.versions ≡ true
+written-so s h k e = and-first (has_version h s.versions) _ (sym (k.each h).holds ∙ e)
+
+-- so an end that is waited for is of one who has
+awaited-of : (versions : List Version) (writer : Gxid) (o : Object) → IsEndOf writer o → has_version writer.0 versions ≡ true → IsAwaited versions o
+awaited-of versions writer (Relation t) e written = tt
+awaited-of versions writer (Tuple r) e written = tt
+awaited-of versions writer (Transaction h) e written = subst (λ (k : Gxid). has_version k.0 versions ≡ true) (sym e) written
+
+or-second : (a b : Bool) → (a || not b) ≡ false → b ≡ true
+or-second a b e = grind arith
+
 stop : (g : Gxid) (k : Change) (m : Moved) (rid : Rid) (rest : List Rid) (count : ℕ) (t : RowTurn) (d : DidStop m g k rid t) → Goes g m
     → Keeps (suspends_at d.stopped g k (suspended_at k rid rest count))
 stop g k m rid rest count t d f =
     let a = stop-keeps g k (Goes g) (change_goes g k) m rid t d f in
-    let b = subst (Goes g) a.is (wait_goes g a.wanted a.before a.kept) in
+    let b =
+        subst (Goes g) a.is
+        (wait_goes g a.wanted a.before (awaited-of a.before.seg.versions d.version.gxid a.wanted.object a.end (ap (has_version d.version.gxid.0) a.versions ∙ written-so m.seg d.version.gxid.0 f.writers (or-second _ _ d.unsettled))) a.kept) in
     same-phase d.stopped.seg g _ b.writers refl
 
 change_ends : (g : Gxid) (k : Change) → Ends g k (Goes g) Keeps
@@ -231,7 +262,7 @@ both false x y e f = f
 
 -- with its table's lock a slice starts so
 pub started : (script : Script) (s : Seg) (h g : Gxid) (x : Slice) → WritersLock s → is_open_phase (local_of s g).phase ≡ true → Goes g (starts_from (record (raised s h) { locks = with_hold s.locks (slice_lock script g x) }))
-started script s h g x k o = record { writers = locked (raised s h) (slice_lock script g x) (record { owns = k.owns; each = k.each }) (slice-rows script g x); opens = o }
+started script s h g x k o = record { writers = locked (raised s h) (slice_lock script g x) (record { owns = k.owns; each = k.each; awaited = k.awaited }) (slice-rows script g x); opens = o }
 
 module _ (script : Script) (Come : Message → Type 0) (s : Seg) (waits : AreSuspended script Come s) (k : WritersLock s) where
   tell_kept : (g : Gxid) (r : Option Reply) → Keeps (tells_kept s g r)
@@ -240,11 +271,11 @@ module _ (script : Script) (Come : Message → Type 0) (s : Seg) (waits : AreSus
 
   starts : (h g : Gxid) (c : Cid) (level : Level) (snapshot : Option Snapshot) (x : Slice) → is_open_phase (local_of s g).phase ≡ true → Keeps (requests (raised s h) g c level snapshot x (slice_lock script g x))
   starts h g c level snapshot x o =
-      let up : WritersLock (raised s h) = record { owns = k.owns; each = k.each } in
+      let up : WritersLock (raised s h) = record { owns = k.owns; each = k.each; awaited = k.awaited } in
       let waiting = same-phase (raised s h) g (record (local_of s g) { last = c.0; answer = None; suspended = Some (suspended_slice c level snapshot x) }) up refl in
-      both (is_free s.locks.holds (slice_lock script g x)) _ _
+      both (is_clear s.locks.holds s.locks.waits (slice_lock script g x)) _ _
       (slice_runs (record (raised s h) { locks = with_hold s.locks (slice_lock script g x) }) g c level snapshot x (started script s h g x k o).writers o)
-      (record { owns = waiting.owns; each = waiting.each })
+      (waited _ (slice_lock script g x) waiting (awaited-rows s.versions (slice_lock script g x).object (slice-rows script g x)))
 
   repeat : (g : Gxid) (c : Cid) (l : Local) → Keeps (repeats s g c l)
   repeat g c l = both (c.0 == l.last) _ _ (tell_kept g l.answer) k
@@ -310,7 +341,7 @@ module _ (script : Script) (Come : Message → Type 0) (s : Seg) (waits : AreSus
 
   -- it ends there, and gives its own lock back
   ended : (g : Gxid) (l : Local) (p : Phase) (r : Reply) → has_ended p ≡ true → ((a : Bool) → SaysWritten p a) → Keeps (ends s g l p r)
-  ended g l p r e says = record { owns = each_filter IsOwn (λ claim. not (is_of g claim)) s.locks.holds k.owns; each = λ h. by_test h (eqb h g.0) refl }
+  ended g l p r e says = record { owns = each_filter IsOwn (λ claim. not (is_of g claim)) s.locks.holds k.owns; each = λ h. by_test h (eqb h g.0) refl; awaited = left-awaited s g k }
     where
       none : (a : Bool) → false ≡ a && not (has_ended p)
       none a = sym (ap (λ b. a && not b) e ∙ and-false a)
@@ -349,7 +380,7 @@ module _ (script : Script) (Come : Message → Type 0) (s : Seg) (waits : AreSus
   message_keeps fails (message.CommitPrepared g) = below g _ (commit_prepared g fails (local_of s g).phase refl)
   message_keeps fails (message.Abort g) = below g _ (abort g (local_of s g) (local_of s g).phase)
   message_keeps fails (message.Forget g) = below g _ (forget g (local_of s g) (local_of s g).phase)
-  message_keeps fails (message.Collect round) = collect-ways Keeps s round k (λ e. record { owns = k.owns; each = k.each }) (λ e graph f. k)
+  message_keeps fails (message.Collect round) = collect-ways Keeps s round k (λ e. record { owns = k.owns; each = k.each; awaited = k.awaited }) (λ e graph f. k)
   message_keeps fails (message.Answer g r) = k
   message_keeps fails (message.Graph round graph) = k
 
@@ -367,7 +398,7 @@ module _ (script : Script) (Come : Message → Type 0) (s : Seg) (waits : AreSus
     rows_granted : (wanted : Claim) → IsOfRows wanted.object → Goes g (is_granted s g wanted)
     rows_granted wanted e =
         let a = locked rested wanted (same-phase s g rest k refl) e in
-        by_object wanted.object _ e (record { writers = record { owns = a.owns; each = a.each }; opens = opened })
+        by_object wanted.object _ e (record { writers = record { owns = a.owns; each = a.each; awaited = left-awaited s g k }; opens = opened })
       where
         by_object : (o : Object) (m : Moved) → IsOfRows o → Goes g m → Goes g (unless_end wanted o m)
         by_object (Relation t) m e f = f
@@ -376,8 +407,8 @@ module _ (script : Script) (Come : Message → Type 0) (s : Seg) (waits : AreSus
 
     end_granted : (writer : Gxid) → Goes g (is_granted s g (end_lock g writer))
     end_granted writer =
-        let a = same-holds rested (is_granted s g (end_lock g writer)).seg.locks (end-back g writer s.locks.holds k.owns) (same-phase s g rest k refl) in
-        record { writers = record { owns = a.owns; each = a.each }; opens = opened }
+        let a = same-holds rested (is_granted s g (end_lock g writer)).seg.locks (end-back g writer s.locks.holds k.owns) (left-awaited s g k) (same-phase s g rest k refl) in
+        record { writers = record { owns = a.owns; each = a.each; awaited = a.awaited }; opens = opened }
 
     row_granted : (rid : Rid) (wanted : Claim) → IsAtRow g rid wanted → Goes g (is_granted s g wanted)
     row_granted rid wanted (inl e) = rows_granted wanted (subst (λ (c : Claim). IsOfRows c.object) e tt)

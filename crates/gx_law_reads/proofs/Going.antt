@@ -55,7 +55,7 @@ use Rattle.gx_law_reads.proofs.Turns.{WentBy, begins-round-went, commits-went, c
 use Rattle.gx_rules.specs.Locks.{with_hold}
 use Rattle.gx_waits.specs.declared.claim.Claim.{Claim}
 use Rattle.gx_locks.specs.Locks.{resumed, wait_of}
-use Rattle.gx_waits.specs.Claims.{is_free}
+use Rattle.gx_waits.specs.Claims.{is_clear}
 
 -- ENLISTING
 pub record Enlists (d u : Table) (g : ℕ) : Type 0 where
@@ -260,7 +260,7 @@ module _ (c : Coord) (g : ℕ) (s : Stood c.table c.works) (latest : Latest c.ta
 
   request-went : (o : Option Claim) → WentBy c (requests script c (gx g) line o)
   request-went None = locked-went c g s latest script line
-  request-went (Some wanted) = granted-went wanted (is_free c.locks.holds wanted)
+  request-went (Some wanted) = granted-went wanted (is_clear c.locks.holds c.locks.waits wanted)
 
   pub dispatch-went : WentBy c (dispatches script c (gx g) line)
   dispatch-went = request-went (table_lock script (gx g) line)

@@ -83,7 +83,7 @@ use Rattle.gx_law_reads.proofs.Reading.{CommandLow, OrderLow, Stood}
 use Rattle.gx_law_order.proofs.Always.{SaidTo}
 use Rattle.gx_rules.specs.Locks.{with_hold, hold_mark, release_marks}
 use Rattle.gx_locks.specs.Locks.{Locks, resumed, wait_of}
-use Rattle.gx_waits.specs.Claims.{is_free}
+use Rattle.gx_waits.specs.Claims.{is_clear}
 use Rattle.gx_waits.specs.declared.claim.Claim.{Claim}
 use Rattle.gx_waits.specs.declared.graph.LocalGraph.{LocalGraph}
 use Rattle.gx_store.specs.Refusals.{the_coordinator}
@@ -336,7 +336,7 @@ module _ (script : Script) (w : World) (k : Knows script w) (v : Holds script w)
 
     request-pass : (o : Option Claim) → Passes (requests script c1 (gx g) line o)
     request-pass None = locked-pass c1 g s1 l1 live line
-    request-pass (Some wanted) = granted-pass wanted (is_free c1.locks.holds wanted)
+    request-pass (Some wanted) = granted-pass wanted (is_clear c1.locks.holds c1.locks.waits wanted)
 
     dispatch-pass : Passes (dispatches script c1 (gx g) line)
     dispatch-pass = request-pass (table_lock script (gx g) line)

@@ -30,7 +30,7 @@ use Rattle.gx_script.specs.declared.state.Block.TheVariants.{Outside, Open, Fail
 use Rattle.gx_store.specs.declared.answer.Refused.{Refused}
 use Rattle.gx_store.specs.declared.mark.Mark.{Mark}
 use Rattle.gx_store.specs.Schedule.{is_about}
-use Rattle.gx_waits.specs.Claims.{is_free}
+use Rattle.gx_waits.specs.Claims.{is_clear}
 use Rattle.gx_store.specs.Writes.{dist_of}
 use Rattle.gx_rules.specs.AtCoordinator.{Reading, answers, awaited, commits, completes, dispatches, enlisted_all, fault_mark, follows, goes, goes_out, is_refused, kept_at, next_cid, nodes_in, order_to, orders_of, reads_by, reads_for, refusal_of, rolls_back, status_order, table_of, takes_snapshot, unless_kept, goes_on_locked, if_granted, requests, resumes}
 use Rattle.gx_store.specs.Locks.{table_lock}
@@ -401,7 +401,7 @@ module _ (c : Coord) (whole : IsWhole c.table) (n : AreNeat c) (g : ℕ) (live :
 
   request-asks : (o : Option Claim) → Asks (now_asked c) (requests script c (gx g) line o)
   request-asks None = locked-asks c whole n g live done script line
-  request-asks (Some wanted) = granted-asks wanted (is_free c.locks.holds wanted)
+  request-asks (Some wanted) = granted-asks wanted (is_clear c.locks.holds c.locks.waits wanted)
 
   pub dispatch-asks : Asks (now_asked c) (dispatches script c (gx g) line)
   dispatch-asks = request-asks (table_lock script (gx g) line)

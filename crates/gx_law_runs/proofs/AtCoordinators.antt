@@ -51,7 +51,7 @@ use Rattle.gx_law_runs.proofs.Marks.{MayFail, NoFailures, may-append, may-none, 
 use Rattle.gx_rules.specs.Locks.{has_there, release_mark, release_marks, with_hold}
 use Rattle.gx_waits.specs.declared.claim.Claim.{Claim}
 use Rattle.gx_locks.specs.Locks.{Locks, resumed, wait_of}
-use Rattle.gx_waits.specs.Claims.{is_free}
+use Rattle.gx_waits.specs.Claims.{is_clear}
 
 -- WHAT CALLS COME TO
 -- the coordinator's own journal has failed
@@ -171,7 +171,7 @@ module _ (fails : Bool) where
   -- with its table's lock
   request-may : (script : Script) (c : Coord) (g : Gxid) (line : Stmt) (o : Option Claim) → May (requests script c g line o).marks
   request-may script c g line None = locked-may script c g line
-  request-may script c g line (Some wanted) = by (is_free c.locks.holds wanted)
+  request-may script c g line (Some wanted) = by (is_clear c.locks.holds c.locks.waits wanted)
     where
       by : (b : Bool) → May (if_granted script c g line wanted b).marks
       by true = locked-may script (record c { locks = with_hold c.locks wanted }) g line

@@ -17,7 +17,7 @@ use Rattle.gx_waits.specs.declared.claim.Claim.{Claim}
 use Rattle.gx_waits.specs.declared.object.Object.{Object}
 use Rattle.gx_waits.specs.declared.object.Object.TheVariants.{Relation, Transaction, Tuple}
 use Rattle.gx_locks.specs.Locks.{wait_of}
-use Rattle.gx_waits.specs.Claims.{is_free}
+use Rattle.gx_waits.specs.Claims.{is_clear}
 use Rattle.gx_meaning.specs.declared.fault.ArithFault.{ArithFault}
 use Rattle.gx_msg.specs.declared.message.Message.{Message}
 use Rattle.gx_msg.specs.declared.message.Message.TheVariants as message
@@ -103,7 +103,7 @@ slice-none s g c level snapshot (slice.Delete table cond) = changes-none s g (ch
 
 -- the marks of locks fail nothing
 starts-none : (s : Seg) (g : Gxid) (c : Cid) (level : Level) (snapshot : Option Snapshot) (x : Slice) (wanted : Claim) → NoFailures (requests s g c level snapshot x wanted).marks
-starts-none s g c level snapshot x wanted = by_test (is_free s.locks.holds wanted)
+starts-none s g c level snapshot x wanted = by_test (is_clear s.locks.holds s.locks.waits wanted)
   where
     by_test : (b : Bool) → NoFailures (let t : SegTurn = if b then runs_locked s g c level snapshot x wanted else suspends s g c level snapshot x wanted in t).marks
     by_test true = slice-none (record s { locks = with_hold s.locks wanted }) g c level snapshot x

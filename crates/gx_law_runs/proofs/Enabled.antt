@@ -23,7 +23,7 @@ use Rattle.gx_store.specs.Ordered.{sent_in}
 use Rattle.gx_store.specs.Points.{marks_in}
 use Rattle.gx_store.specs.Refusals.{the_coordinator}
 use Rattle.gx_store.specs.Schedule.{asked, at_segment, enabled, ends, first_of, gxids_of, is_any_wait, is_exec, is_left, is_next, is_quiet, is_round, is_to_end, left_on, may_resend, resends, resumptions, rounds, segments_of, starts, waits_of}
-use Rattle.gx_waits.specs.Claims.{is_free, is_of}
+use Rattle.gx_waits.specs.Claims.{is_clear, is_of}
 use Rattle.gx_store.specs.Waits.{holds_at, waits_at}
 use Rattle.gx_waits.specs.declared.claim.Claim.{Claim}
 use Rattle.gx_locks.specs.Locks.{Locks, is_ready, may_take, wait_of}
@@ -177,12 +177,14 @@ module _ (script : Script) (some : 1 ≤ script.segments) (es : List (Event × B
     own-waits : (g : Gxid) → waits_of ms node g ≡ filter (is_of g) l.waits
     own-waits g = ap (filter (is_of g)) (sym m.waits)
 
-    ready-so : (g : Gxid) → list_any (is_free (holds_at ms node)) (waits_of ms node g) ≡ may_take l g
-    ready-so g = ap (list_any (is_free (holds_at ms node))) (own-waits g) ∙ ap (λ holds. list_any (is_free holds) (filter (is_of g) l.waits)) (sym m.holds) ∙ by_wait (wait_of l g) refl
+    ready-so : (g : Gxid) → list_any (is_clear (holds_at ms node) (waits_at ms node)) (waits_of ms node g) ≡ may_take l g
+    ready-so g =
+        ap (λ ws. list_any (is_clear (holds_at ms node) ws) (filter (is_of g) ws)) (sym m.waits) ∙ ap (λ holds. list_any (is_clear holds l.waits) (filter (is_of g) l.waits)) (sym m.holds)
+        ∙ by_wait (wait_of l g) refl
       where
-        by_wait : (o : Option Claim) → wait_of l g ≡ o → list_any (is_free l.holds) (filter (is_of g) l.waits) ≡ is_ready l.holds o
-        by_wait None e = ap (list_any (is_free l.holds)) (filter-unfound (is_of g) l.waits e)
-        by_wait (Some wanted) e = ap (list_any (is_free l.holds)) (once g wanted e) ∙ or-false (is_free l.holds wanted)
+        by_wait : (o : Option Claim) → wait_of l g ≡ o → list_any (is_clear l.holds l.waits) (filter (is_of g) l.waits) ≡ is_ready l o
+        by_wait None e = ap (list_any (is_clear l.holds l.waits)) (filter-unfound (is_of g) l.waits e)
+        by_wait (Some wanted) e = ap (list_any (is_clear l.holds l.waits)) (once g wanted e) ∙ or-false (is_clear l.holds l.waits wanted)
 
     count-so : (g : Gxid) → (length (waits_of ms node g) == 0) ≡ not (is_some (wait_of l g))
     count-so g = ap (λ (xs : List Claim). length xs == 0) (own-waits g) ∙ by_wait (wait_of l g) refl
@@ -194,7 +196,7 @@ module _ (script : Script) (some : 1 ≤ script.segments) (es : List (Event × B
     resumes-so : resumptions ms node ≡ resumes_by w.coord node l
     resumes-so =
         ap (λ gs. first_of (map (event.Resume node) gs))
-        (filter-same (λ g. list_any (is_free (holds_at ms node)) (waits_of ms node g)) (λ g. may_take l g) ready-so (gxids_of ms) ∙ ap (filter (λ g. may_take l g)) drawn-alike)
+        (filter-same (λ g. list_any (is_clear (holds_at ms node) (waits_at ms node)) (waits_of ms node g)) (λ g. may_take l g) ready-so (gxids_of ms) ∙ ap (filter (λ g. may_take l g)) drawn-alike)
 
   resumes-here : resumptions ms the_coordinator ≡ resumes_by w.coord the_coordinator w.coord.locks
   resumes-here = resumes-so the_coordinator w.coord.locks marked.coordinator (single-here script w n).once

@@ -18,7 +18,7 @@ use Rattle.gx_waits.specs.declared.claim.Claim.{Claim}
 use Rattle.gx_waits.specs.declared.object.Object.{Object}
 use Rattle.gx_waits.specs.declared.object.Object.TheVariants.{Relation, Transaction, Tuple}
 use Rattle.gx_locks.specs.Locks.{Locks}
-use Rattle.gx_waits.specs.Claims.{is_free}
+use Rattle.gx_waits.specs.Claims.{is_clear}
 use Rattle.gx_meaning.specs.declared.fault.ArithFault.{ArithFault}
 use Rattle.gx_msg.specs.declared.item.JournalItem.{JournalItem}
 use Rattle.gx_msg.specs.declared.message.Message.{Message}
@@ -207,7 +207,7 @@ module _ (P : ℕ → Reply → Type 0) (partless : (g : ℕ) (r : Reply) → Is
 
       starts : (level : Level) (snapshot : Option Snapshot) (h : Gxid) (wanted : Claim) → TurnSo (requests (raised s h) g c level snapshot x wanted)
       starts level snapshot h wanted =
-          both (is_free s.locks.holds wanted) _ _ (record { locals = run.locals; outs = run.outs })
+          both (is_clear s.locks.holds s.locks.waits wanted) _ _ (record { locals = run.locals; outs = run.outs })
           (record { locals = with-so s.locals so g.0 _ (record { answer = tt; vote = (so g.0).vote }); outs = tt })
         where
           run : TurnSo (runs_slice (raised_with (raised s h).horizon (with_hold s.locks wanted)) g c level snapshot x)

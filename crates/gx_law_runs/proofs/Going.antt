@@ -1,4 +1,4 @@
--- While a session is unfinished something else than a round is enabled, or the session waits for a lock that meets another's hold.
+-- While a session is unfinished something else than a round is enabled, or the session waits for a lock that meets somebody.
 use Rattle.std.proofs.lemmas.Bool.Decides.{nat_tests}
 use Rattle.std.proofs.Common.{◌≡◌, ◌≤◌, ◌<◌, ◌⊎◌, inl, inr, ℕ, suc, ◌+◌, ◌-◌, List, [], ◌∷◌, ◌++◌, Option, None, Some, Bool, true, false, refl, sym, subst, ap, ◌∙◌, if◌then◌else◌, ◌&&◌, ◌||◌, not, arith, length}
 use Rattle.std.specs.Prelude.{◌==◌, filter, find, is_none, is_some, map, nat_le}

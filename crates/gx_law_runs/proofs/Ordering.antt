@@ -50,7 +50,7 @@ use Rattle.gx_law_runs.proofs.Parts.{IsFor, PlanFor, plan-for}
 use Rattle.gx_law_runs.proofs.Serving.{AnyServes, AreFor, ForOut, IsFresh, IsOld, OrdersServe, OutServes, Serves, again, commit, no-command, old-same, order-collect, order-status, received, refused, rest-serves, rolled, round-begun, same, serves-map, some-same}
 use Rattle.gx_rules.specs.Locks.{with_hold, with_wait}
 use Rattle.gx_locks.specs.Locks.{Locks, resumed, wait_of}
-use Rattle.gx_waits.specs.Claims.{is_free}
+use Rattle.gx_waits.specs.Claims.{is_clear}
 use Rattle.gx_waits.specs.declared.claim.Claim.{Claim}
 use Rattle.gx_law_order.proofs.Waiting.{GoesOut}
 
@@ -158,7 +158,7 @@ module _ (g : ℕ) (last : ℕ) where
 
     request-serves : (o : Option Claim) → Serves c FreshAt (requests script c (gx g) line o)
     request-serves None = locked-serves c script line e
-    request-serves (Some wanted) = granted-serves wanted (is_free c.locks.holds wanted)
+    request-serves (Some wanted) = granted-serves wanted (is_clear c.locks.holds c.locks.waits wanted)
 
     pub dispatch-serves : Serves c FreshAt (dispatches script c (gx g) line)
     dispatch-serves = request-serves (table_lock script (gx g) line)

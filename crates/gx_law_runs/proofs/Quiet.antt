@@ -38,7 +38,7 @@ use Rattle.gx_rules.specs.Fits.{fits_part}
 use Rattle.gx_rules.specs.Locks.{with_hold}
 use Rattle.gx_waits.specs.declared.claim.Claim.{Claim}
 use Rattle.gx_locks.specs.Locks.{resumed, wait_of}
-use Rattle.gx_waits.specs.Claims.{is_free}
+use Rattle.gx_waits.specs.Claims.{is_clear}
 use Rattle.gx_rules.proofs.Rounds.{cancel-ways, graph-ways}
 
 -- gxids stay below this
@@ -93,7 +93,7 @@ module _ (limit : ℕ) where
 
   request-still : (script : Script) (c : Coord) (g : Gxid) (line : Stmt) → c.table.next.0 ≤ limit → (o : Option Claim) → IsStill limit (requests script c g line o)
   request-still script c g line n None = locked-still script c g line n
-  request-still script c g line n (Some wanted) = granted-still script c g line n wanted (is_free c.locks.holds wanted)
+  request-still script c g line n (Some wanted) = granted-still script c g line n wanted (is_clear c.locks.holds c.locks.waits wanted)
 
   dispatch-still : (script : Script) (c : Coord) (g : Gxid) (line : Stmt) → c.table.next.0 ≤ limit → IsStill limit (dispatches script c g line)
   dispatch-still script c g line n = request-still script c g line n (table_lock script g line)

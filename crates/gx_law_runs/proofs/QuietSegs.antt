@@ -30,7 +30,7 @@ use Rattle.gx_rules.specs.Fits.{fits_exec, is_waiting}
 use Rattle.gx_rules.specs.Locks.{with_hold}
 use Rattle.gx_waits.specs.declared.claim.Claim.{Claim}
 use Rattle.gx_locks.specs.Locks.{wait_of}
-use Rattle.gx_waits.specs.Claims.{is_free}
+use Rattle.gx_waits.specs.Claims.{is_clear}
 use Rattle.gx_rules.proofs.Moving.{Ends, Keeps}
 use Rattle.gx_rules.proofs.Rounds.{collect-ways}
 use Rattle.gx_law_order.proofs.Changing.{row-goes-on, rows-change}
@@ -90,7 +90,7 @@ module _ (script : Script) (s : Seg) where
 
   -- with its lock, or waiting for it
   request : (t : Seg) (g : Gxid) (c : Cid) (level : Level) (snapshot : Option Snapshot) (x : Slice) (wanted : Claim) → IsStill (requests t g c level snapshot x wanted)
-  request t g c level snapshot x wanted = by_test (is_free t.locks.holds wanted)
+  request t g c level snapshot x wanted = by_test (is_clear t.locks.holds t.locks.waits wanted)
     where
       by_test : (b : Bool) → IsStill (if b then runs_locked t g c level snapshot x wanted else suspends t g c level snapshot x wanted)
       by_test true = let run = slice_runs (record t { locks = with_hold t.locks wanted }) g c level snapshot x in record { outs = run.outs }

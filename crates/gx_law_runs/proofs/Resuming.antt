@@ -10,7 +10,7 @@ use Rattle.std.specs.Prelude.{Contains, find, nat_le, option_map}
 use Rattle.gx_ids.specs.declared.ids.Gxid.{Gxid}
 use Rattle.gx_ids.specs.declared.ids.Node.{Node}
 use Rattle.gx_waits.specs.declared.claim.Claim.{Claim}
-use Rattle.gx_waits.specs.Claims.{is_free, is_of}
+use Rattle.gx_waits.specs.Claims.{is_clear, is_of}
 use Rattle.gx_locks.specs.Locks.{IsLeast, Locks, next_ready, ready_ones, wait_of}
 use Rattle.gx_locks.proofs.Least.{IsLeast-least_with}
 use Rattle.gx_dtx.specs.Table.{find_txn}
@@ -22,7 +22,7 @@ use Rattle.gx_store.specs.declared.run.Step.{Step}
 use Rattle.gx_store.specs.Points.{marks_in}
 use Rattle.gx_store.specs.Refusals.{the_coordinator}
 use Rattle.gx_store.specs.Schedule.{first_of, gxids_of, resumptions, waits_of}
-use Rattle.gx_store.specs.Waits.{holds_at}
+use Rattle.gx_store.specs.Waits.{holds_at, waits_at}
 use Rattle.gx_rules.specs.Coordinators.{Coord}
 use Rattle.gx_rules.specs.Segments.{Seg}
 use Rattle.gx_rules.specs.Machine.{Letter, World, world_of}
@@ -140,15 +140,15 @@ module _ (script : Script) (some : 1 ≤ script.segments) (es : List (Event × B
   n = world_knows script some es
 
   module _ (node : Node) (l : Locks) (m : IsMarked (marks_in w.steps) node l) (drawn : (g : Gxid) (wanted : Claim) → wait_of l g ≡ Some wanted → (1 ≤ g.0) × (g.0 < w.coord.table.next.0)) where
-    ready-so : (g : Gxid) → list_any (is_free (holds_at (marks_in w.steps) node)) (waits_of (marks_in w.steps) node g) ≡ is_among (ready_ones l) g
+    ready-so : (g : Gxid) → list_any (is_clear (holds_at (marks_in w.steps) node) (waits_at (marks_in w.steps) node)) (waits_of (marks_in w.steps) node g) ≡ is_among (ready_ones l) g
     ready-so g =
-        ap (λ ws. list_any (is_free (holds_at (marks_in w.steps) node)) (filter (is_of g) ws)) (sym m.waits)
-        ∙ ap (λ holds. list_any (is_free holds) (filter (is_of g) l.waits)) (sym m.holds)
-        ∙ any-ready (is_free l.holds) g l.waits
+        ap (λ ws. list_any (is_clear (holds_at (marks_in w.steps) node) ws) (filter (is_of g) ws)) (sym m.waits)
+        ∙ ap (λ holds. list_any (is_clear holds l.waits) (filter (is_of g) l.waits)) (sym m.holds)
+        ∙ any-ready (is_clear l.holds l.waits) g l.waits
 
     within : (g : Gxid) → is_among (ready_ones l) g ≡ true → (1 ≤ g.0) × (g.0 < 1 + (w.coord.table.next.0 - 1))
     within g there =
-        let found = finds (is_free l.holds) (is_of g) l.waits (any-ready (is_free l.holds) g l.waits ∙ there) in
+        let found = finds (is_clear l.holds l.waits) (is_of g) l.waits (any-ready (is_clear l.holds l.waits) g l.waits ∙ there) in
         let d = drawn g found.0 found.1 in
         (d.0, below g.0 w.coord.table.next.0 d.0 d.1)
       where
@@ -162,7 +162,7 @@ module _ (script : Script) (some : 1 ≤ script.segments) (es : List (Event × B
     resumes-least : resumptions (marks_in w.steps) node ≡ option_to_list (option_map (Resume node) (next_ready l))
     resumes-least =
         ap (λ gs. first_of (map (Resume node) gs))
-        (filter-same (λ g. list_any (is_free (holds_at (marks_in w.steps) node)) (waits_of (marks_in w.steps) node g)) (is_among (ready_ones l)) ready-so (gxids_of (marks_in w.steps))
+        (filter-same (λ g. list_any (is_clear (holds_at (marks_in w.steps) node) (waits_at (marks_in w.steps) node)) (waits_of (marks_in w.steps) node g)) (is_among (ready_ones l)) ready-so (gxids_of (marks_in w.steps))
         ∙ ap (filter (is_among (ready_ones l))) (drawn-alike script some es))
         ∙ least-first (Resume node) (ready_ones l) (next_ready l) (IsLeast-least_with (ready_ones l)) 1 (w.coord.table.next.0 - 1) within
 

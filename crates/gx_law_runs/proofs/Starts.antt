@@ -41,7 +41,7 @@ use Rattle.gx_law_runs.proofs.Turns.{Goes, commits-goes, goes-by, refused-settle
 use Rattle.gx_rules.specs.Locks.{hold_mark, released, with_hold}
 use Rattle.gx_waits.specs.declared.claim.Claim.{Claim}
 use Rattle.gx_locks.specs.Locks.{Locks, resumed, wait_of}
-use Rattle.gx_waits.specs.Claims.{is_free}
+use Rattle.gx_waits.specs.Claims.{is_clear}
 use Rattle.std.proofs.lemmas.Bool.{eqb-true}
 use Rattle.gx_ids.specs.declared.ids.Gxid.{Gxid}
 use Rattle.gx_law_order.proofs.Queued.{lock-of}
@@ -127,7 +127,7 @@ module _ (script : Script) (some : 1 ≤ script.segments) (c : Coord) (g : ℕ) 
 
   request-goes : (o : Option Claim) → table_lock script (gx g) line ≡ o → Goes (Unit {0}) c g (requests script c (gx g) line o)
   request-goes None e = locked-goes script some c g line f
-  request-goes (Some wanted) e = granted-goes wanted (lock-of script (gx g) line wanted e) (is_free c.locks.holds wanted)
+  request-goes (Some wanted) e = granted-goes wanted (lock-of script (gx g) line wanted e) (is_clear c.locks.holds c.locks.waits wanted)
 
   dispatch-goes : Goes (Unit {0}) c g (dispatches script c (gx g) line)
   dispatch-goes = request-goes (table_lock script (gx g) line) refl

@@ -24,7 +24,8 @@ pub record IsAwaiting (script : Script) (c : Coord) (session : SessionId) : Type
 abbrev pub locks_at : World → Node → Locks
 locks_at w node = if is_same_node node the_coordinator then w.coord.locks else (w.segs node.0).locks
 
--- the session's transaction waits for a lock at a node, of the coordinator's or a segment's, and what it waits for meets a hold there
+-- the session's transaction waits for a lock at a node, of the coordinator's or a segment's, and what it waits for
+-- meets somebody there, who holds or waits ahead
 pub record IsBlocked (script : Script) (w : World) (session : SessionId) : Type 0 where
   pub at : Node
   pub node : at.0 ≤ script.segments

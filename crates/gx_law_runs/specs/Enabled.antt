@@ -34,7 +34,7 @@ sessions_of script = map (λ n. record { 0 = n }) (range_with_len 0 (length scri
 abbrev pub ends_by : Script → Coord → List Event
 ends_by script c = map End (filter (λ session. coord_can script c (node.End session)) (sessions_of script))
 
--- the least transaction whose wait at a node meets no hold resumes
+-- the least transaction whose wait at a node meets nobody resumes
 abbrev pub resumes_by : Coord → Node → Locks → List Event
 resumes_by c node locks = first_of (map (Resume node) (filter (λ g. may_take locks g) (drawn c)))
 

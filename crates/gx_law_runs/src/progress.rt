@@ -22,8 +22,8 @@ ghost use Rattle.gx_store.specs.declared.run.Step.{Step as OneStep};
 
 /// A session that has something left to do at the coordinator has a line under way whose answers are awaited, or which waits for a
 /// lock, or something of it is enabled. So where nothing but a round of the detector is enabled, each unfinished session waits for a
-/// lock, at the coordinator or at a segment, that meets another transaction's hold there. That holds of scripts whose INSERTs have tuples: one without goes to
-/// no segment, and is never answered.
+/// lock, at the coordinator or at a segment, that meets somebody there, who holds or waits ahead. That holds of scripts whose INSERTs have
+/// tuples: one without goes to no segment, and is never answered.
 pub fn unfinished_runs_go_on_unless_blocked()
     ensures { (script : Script) (steps : List OneStep) (session : OneSession) → 1 ≤ script.segments → AreLinesNumbered [] script.lines
         → AreInsertsWhole script.tables script.lines → IsReached script steps

@@ -27,7 +27,7 @@ use Rattle.gx_dtx.specs.Rules.{Turn, on_abort, on_commit, on_reply}
 use Rattle.gx_dtx.specs.declared.outcome.Outcome.{Outcome}
 use Rattle.gx_dtx.specs.declared.outcome.Outcome.TheVariants as outcome
 use Rattle.gx_locks.specs.Locks.{Locks, resumed}
-use Rattle.gx_waits.specs.Claims.{is_free}
+use Rattle.gx_waits.specs.Claims.{is_clear}
 use Rattle.gx_meaning.specs.declared.fault.ArithFault.{ArithFault}
 use Rattle.gx_meaning.specs.declared.piece.Piece.{Piece}
 use Rattle.gx_msg.specs.declared.message.Message.{Message}
@@ -294,7 +294,7 @@ module _ (script : Script) (s : SessionId) (line : Stmt) where
 
   dispatch_starts : (c : Coord) (g : Gxid) (l : Stmt) (o : Option Claim) → Starts script s line (requests script c g l o).marks
   dispatch_starts c g l None = locked_starts c g l
-  dispatch_starts c g l (Some wanted) = by_test (is_free c.locks.holds wanted)
+  dispatch_starts c g l (Some wanted) = by_test (is_clear c.locks.holds c.locks.waits wanted)
     where
       by_test : (b : Bool) → Starts script s line (if_granted script c g l wanted b).marks
       by_test true = (tt, locked_starts (record c { locks = with_hold c.locks wanted }) g l)

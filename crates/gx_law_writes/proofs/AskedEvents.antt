@@ -13,7 +13,7 @@ use Rattle.gx_dsnap.specs.Gxids.{is_below}
 use Rattle.gx_dsnap.specs.declared.snapshot.Snapshot.{Snapshot}
 use Rattle.gx_waits.specs.Claim.{same_claim}
 use Rattle.gx_waits.specs.declared.claim.Claim.{Claim}
-use Rattle.gx_waits.specs.Claims.{is_free, is_of}
+use Rattle.gx_waits.specs.Claims.{is_clear, is_of}
 use Rattle.gx_locks.specs.Locks.{wait_of}
 use Rattle.gx_msg.specs.declared.message.Envelope.{Envelope}
 use Rattle.gx_msg.specs.declared.message.Message.{Message}
@@ -177,7 +177,7 @@ module _ (script : Script) (numbered_lines : AreLinesNumbered [] script.lines) (
       came earlier later = (length w.steps, inr (refl, received))
 
       starts : next_command (s.locals g.0) ≤ c.0 → Turns (starts_slice script (raised (w.segs i) horizon) g c level snapshot x)
-      starts fresh = by_test (is_free s.locks.holds (slice_lock script g x))
+      starts fresh = by_test (is_clear s.locks.holds s.locks.waits (slice_lock script g x))
         where
           by_test : (q : Bool) → Turns (if q then runs_locked (raised (w.segs i) horizon) g c level snapshot x (slice_lock script g x) else suspends (raised (w.segs i) horizon) g c level snapshot x (slice_lock script g x))
           by_test true rest split later =

@@ -16,7 +16,7 @@ use Rattle.gx_tree.specs.declared.stmt.Level.{Level}
 use Rattle.gx_dsnap.specs.Gxids.{is_below}
 use Rattle.gx_dsnap.specs.declared.snapshot.Snapshot.{Snapshot}
 use Rattle.gx_locks.specs.Locks.{wait_of}
-use Rattle.gx_waits.specs.Claims.{is_free}
+use Rattle.gx_waits.specs.Claims.{is_clear}
 use Rattle.gx_msg.specs.declared.message.Message.{Message}
 use Rattle.gx_msg.specs.declared.message.Message.TheVariants as message
 use Rattle.gx_msg.specs.declared.reply.Reply.TheVariants as reply
@@ -147,7 +147,7 @@ module _ (script : Script) (s : Seg) (g : Gxid) (c : Cid) (level : Level) (snaps
     runs None (slice.Lock t m) e = absurd (cc)
 
     started : Ways (starts_slice script (raised s h) g c level snapshot y)
-    started = by_test (is_free s.locks.holds (slice_lock script g y))
+    started = by_test (is_clear s.locks.holds s.locks.waits (slice_lock script g y))
       where
         by_test : (b : Bool) → Ways (if b then runs_locked (raised s h) g c level snapshot y (slice_lock script g y) else suspends (raised s h) g c level snapshot y (slice_lock script g y))
         by_test true = inr (runs snapshot y changes)

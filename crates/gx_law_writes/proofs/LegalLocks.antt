@@ -7,10 +7,11 @@ use Rattle.gx_store.specs.Points.{marks_in}
 use Rattle.gx_rules.specs.Machine.{World, world_of}
 use Rattle.gx_law_writes.specs.Legal.{AreLocksLegal}
 use Rattle.gx_law_writes.proofs.World.{world-holds}
-use Rattle.gx_law_locks.specs.Waiting.{KeepsWhileWaiting}
+use Rattle.gx_law_locks.specs.Waiting.{GetsWhatItWaitsFor, KeepsWhileWaiting}
 use Rattle.gx_law_locks.proofs.Committing.{world-free}
-use Rattle.gx_law_locks.proofs.Lets.{LetsWait, behind-weaker, lets-keep}
+use Rattle.gx_law_locks.proofs.Lets.{LetsWait, behind-weaker, lets-get, lets-keep}
 use Rattle.gx_law_locks.proofs.Orders.{world-orders}
+use Rattle.gx_law_locks.proofs.Passing.{passing}
 use Rattle.gx_law_locks.proofs.HoldsInRuns.{world-exclusive, world-lasting, world-locked}
 use Rattle.gx_law_writes.proofs.Joined.{at-marks, locked-steps}
 use Rattle.gx_law_writes.proofs.Reading.{reads-held}
@@ -36,6 +37,8 @@ locks-legal script some numbered es =
       lasting = world-lasting script some es;
       committing = (world-free script some es).commits;
       keeping = behind-weaker LetsWait KeepsWhileWaiting lets-keep [] (marks_in w.steps) l.lets;
+      getting = behind-weaker LetsWait GetsWhatItWaitsFor lets-get [] (marks_in w.steps) l.lets;
+      queued = passing (marks_in w.steps) l.granted;
       silent = world-silent script some es;
       whole = world-whole script some numbered es;
     }

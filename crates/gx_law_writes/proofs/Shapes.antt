@@ -9,7 +9,7 @@ use Rattle.gx_ids.specs.declared.ids.Gxid.{Gxid}
 use Rattle.gx_ids.specs.declared.ids.Node.{Node}
 use Rattle.gx_ids.specs.declared.ids.SessionId.{SessionId}
 use Rattle.gx_locks.specs.Locks.{Locks}
-use Rattle.gx_waits.specs.Claims.{is_free}
+use Rattle.gx_waits.specs.Claims.{is_clear}
 use Rattle.gx_meaning.specs.Plan.{plan_of}
 use Rattle.gx_meaning.specs.declared.fault.ArithFault.{ArithFault}
 use Rattle.gx_meaning.specs.declared.piece.Piece.{Piece}
@@ -306,7 +306,7 @@ module _ (k : SessionId) (script : Script) (s : SessionId) where
 
       by_lock : (o : Option Claim) → table_lock script h line ≡ o → Body script k h line Own (requests script c h line o).marks
       by_lock None e = free-body h line Plain _ (λ m b. b) e (locked-shape k Own script c h line home)
-      by_lock (Some wanted) e = by_test wanted (is_free c.locks.holds wanted) e
+      by_lock (Some wanted) e = by_test wanted (is_clear c.locks.holds c.locks.waits wanted) e
 
   -- in the session's transaction, or behind the start of a new one
   abbrev pub Opening : Coord → Stmt → List Mark → Type 0

@@ -17,7 +17,7 @@ use Rattle.gx_modes.specs.declared.modes.Mode.{Mode}
 use Rattle.gx_dsnap.specs.declared.snapshot.Snapshot.{Snapshot}
 use Rattle.gx_waits.specs.declared.claim.Claim.{Claim}
 use Rattle.gx_locks.specs.Locks.{Locks, wait_of}
-use Rattle.gx_waits.specs.Claims.{is_free}
+use Rattle.gx_waits.specs.Claims.{is_clear}
 use Rattle.gx_msg.specs.declared.item.JournalItem.{JournalItem}
 use Rattle.gx_msg.specs.declared.message.Message.{Message}
 use Rattle.gx_msg.specs.declared.message.Message.TheVariants as message
@@ -361,7 +361,7 @@ module _ (script : Script) (s : Seg) where
         inr (inr (inr (inr (inl (record { g = g; c = c; level = level; snapshot = x; horizon = h; table = t; mode = m; is = refl; opened = opened; fresh = fresh; alone = alone; locks = with_hold s.locks wanted; wanted = wanted; locked = refl; ran = refl })))))
 
     start : (x : Option Snapshot) (y : Slice) → Turns script s (message.Exec g c level x h y) (starts_slice script (raised s h) g c level x y)
-    start x y = by_test (is_free s.locks.holds (slice_lock script g y))
+    start x y = by_test (is_clear s.locks.holds s.locks.waits (slice_lock script g y))
       where
         by_test : (b : Bool) → Turns script s (message.Exec g c level x h y) (if b then runs_locked (raised s h) g c level x y (slice_lock script g y) else suspends (raised s h) g c level x y (slice_lock script g y))
         by_test true = locked x y

@@ -69,7 +69,7 @@ use Rattle.gx_law_order.proofs.Statuses.{Moves, Turned, reply-turns}
 use Rattle.gx_law_order.specs.Standings.{gx}
 use Rattle.gx_rules.specs.Locks.{with_hold, hold_mark, release_marks}
 use Rattle.gx_locks.specs.Locks.{Locks, resumed, wait_of}
-use Rattle.gx_waits.specs.Claims.{is_free}
+use Rattle.gx_waits.specs.Claims.{is_clear}
 use Rattle.gx_waits.specs.declared.claim.Claim.{Claim}
 use Rattle.gx_law_order.proofs.Releases.{each-released}
 use Rattle.gx_law_order.proofs.Waiting.{GoesOut}
@@ -407,7 +407,7 @@ module _ (script : Script) (c : Coord) (x : NodeEvent) where
 
     request-walk : (o : Option Claim) → Walk earlier (requests script c1 (gx g) line o)
     request-walk None = locked-walk c1 g others earlier it base line
-    request-walk (Some wanted) = by_test (is_free c1.locks.holds wanted)
+    request-walk (Some wanted) = by_test (is_clear c1.locks.holds c1.locks.waits wanted)
       where
         by_test : (b : Bool) → Walk earlier (if_granted script c1 (gx g) line wanted b)
         by_test true = held-walk (with_hold c1.locks wanted) wanted
