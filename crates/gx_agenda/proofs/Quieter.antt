@@ -15,8 +15,8 @@ use Rattle.gx_store.specs.Journals.{is_same_node}
 use Rattle.gx_store.specs.Ordered.{sent_count, sent_in}
 use Rattle.gx_store.specs.Refusals.{the_coordinator}
 use Rattle.gx_store.specs.Schedule.{deliveries, first_of, gxids_of, is_left, is_receipt_of, left_on, received_count, resumptions, waits_of}
-use Rattle.gx_waits.specs.Claims.{is_free}
-use Rattle.gx_store.specs.Waits.{holds_at}
+use Rattle.gx_waits.specs.Claims.{is_clear}
+use Rattle.gx_store.specs.Waits.{holds_at, waits_at}
 use Rattle.gx_agenda.specs.declared.quiet.Quiet.{Quiet}
 use Rattle.gx_agenda.specs.Quiet.{AreQuiet}
 use Rattle.gx_agenda.proofs.Lists.{apart_from, same_from}
@@ -138,4 +138,4 @@ not-off false e = absurd (cc)
 -- where nobody waits, nobody resumes
 pub no-resumptions : (marks : List Mark) (node : Node) → ((g : Gxid) → waits_of marks node g ≡ []) → resumptions marks node ≡ []
 no-resumptions marks node none =
-    ap (λ gs. first_of (map (Resume node) gs)) (filter-none (λ g. list_any (is_free (holds_at marks node)) (waits_of marks node g)) (gxids_of marks) (λ g. ap (list_any (is_free (holds_at marks node))) (none g)))
+    ap (λ gs. first_of (map (Resume node) gs)) (filter-none (λ g. list_any (is_clear (holds_at marks node) (waits_at marks node)) (waits_of marks node g)) (gxids_of marks) (λ g. ap (list_any (is_clear (holds_at marks node) (waits_at marks node))) (none g)))

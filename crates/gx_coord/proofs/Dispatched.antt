@@ -20,7 +20,7 @@ use Rattle.gx_dtx.specs.Rules.{abort_found, begun, enlisted, with_live}
 use Rattle.gx_dtx.specs.Table.{Table, find_txn, new_txn, xmin_of}
 use Rattle.gx_dtx.specs.declared.txn.Txn.{Txn}
 use Rattle.gx_locks.specs.Locks.{resumed}
-use Rattle.gx_waits.specs.Claims.{is_free}
+use Rattle.gx_waits.specs.Claims.{is_clear}
 use Rattle.gx_waits.specs.declared.claim.Claim.{Claim}
 use Rattle.gx_meaning.specs.declared.fault.ArithFault.{ArithFault}
 use Rattle.gx_meaning.specs.Plan.{plan_of}
@@ -242,7 +242,7 @@ waiting-sound c g e line wanted l =
 
 request-sound : (c : Coord) (g : ℕ) → IsWhole c.table → AreSound c → (script : Script) (line : Stmt) → (c.works g).last + 1 ≤ (c.sessions (c.works g).session.0).lines → (c.works g).waiting ≡ None → (o : Option Claim) → AreSound (requests script c (gx g) line o).coord
 request-sound c g whole e script line l f None = locked-sound c g whole e script line l f
-request-sound c g whole e script line l f (Some wanted) = by_test (is_free c.locks.holds wanted)
+request-sound c g whole e script line l f (Some wanted) = by_test (is_clear c.locks.holds c.locks.waits wanted)
   where
     by_test : (b : Bool) → AreSound (if_granted script c (gx g) line wanted b).coord
     by_test true = locked-sound (record c { locks = with_hold c.locks wanted }) g whole e script line l f

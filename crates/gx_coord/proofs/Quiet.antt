@@ -23,7 +23,7 @@ use Rattle.gx_rules.specs.Locks.{with_hold}
 use Rattle.gx_rules.specs.Rounds.{victims_at}
 use Rattle.gx_rules.specs.Sending.{clock_after}
 use Rattle.gx_locks.specs.Locks.{resumed, wait_of}
-use Rattle.gx_waits.specs.Claims.{is_free}
+use Rattle.gx_waits.specs.Claims.{is_clear}
 use Rattle.gx_meaning.specs.Plan.{plan_of}
 use Rattle.gx_meaning.specs.declared.fault.ArithFault.{ArithFault}
 use Rattle.gx_meaning.specs.declared.piece.Piece.{Piece}
@@ -137,7 +137,7 @@ locked-quiet script c g line =
 
 request-quiet : (script : Script) (c : Coord) (g : Gxid) (line : Stmt) (lock : Option Claim) → IsQuiet (turns.requests script c g line lock)
 request-quiet script c g line None = locked-quiet script c g line
-request-quiet script c g line (Some wanted) = by_test (is_free c.locks.holds wanted)
+request-quiet script c g line (Some wanted) = by_test (is_clear c.locks.holds c.locks.waits wanted)
   where
     by_test : (b : Bool) → IsQuiet (turns.if_granted script c g line wanted b)
     by_test true = locked-quiet script (record c { locks = with_hold c.locks wanted }) g line

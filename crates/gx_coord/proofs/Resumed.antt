@@ -54,7 +54,7 @@ pub record Wakes (script : Script) (c : rule.Coord) (g : Gxid) : Type 0 where
 who-wakes : (script : Script) (c : rule.Coord) → Kept script c → (g : Gxid) → coord_can script c (event.Resume g) ≡ true → Wakes script c g
 who-wakes script c k g ok = by_wait (wait_of c.locks g) refl ok
   where
-    by_wait : (o : Option Claim) → wait_of c.locks g ≡ o → is_ready c.locks.holds o ≡ true → Wakes script c g
+    by_wait : (o : Option Claim) → wait_of c.locks g ≡ o → is_ready c.locks o ≡ true → Wakes script c g
     by_wait None e f = absurd (cc)
     by_wait (Some wanted) e f = record { wanted = wanted; stands = e; statement = statement-of c k g wanted e }
 

@@ -1,7 +1,7 @@
 // The locks that transactions have here, how they wait for them, and how they are given back.
 ghost use Rattle.std.specs.Prelude.{◌≡◌, ◌++◌, ◌∷◌, [], IfOk, OnOk, false, true};
 ghost use Rattle.std.specs.List.{list_any};
-ghost use Rattle.gx_waits.specs.Claims.{is_free, is_of};
+ghost use Rattle.gx_waits.specs.Claims.{is_clear, is_of};
 ghost use Rattle.gx_locks.specs.Locks.{may_take, resumed, wait_of};
 ghost use Rattle.gx_node.specs.Locking.{asked_mark, resumed_marks};
 ghost use Rattle.gx_rules.specs.Locks as rule;
@@ -27,7 +27,7 @@ pub(crate) fn give_back(coord: &mut Coord, gxid: Gxid, marks: &mut Vec<Mark>) ->
 pub(crate) fn take_lock(coord: &mut Coord, wanted: Claim, marks: &mut Vec<Mark>) -> Mem<bool>
     requires { list_any (is_of wanted.gxid) coord.old.locks.waits ≡ false }
     ensures framed { OnOk result (IsFramed coord.old coord.new) }
-    ensures granted { IfOk result (λ granted. granted ≡ is_free coord.old.locks.holds wanted) }
+    ensures granted { IfOk result (λ granted. granted ≡ is_clear coord.old.locks.holds coord.old.locks.waits wanted) }
     ensures coord { IfOk result (λ granted. coord_of coord.new ≡ asked (coord_of coord.old) wanted granted) }
     ensures marks { IfOk result (λ granted. marks.new.items ≡ marks.old.items ++ asked_mark the_coordinator wanted granted ∷ []) }
 {

@@ -15,8 +15,8 @@ use Rattle.gx_store.specs.Ordered.{IsLink, IsSegment, sent_in}
 use Rattle.gx_store.specs.Points.{marks_in}
 use Rattle.gx_store.specs.Refusals.{the_coordinator}
 use Rattle.gx_store.specs.Schedule.{at_segment, enabled, ends, first_of, gxids_of, is_any_unfinished, is_any_wait, is_graph_awaited, is_left, is_next, is_quiet, is_round_running, is_to_end, left_on, may_resend, resends, resumptions, rounds, segments_of, sessions_of, starts, waits_of}
-use Rattle.gx_waits.specs.Claims.{is_free}
-use Rattle.gx_store.specs.Waits.{holds_at}
+use Rattle.gx_waits.specs.Claims.{is_clear}
+use Rattle.gx_store.specs.Waits.{holds_at, waits_at}
 use Rattle.gx_law_runs.specs.Reached.{IsReached}
 use Rattle.gx_law_runs.specs.Replays.{is_admitted}
 use Rattle.gx_law_runs.proofs.Reaching.{all-are-admitted, by-events}
@@ -78,7 +78,7 @@ module _ (script : Script) (steps : List Step) where
 
   resumptions-due : (node : Node) → AreDue (resumptions (marks_in steps) node)
   resumptions-due node =
-      all-first (IsDue script steps) _ (all-map (IsDue script steps) (Resume node) (λ g. tt) (filter (λ g. list_any (is_free (holds_at (marks_in steps) node)) (waits_of (marks_in steps) node g)) (gxids_of (marks_in steps))))
+      all-first (IsDue script steps) _ (all-map (IsDue script steps) (Resume node) (λ g. tt) (filter (λ g. list_any (is_clear (holds_at (marks_in steps) node) (waits_at (marks_in steps) node)) (waits_of (marks_in steps) node g)) (gxids_of (marks_in steps))))
 
   segment-due : (segment : Node) → IsSegment script segment → AreDue (at_segment script steps segment)
   segment-due segment there =

@@ -13,7 +13,7 @@ use Rattle.gx_waits.specs.Claim.{meets, same_claim}
 use Rattle.gx_waits.specs.Claims.{is_free, is_of, with_claim, without}
 use Rattle.gx_locks.specs.Kept.{AreExclusive, AreOnce}
 use Rattle.gx_locks.specs.Locks.{Locks, IsAnswer, is_ready, wait_of, resumed}
-use Rattle.gx_locks.specs.Runs.{Call, Request, Resume, Release, ReleaseAll, IsStep, IsRun, IsSound}
+use Rattle.gx_locks.specs.Runs.{Call, Request, Take, Resume, Release, ReleaseAll, IsStep, IsRun, IsSound}
 use Rattle.gx_locks.proofs.Ways.{clear-free}
 use Rattle.gx_locks.proofs.Whole.{none_passes, free_is}
 
@@ -69,6 +69,7 @@ went_on old new g (Some wait) sound ready is =
 
 pub IsSound-step : (old new : Locks) (call : Call) → IsSound old → IsStep old call new → IsSound new
 IsSound-step old new (Request claim answer) sound is = answered old new claim answer sound is.0 is.1
+IsSound-step old new (Take claim) sound is = subst IsSound (sym is.1) (IsSound-held old claim sound is.0)
 IsSound-step old new (Resume g) sound is = went_on old new g (wait_of old g) sound is.0 is.1
 IsSound-step old new (Release claim) sound is = subst IsSound (sym is) (IsSound-fewer_holds (λ other. not (same_claim claim other)) old sound)
 IsSound-step old new (ReleaseAll g) sound is =

@@ -1,8 +1,8 @@
-ghost use Rattle.std.specs.Prelude.{◌≡◌, [], ◌∷◌, false, true, None, Some, map, filter, IfOk, IfSome, OnErr};
+ghost use Rattle.std.specs.Prelude.{◌≡◌, [], ◌∷◌, false, true, None, Some, map, filter, IfOk, IfSome, OnErr, OnOk};
 ghost use Rattle.std.specs.List.{list_any};
 ghost use Rattle.gx_ids.specs.declared.ids.Gxid.{Gxid};
 ghost use Rattle.gx_waits.specs.Claim.{AreEdges, ahead, same_claim};
-ghost use Rattle.gx_waits.specs.Claims.{is_clear, is_of, without, without_claim};
+ghost use Rattle.gx_waits.specs.Claims.{is_clear, is_free, is_of, with_claim, without, without_claim};
 ghost use Rattle.gx_locks.specs.Graphs.{graph_at};
 ghost use Rattle.gx_locks.specs.HoldLists.{held};
 ghost use Rattle.gx_locks.specs.Holds.{claims_of};
@@ -110,6 +110,19 @@ impl LockTable {
         }
         self.book.add(claim)?;
         Ok(LockAnswer::Granted)
+    }
+
+    /// Holds a lock that no other transaction's hold conflicts with, whoever waits for it: for one that nobody can wait for yet.
+    pub fn take(&mut self, gxid: Gxid, object: Object, mode: Mode) -> Mem<()>
+        requires { is_free self.old.holds (record { gxid = gxid; object = object; mode = mode }) ≡ true }
+        ensures ok { OnOk result (self.new ≡ record self.old { holds = with_claim (record { gxid = gxid; object = object; mode = mode }) self.old.holds }) }
+        ensures err { OnErr result (self.new ≡ self.old) }
+    {
+        let claim = Claim { gxid, object, mode };
+        if !self.book.is_held(&claim) {
+            self.book.add(claim)?;
+        }
+        Ok(())
     }
 
     // Whether a wait holds up a claim that is asked for.

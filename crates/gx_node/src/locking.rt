@@ -1,7 +1,7 @@
 ghost use Rattle.std.specs.Prelude.{◌≡◌, ◌++◌, ◌∷◌, [], filter, length, map, IfOk, OnOk, false, true, find};
 ghost use Rattle.std.specs.Cmp.{IsTotalOrder};
 ghost use Rattle.std.specs.List.{list_any};
-ghost use Rattle.gx_waits.specs.Claims.{is_free, is_of};
+ghost use Rattle.gx_waits.specs.Claims.{is_clear, is_free, is_of};
 ghost use Rattle.gx_locks.specs.HoldLists.{held};
 ghost use Rattle.gx_locks.specs.Holds.{claims_of};
 ghost use Rattle.gx_locks.specs.Locks.{may_take, resumed, wait_of};
@@ -214,7 +214,7 @@ fn push_asked(marks: &mut Vec<Mark>, node: Node, wanted: Claim, granted: bool) -
 
 fn request(locks: &mut LockTable, wanted: Claim) -> Mem<bool>
     requires { list_any (is_of wanted.gxid) locks.old.waits ≡ false }
-    ensures granted { IfOk result (λ granted. granted ≡ is_free locks.old.holds wanted) }
+    ensures granted { IfOk result (λ granted. granted ≡ is_clear locks.old.holds locks.old.waits wanted) }
     ensures locks { IfOk result (λ granted. locks.new ≡ asked_locks locks.old wanted granted) }
 {
     match locks.request(wanted.gxid, wanted.object, wanted.mode)? {
@@ -227,7 +227,7 @@ fn request(locks: &mut LockTable, wanted: Claim) -> Mem<bool>
 /// it from now on, with the mark of a wait.
 pub fn ask_for(node: Node, locks: &mut LockTable, wanted: Claim, marks: &mut Vec<Mark>) -> Mem<bool>
     requires { list_any (is_of wanted.gxid) locks.old.waits ≡ false }
-    ensures granted { IfOk result (λ granted. granted ≡ is_free locks.old.holds wanted) }
+    ensures granted { IfOk result (λ granted. granted ≡ is_clear locks.old.holds locks.old.waits wanted) }
     ensures locks { IfOk result (λ granted. locks.new ≡ asked_locks locks.old wanted granted) }
     ensures marks { IfOk result (λ granted. marks.new.items ≡ marks.old.items ++ asked_mark node wanted granted ∷ []) }
 {
@@ -236,18 +236,18 @@ pub fn ask_for(node: Node, locks: &mut LockTable, wanted: Claim, marks: &mut Vec
     Ok(granted)
 }
 
-/// A transaction that doesn't wait at a node takes a lock that is free there, with the mark of a hold.
+/// A lock that meets no hold at a node is taken, with the mark of a hold.
 pub fn take_free(node: Node, locks: &mut LockTable, wanted: Claim, marks: &mut Vec<Mark>) -> Mem<()>
-    requires waits { list_any (is_of wanted.gxid) locks.old.waits ≡ false }
-    requires free { is_free locks.old.holds wanted ≡ true }
+    requires { is_free locks.old.holds wanted ≡ true }
     ensures locks { OnOk result (locks.new ≡ rule.with_hold locks.old wanted) }
     ensures marks { OnOk result (marks.new.items ≡ marks.old.items ++ rule.hold_mark node wanted ∷ []) }
 {
-    ask_for(node, locks, wanted, marks)?;
+    locks.take(wanted.gxid, wanted.object, wanted.mode)?;
+    marks.push(hold_mark(node, wanted))?;
     Ok(())
 }
 
-/// A transaction that doesn't wait at a node waits from now on for a lock that isn't free there, with the mark of a wait.
+/// A transaction that doesn't wait at a node waits from now on for a lock that meets a hold there, with the mark of a wait.
 pub fn wait_for(node: Node, locks: &mut LockTable, wanted: Claim, marks: &mut Vec<Mark>) -> Mem<()>
     requires waits { list_any (is_of wanted.gxid) locks.old.waits ≡ false }
     requires taken { is_free locks.old.holds wanted ≡ false }

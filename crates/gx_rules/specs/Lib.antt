@@ -20,5 +20,6 @@ pub mod Rows
 pub mod Expected
 pub mod WaitRuns
 pub mod RoundRuns
+pub mod QueueRuns
 pub mod ChangeRuns
 pub mod Last

@@ -2,6 +2,7 @@
 
 ghost use Rattle.gx_rules.specs.ChangeRuns.{KeepsImages, RefusesChanged, SecondWaits, SkipsGone, changed_row_run, gone_rows_run, old_images_run, second_update_run};
 ghost use Rattle.gx_rules.specs.Expected.{CommitsByOne, FinishesLost, KeepsSnapshot, ReadsBetween, RefusesPromise, RunsOnce, between, kept_run, lost, one_phase, refused_run, repeated};
+ghost use Rattle.gx_rules.specs.QueueRuns.{CancelsThroughQueue, WaitsBehindExclusive, WaitsBehindShare, behind_share_run};
 ghost use Rattle.gx_rules.specs.RoundRuns.{AwaitsEach, CancelsBoth, CancelsYounger, DecidesOver, DropsTheRound, FindsNobody, GathersReports, ReportsItsWait, TakesItsOwnGraphs};
 ghost use Rattle.gx_rules.specs.WaitRuns.{GivesBackInOrder, IsHeldUp, WaitsForForget, WaitsForShare, lost_forget_run, share_lock_run, waiting_run};
 
@@ -51,6 +52,21 @@ pub fn slice_waits_for_forget()
 /// A slice that waits doesn't resume while its lock isn't free, and its transaction runs, promises or commits nothing there.
 pub fn waiting_slice_is_left_alone()
     ensures { IsHeldUp waiting_run }
+{}
+
+/// Who wants to read a table waits behind one who waits for it alone; a block that has read it already reads it again at once.
+pub fn reader_behind_exclusive()
+    ensures { WaitsBehindExclusive }
+{}
+
+/// A block waits behind one who waits for a mode that the block's own lock allows.
+pub fn writer_behind_share()
+    ensures { WaitsBehindShare behind_share_run }
+{}
+
+/// Who waits behind another waits for that: a cycle over it is a deadlock, and loses its youngest transaction.
+pub fn deadlock_through_a_queue()
+    ensures { CancelsThroughQueue }
 {}
 
 /// What a transaction has at a node is given back in order.

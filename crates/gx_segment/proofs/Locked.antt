@@ -12,7 +12,7 @@ use Rattle.gx_dsnap.specs.declared.snapshot.Snapshot.{Snapshot}
 use Rattle.gx_waits.specs.declared.claim.Claim.{Claim}
 use Rattle.gx_waits.specs.declared.object.Object.{Object}
 use Rattle.gx_waits.specs.declared.object.Object.TheVariants.{Relation, Transaction, Tuple}
-use Rattle.gx_waits.specs.Claims.{is_free, is_of}
+use Rattle.gx_waits.specs.Claims.{is_clear, is_of}
 use Rattle.gx_locks.specs.Locks.{Locks, is_ready, may_take, resumed, wait_of}
 use Rattle.gx_node.specs.Locking as code_of
 use Rattle.gx_node.specs.Locking.{asked_locks, asked_mark, granted_locks, granted_marks, is_on_transaction, marks_on_end}
@@ -86,7 +86,7 @@ module _ (tables : List Schema) (held : Held) (s : Seg) (wanted : Claim) (is : I
     waits = waits-locked;
   }
 
-  module _ (g : Gxid) (w : code.Suspended) (fresh : IsFresh w) (free : granted ≡ is_free held.locks.holds wanted) (node : Node) (n : node ≡ s.node) (marks : List Mark) (told : marks ≡ [] ++ asked_mark node wanted granted ∷ []) where
+  module _ (g : Gxid) (w : code.Suspended) (fresh : IsFresh w) (free : granted ≡ is_clear held.locks.holds held.locks.waits wanted) (node : Node) (n : node ≡ s.node) (marks : List Mark) (told : marks ≡ [] ++ asked_mark node wanted granted ∷ []) where
     abbrev behind : List Mark → Locks → SegTurn
     behind ms l = after_marks ms (runs_slice (record s { locks = l }) g w.cid w.level w.snapshot w.slice)
 
@@ -99,14 +99,14 @@ module _ (tables : List Schema) (held : Held) (s : Seg) (wanted : Claim) (is : I
         ∙ ap (λ (ms : List Mark). behind ms now) (told ∙ ap (λ (b : Bool). asked_mark node wanted b ∷ []) yes_it_is ∙ ap (λ (i : Node). hold_mark i wanted ∷ []) n)
         ∙ ap (behind (hold_mark s.node wanted ∷ [])) now-holds
         ∙ ap (λ (b : Bool). if b then runs_locked s g w.cid w.level w.snapshot w.slice wanted else suspends s g w.cid w.level w.snapshot w.slice wanted)
-        (sym (ap (λ (l : Locks). is_free l.holds wanted) (sym is.locks) ∙ sym free ∙ yes_it_is))
+        (sym (ap (λ (l : Locks). is_clear l.holds l.waits wanted) (sym is.locks) ∙ sym free ∙ yes_it_is))
 
 -- IT WAITS
-module _ (tables : List Schema) (held new : Held) (s : Seg) (g : Gxid) (w : code.Suspended) (wanted : Claim) (granted : Bool) (now : Locks) (node : Node) (marks : List Mark) (done : Came) (is : IsHeld tables held s) (may : MayRun tables s g w.cid w.snapshot w.slice) (fresh : IsFresh w) (own : wanted.gxid ≡ g) (no_it_isnt : granted ≡ false) (asked : now ≡ asked_locks held.locks wanted granted) (free : granted ≡ is_free held.locks.holds wanted) (n : node ≡ s.node) (told : marks ≡ [] ++ asked_mark node wanted granted ∷ []) (did : HasSuspended (record held { locks = now }) new g w) (d : done ≡ record { marks = marks; answer = None; fails = false }) where
+module _ (tables : List Schema) (held new : Held) (s : Seg) (g : Gxid) (w : code.Suspended) (wanted : Claim) (granted : Bool) (now : Locks) (node : Node) (marks : List Mark) (done : Came) (is : IsHeld tables held s) (may : MayRun tables s g w.cid w.snapshot w.slice) (fresh : IsFresh w) (own : wanted.gxid ≡ g) (no_it_isnt : granted ≡ false) (asked : now ≡ asked_locks held.locks wanted granted) (free : granted ≡ is_clear held.locks.holds held.locks.waits wanted) (n : node ≡ s.node) (told : marks ≡ [] ++ asked_mark node wanted granted ∷ []) (did : HasSuspended (record held { locks = now }) new g w) (d : done ≡ record { marks = marks; answer = None; fails = false }) where
   turn-waits : suspends s g w.cid w.level w.snapshot w.slice wanted ≡ requests s g w.cid w.level w.snapshot w.slice wanted
   turn-waits =
       ap (λ (b : Bool). if b then runs_locked s g w.cid w.level w.snapshot w.slice wanted else suspends s g w.cid w.level w.snapshot w.slice wanted)
-      (sym (ap (λ (l : Locks). is_free l.holds wanted) (sym is.locks) ∙ sym free ∙ no_it_isnt))
+      (sym (ap (λ (l : Locks). is_clear l.holds l.waits wanted) (sym is.locks) ∙ sym free ∙ no_it_isnt))
 
   abbrev waiting : Suspended → Seg
   waiting x = record (with_local s g (record (local_of s g) { last = w.cid.0; answer = None; suspended = Some x })) { locks = with_wait s.locks wanted }
@@ -142,7 +142,7 @@ module _ (s : Seg) (g : Gxid) where
   by-object wanted (Tuple rid) = refl
   by-object wanted (Transaction other) = refl
 
-  by-wait : (w : Suspended) (o : Option Claim) → is_ready s.locks.holds o ≡ true → goes_on (record { seg = with_wait_of o; marks = granted_marks s.node o }) g w w.row ≡ resumes s g o (Some w)
+  by-wait : (w : Suspended) (o : Option Claim) → is_ready s.locks o ≡ true → goes_on (record { seg = with_wait_of o; marks = granted_marks s.node o }) g w w.row ≡ resumes s g o (Some w)
   by-wait w None e = absurd (cc)
   by-wait w (Some wanted) e = ap (λ (m : Moved). goes_on m g w w.row) (by-object wanted wanted.object)
 

@@ -18,7 +18,7 @@ use Rattle.gx_waits.specs.declared.claim.Claim.{Claim}
 use Rattle.gx_waits.specs.declared.object.Object.{Object}
 use Rattle.gx_waits.specs.declared.object.Object.TheVariants.{Relation, Transaction, Tuple}
 use Rattle.gx_locks.specs.Locks.{resumed}
-use Rattle.gx_waits.specs.Claims.{is_free}
+use Rattle.gx_waits.specs.Claims.{is_clear}
 use Rattle.gx_meaning.specs.declared.fault.ArithFault.{ArithFault}
 use Rattle.gx_script.specs.declared.Script.{Script}
 use Rattle.gx_store.specs.declared.mark.Mark.TheVariants as mark
@@ -131,7 +131,7 @@ wanted-stands s g c level snapshot sl wanted true = slice-stands (record s { loc
 wanted-stands s g c level snapshot sl wanted false = refl
 
 pub starts-stand : (script : Script) (s : Seg) (g : Gxid) (c : Cid) (level : Level) (snapshot : Option Snapshot) (sl : Slice) → Stands s (starts_slice script s g c level snapshot sl).seg
-starts-stand script s g c level snapshot sl = let wanted = slice_lock script g sl in wanted-stands s g c level snapshot sl wanted (is_free s.locks.holds wanted)
+starts-stand script s g c level snapshot sl = let wanted = slice_lock script g sl in wanted-stands s g c level snapshot sl wanted (is_clear s.locks.holds s.locks.waits wanted)
 
 -- what it has waited for is granted, and it goes on
 module _ (s : Seg) (g : Gxid) (wanted : Claim) where

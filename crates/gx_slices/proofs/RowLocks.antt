@@ -11,7 +11,7 @@ use Rattle.gx_modes.specs.declared.modes.Mode.TheVariants.{AccessShare, RowShare
 use Rattle.gx_waits.specs.Claim.{meets, same_claim, same_object}
 use Rattle.gx_waits.specs.declared.claim.Claim.{Claim}
 use Rattle.gx_waits.specs.declared.object.Object.TheVariants.{Transaction}
-use Rattle.gx_waits.specs.Claims.{is_free, is_of, with_claim}
+use Rattle.gx_waits.specs.Claims.{is_clear, is_free, is_of, with_claim}
 use Rattle.gx_locks.specs.Locks.{Locks}
 use Rattle.gx_node.specs.Locking.{asked_locks}
 use Rattle.gx_store.specs.Marks.{is_same_gxid}
@@ -91,7 +91,7 @@ module _ (g : Gxid) (rid : Rid) (locks : Locks) where
   some-row h f = if h then locks else asked_locks locks (tuple_lock g rid) f
 
   any-row : (p : Claim → Bool) → list_any p locks.holds ≡ true → list_any p (row_locks g rid locks).holds ≡ true
-  any-row p e = either (holds_row g rid locks) (is_free locks.holds (tuple_lock g rid))
+  any-row p e = either (holds_row g rid locks) (is_clear locks.holds locks.waits (tuple_lock g rid))
     where
       either : (h f : Bool) → list_any p (some-row h f).holds ≡ true
       either true f = e

@@ -6,7 +6,7 @@ use Rattle.gx_ids.specs.declared.ids.Gxid.{Gxid}
 use Rattle.gx_ids.specs.declared.rid.Rid.{Rid}
 use Rattle.gx_waits.specs.Claim.{same_claim}
 use Rattle.gx_waits.specs.declared.claim.Claim.{Claim}
-use Rattle.gx_waits.specs.Claims.{is_free, is_of}
+use Rattle.gx_waits.specs.Claims.{is_clear, is_of}
 use Rattle.gx_locks.specs.Locks.{Locks, wait_of}
 use Rattle.gx_node.specs.Locking.{asked_locks}
 use Rattle.gx_rules.specs.Changes.{end_lock, tuple_lock}
@@ -37,7 +37,7 @@ module _ (g : Gxid) (rid : Rid) (writer : Gxid) where
   AreOwn-by locks own false false = own
 
   pub AreOwn-stop : (locks : Locks) → AreOwn locks.holds → AreOwn (stop_locks g rid writer locks).holds
-  AreOwn-stop locks own = AreOwn-by locks own (holds_row g rid locks) (is_free locks.holds tuple)
+  AreOwn-stop locks own = AreOwn-by locks own (holds_row g rid locks) (is_clear locks.holds locks.waits tuple)
 
   AreWriters-by : (s : Seg) → AreWriters s → (h f : Bool) → AreWriters (record s { locks = stopped s.locks h f })
   AreWriters-by s was true f = AreWriters-waits s was (s.locks.waits ++ the_end ∷ [])
@@ -45,7 +45,7 @@ module _ (g : Gxid) (rid : Rid) (writer : Gxid) where
   AreWriters-by s was false false = AreWriters-waits s was (s.locks.waits ++ tuple ∷ [])
 
   pub AreWriters-stop : (s : Seg) → AreWriters s → AreWriters (record s { locks = stop_locks g rid writer s.locks })
-  AreWriters-stop s was = AreWriters-by s was (holds_row g rid s.locks) (is_free s.locks.holds tuple)
+  AreWriters-stop s was = AreWriters-by s was (holds_row g rid s.locks) (is_clear s.locks.holds s.locks.waits tuple)
 
   -- it waits, and the others as before
   others-by : (locks : Locks) (k : Gxid) → k.0 ≢ g.0 → (h f : Bool) → wait_of (stopped locks h f) k ≡ wait_of locks k
@@ -54,7 +54,7 @@ module _ (g : Gxid) (rid : Rid) (writer : Gxid) where
   others-by locks k other false false = find-more k locks.waits tuple other
 
   pub others-stop : (locks : Locks) (k : Gxid) → k.0 ≢ g.0 → wait_of (stop_locks g rid writer locks) k ≡ wait_of locks k
-  others-stop locks k other = others-by locks k other (holds_row g rid locks) (is_free locks.holds tuple)
+  others-stop locks k other = others-by locks k other (holds_row g rid locks) (is_clear locks.holds locks.waits tuple)
 
   waits-more : (waits : List Claim) (claim : Claim) → is_of g claim ≡ true → list_any (is_of g) (waits ++ claim ∷ []) ≡ true
   waits-more waits claim own = list_any-append (is_of g) waits (claim ∷ []) ∙ ap (λ (b : Bool). list_any (is_of g) waits || (b || false)) own ∙ or-yes (list_any (is_of g) waits)
@@ -69,7 +69,7 @@ module _ (g : Gxid) (rid : Rid) (writer : Gxid) where
   waits-by locks false false = waits-more locks.waits tuple (itself g.0)
 
   pub waits-stop : (locks : Locks) → list_any (is_of g) (stop_locks g rid writer locks).waits ≡ true
-  waits-stop locks = waits-by locks (holds_row g rid locks) (is_free locks.holds tuple)
+  waits-stop locks = waits-by locks (holds_row g rid locks) (is_clear locks.holds locks.waits tuple)
 
 -- LEAVING
 module _ (g : Gxid) (rid : Rid) where

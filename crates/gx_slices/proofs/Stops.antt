@@ -4,7 +4,7 @@ use Rattle.gx_ids.specs.declared.ids.Gxid.{Gxid}
 use Rattle.gx_ids.specs.declared.rid.Rid.{Rid}
 use Rattle.gx_waits.specs.declared.claim.Claim.{Claim}
 use Rattle.gx_locks.specs.Locks.{Locks}
-use Rattle.gx_waits.specs.Claims.{is_free}
+use Rattle.gx_waits.specs.Claims.{is_clear}
 use Rattle.gx_node.specs.Locking.{asked_locks, asked_mark}
 use Rattle.gx_store.specs.declared.mark.Mark.{Mark}
 use Rattle.gx_rules.specs.Changes.{end_lock, ended, gives_back_if_held, tuple_lock, waits, waits_at}
@@ -42,7 +42,7 @@ module _ (m : Moved) (g : Gxid) (rid : Rid) (writer : Gxid) where
   by_locks false false = refl
 
   pub waits_at-stops : waits_at m g rid writer ≡ ended (moved_on m (stop_locks g rid writer m.seg.locks) (stop_marks m.seg.node g rid writer m.seg.locks)) Waiting
-  waits_at-stops = by_locks (holds_row g rid m.seg.locks) (is_free m.seg.locks.holds tuple)
+  waits_at-stops = by_locks (holds_row g rid m.seg.locks) (is_clear m.seg.locks.holds m.seg.locks.waits tuple)
 
 module _ (m : Moved) (g : Gxid) (rid : Rid) where
   same : m ≡ moved_on m m.seg.locks []

@@ -101,7 +101,7 @@ module _ (tables : List Schema) (old woke : Held) (s : Seg) (g : Gxid) (waiting 
   slice-waits : is_waiting (local_of s g) ≡ true
   slice-waits = sym (was.waits.standing g) ∙ either (wait_of s.locks g) refl ready
     where
-      either : (o : Option Claim) → wait_of s.locks g ≡ o → is_ready s.locks.holds o ≡ true → list_any (is_of g) s.locks.waits ≡ true
+      either : (o : Option Claim) → wait_of s.locks g ≡ o → is_ready s.locks o ≡ true → list_any (is_of g) s.locks.waits ≡ true
       either None e f = absurd (cc)
       either (Some claim) e f = waits-found (is_of g) s.locks.waits ∙ ap (λ (o : Option Claim). is_some o) e
 
@@ -144,7 +144,7 @@ module _ (tables : List Schema) (old woke : Held) (s : Seg) (g : Gxid) (waiting 
       by_object claim (Tuple rid) = refl
       by_object claim (Transaction other) = refl
 
-      either : (o : Option Claim) → is_ready s.locks.holds o ≡ true → (granted_locks s.locks g o).waits ≡ without g s.locks.waits
+      either : (o : Option Claim) → is_ready s.locks o ≡ true → (granted_locks s.locks g o).waits ≡ without g s.locks.waits
       either None f = absurd (cc)
       either (Some claim) f = by_object claim claim.object
 

@@ -6,7 +6,7 @@ use Rattle.gx_ids.specs.declared.ids.Node.{Node}
 use Rattle.gx_ids.specs.declared.rid.Rid.{Rid}
 use Rattle.gx_waits.specs.Claim.{same_claim}
 use Rattle.gx_locks.specs.Locks.{Locks}
-use Rattle.gx_waits.specs.Claims.{is_free}
+use Rattle.gx_waits.specs.Claims.{is_clear}
 use Rattle.gx_node.specs.Locking.{asked_locks, asked_mark}
 use Rattle.gx_store.specs.declared.mark.Mark.{Mark}
 use Rattle.gx_rules.specs.Changes.{end_lock, tuple_lock}
@@ -17,13 +17,13 @@ holds_row g rid locks = list_any (same_claim (tuple_lock g rid)) locks.holds
 
 -- the row's lock is asked for, unless it is held; with it the command waits for the writer's end
 abbrev pub has_row : Gxid → Rid → Locks → Bool
-has_row g rid locks = holds_row g rid locks || is_free locks.holds (tuple_lock g rid)
+has_row g rid locks = holds_row g rid locks || is_clear locks.holds locks.waits (tuple_lock g rid)
 
 abbrev pub row_locks : Gxid → Rid → Locks → Locks
-row_locks g rid locks = if holds_row g rid locks then locks else asked_locks locks (tuple_lock g rid) (is_free locks.holds (tuple_lock g rid))
+row_locks g rid locks = if holds_row g rid locks then locks else asked_locks locks (tuple_lock g rid) (is_clear locks.holds locks.waits (tuple_lock g rid))
 
 abbrev pub row_marks : Node → Gxid → Rid → Locks → List Mark
-row_marks node g rid locks = if holds_row g rid locks then [] else asked_mark node (tuple_lock g rid) (is_free locks.holds (tuple_lock g rid)) ∷ []
+row_marks node g rid locks = if holds_row g rid locks then [] else asked_mark node (tuple_lock g rid) (is_clear locks.holds locks.waits (tuple_lock g rid)) ∷ []
 
 abbrev pub stop_locks : Gxid → Rid → Gxid → Locks → Locks
 stop_locks g rid writer locks = if has_row g rid locks then with_wait (row_locks g rid locks) (end_lock g writer) else row_locks g rid locks

@@ -45,8 +45,7 @@ fn take_own(
     phase: Phase,
     marks: &mut Vec<Mark>,
 ) -> Mem<()>
-    requires waits { list_any (is_of gxid) locks.old.waits ≡ false }
-    requires free { is_free locks.old.holds (rule.own_lock gxid) ≡ true }
+    requires { is_free locks.old.holds (rule.own_lock gxid) ≡ true }
     ensures locks { OnOk result (locks.new ≡ own_locks gxid (phase_of phase) locks.old) }
     ensures marks { OnOk result (marks.new.items ≡ marks.old.items ++ own_marks node gxid (phase_of phase)) }
 {

@@ -10,7 +10,7 @@ use Rattle.gx_lemmas.proofs.Tests.{or-false}
 use Rattle.gx_ids.specs.declared.ids.Gxid.{Gxid}
 use Rattle.gx_ids.specs.declared.ids.Node.{Node}
 use Rattle.gx_waits.specs.declared.claim.Claim.{Claim}
-use Rattle.gx_waits.specs.Claims.{is_free, is_of}
+use Rattle.gx_waits.specs.Claims.{is_clear, is_of}
 use Rattle.gx_locks.specs.Locks.{least_with, may_take, next_ready, wait_of}
 use Rattle.gx_meaning.specs.Plan.{nodes_from}
 use Rattle.gx_script.specs.declared.Script.{Script}
@@ -77,7 +77,7 @@ module _ (script : Script) (some : 1 ≤ script.segments) (steps : List Step) (i
   nobody-past =
       reached-there script some steps is i above
       ∙ ap (λ (s : Seg). option_to_list (option_map (Resume (at i)) (next_ready s.locks))) (sym ((replayed script steps is).segments i above))
-      ∙ ap (λ ws. option_to_list (option_map (Resume (at i)) (least_with None (map (λ (wait : Claim). wait.gxid) (filter (is_free ((world_of script is.events).segs i).locks.holds) ws)))))
+      ∙ ap (λ ws. option_to_list (option_map (Resume (at i)) (least_with None (map (λ (wait : Claim). wait.gxid) (filter (is_clear ((world_of script is.events).segs i).locks.holds ws) ws)))))
       (none-past script (world_of script is.events) (world_well script some is.events) i past)
 
 -- IN A NETWORK
