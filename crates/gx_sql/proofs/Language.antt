@@ -39,6 +39,7 @@ use Rattle.gx_sql.specs.Counts.{is_session}
 use Rattle.gx_sql.specs.Held.{HasRoom}
 use Rattle.gx_sql.specs.Progress.{Progress, start, giving, is_on, is_known, same_way, same_fault, with_fault, link_fault, place_of, count_of, counted, next_line, with_detector, with_table, with_link, with_line, with_session, with_line_syn}
 use Rattle.gx_sql.specs.Script.{the_limits, Told, TokensSay, LineSays, Goes, Where, ReadsOn, script_of, ended}
+use Rattle.gx_store.specs.Heads.{AreGroups, IsGroup}
 use Rattle.gx_store.specs.Language.{table_name, IsName, IsTable, IsLine, lines_in, AreLinesNumbered, BeginInOrder, IsFault, HasFaultsOnce, IsScript}
 use Rattle.gx_sql.proofs.Held.{length_snoc}
 use Rattle.gx_sql.proofs.Named.{made_columns, table_made}
@@ -375,6 +376,9 @@ tokens_keep number (Some n) p ts q o k h = told_keeps number n p p.lines ts q o 
 abbrev IsRight : Script → Type 0
 IsRight s = IsScript s × HasFaultsOnce s
 
+no_groups : (sessions : ℕ) → AreGroups sessions []
+no_groups sessions = record { each = All-nil (IsGroup sessions); names = tt; few = omega arith; once = tt }
+
 ended_keeps : (number : ℕ) (o : Option ℕ) (p : Progress) (s : Script) → p.segments ≡ o → number ≤ 100001 → Keeps number p → Ok s ≡ ended number p o → IsRight s
 ended_keeps number None p s o l k e = absurd cc
 ended_keeps number (Some n) p s o l k e =
@@ -395,6 +399,8 @@ ended_keeps number (Some n) p s o l k e =
         few_lines = omega arith;
         numbers = k.numbers;
         order = subst (BeginInOrder 0 p.lines) (sym (length_names p.sessions)) k.order;
+        groups = no_groups _;
+        restarts = refl;
         faults = faults.2;
       },
       faults.3,
