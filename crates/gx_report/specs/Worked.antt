@@ -48,7 +48,7 @@ abbrev pub a_table : Schema
 a_table = record { name = codes "t"; columns = []; dist = Randomly }
 
 abbrev pub a_script : Script
-a_script = record { segments = 2; detector = true; tables = a_table ∷ []; sessions = codes "s1" ∷ []; lines = []; faults = [] }
+a_script = record { segments = 2; detector = true; tables = a_table ∷ []; sessions = codes "s1" ∷ []; lines = []; faults = []; groups = []; restarts = [] }
 
 abbrev pub step_of : ℕ → Node → Event → List Mark → Step
 step_of clock node event marks = record { stamp = record { clock = clock; node = node }; event = event; marks = marks }

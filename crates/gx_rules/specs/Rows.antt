@@ -54,7 +54,7 @@ sessions_of zero = []
 sessions_of (suc n) = [] ∷ sessions_of n
 
 abbrev pub at_two : ℕ → List Line → List LinkFault → Script
-at_two n lines faults = record { segments = 2; detector = true; tables = two_columns ∷ []; sessions = sessions_of n; lines = lines; faults = faults }
+at_two n lines faults = record { segments = 2; detector = true; tables = two_columns ∷ []; sessions = sessions_of n; lines = lines; faults = faults; groups = []; restarts = [] }
 
 abbrev pub number : ℕ → Expr
 number n = Lit (value.Int (pos n))

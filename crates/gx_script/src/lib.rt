@@ -4,12 +4,16 @@
 
 ghost use Rattle.gx_script.specs.Hashed.{fault_writes};
 
+pub mod group;
 pub mod line_step;
+pub mod restart;
 pub mod state;
 
 use gx_ids::{Node, Seq, SessionId};
 use gx_tree::{Schema, Stmt, Txt};
+pub use group::SlotGroup;
 pub use line_step::{LineStep, Plain};
+pub use restart::SegmentRestart;
 pub use state::SessionState;
 use std::hash::{Hash, Hasher};
 
@@ -56,4 +60,6 @@ pub struct Script {
     pub sessions: Seq<Txt>,
     pub lines: Seq<Line>,
     pub faults: Seq<LinkFault>,
+    pub groups: Seq<SlotGroup>,
+    pub restarts: Seq<SegmentRestart>,
 }

@@ -101,7 +101,7 @@ module _ (tables : List Schema) (table : Table) where
 
 -- A SLICE THAT IS RIGHT
 abbrev pub some_script : List Schema → Script
-some_script tables = record { segments = 0; detector = false; tables = tables; sessions = []; lines = []; faults = [] }
+some_script tables = record { segments = 0; detector = false; tables = tables; sessions = []; lines = []; faults = []; groups = []; restarts = [] }
 
 module _ (tables : List Schema) (g : Gxid) (c : Cid) where
   -- a query's condition has a meaning on rows of its table

@@ -44,6 +44,7 @@ use Rattle.gx_sql.specs.Progress.{Progress, start, giving, is_on, is_known, same
 use Rattle.gx_sql.specs.Script.{the_limits, Told, TokensSay, LineSays, Goes, Where, ReadsOn, script_of, ended}
 use Rattle.gx_store.specs.Limits.{IsBoundedLine, IsBoundedStmt}
 use Rattle.gx_store.specs.Language.{table_name, IsName, IsTable, IsLine, lines_in, AreLinesNumbered, BeginInOrder, IsFault, HasFaultsOnce}
+use Rattle.gx_store.specs.Heads.{AreGroups, IsGroup}
 use Rattle.gx_sql.proofs.Held.{length_snoc}
 use Rattle.gx_sql.proofs.Having.{AreProper, Has, AreSome, IsNamed, tokens_proper, front, back, behind_has, list_has, parens_have, name_named}
 use Rattle.gx_sql.proofs.Small.{IsSmallStmt, stmt_small}
@@ -374,8 +375,13 @@ pub record IsKept (script : Script) : Type 0 where
   pub few_lines : length script.lines ≤ 100000
   pub numbers : AreLinesNumbered [] script.lines
   pub order : BeginInOrder 0 script.lines (length script.sessions)
+  pub groups : AreGroups (length script.sessions) script.groups
+  pub restarts : script.restarts ≡ []
   pub faults : All (IsFault script.segments) script.faults
   pub once : HasFaultsOnce script
+
+no_groups : (sessions : ℕ) → AreGroups sessions []
+no_groups sessions = record { each = All-nil (IsGroup sessions); names = tt; few = omega arith; once = tt }
 
 ended_keeps : (number : ℕ) (o : Option ℕ) (p : Progress) (s : Script) → p.segments ≡ o → number ≤ 100001 → Keeps number p → Ok s ≡ ended number p o → IsKept s
 ended_keeps number None p s o l k e = absurd cc
@@ -397,6 +403,8 @@ ended_keeps number (Some n) p s o l k e =
       few_lines = omega arith;
       numbers = k.numbers;
       order = subst (BeginInOrder 0 p.lines) (sym (length_names p.sessions)) k.order;
+      groups = no_groups _;
+      restarts = refl;
       faults = faults.2;
       once = faults.3;
     })

@@ -159,6 +159,8 @@ script-is bytes s few h =
       few_lines = k.few_lines;
       numbers = k.numbers;
       order = k.order;
+      groups = k.groups;
+      restarts = k.restarts;
       faults = k.faults;
     }
 

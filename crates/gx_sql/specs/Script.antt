@@ -71,7 +71,7 @@ refused number (fault.TooMany l) = refusal.TooMany number l
 
 -- the script of all lines; the detector is on where no line says more
 abbrev pub script_of : ℕ → Progress → Script
-script_of n p = record { segments = n; detector = unwrap_or p.detector true; tables = p.tables; sessions = map (λ s. s.0) p.sessions; lines = p.lines; faults = p.faults }
+script_of n p = record { segments = n; detector = unwrap_or p.detector true; tables = p.tables; sessions = map (λ s. s.0) p.sessions; lines = p.lines; faults = p.faults; groups = []; restarts = [] }
 
 -- at the end; a script that doesn't tell its segments is wrong behind its last line
 abbrev pub ended : ℕ → Progress → Option ℕ → Result Script Refusal

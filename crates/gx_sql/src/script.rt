@@ -106,6 +106,8 @@ fn into_script(alloc: Global, segments: u64, progress: Progress) -> Mem<Script>
         sessions: all_sessions(alloc, sessions)?,
         lines: Seq::from_vec(lines),
         faults: all_faults(alloc, faults)?,
+        groups: Seq::from_vec(Vec::new(alloc)),
+        restarts: Seq::from_vec(Vec::new(alloc)),
     })
 }
 

@@ -6,6 +6,7 @@ use Rattle.gx_script.specs.declared.LinkFault.{LinkFault}
 use Rattle.gx_script.specs.declared.Script.{Script}
 use Rattle.gx_meaning.specs.Statements.{AreDistinct, column_text, IsSchema, IsStmtOf}
 use Rattle.gx_store.specs.Limits.{IsWord, IsBoundedLine, HaveTuplesTo}
+use Rattle.gx_store.specs.Heads.{AreGroups}
 
 abbrev pub table_name : Schema → List ℕ
 table_name table = table.name
@@ -58,6 +59,9 @@ pub record IsScript (script : Script) : Type 0 where
   pub few_lines : length script.lines ≤ 100000
   pub numbers : AreLinesNumbered [] script.lines
   pub order : BeginInOrder 0 script.lines (length script.sessions)
+  pub groups : AreGroups (length script.sessions) script.groups
+  -- no head says yet that a segment restarts
+  pub restarts : script.restarts ≡ []
   pub faults : All (IsFault script.segments) script.faults
 
 -- No link has the same fault of one message twice. A run is what it is either way; a reader keeps each fault once.

@@ -24,6 +24,7 @@ pub mod Ordered
 pub mod Rounds
 pub mod Schedule
 pub mod Limits
+pub mod Heads
 pub mod Language
 pub mod Whole
 pub mod RefusedParts
