@@ -61,7 +61,7 @@ abbrev pub behind_share : Script
 behind_share =
     at_one 3
     (begins 0 ∷ line 0 2 select_all ∷ begins 1 ∷ locks_in 1 2 RowExclusive ∷ begins 2 ∷ locks_in 2 2 Share ∷ locks_in 0 3 RowExclusive
-    ∷ line 1 3 stmt.Commit ∷ line 2 3 stmt.Commit ∷ [])
+    ∷ line 1 3 stmt.Commit ∷ line 2 3 stmt.Commit ∷ line 0 4 stmt.Commit ∷ [])
 
 abbrev pub behind_share_run : World
 behind_share_run = drives 40 behind_share never new_world
@@ -76,7 +76,8 @@ pub record WaitsBehindShare (w : World) : Type 0 where
       ∷ answer 1 3 told.Commit ∷ release 0 2 RowExclusive ∷ release 1 2 RowExclusive
       ∷ hold 0 3 Share ∷ hold 1 3 Share ∷ answer 2 2 told.Locked
       ∷ answer 2 3 told.Commit ∷ release 0 3 Share ∷ release 1 3 Share
-      ∷ hold 0 1 RowExclusive ∷ hold 1 1 RowExclusive ∷ answer 0 3 told.Locked ∷ []
+      ∷ hold 0 1 RowExclusive ∷ hold 1 1 RowExclusive ∷ answer 0 3 told.Locked
+      ∷ answer 0 4 told.Commit ∷ release 0 1 AccessShare ∷ release 0 1 RowExclusive ∷ []
 
 -- A DEADLOCK THROUGH A QUEUE
 -- two blocks have read a table each, a third waits for the first table in the strongest mode; the second block wants to read that
