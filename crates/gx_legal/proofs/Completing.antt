@@ -105,7 +105,7 @@ module _ (script : Script) (point : Point) (line : Stmt) (state : BlockState) (m
   one-there g h one other = some-same g h (sym (subst (λ ms. transaction_of (state_of script session ms) session ms ≡ Some g) whole one) ∙ other)
 
   pub back-no : is_command state line ≡ false → IsLineBack script point session line
-  back-no no yes = absurd (true-false _ yes (subst (λ s. is_command s line ≡ false) state-same no))
+  back-no other is = absurd (true-false _ is (subst (λ s. is_command s line ≡ false) state-same other))
 
   pub back-none : transaction_of (state_of script session marks) session marks ≡ None → IsLineBack script point session line
   back-none none command g some = absurd (none-there none g some)
@@ -125,7 +125,7 @@ module _ (script : Script) (point : Point) (line : Stmt) (state : BlockState) (m
           (back (subst (λ s. is_command s line ≡ true) state-same command) g (subst (λ ms. transaction_of (state_of script session ms) session ms ≡ Some g) whole transaction))
 
   pub caused-no : (reason : Reason) → may_refuse state line reason ≡ false → IsLineCaused script point session reason line
-  caused-no reason no yes = absurd (true-false _ yes (subst (λ s. may_refuse s line reason ≡ false) state-same no))
+  caused-no reason other is = absurd (true-false _ is (subst (λ s. may_refuse s line reason ≡ false) state-same other))
 
   pub caused-none : (reason : Reason) → transaction_of (state_of script session marks) session marks ≡ None → IsLineCaused script point session reason line
   caused-none reason none may g some = absurd (none-there none g some)

@@ -22,16 +22,38 @@ same = (λ x. x, λ x. x)
 module _ (script : Script) (point : Point) (session : SessionId) where
   judged-is : (state : BlockState) (line : Stmt) (reply : StmtAnswer) → is_refusal reply ≡ false → Meets script point session state line reply (judged state line reply) ↔ IsReply script point session state line reply
   judged-is state line (Refused reason) e = absurd cc
-  judged-is Outside (stmt.Begin level) Begin e = same
+  judged-is Outside (stmt.Begin l) Begin e = same
+  judged-is Outside (stmt.Begin l) reply e = same
   judged-is Outside stmt.Commit Commit e = same
+  judged-is Outside stmt.Commit reply e = same
   judged-is Outside stmt.Rollback Rollback e = same
-  judged-is (InBlock level commands) (stmt.Begin other) Begin e = same
+  judged-is Outside stmt.Rollback reply e = same
+  judged-is Outside (stmt.Select query) reply e = same
+  judged-is Outside (stmt.Insert table tuples) reply e = same
+  judged-is Outside (stmt.Update table assigns found) reply e = same
+  judged-is Outside (stmt.Delete table found) reply e = same
+  judged-is Outside (stmt.Lock table mode) reply e = same
+  judged-is (InBlock level commands) (stmt.Begin l) Begin e = same
+  judged-is (InBlock level commands) (stmt.Begin l) reply e = same
   judged-is (InBlock level commands) stmt.Commit Commit e = same
+  judged-is (InBlock level commands) stmt.Commit reply e = same
   judged-is (InBlock level commands) stmt.Rollback Rollback e = same
+  judged-is (InBlock level commands) stmt.Rollback reply e = same
+  judged-is (InBlock level commands) (stmt.Select query) reply e = same
+  judged-is (InBlock level commands) (stmt.Insert table tuples) reply e = same
+  judged-is (InBlock level commands) (stmt.Update table assigns found) reply e = same
+  judged-is (InBlock level commands) (stmt.Delete table found) reply e = same
+  judged-is (InBlock level commands) (stmt.Lock table mode) reply e = same
+  judged-is Failed (stmt.Begin l) reply e = same
   judged-is Failed stmt.Commit Rollback e = same
+  judged-is Failed stmt.Commit reply e = same
   judged-is Failed stmt.Rollback Rollback e = same
-  judged-is Failed line reply e = same
-  judged-is state line reply e = same
+  judged-is Failed stmt.Rollback reply e = same
+  judged-is Failed (stmt.Select query) reply e = same
+  judged-is Failed (stmt.Insert table tuples) reply e = same
+  judged-is Failed (stmt.Update table assigns found) reply e = same
+  judged-is Failed (stmt.Delete table found) reply e = same
+  judged-is Failed (stmt.Lock table mode) reply e = same
 
   refusal-is : (state : BlockState) (line : Stmt) (reason : Reason) → MeetsAs point session state line reason (judged_refusal state line reason) ↔ IsRefused point session state line reason
   refusal-is Outside (stmt.Lock table mode) NotInBlock = same
@@ -47,11 +69,11 @@ module _ (script : Script) (point : Point) (session : SessionId) where
   pub reply-is : (state : BlockState) (marks : List Mark) (line : Stmt) (reply : StmtAnswer) (judgement : Judgement) (b : Bool) → state ≡ state_of script session marks → marks ≡ before point
       → is_refusal reply ≡ false → judgement ≡ judged state line reply
       → IsTrue b ↔ Meets script point session (state_at script session point) line reply judgement → IsTrue b ↔ IsReply script point session (state_at script session point) line reply
-  reply-is state marks line reply judgement b stands whole no is meets = (λ t. here.0 (meets.0 t), λ answers. meets.1 (here.1 answers))
+  reply-is state marks line reply judgement b stands whole plain is meets = (λ t. here.0 (meets.0 t), λ answers. meets.1 (here.1 answers))
     where
       here : Meets script point session (state_at script session point) line reply judgement ↔ IsReply script point session (state_at script session point) line reply
       here = subst (λ j. Meets script point session (state_at script session point) line reply j ↔ IsReply script point session (state_at script session point) line reply)
-          (sym (is ∙ ap (λ s. judged s line reply) (at-point state marks stands whole))) (judged-is (state_at script session point) line reply no)
+          (sym (is ∙ ap (λ s. judged s line reply) (at-point state marks stands whole))) (judged-is (state_at script session point) line reply plain)
 
   pub refused-is : (state : BlockState) (marks : List Mark) (line : Stmt) (reason : Reason) (judgement : Judgement) (b : Bool) → state ≡ state_of script session marks → marks ≡ before point
       → judgement ≡ judged_refusal state line reason

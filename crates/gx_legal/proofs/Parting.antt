@@ -1,5 +1,5 @@
 -- What is legal of a mark is its four parts together.
-use Rattle.std.proofs.Common.{◌≡◌, ℕ, true, false, Some, refl, sym, ◌∙◌, subst}
+use Rattle.std.proofs.Common.{◌≡◌, ◌↔◌, ℕ, Bool, true, false, IsTrue, Some, None, refl, sym, ◌∙◌, subst}
 use Rattle.gx_ids.specs.declared.ids.Gxid.{Gxid}
 use Rattle.gx_ids.specs.declared.ids.Node.{Node}
 use Rattle.gx_ids.specs.declared.ids.SessionId.{SessionId}
@@ -15,13 +15,13 @@ use Rattle.gx_store.specs.Answers.{GoesTo, IsAnswer, IsDone}
 use Rattle.gx_store.specs.Commands.{RunsLine, state_at}
 use Rattle.gx_store.specs.Legal.{LegalAnswer, LegalMark}
 use Rattle.gx_store.specs.Lines.{BlockState, Failed, InBlock, Outside, cid_of, is_command, level_of, transaction_of}
-use Rattle.gx_store.specs.Parts.{HasCause, HasReturned, HasSucceeded, IsLegalBeside, IsLegalRefusal, IsLegalRefused, IsLegalReply, IsLegalRow, IsLegalStatement, IsRefused, IsRefusedFor, IsReply}
+use Rattle.gx_store.specs.Parts.{HasCause, HasReturned, HasSucceeded, IsAnswerBeside, IsAnswerRefused, IsLegalBeside, IsLegalRefusal, IsLegalRefused, IsLegalReply, IsLegalRow, IsLegalStatement, IsRefused, IsRefusedFor, IsReply}
 use Rattle.gx_store.specs.Points.{Point, before}
 use Rattle.gx_store.specs.Protocol.{IsReturned}
 use Rattle.gx_store.specs.Refusals.{IsCause, IsRefusal, may_refuse}
 use Rattle.gx_tree.specs.declared.stmt.Stmt.{Stmt}
 use Rattle.gx_tree.specs.declared.stmt.Stmt.TheVariants as stmt
-use Rattle.gx_legal.specs.Answers.{is_refusal}
+use Rattle.gx_legal.specs.Answers.{is_refusal, refusal_in}
 use Rattle.gx_legal.proofs.Reasons.{reason-of}
 
 module _ (script : Script) (point : Point) (session : SessionId) where
@@ -286,6 +286,24 @@ module _ (script : Script) (point : Point) (session : SessionId) where
 
   legal-reply : (number : ℕ) (reply : StmtAnswer) → is_refusal reply ≡ false → IsLegalReply script point session number reply → HasReturned script point session → LegalAnswer script point session number reply
   legal-reply number reply plain is back = record { order = is.order; line = is.line; runs = is.runs; is = reply-answers (state_at script session point) is.line reply plain is.is (back is.line is.runs) }
+
+-- BY WHETHER AN ANSWER IS A REFUSAL
+module _ (script : Script) (point : Point) (session : SessionId) where
+  pub refused-some : (reply : StmtAnswer) (reason : Reason) (b : Bool) → refusal_in reply ≡ Some reason → IsTrue b ↔ IsLegalRefused script point session reason → IsTrue b ↔ IsAnswerRefused script point session reply
+  refused-some (Refused other) reason b e is = subst (λ r. IsTrue b ↔ IsLegalRefused script point session r) (sym (some-same other reason e)) is
+  refused-some reply reason b e is = absurd (cc)
+
+  pub refused-none : (reply : StmtAnswer) → refusal_in reply ≡ None → IsAnswerRefused script point session reply
+  refused-none (Refused other) e = absurd (cc)
+  refused-none reply e = tt
+
+  pub beside-some : (reply : StmtAnswer) (reason : Reason) (b : Bool) → refusal_in reply ≡ Some reason → IsTrue b ↔ HasCause script point session reason → IsTrue b ↔ IsAnswerBeside script point session reply
+  beside-some (Refused other) reason b e is = subst (λ r. IsTrue b ↔ HasCause script point session r) (sym (some-same other reason e)) is
+  beside-some reply reason b e is = absurd (cc)
+
+  pub beside-none : (reply : StmtAnswer) (b : Bool) → refusal_in reply ≡ None → IsTrue b ↔ HasReturned script point session → IsTrue b ↔ IsAnswerBeside script point session reply
+  beside-none (Refused other) b e is = absurd (cc)
+  beside-none reply b e is = is
 
 abbrev pub Parts : Script → Point → Mark → Type 0
 Parts script point m = IsLegalRow script point m × IsLegalStatement script point m × IsLegalRefusal script point m × IsLegalBeside script point m

@@ -1,5 +1,5 @@
 -- By what an answer to a line is judged.
-use Rattle.std.specs.Prelude.{◌≡◌, ◌+◌, ℕ, Bool, true, false}
+use Rattle.std.specs.Prelude.{◌≡◌, ◌+◌, ℕ, Bool, true, false, Option, Some, None}
 use Rattle.gx_ids.specs.declared.ids.SessionId.{SessionId}
 use Rattle.gx_script.specs.declared.Script.{Script}
 use Rattle.gx_store.specs.declared.answer.Refused.{Refused as Reason}
@@ -55,6 +55,10 @@ judged_refusal Failed stmt.Rollback reason = by.Fails
 judged_refusal Failed line InFailedBlock = by.Holds
 judged_refusal Failed line reason = by.Fails
 judged_refusal state line reason = by.Refused reason
+
+abbrev pub refusal_in : StmtAnswer → Option Reason
+refusal_in (Refused reason) = Some reason
+refusal_in _ = None
 
 abbrev pub is_refusal : StmtAnswer → Bool
 is_refusal (Refused reason) = true

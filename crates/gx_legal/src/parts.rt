@@ -1,11 +1,12 @@
 // Whether a mark may stand at a point, in the four parts of what is legal of it.
-ghost use Rattle.std.specs.Prelude.{◌↔◌, IfOk, IsTrue};
+ghost use Rattle.std.specs.Prelude.{◌≡◌, ◌↔◌, IfOk, IsTrue};
 ghost use Rattle.gx_script.specs.declared.Script.{Script as OneScript};
 ghost use Rattle.gx_store.specs.declared.mark.Mark.{Mark as OneMark};
 ghost use Rattle.gx_store.specs.Language.{IsScript};
 ghost use Rattle.gx_store.specs.Legal.{LegalMark};
-ghost use Rattle.gx_store.specs.Parts.{IsLegalBeside, IsLegalRefusal, IsLegalRow, IsLegalStatement};
+ghost use Rattle.gx_store.specs.Parts.{IsAnswerBeside, IsAnswerRefused, IsLegalBeside, IsLegalRefusal, IsLegalRow, IsLegalStatement};
 ghost use Rattle.gx_store.specs.Points.{Point};
+ghost use Rattle.gx_legal.specs.Answers.{refusal_in};
 ghost use Rattle.gx_legal.specs.Moments.{point_of};
 
 use crate::answers::is_legal_reply;
@@ -17,8 +18,8 @@ use crate::refusals::{has_cause, is_legal_refused};
 use crate::snaps::is_legal_snap;
 use crate::starts::is_legal_start;
 use crate::verdicts::is_legal_verdict;
-use gx_ids::Mem;
-use gx_store::{Mark, StmtAnswer};
+use gx_ids::{Mem, SessionId};
+use gx_store::{Mark, Refused, StmtAnswer};
 use std::alloc::Global;
 
 /// A mark is legal where all of its parts are: writes and skips; statements; refusals; and what is asked beside these.
@@ -69,6 +70,35 @@ pub fn is_legal_statement(alloc: Global, moment: &Moment<'_, '_>, mark: &Mark) -
     }
 }
 
+fn refusal_of(answer: &StmtAnswer) -> Option<Refused>
+    ensures { result ≡ refusal_in answer.now }
+{
+    match answer {
+        StmtAnswer::Refused(reason) => Some(*reason),
+        _ => None,
+    }
+}
+
+fn is_answer_refused(alloc: Global, moment: &Moment<'_, '_>, session: SessionId, answer: &StmtAnswer) -> Mem<bool>
+    requires { IsScript moment.now.script.now }
+    ensures { IfOk result (λ is. IsTrue is ↔ IsAnswerRefused moment.now.script.now (point_of moment.now) session answer.now) }
+{
+    match refusal_of(answer) {
+        Some(reason) => is_legal_refused(alloc, moment, session, reason),
+        None => Ok(true),
+    }
+}
+
+fn is_answer_beside(alloc: Global, moment: &Moment<'_, '_>, session: SessionId, answer: &StmtAnswer) -> Mem<bool>
+    requires { IsScript moment.now.script.now }
+    ensures { IfOk result (λ is. IsTrue is ↔ IsAnswerBeside moment.now.script.now (point_of moment.now) session answer.now) }
+{
+    match refusal_of(answer) {
+        Some(reason) => has_cause(alloc, moment, session, reason),
+        None => has_returned(alloc, moment, session),
+    }
+}
+
 /// Whether it may as a refusal, or as a fault.
 pub fn is_legal_refusal(alloc: Global, moment: &Moment<'_, '_>, mark: &Mark) -> Mem<bool>
     requires { IsScript moment.now.script.now }
@@ -82,10 +112,8 @@ pub fn is_legal_refusal(alloc: Global, moment: &Moment<'_, '_>, mark: &Mark) -> 
             image,
         } => is_legal_fault(alloc, moment, (*gxid, *cid), *rid, image),
         Mark::Answer {
-            session,
-            answer: StmtAnswer::Refused(reason),
-            ..
-        } => is_legal_refused(alloc, moment, *session, *reason),
+            session, answer, ..
+        } => is_answer_refused(alloc, moment, *session, answer),
         _ => Ok(true),
     }
 }
@@ -99,11 +127,8 @@ pub fn is_legal_beside(alloc: Global, moment: &Moment<'_, '_>, mark: &Mark) -> M
     match mark {
         Mark::Recheck { round, verdict, .. } => Ok(is_legal_verdict(moment, *round, verdict)),
         Mark::Answer {
-            session,
-            answer: StmtAnswer::Refused(reason),
-            ..
-        } => has_cause(alloc, moment, *session, *reason),
-        Mark::Answer { session, .. } => has_returned(alloc, moment, *session),
+            session, answer, ..
+        } => is_answer_beside(alloc, moment, *session, answer),
         _ => Ok(true),
     }
 }

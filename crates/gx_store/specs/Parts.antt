@@ -127,9 +127,13 @@ pub record IsLegalRefused (script : Script) (point : Point) (session : SessionId
   pub runs : RunsLine script point session line
   pub is : IsRefused point session (state_at script session point) line reason
 
+abbrev pub IsAnswerRefused : Script → Point → SessionId → StmtAnswer → Type 0
+IsAnswerRefused script point session (Refused reason) = IsLegalRefused script point session reason
+IsAnswerRefused script point session _ = Unit {0}
+
 abbrev pub IsLegalRefusal : Script → Point → Mark → Type 0
 IsLegalRefusal script point (mark.Fault g c rid image) = LegalFault script point g c rid image
-IsLegalRefusal script point (mark.Answer s n (Refused reason)) = IsLegalRefused script point s reason
+IsLegalRefusal script point (mark.Answer s n a) = IsAnswerRefused script point s a
 IsLegalRefusal script point _ = Unit {0}
 
 -- BESIDE THESE
@@ -151,8 +155,11 @@ IsLineCaused script point session reason line = may_refuse (state_at script sess
 abbrev pub HasCause : Script → Point → SessionId → Reason → Type 0
 HasCause script point session reason = (line : Stmt) → RunsLine script point session line → IsLineCaused script point session reason line
 
+abbrev pub IsAnswerBeside : Script → Point → SessionId → StmtAnswer → Type 0
+IsAnswerBeside script point session (Refused reason) = HasCause script point session reason
+IsAnswerBeside script point session _ = HasReturned script point session
+
 abbrev pub IsLegalBeside : Script → Point → Mark → Type 0
 IsLegalBeside script point (mark.Recheck round own verdict) = LegalVerdict point round verdict
-IsLegalBeside script point (mark.Answer s n (Refused reason)) = HasCause script point s reason
-IsLegalBeside script point (mark.Answer s n answer) = HasReturned script point s
+IsLegalBeside script point (mark.Answer s n a) = IsAnswerBeside script point s a
 IsLegalBeside script point _ = Unit {0}
