@@ -72,6 +72,7 @@ grant-passes before node g object mode legal wait earlier met = by_test (is_ahea
         let a = Any-from_list_any (λ hold. (hold.gxid.0 == g.0) && meets wait hold) holds (flipped _ e) in
         let p = parts (a.1.gxid.0 == g.0) (meets wait a.1) a.4 in
         (a.0, a.1, a.2, a.3, (same-gxid a.1.gxid g p.0, Meets_from_test wait a.1 p.1))
+
 passes-none : (before : List Mark) (m : Mark) → GrantsLegally before m → PassesNobody before m
 passes-none before (mark.Hold node g object mode) legal = grant-passes before node g object mode legal
 passes-none before m legal = tt

@@ -234,8 +234,8 @@ stop : (g : Gxid) (k : Change) (m : Moved) (rid : Rid) (rest : List Rid) (count 
 stop g k m rid rest count t d f =
     let a = stop-keeps g k (Goes g) (change_goes g k) m rid t d f in
     let b =
-        subst (Goes g) a.is
-        (wait_goes g a.wanted a.before (awaited-of a.before.seg.versions d.version.gxid a.wanted.object a.end (ap (has_version d.version.gxid.0) a.versions ∙ written-so m.seg d.version.gxid.0 f.writers (or-second _ _ d.unsettled))) a.kept) in
+    subst (Goes g) a.is
+    (wait_goes g a.wanted a.before (awaited-of a.before.seg.versions d.version.gxid a.wanted.object a.end (ap (has_version d.version.gxid.0) a.versions ∙ written-so m.seg d.version.gxid.0 f.writers (or-second _ _ d.unsettled))) a.kept) in
     same-phase d.stopped.seg g _ b.writers refl
 
 change_ends : (g : Gxid) (k : Change) → Ends g k (Goes g) Keeps

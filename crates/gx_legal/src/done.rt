@@ -116,7 +116,12 @@ pub fn has_succeeded(
 }
 
 // Where the line is a command, whether it is back.
-fn is_line_back(alloc: Global, moment: &Moment<'_, '_>, session: SessionId, line: &Stmt) -> Mem<bool>
+fn is_line_back(
+    alloc: Global,
+    moment: &Moment<'_, '_>,
+    session: SessionId,
+    line: &Stmt,
+) -> Mem<bool>
     requires script { IsScript moment.now.script.now }
     requires line { IsStmtOf moment.now.script.now.tables line.now }
     requires short { IsShort line.now }

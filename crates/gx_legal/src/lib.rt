@@ -69,7 +69,9 @@ pub use images::is_same_image;
 pub use marks::{has_own_snapshot, is_aborted, is_committed};
 pub use moment::Moment;
 pub use overtaken_rows::is_overtaken_row;
-pub use parts::{is_legal_beside, is_legal_mark, is_legal_refusal, is_legal_row, is_legal_statement};
+pub use parts::{
+    is_legal_beside, is_legal_mark, is_legal_refusal, is_legal_row, is_legal_statement,
+};
 pub use skips::is_skip_of;
 pub use steps::legal;
 pub use told::tells;

@@ -79,7 +79,12 @@ fn refusal_of(answer: &StmtAnswer) -> Option<Refused>
     }
 }
 
-fn is_answer_refused(alloc: Global, moment: &Moment<'_, '_>, session: SessionId, answer: &StmtAnswer) -> Mem<bool>
+fn is_answer_refused(
+    alloc: Global,
+    moment: &Moment<'_, '_>,
+    session: SessionId,
+    answer: &StmtAnswer,
+) -> Mem<bool>
     requires { IsScript moment.now.script.now }
     ensures { IfOk result (λ is. IsTrue is ↔ IsAnswerRefused moment.now.script.now (point_of moment.now) session answer.now) }
 {
@@ -89,7 +94,12 @@ fn is_answer_refused(alloc: Global, moment: &Moment<'_, '_>, session: SessionId,
     }
 }
 
-fn is_answer_beside(alloc: Global, moment: &Moment<'_, '_>, session: SessionId, answer: &StmtAnswer) -> Mem<bool>
+fn is_answer_beside(
+    alloc: Global,
+    moment: &Moment<'_, '_>,
+    session: SessionId,
+    answer: &StmtAnswer,
+) -> Mem<bool>
     requires { IsScript moment.now.script.now }
     ensures { IfOk result (λ is. IsTrue is ↔ IsAnswerBeside moment.now.script.now (point_of moment.now) session answer.now) }
 {
@@ -112,7 +122,9 @@ pub fn is_legal_refusal(alloc: Global, moment: &Moment<'_, '_>, mark: &Mark) -> 
             image,
         } => is_legal_fault(alloc, moment, (*gxid, *cid), *rid, image),
         Mark::Answer {
-            session, answer, ..
+            session,
+            answer,
+            ..
         } => is_answer_refused(alloc, moment, *session, answer),
         _ => Ok(true),
     }
@@ -127,7 +139,9 @@ pub fn is_legal_beside(alloc: Global, moment: &Moment<'_, '_>, mark: &Mark) -> M
     match mark {
         Mark::Recheck { round, verdict, .. } => Ok(is_legal_verdict(moment, *round, verdict)),
         Mark::Answer {
-            session, answer, ..
+            session,
+            answer,
+            ..
         } => is_answer_beside(alloc, moment, *session, answer),
         _ => Ok(true),
     }

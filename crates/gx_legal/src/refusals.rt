@@ -185,7 +185,12 @@ fn is_refused(
 }
 
 /// Whether the session's line under way may be refused so.
-pub fn is_legal_refused(alloc: Global, moment: &Moment<'_, '_>, session: SessionId, reason: Refused) -> Mem<bool>
+pub fn is_legal_refused(
+    alloc: Global,
+    moment: &Moment<'_, '_>,
+    session: SessionId,
+    reason: Refused,
+) -> Mem<bool>
     requires { IsScript moment.now.script.now }
     ensures { IfOk result (λ is. IsTrue is ↔ IsLegalRefused moment.now.script.now (point_of moment.now) session reason) }
 {
@@ -222,7 +227,12 @@ fn is_caused(
 }
 
 /// Whether the cause of a refusal stands as a segment has noted it.
-pub fn has_cause(alloc: Global, moment: &Moment<'_, '_>, session: SessionId, reason: Refused) -> Mem<bool>
+pub fn has_cause(
+    alloc: Global,
+    moment: &Moment<'_, '_>,
+    session: SessionId,
+    reason: Refused,
+) -> Mem<bool>
     requires { IsScript moment.now.script.now }
     ensures { IfOk result (λ is. IsTrue is ↔ HasCause moment.now.script.now (point_of moment.now) session reason) }
 {

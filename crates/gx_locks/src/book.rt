@@ -9,7 +9,9 @@ ghost use Rattle.gx_locks.specs.Kept.{AreOnce};
 ghost use Rattle.gx_locks.specs.Locks.{blockers};
 ghost use Rattle.gx_locks.specs.Queue.{holds_up};
 
-use crate::claims::{all_blockers, copy_claims, find_same, is_any_met, is_any_own, is_any_same, is_met};
+use crate::claims::{
+    all_blockers, copy_claims, find_same, is_any_met, is_any_own, is_any_same, is_met,
+};
 use crate::hold::Hold;
 use crate::hold_list::HoldList;
 use crate::index::Index;

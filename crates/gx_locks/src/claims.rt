@@ -75,9 +75,7 @@ pub(crate) fn find_same(holds: &[Hold], claim: &Claim) -> Option<Hold>
 pub(crate) fn is_any_own(holds: &[Hold], gxid: Gxid, wait: &Claim) -> bool
     ensures { result ≡ list_any (λ hold. (hold.claim.gxid.0 == gxid.0) && meets wait.now hold.claim) holds.now }
 {
-    holds
-        .iter()
-        .any(|hold| hold.claim.gxid == gxid && is_met(wait, &hold.claim))
+    holds.iter().any(|hold| hold.claim.gxid == gxid && is_met(wait, &hold.claim))
 }
 
 // The transactions of a list, rising, each once.

@@ -9,9 +9,9 @@ pub mod line_step;
 pub mod restart;
 pub mod state;
 
+pub use group::SlotGroup;
 use gx_ids::{Node, Seq, SessionId};
 use gx_tree::{Schema, Stmt, Txt};
-pub use group::SlotGroup;
 pub use line_step::{LineStep, Plain};
 pub use restart::SegmentRestart;
 pub use state::SessionState;

@@ -8,15 +8,19 @@ use Rattle.gx_legal.proofs.done.is_line_back.Goals as goal
 
 pub returns-then-not-is_command : goal.returns-then-not-is_command
 returns-then-not-is_command c =
-    let m = c.args.moment.now in
-    (λ t. back-no m.script.now (point_of m) c.args.line.now (state_in c.standing_at-block.result.block) m.before.now m.whole c.args.session c.standing_at-block.ensures.is.state
-    (sym c.is_command.ensures ∙ c.if-not-is_command.true), λ back. refl)
+    let m = c.args.moment.now in (
+      λ t. back-no m.script.now (point_of m) c.args.line.now (state_in c.standing_at-block.result.block) m.before.now m.whole c.args.session c.standing_at-block.ensures.is.state
+          (sym c.is_command.ensures ∙ c.if-not-is_command.true),
+      λ back. refl,
+    )
 
 pub returns-in_default : goal.returns-in_default
 returns-in_default c =
-    let m = c.args.moment.now in
-    (λ t. back-none m.script.now (point_of m) c.args.line.now (state_in c.standing_at-block.result.block) m.before.now m.whole c.args.session c.standing_at-block.ensures.is.state
-    (sym c.in_default.ensures), λ back. refl)
+    let m = c.args.moment.now in (
+      λ t. back-none m.script.now (point_of m) c.args.line.now (state_in c.standing_at-block.result.block) m.before.now m.whole c.args.session c.standing_at-block.ensures.is.state
+          (sym c.in_default.ensures),
+      λ back. refl,
+    )
 
 pub number_in-requires : goal.number_in-requires
 number_in-requires c =

@@ -8,15 +8,19 @@ use Rattle.gx_legal.proofs.refusals.is_caused.Goals as goal
 
 pub returns-then-not-may_refuse : goal.returns-then-not-may_refuse
 returns-then-not-may_refuse c =
-    let m = c.args.moment.now in
-    (λ t. caused-no m.script.now (point_of m) c.args.line.now (state_in c.standing_at-block.result.block) m.before.now m.whole c.args.session c.standing_at-block.ensures.is.state
-    c.args.reason (sym c.may_refuse.ensures ∙ c.if-not-may_refuse.true), λ caused. refl)
+    let m = c.args.moment.now in (
+      λ t. caused-no m.script.now (point_of m) c.args.line.now (state_in c.standing_at-block.result.block) m.before.now m.whole c.args.session c.standing_at-block.ensures.is.state
+          c.args.reason (sym c.may_refuse.ensures ∙ c.if-not-may_refuse.true),
+      λ caused. refl,
+    )
 
 pub returns-in_default : goal.returns-in_default
 returns-in_default c =
-    let m = c.args.moment.now in
-    (λ t. caused-none m.script.now (point_of m) c.args.line.now (state_in c.standing_at-block.result.block) m.before.now m.whole c.args.session c.standing_at-block.ensures.is.state
-    c.args.reason (sym c.in_default.ensures), λ caused. refl)
+    let m = c.args.moment.now in (
+      λ t. caused-none m.script.now (point_of m) c.args.line.now (state_in c.standing_at-block.result.block) m.before.now m.whole c.args.session c.standing_at-block.ensures.is.state
+          c.args.reason (sym c.in_default.ensures),
+      λ caused. refl,
+    )
 
 pub number_in-requires : goal.number_in-requires
 number_in-requires c =

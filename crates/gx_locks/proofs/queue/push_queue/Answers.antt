@@ -15,12 +15,12 @@ loop-wait-preserved c =
     let old : List Gxid = c.loop-wait.gxids.items in
     elim c.if-holds_up.branch [
       | then-holds_up+in_ok-push w ↦
-        ap (λ (l : List Gxid). l ++ rest) (ap (λ v. v.items) w.gxids-is ∙ w.in_ok-push.ensures.items)
-        ∙ append_assoc old (_ ∷ []) rest
-        ∙ ap (λ (l : List Gxid). old ++ l) (sym (blockers-step (claims_in c.args.book.now) c.args.waits.now c.args.claim.now i _ c.loop-wait-test.true (sym c.if-is_same_claim.ensures) _ (sym w.if-holds_up.ensures)))
-        ∙ c.loop-wait.invariant
+          ap (λ (l : List Gxid). l ++ rest) (ap (λ v. v.items) w.gxids-is ∙ w.in_ok-push.ensures.items)
+          ∙ append_assoc old (_ ∷ []) rest
+          ∙ ap (λ (l : List Gxid). old ++ l) (sym (blockers-step (claims_in c.args.book.now) c.args.waits.now c.args.claim.now i _ c.loop-wait-test.true (sym c.if-is_same_claim.ensures) _ (sym w.if-holds_up.ensures)))
+          ∙ c.loop-wait.invariant
       | else-holds_up w ↦
-        ap (λ (l : List Gxid). l ++ rest) (ap (λ v. v.items) w.gxids-is)
-        ∙ ap (λ (l : List Gxid). old ++ l) (sym (blockers-step (claims_in c.args.book.now) c.args.waits.now c.args.claim.now i _ c.loop-wait-test.true (sym c.if-is_same_claim.ensures) _ (sym w.if-holds_up.ensures)))
-        ∙ c.loop-wait.invariant
+          ap (λ (l : List Gxid). l ++ rest) (ap (λ v. v.items) w.gxids-is)
+          ∙ ap (λ (l : List Gxid). old ++ l) (sym (blockers-step (claims_in c.args.book.now) c.args.waits.now c.args.claim.now i _ c.loop-wait-test.true (sym c.if-is_same_claim.ensures) _ (sym w.if-holds_up.ensures)))
+          ∙ c.loop-wait.invariant
     ]

@@ -22,5 +22,5 @@ returns-then-is_empty c =
     (elim c.then-is_empty.branch [
       | then-is_empty-via-then-is_empty w ↦ empty c.self.inside.waits.items holds c.args.claim.now (grind (arith, common_steps, c.is_empty.ensures, w.if-is_empty.true))
       | then-is_empty-via-else-is_empty+then-is_unawaited w ↦
-        none-up holds c.args.claim.now c.self.inside.waits.items (none-awaits c.self.inside.book c.self.inside.waits.items c.args.claim.now.object c.self.invariant (sym w.is_unawaited.ensures ∙ w.if-is_unawaited.true))
+          none-up holds c.args.claim.now c.self.inside.waits.items (none-awaits c.self.inside.book c.self.inside.waits.items c.args.claim.now.object c.self.invariant (sym w.is_unawaited.ensures ∙ w.if-is_unawaited.true))
     ]))

@@ -17,19 +17,20 @@ returns-then-standing-clause-ok c =
     let holds : List Claim = claims_in c.self.inside.book in
     let waits : List Claim = c.self.inside.waits.items in
     let held : list_any (same_claim claim) holds ≡ true = sym c.standing-standing.ensures.held ∙ c.if-standing.true in
-    subst (λ (locks : Locks). (is_clear locks.holds locks.waits claim ≡ true) × (locks ≡ record locks { holds = with_claim claim locks.holds })) c.self.view_is
-    (held-clear holds waits claim c.self.invariant.exclusive held,
-    ap (λ (b : Bool). let l : Locks = record { node = c.self.inside.node; holds = cond b holds (holds ++ claim ∷ []); waits = waits } in l) (sym held))
+    subst (λ (locks : Locks). (is_clear locks.holds locks.waits claim ≡ true) × (locks ≡ record locks { holds = with_claim claim locks.holds })) c.self.view_is (
+      held-clear holds waits claim c.self.invariant.exclusive held,
+      ap (λ (b : Bool). let l : Locks = record { node = c.self.inside.node; holds = cond b holds (holds ++ claim ∷ []); waits = waits } in l) (sym held),
+    )
 
 pub wait-requires-clause-met : goal.wait-requires-clause-met
 wait-requires-clause-met c =
     let claim : Claim = record { gxid = c.args.gxid; object = c.args.object; mode = c.args.mode } in
     elim c.then-not-standing.branch [
       | then-not-standing-via-then-not-standing w ↦
-        subst (λ (locks : Locks). is_clear locks.holds locks.waits claim ≡ false) c.self.view_is
-        (unclear-met (claims_in c.self.inside.book) c.self.inside.waits.items claim (sym c.standing-standing.ensures.free ∙ free_is c.standing-standing.result.is_free w.if-not-standing.true))
+          subst (λ (locks : Locks). is_clear locks.holds locks.waits claim ≡ false) c.self.view_is
+          (unclear-met (claims_in c.self.inside.book) c.self.inside.waits.items claim (sym c.standing-standing.ensures.free ∙ free_is c.standing-standing.result.is_free w.if-not-standing.true))
       | then-not-standing-via-else-not-standing+then-is_behind w ↦
-        unclear-up c.args.self.now.holds c.args.self.now.waits claim (sym w.if-is_behind.ensures)
+          unclear-up c.args.self.now.holds c.args.self.now.waits claim (sym w.if-is_behind.ensures)
     ]
 
 pub invariant_of-self-2 : goal.invariant_of-self-2
@@ -45,7 +46,8 @@ returns-clause-ok c =
     let waits : List Claim = c.self.inside.waits.items in
     let unheld : list_any (same_claim claim) holds ≡ false = sym c.standing-standing.ensures.held ∙ c.if-standing.false in
     let free : is_free holds claim ≡ true = sym c.standing-standing.ensures.free ∙ not_false c.standing-standing.result.is_free c.if-not-standing.false in
-    let none : list_any (holds_up holds claim) (ahead claim waits) ≡ false = subst (λ (locks : Locks). list_any (holds_up locks.holds claim) (ahead claim locks.waits) ≡ false) (sym c.self.view_is) (sym c.if-is_behind.ensures) in
-    (subst (λ (locks : Locks). is_clear locks.holds locks.waits claim ≡ true) c.self.view_is (clear-from holds waits claim free none),
-    subst (λ (locks : Locks). (let l : Locks = record { node = c.self.inside.node; holds = claims_in c.add.new.self; waits = waits } in l) ≡ record locks { holds = with_claim claim locks.holds }) c.self.view_is
-    (ap (λ (hs : List Claim). let l : Locks = record { node = c.self.inside.node; holds = hs; waits = waits } in l) (c.in_ok-add.ensures.ok ∙ sym (ap (λ (b : Bool). cond b holds (holds ++ claim ∷ [])) unheld))))
+    let none : list_any (holds_up holds claim) (ahead claim waits) ≡ false = subst (λ (locks : Locks). list_any (holds_up locks.holds claim) (ahead claim locks.waits) ≡ false) (sym c.self.view_is) (sym c.if-is_behind.ensures) in (
+      subst (λ (locks : Locks). is_clear locks.holds locks.waits claim ≡ true) c.self.view_is (clear-from holds waits claim free none),
+      subst (λ (locks : Locks). (let l : Locks = record { node = c.self.inside.node; holds = claims_in c.add.new.self; waits = waits } in l) ≡ record locks { holds = with_claim claim locks.holds }) c.self.view_is
+          (ap (λ (hs : List Claim). let l : Locks = record { node = c.self.inside.node; holds = hs; waits = waits } in l) (c.in_ok-add.ensures.ok ∙ sym (ap (λ (b : Bool). cond b holds (holds ++ claim ∷ [])) unheld))),
+    )
