@@ -26,6 +26,7 @@ use Rattle.gx_store.specs.Journals.{kept_with}
 use Rattle.gx_store.specs.Marks.{is_same_rid}
 use Rattle.gx_store.specs.declared.mark.Mark.TheVariants.{Write}
 use Rattle.gx_rules.specs.Fits.{is_rid_of, is_right_cond, is_right_on, is_right_row, is_same_kind, kinds_in}
+pub use Rattle.gx_rules.proofs.RightRows.{kinds_are, same_kind}
 use Rattle.gx_rules.specs.Segments.{Seg, Version, local_of}
 use Rattle.gx_rules.specs.Shown.{counts, kept_one, last_images, row_in, rows_in, shown}
 use Rattle.gx_rules.specs.Slices.{Moved, adds_version, inserted, inserts_row, starts_from, version, writes_row}
@@ -35,21 +36,6 @@ use Rattle.gx_slices.specs.Picked.{AreTypedOn, IsTypedOn}
 use Rattle.gx_slices.proofs.Gxids.{same_table}
 use Rattle.gx_slices.proofs.Lists.{all_map, and_parts}
 use Rattle.gx_slices.proofs.Owning.{takes_own-with}
-
--- KINDS
-pub same_kind : (k l : Kind) → is_same_kind k l ≡ true → l ≡ k
-same_kind Int Int e = refl
-same_kind Text Text e = refl
-same_kind Int Text e = absurd (cc)
-same_kind Text Int e = absurd (cc)
-
-pub kinds_are : (kinds : List Kind) (row : List Value) → is_right_row kinds row ≡ true → kinds_of row ≡ kinds
-kinds_are [] [] e = refl
-kinds_are [] (v ∷ vs) e = absurd (cc)
-kinds_are (k ∷ ks) [] e = absurd (cc)
-kinds_are (k ∷ ks) (v ∷ vs) e =
-    let parts = and_parts (is_same_kind k (value_kind v)) (is_right_row ks vs) e in
-    ap (λ (l : Kind). l ∷ kinds_of vs) (same_kind k (value_kind v) parts.0) ∙ ap (λ (ls : List Kind). k ∷ ls) (kinds_are ks vs parts.1)
 
 -- THE ROWS THAT ARE SHOWN
 module _ (tables : List Schema) (table : Table) where
