@@ -3,7 +3,7 @@ use Rattle.std.proofs.Common.{◌≡◌, ◌≤◌, ◌⊎◌, inl, inr, ℕ, �
 use Rattle.std.proofs.lemmas.Bool.{and_parts}
 use Rattle.std.proofs.lemmas.Bool.Decides.{nat_tests}
 use Rattle.std.specs.List.{AllByRecursion, list_all}
-use Rattle.std.specs.Prelude.{fold, length}
+use Rattle.std.specs.Prelude.{fold, is_some, length, nat_le, not}
 use Rattle.gx_ids.specs.declared.ids.Cid.{Cid}
 use Rattle.gx_ids.specs.declared.ids.Gxid.{Gxid}
 use Rattle.gx_ids.specs.declared.ids.Table.{Table}
@@ -40,7 +40,8 @@ use Rattle.gx_store.specs.declared.node.NodeEvent.TheVariants as here
 use Rattle.gx_rules.specs.AtSegment as segment
 use Rattle.gx_rules.specs.AtSegment.{if_fits, on_exec, on_message, raised, repeats, resumes, seg_rule, takes, unless_below}
 use Rattle.gx_rules.specs.Changes.{Change, change_of, changes_rows, goes_through, new_image, selected, shown_to, unless_fault}
-use Rattle.gx_rules.specs.Fits.{fits_exec, is_rid_of, is_right_assign, is_right_cond, is_right_on, is_right_row, is_right_slice, kinds_in, table_of}
+use Rattle.gx_rules.specs.Maps.{each_below}
+use Rattle.gx_rules.specs.Fits.{fits_exec, holds_locks, is_rid_of, is_right_assign, is_right_cond, is_right_on, is_right_row, is_right_slice, is_waiting, kinds_in, reads_nothing, table_of}
 use Rattle.gx_rules.specs.Locks.{hold_mark}
 use Rattle.gx_rules.specs.Machine.{World, new_world, seg_can, seg_did, world_of}
 use Rattle.gx_rules.specs.Running.{is_granted, runs_locked, runs_slice, starts_slice, suspends, unless_end}
@@ -258,11 +259,15 @@ module _ (script : Script) where
   fourth : (a b d e f : Bool) → (a && (b && (d && (e && f)))) ≡ true → e ≡ true
   fourth a b d e f q = grind arith
 
+  fits-right : (s : Seg) (g : Gxid) (c : Cid) (snapshot : Option Snapshot) (horizon : Gxid) (x : Slice) → fits_exec script s g c snapshot horizon x ≡ true → is_right_slice script g c x ≡ true
+  fits-right s g c snapshot horizon x fit =
+      fourth (nat_le horizon.0 g.0) (each_below horizon.0 (λ h. not (holds_locks (s.locals h)))) (is_some snapshot || reads_nothing x) (is_right_slice script g c x) (not (nat_lt (s.locals g.0).last c.0 && is_waiting (s.locals g.0))) fit
+
   order-right : (s : Seg) (fails : Bool) → Right s → (g : Gxid) (c : Cid) (level : Level) (snapshot : Option Snapshot) (horizon : Gxid) (x : Slice) → Right (on_message script s fails (message.Exec g c level snapshot horizon x)).seg
   order-right s fails r g c level snapshot horizon x = either-right (is_below s.horizon g) (stays s) _ r (by_fit (fits_exec script s g c snapshot horizon x) refl)
     where
       by_fit : (b : Bool) → fits_exec script s g c snapshot horizon x ≡ b → Right (if_fits s b (on_exec script s g c level snapshot horizon x (local_of s g) (local_of s g).phase)).seg
-      by_fit true fit = exec-right s r g c level snapshot horizon x (fourth _ _ _ (is_right_slice script g c x) _ fit) (local_of s g).phase
+      by_fit true fit = exec-right s r g c level snapshot horizon x (fits-right s g c snapshot horizon x fit) (local_of s g).phase
       by_fit false fit = r
 
   -- who runs no slice writes nothing
@@ -318,8 +323,8 @@ module _ (script : Script) where
   pub world-stored : (es : List (Event × Bool)) → 1 ≤ script.segments → AreRowsOfTables script (world_of script es)
   world-stored es some =
       at-events script some (Knows script) (AreRowsOfTables script) (moves_knows script some) (λ i. tt) (λ w n p e x fails t ok next. p) (λ w n p g a next. p)
-      (λ w n p e x fails i place t ok next j. by_node w (eqb j i) p (event-right w n i x fails ok (p i)) j) es
+      (λ w n p e x fails i place t ok next j. by_node w (eqb j i) p (seg_rule script (w.segs i) x fails).seg (event-right w n i x fails ok (p i)) j) es
     where
-      by_node : (w : World) (b : Bool) → AreRowsOfTables script w → {s : Seg} → Right s → (j : ℕ) → Right (if b then s else w.segs j)
-      by_node w true p r j = r
-      by_node w false p r j = p j
+      by_node : (w : World) (b : Bool) → AreRowsOfTables script w → (s : Seg) → Right s → (j : ℕ) → Right (if b then s else w.segs j)
+      by_node w true p s r j = r
+      by_node w false p s r j = p j

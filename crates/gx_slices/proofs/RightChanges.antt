@@ -1,6 +1,6 @@
 -- What a command that changes rows makes of a row of its table's kinds.
-use Rattle.std.proofs.Common.{◌≡◌, ℕ, zero, suc, Bool, true, ◌&&◌, IsSome, List, [], ◌∷◌, slice_get, Option, Some, None, Result, Ok, Err, refl, sym, ap, ◌∙◌, subst}
-use Rattle.std.specs.Prelude.{IsTrue, slice_set}
+use Rattle.std.proofs.Common.{◌≡◌, true, IsSome, List, [], ◌∷◌, slice_get, Option, Some, None, Result, Ok, Err, refl, sym, ap, ◌∙◌, subst}
+use Rattle.std.specs.Prelude.{IsTrue}
 use Rattle.std.specs.List.{AllByRecursion, list_all}
 use Rattle.gx_ids.specs.declared.ids.Cid.{Cid}
 use Rattle.gx_ids.specs.declared.ids.Gxid.{Gxid}
@@ -8,25 +8,24 @@ use Rattle.gx_ids.specs.declared.ids.Table.{Table}
 use Rattle.gx_tree.specs.declared.cond.Cond.{Cond}
 use Rattle.gx_tree.specs.declared.row.KeyedRow.{KeyedRow}
 use Rattle.gx_tree.specs.declared.schema.Kind.{Kind}
-use Rattle.gx_tree.specs.declared.schema.Kind.TheVariants.{Int, Text}
 use Rattle.gx_tree.specs.declared.schema.Schema.{Schema}
 use Rattle.gx_tree.specs.declared.stmt.Assign.{Assign}
 use Rattle.gx_tree.specs.declared.value.Value.{Value}
-use Rattle.gx_meaning.specs.Expressions.{and_then, value_of}
-use Rattle.gx_meaning.specs.Kinds.{IsTyped, kind_of, kinds_of, value_kind}
+use Rattle.gx_meaning.specs.Expressions.{and_then}
+use Rattle.gx_meaning.specs.Kinds.{IsTyped, kind_of, kinds_of}
 use Rattle.gx_meaning.specs.declared.fault.ArithFault.{ArithFault}
 use Rattle.gx_node.specs.Right.{IsRightFor}
-use Rattle.gx_store.specs.Writes.{set_from, set_row}
+use Rattle.gx_store.specs.Writes.{set_row}
 use Rattle.gx_rules.specs.Changes.{new_image}
-use Rattle.gx_rules.specs.Fits.{is_right_assign, is_right_cond, is_right_kind, is_right_on, is_right_row, is_same_kind, kinds_in}
+use Rattle.gx_rules.specs.Fits.{is_right_assign, is_right_cond, is_right_on, is_right_row, kinds_in}
 use Rattle.gx_slices.specs.Agrees.{is_right_image}
 use Rattle.gx_slices.specs.Changing.{IsRightImage, IsTypedFor, slice_in}
 use Rattle.gx_slices.specs.Inserts.{IsRight}
 use Rattle.gx_slices.specs.Picked.{AreTypedOn}
 use Rattle.gx_slices.specs.Setting.{AreSettable, IsSettable}
 use Rattle.gx_slices.proofs.Lists.{and_parts}
-use Rattle.gx_slices.proofs.Rightness.{kinds_are, same_kind, some_script, typed_by}
-use Rattle.gx_rules.proofs.RightRows.{right-on, right-set}
+use Rattle.gx_slices.proofs.Rightness.{some_script, typed_by}
+use Rattle.gx_rules.proofs.RightRows.{kinds_are, right-on, right-set}
 use Rattle.gx_rules.proofs.ValueKinds.{inside-column}
 
 -- A SET LIST
