@@ -50,3 +50,4 @@ pub mod AtSegments
 pub mod AtCoordinators
 pub mod Steps
 pub mod OrdersFit
+pub mod StoredKinds

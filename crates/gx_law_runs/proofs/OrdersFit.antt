@@ -3,44 +3,40 @@ use Rattle.std.proofs.Common.{◌≡◌, ◌≤◌, ◌<◌, ◌⊎◌, inl, inr
 use Rattle.std.proofs.lemmas.Bool.{and_from, and_parts}
 use Rattle.std.proofs.lemmas.Bool.Decides.{nat_tests}
 use Rattle.std.proofs.lemmas.List.Elements.{All-contains, recursion_from_All}
-use Rattle.std.specs.List.{All, AllByRecursion}
+use Rattle.std.specs.List.{AllByRecursion}
 use Rattle.std.specs.Prelude.{length, nat_le}
 use Rattle.gx_lemmas.proofs.Tests.{true-false}
 use Rattle.gx_ids.specs.declared.ids.Cid.{Cid}
 use Rattle.gx_ids.specs.declared.ids.Gxid.{Gxid}
 use Rattle.gx_ids.specs.declared.ids.Node.{Node}
 use Rattle.gx_ids.specs.declared.ids.SessionId.{SessionId}
-use Rattle.gx_tree.specs.declared.part.Part.{Part}
 use Rattle.gx_tree.specs.declared.slice.Slice.{Slice}
 use Rattle.gx_tree.specs.declared.slice.Slice.TheVariants as slice
 use Rattle.gx_tree.specs.declared.stmt.Level.{Level}
 use Rattle.gx_tree.specs.declared.stmt.Stmt.{Stmt}
 use Rattle.gx_tree.specs.declared.stmt.Stmt.TheVariants as stmt
 use Rattle.gx_dsnap.specs.declared.snapshot.Snapshot.{Snapshot}
-use Rattle.gx_waits.specs.declared.graph.LocalGraph.{LocalGraph}
 use Rattle.gx_meaning.specs.Statements.{IsStmtOf}
 use Rattle.gx_meaning.specs.declared.piece.Piece.{Piece}
 use Rattle.gx_msg.specs.declared.message.Message.{Message}
 use Rattle.gx_msg.specs.declared.message.Message.TheVariants as message
-use Rattle.gx_msg.specs.declared.reply.Reply.{Reply}
 use Rattle.gx_msg.specs.declared.reply.Reply.TheVariants as reply
 use Rattle.gx_script.specs.declared.Line.{Line}
 use Rattle.gx_script.specs.declared.Script.{Script}
 use Rattle.gx_store.specs.Language.{IsLine, IsScript}
 use Rattle.gx_store.specs.Lines.{InBlock, is_command, stmt_of}
-use Rattle.gx_store.specs.Marks.{is_aborted, is_same_session}
+use Rattle.gx_store.specs.Marks.{is_same_session}
 use Rattle.gx_store.specs.Points.{marks_in}
 use Rattle.gx_store.specs.Refusals.{the_coordinator}
 use Rattle.gx_store.specs.Whole.{HasItem, HaveItems}
 use Rattle.gx_store.specs.Writes.{dist_of}
 use Rattle.gx_store.specs.declared.event.Event.{Event}
-use Rattle.gx_rules.specs.AtCoordinator.{is_awaited, table_of}
-use Rattle.gx_rules.specs.Coordinators.{Command, work_of}
-use Rattle.gx_rules.specs.Fits.{fits_exec, fits_part, holds_locks, is_right_slice, is_waiting, reads_nothing}
+use Rattle.gx_rules.specs.AtCoordinator.{table_of}
+use Rattle.gx_rules.specs.Fits.{holds_locks, is_right_slice, reads_nothing}
 use Rattle.gx_rules.specs.Machine.{Letter, World, world_of}
 use Rattle.gx_rules.specs.Maps.{each_below}
-use Rattle.gx_rules.specs.Rounds.{awaits_graph, is_report}
-use Rattle.gx_rules.specs.Segments.{Seg, has_ended, local_of}
+use Rattle.gx_rules.specs.Rounds.{awaits_graph}
+use Rattle.gx_rules.specs.Segments.{Seg}
 use Rattle.gx_rules.proofs.RightPieces.{pieces-right}
 use Rattle.gx_dtx.specs.Nodes.{has}
 use Rattle.gx_law_order.specs.Horizons.{AreBelowIn, IsBelowHolders, IsBelowIn}
@@ -48,12 +44,11 @@ use Rattle.gx_law_order.specs.Lists.{Each}
 use Rattle.gx_law_order.specs.Orders.{IsOrder, IsReadBy}
 use Rattle.gx_law_order.specs.Pairs.{Pair}
 use Rattle.gx_law_order.specs.Said.{IsCommand as IsSaidCommand, SaidIn}
-use Rattle.gx_law_order.specs.Scanned.{began_from, closes_block, command_at, command_from, nth_command, stmt_of_command}
-use Rattle.gx_law_order.specs.Standings.{Known, Part as Side, Standing, gx, known_at, part_at}
+use Rattle.gx_law_order.specs.Scanned.{began_from, closes_block, command_at, command_from, nth_command}
+use Rattle.gx_law_order.specs.Standings.{Known, Part as Side, known_at, part_at}
 use Rattle.gx_law_order.specs.Standings.Standing.{Live, One, Preparing}
 use Rattle.gx_law_order.proofs.Above.{IsBelowOwn, world-above, world-above-own}
 use Rattle.gx_law_order.proofs.Always as always
-use Rattle.gx_law_order.proofs.Everywhere as everywhere
 use Rattle.gx_law_order.proofs.Legality as histories
 use Rattle.gx_law_order.proofs.Letters.{IsLetter}
 use Rattle.gx_law_order.proofs.Sendings.{IsOrderLetter}
@@ -63,7 +58,7 @@ use Rattle.gx_law_locks.proofs.Noted.{sent-reported}
 use Rattle.gx_law_locks.proofs.StuckRechecks.{noted-of}
 use Rattle.gx_law_locks.proofs.Whole.{world-rounds}
 use Rattle.gx_law_writes.proofs.Pieces.{IsSliceOf, order-slice}
-use Rattle.gx_law_runs.specs.Fits.{DoLettersFit, FitsHere, FitsThere, HasNoLateWait}
+use Rattle.gx_law_runs.specs.Fits.{DoLettersFit, FitsHere, FitsThere}
 use Rattle.gx_law_runs.proofs.Awaited.{world-asks}
 use Rattle.gx_law_runs.proofs.Fitted.{LetterServes, Served}
 
@@ -100,6 +95,10 @@ module _ (P : Stmt → Type 0) where
       by_tests true false d false f one more = more f
       by_tests false b d z f one more = more f
 
+  only : (its line : Stmt) → P its → (b : Bool) → (if b then (let o : Option Stmt = Some its in o) else None) ≡ Some line → P line
+  only its line p true e = subst P (some-same its line e) p
+  only its line p false e = absurd (cc)
+
   module _ (script : Script) (all : AreSo script.lines) where
     from-so : (session : SessionId) (number : ℕ) (o : Option Stmt) (c : ℕ) (line : Stmt) → ((first : Stmt) → o ≡ Some first → P first) → command_from script session number o c ≡ Some line → P line
     from-so session number (Some (stmt.Begin level)) c line f e = nth-so session (number + 1) c script.lines line all e
@@ -108,21 +107,17 @@ module _ (P : Stmt → Type 0) where
         none : (b : Bool) → (let o : Option Stmt = None in if b then o else None) ≡ Some line → ⊥
         none true e = cc
         none false e = cc
-    from-so session number (Some stmt.Commit) c line f e = only stmt.Commit (f stmt.Commit refl) (c == 1) e
-    from-so session number (Some stmt.Rollback) c line f e = only stmt.Rollback (f stmt.Rollback refl) (c == 1) e
-    from-so session number (Some (stmt.Select q)) c line f e = only (stmt.Select q) (f (stmt.Select q) refl) (c == 1) e
-    from-so session number (Some (stmt.Insert t x)) c line f e = only (stmt.Insert t x) (f (stmt.Insert t x) refl) (c == 1) e
-    from-so session number (Some (stmt.Update t x y)) c line f e = only (stmt.Update t x y) (f (stmt.Update t x y) refl) (c == 1) e
-    from-so session number (Some (stmt.Delete t x)) c line f e = only (stmt.Delete t x) (f (stmt.Delete t x) refl) (c == 1) e
-    from-so session number (Some (stmt.Lock t m)) c line f e = only (stmt.Lock t m) (f (stmt.Lock t m) refl) (c == 1) e
+    from-so session number (Some stmt.Commit) c line f e = only stmt.Commit line (f stmt.Commit refl) (c == 1) e
+    from-so session number (Some stmt.Rollback) c line f e = only stmt.Rollback line (f stmt.Rollback refl) (c == 1) e
+    from-so session number (Some (stmt.Select q)) c line f e = only (stmt.Select q) line (f (stmt.Select q) refl) (c == 1) e
+    from-so session number (Some (stmt.Insert t x)) c line f e = only (stmt.Insert t x) line (f (stmt.Insert t x) refl) (c == 1) e
+    from-so session number (Some (stmt.Update t x y)) c line f e = only (stmt.Update t x y) line (f (stmt.Update t x y) refl) (c == 1) e
+    from-so session number (Some (stmt.Delete t x)) c line f e = only (stmt.Delete t x) line (f (stmt.Delete t x) refl) (c == 1) e
+    from-so session number (Some (stmt.Lock t m)) c line f e = only (stmt.Lock t m) line (f (stmt.Lock t m) refl) (c == 1) e
 
     at-so : (o : Option (SessionId × ℕ)) (c : ℕ) (line : Stmt) → command_at script o c ≡ Some line → P line
     at-so None c line e = absurd (cc)
     at-so (Some began) c line e = from-so began.0 began.1 (stmt_of began.0 began.1 script.lines) c line (λ first f. line-so began.0 began.1 script.lines first all f) e
-
-only : {P : Stmt → Type 0} {line : Stmt} (its : Stmt) → P its → (b : Bool) → (if b then (let o : Option Stmt = Some its in o) else None) ≡ Some line → P line
-only {P = P} {line = line} its p true e = subst P (some-same its line e) p
-only its p false e = absurd (cc)
 
 -- TESTS
 le-of : {a b : ℕ} → a ≤ b → nat_le a b ≡ true
@@ -281,11 +276,11 @@ module _ (script : Script) (is : IsScript script) (items : HaveItems script.line
           (record { step = letter.step; mark = letter.mark; sending = subst (Rattle.gx_store.specs.Messages.IsSending w.steps letter.step letter.mark l.from l.to l.envelope.number) told letter.sending })).0)
           (and_from (round == w.coord.rounds) (awaits_graph w.coord l.from) (itself round w.coord.rounds now) awaits)
         where
-          own : graph.node ≡ l.from → (graph.node.0 == l.from.0) ≡ true
-          own e = ap (λ (n : Node). n.0 == l.from.0) e ∙ itself l.from.0 l.from.0 refl
-
           itself : (a b : ℕ) → a ≡ b → (a == b) ≡ true
           itself a b e = grind (arith, nat_tests)
+
+          own : graph.node ≡ l.from → (graph.node.0 == l.from.0) ≡ true
+          own e = ap (λ (n : Node). n.0 == l.from.0) e ∙ itself l.from.0 l.from.0 refl
       by_message (message.Exec g c level snapshot horizon x) told s = tt
       by_message (message.Prepare g) told s = tt
       by_message (message.Commit g) told s = tt

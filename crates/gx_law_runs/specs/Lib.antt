@@ -7,3 +7,4 @@ pub mod Endings
 pub mod Awaiting
 pub mod Failures
 pub mod Fits
+pub mod Stored

@@ -11,4 +11,5 @@ pub mod reached;
 pub mod replays;
 pub mod rounds;
 pub mod schedules;
+pub mod stored;
 pub mod waits;

@@ -1,5 +1,5 @@
 -- Each piece of a plan is right for the script, where the statement keeps the language.
-use Rattle.std.proofs.Common.{◌≡◌, ◌∙◌, ◌≤◌, ◌<◌, ◌&&◌, ◌||◌, ◌==◌, ◌⊎◌, inl, inr, ℕ, ◌+◌, zero, suc, Bool, IsTrue, true, false, not, is_some, if◌then◌else◌, List, [], ◌∷◌, ◌++◌, Option, Some, None, Result, Ok, Err, ap, refl, sym, subst, arith, length, slice_get}
+use Rattle.std.proofs.Common.{◌≡◌, ◌∙◌, ◌≤◌, ◌<◌, ◌&&◌, ◌||◌, ◌==◌, inl, inr, ℕ, ◌+◌, zero, suc, Bool, true, false, not, is_some, if◌then◌else◌, List, [], ◌∷◌, ◌++◌, Option, Some, None, Result, Ok, Err, ap, refl, sym, subst, arith, length, slice_get}
 use Rattle.std.proofs.lemmas.Bool.{and_from, or_left, or_right}
 use Rattle.std.proofs.lemmas.Bool.Decides.{nat_tests}
 use Rattle.std.proofs.lemmas.List.{length-map}
@@ -33,7 +33,7 @@ use Rattle.gx_meaning.specs.Expressions.{and_then, value_of}
 use Rattle.gx_meaning.specs.Kinds.{kind_of, value_kind}
 use Rattle.gx_meaning.specs.Plan.{insert_pieces, nodes_from, nodes_of, piece, pieces, plan_of, row_pieces, rows_at}
 use Rattle.gx_meaning.specs.Place.{row_place}
-use Rattle.gx_meaning.specs.Statements.{HasColumn, HasKind, IsAssign, IsAt, IsColumn, IsCond, IsGroupItem, IsGroupKey, IsItem, IsKey, IsOneOf, IsOver, IsPlain, IsQuery, IsStmtOf, IsTuple, IsUpdate, KeepsGroups, column_kind, column_kinds}
+use Rattle.gx_meaning.specs.Statements.{IsAssign, IsAt, IsColumn, IsCond, IsGroupItem, IsGroupKey, IsItem, IsKey, IsOneOf, IsPlain, IsQuery, IsStmtOf, IsTuple, KeepsGroups, column_kind, column_kinds}
 use Rattle.gx_meaning.specs.Target.{target_of}
 use Rattle.gx_meaning.specs.declared.fault.ArithFault.{ArithFault}
 use Rattle.gx_meaning.specs.declared.piece.Piece.{Piece}
@@ -41,7 +41,7 @@ use Rattle.gx_meaning.specs.declared.target.Target.{Target}
 use Rattle.gx_meaning.specs.declared.target.Target.TheVariants.{All as AllOfThem}
 use Rattle.gx_script.specs.declared.Script.{Script}
 use Rattle.gx_store.specs.Whole.{HasItem}
-use Rattle.gx_rules.specs.Fits.{is_aggregate, is_among, is_grouping, is_kind, is_rid_of, is_right_assign, is_right_cond, is_right_item, is_right_key, is_right_kind, is_right_on, is_right_query, is_right_row, is_right_slice, is_same_kind, is_same_truth, kinds_in, table_of}
+use Rattle.gx_rules.specs.Fits.{is_aggregate, is_among, is_grouping, is_kind, is_rid_of, is_right_assign, is_right_cond, is_right_item, is_right_key, is_right_kind, is_right_on, is_right_query, is_right_row, is_right_slice, is_same_kind, is_same_truth, kinds_in}
 use Rattle.gx_rules.proofs.ValueKinds.{kind-value}
 
 -- LISTS

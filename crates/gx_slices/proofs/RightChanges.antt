@@ -1,6 +1,6 @@
 -- What a command that changes rows makes of a row of its table's kinds.
-use Rattle.std.proofs.Common.{◌≡◌, ℕ, zero, suc, Bool, true, ◌&&◌, IsSome, List, [], ◌∷◌, slice_get, Option, Some, None, Result, Ok, Err, refl, sym, ap, ◌∙◌, subst}
-use Rattle.std.specs.Prelude.{IsTrue, slice_set}
+use Rattle.std.proofs.Common.{◌≡◌, true, IsSome, List, [], ◌∷◌, slice_get, Option, Some, None, Result, Ok, Err, refl, sym, ap, ◌∙◌, subst}
+use Rattle.std.specs.Prelude.{IsTrue}
 use Rattle.std.specs.List.{AllByRecursion, list_all}
 use Rattle.gx_ids.specs.declared.ids.Cid.{Cid}
 use Rattle.gx_ids.specs.declared.ids.Gxid.{Gxid}
@@ -8,62 +8,27 @@ use Rattle.gx_ids.specs.declared.ids.Table.{Table}
 use Rattle.gx_tree.specs.declared.cond.Cond.{Cond}
 use Rattle.gx_tree.specs.declared.row.KeyedRow.{KeyedRow}
 use Rattle.gx_tree.specs.declared.schema.Kind.{Kind}
-use Rattle.gx_tree.specs.declared.schema.Kind.TheVariants.{Int, Text}
 use Rattle.gx_tree.specs.declared.schema.Schema.{Schema}
 use Rattle.gx_tree.specs.declared.stmt.Assign.{Assign}
 use Rattle.gx_tree.specs.declared.value.Value.{Value}
-use Rattle.gx_meaning.specs.Expressions.{and_then, value_of}
-use Rattle.gx_meaning.specs.Kinds.{IsTyped, kind_of, kinds_of, value_kind}
+use Rattle.gx_meaning.specs.Expressions.{and_then}
+use Rattle.gx_meaning.specs.Kinds.{IsTyped, kind_of, kinds_of}
 use Rattle.gx_meaning.specs.declared.fault.ArithFault.{ArithFault}
 use Rattle.gx_node.specs.Right.{IsRightFor}
-use Rattle.gx_store.specs.Writes.{set_from, set_row}
+use Rattle.gx_store.specs.Writes.{set_row}
 use Rattle.gx_rules.specs.Changes.{new_image}
-use Rattle.gx_rules.specs.Fits.{is_right_assign, is_right_cond, is_right_kind, is_right_on, is_right_row, is_same_kind, kinds_in}
+use Rattle.gx_rules.specs.Fits.{is_right_assign, is_right_cond, is_right_on, is_right_row, kinds_in}
 use Rattle.gx_slices.specs.Agrees.{is_right_image}
 use Rattle.gx_slices.specs.Changing.{IsRightImage, IsTypedFor, slice_in}
 use Rattle.gx_slices.specs.Inserts.{IsRight}
 use Rattle.gx_slices.specs.Picked.{AreTypedOn}
 use Rattle.gx_slices.specs.Setting.{AreSettable, IsSettable}
 use Rattle.gx_slices.proofs.Lists.{and_parts}
-use Rattle.gx_slices.proofs.Rightness.{kinds_are, same_kind, some_script, typed_by}
-use Rattle.gx_rules.proofs.ValueKinds.{inside-column, kind-value}
+use Rattle.gx_slices.proofs.Rightness.{some_script, typed_by}
+use Rattle.gx_rules.proofs.RightRows.{kinds_are, right-on, right-set}
+use Rattle.gx_rules.proofs.ValueKinds.{inside-column}
 
 -- A SET LIST
-same_row : (a b : List Value) → (let r : Result (List Value) ArithFault = Ok a in r) ≡ Ok b → a ≡ b
-same_row a b e = cc
-
--- an assignment that is right: its column's kind is its expression's
-record IsRightOn (kinds : List Kind) (a : Assign) : Type 0 where
-  pub kind : Kind
-  pub column : slice_get kinds a.col ≡ Some kind
-  pub value : kind_of kinds a.expr ≡ Some kind
-
-right-on : (kinds : List Kind) (a : Assign) → is_right_assign kinds a ≡ true → IsRightOn kinds a
-right-on kinds a e = by_kinds (slice_get kinds a.col) refl (kind_of kinds a.expr) refl e
-  where
-    by_kinds : (o : Option Kind) → slice_get kinds a.col ≡ o → (x : Option Kind) → kind_of kinds a.expr ≡ x → is_right_kind o x ≡ true → IsRightOn kinds a
-    by_kinds None p x q f = absurd (cc)
-    by_kinds (Some k) p None q f = absurd (cc)
-    by_kinds (Some k) p (Some l) q f = record { kind = k; column = p; value = q ∙ ap (λ (m : Kind). Some m) (same_kind k l f) }
-
-same_kind-itself : (k : Kind) → is_same_kind k k ≡ true
-same_kind-itself Int = refl
-same_kind-itself Text = refl
-
-right-placed : (kinds : List Kind) (row : List Value) (column : ℕ) (value : Value) (k : Kind) → is_right_row kinds row ≡ true → slice_get kinds column ≡ Some k → is_same_kind k (value_kind value) ≡ true → is_right_row kinds (slice_set row column value) ≡ true
-right-placed [] [] column value k right at e = right
-right-placed [] (v ∷ vs) column value k right at e = absurd (cc)
-right-placed (l ∷ ls) [] column value k right at e = absurd (cc)
-right-placed (l ∷ ls) (v ∷ vs) zero value k right at e =
-    let parts = and_parts (is_same_kind l (value_kind v)) (is_right_row ls vs) right in
-    ap (λ (m : Kind). is_same_kind m (value_kind value) && is_right_row ls vs) (same l k at) ∙ ap (λ (b : Bool). b && is_right_row ls vs) e ∙ parts.1
-  where
-    same : (l k : Kind) → Some l ≡ Some k → l ≡ k
-    same l k f = cc
-right-placed (l ∷ ls) (v ∷ vs) (suc column) value k right at e =
-    let parts = and_parts (is_same_kind l (value_kind v)) (is_right_row ls vs) right in
-    ap (λ (b : Bool). b && is_right_row ls (slice_set vs column value)) parts.0 ∙ right-placed ls vs column value k parts.1 at e
-
 module _ (kinds : List Kind) (old : List Value) (is : kinds_of old ≡ kinds) where
   settable : (assigns : List Assign) → list_all (is_right_assign kinds) assigns ≡ true → AreSettable old assigns
   settable [] e = tt
@@ -76,21 +41,6 @@ module _ (kinds : List Kind) (old : List Value) (is : kinds_of old ≡ kinds) wh
         },
         settable rest parts.1,
       )
-
-  right-set : (assigns : List Assign) (new made : List Value) → is_right_row kinds new ≡ true → list_all (is_right_assign kinds) assigns ≡ true → set_from old new assigns ≡ Ok made → is_right_row kinds made ≡ true
-  right-set [] new made right e set = subst (λ (row : List Value). is_right_row kinds row ≡ true) (same_row new made set) right
-  right-set (a ∷ rest) new made right e set =
-      let parts = and_parts (is_right_assign kinds a) (list_all (is_right_assign kinds) rest) e in
-      let on = right-on kinds a parts.0 in
-      by_value on (value_of old a.expr) refl (λ value placed. right-set rest (slice_set new a.col value) made placed parts.1) set
-    where
-      by_value : IsRightOn kinds a → (r : Result Value ArithFault) → value_of old a.expr ≡ r
-          → ((value : Value) → is_right_row kinds (slice_set new a.col value) ≡ true → set_from old (slice_set new a.col value) rest ≡ Ok made → is_right_row kinds made ≡ true)
-          → and_then r (λ value. set_from old (slice_set new a.col value) rest) ≡ Ok made → is_right_row kinds made ≡ true
-      by_value on (Err fault) p more f = absurd (cc)
-      by_value on (Ok value) p more f =
-          let of_kind = kind-value old a.expr value on.kind p (ap (λ (ks : List Kind). kind_of ks a.expr) is ∙ on.value) in
-          more value (right-placed kinds new a.col value on.kind right on.column (ap (is_same_kind on.kind) of_kind ∙ same_kind-itself on.kind)) f
 
 -- THE COMMAND
 -- its table has a schema; the SET list, where there is one, and the condition are right for it

@@ -1,5 +1,5 @@
 -- Rows have the kinds of their table, and conditions a meaning on them.
-use Rattle.std.proofs.Common.{◌≡◌, Bool, true, false, if◌then◌else◌, eqb, ◌&&◌, List, [], ◌∷◌, ◌++◌, Option, Some, None, filter, slice_get, refl, sym, ap, ◌∙◌, subst}
+use Rattle.std.proofs.Common.{◌≡◌, Bool, true, false, if◌then◌else◌, eqb, ◌&&◌, List, [], ◌∷◌, ◌++◌, Option, Some, None, filter, slice_get, refl, sym, subst}
 use Rattle.std.proofs.lemmas.List.Elements.{All-push, recursion_from_All}
 use Rattle.std.specs.Prelude.{fold, All, IsTrue}
 use Rattle.std.specs.List.{AllByRecursion, list_all}
@@ -12,12 +12,11 @@ use Rattle.gx_tree.specs.declared.query.Query.{Query}
 use Rattle.gx_ids.specs.declared.rid.Rid.{Rid}
 use Rattle.gx_tree.specs.declared.row.KeyedRow.{KeyedRow}
 use Rattle.gx_tree.specs.declared.schema.Kind.{Kind}
-use Rattle.gx_tree.specs.declared.schema.Kind.TheVariants.{Int, Text}
 use Rattle.gx_tree.specs.declared.schema.Schema.{Schema}
 use Rattle.gx_tree.specs.declared.slice.Slice.TheVariants as slice
 use Rattle.gx_tree.specs.declared.value.Value.{Value}
 use Rattle.gx_dsnap.specs.declared.snapshot.Snapshot.{Snapshot}
-use Rattle.gx_meaning.specs.Kinds.{IsTyped, kinds_of, value_kind}
+use Rattle.gx_meaning.specs.Kinds.{IsTyped}
 use Rattle.gx_node.specs.Right.{IsRightFor}
 use Rattle.gx_meaning.specs.Order.{rid_order}
 use Rattle.gx_msg.specs.declared.item.Kept.{Kept}
@@ -25,7 +24,8 @@ use Rattle.gx_script.specs.declared.Script.{Script}
 use Rattle.gx_store.specs.Journals.{kept_with}
 use Rattle.gx_store.specs.Marks.{is_same_rid}
 use Rattle.gx_store.specs.declared.mark.Mark.TheVariants.{Write}
-use Rattle.gx_rules.specs.Fits.{is_rid_of, is_right_cond, is_right_on, is_right_row, is_same_kind, kinds_in}
+use Rattle.gx_rules.specs.Fits.{is_rid_of, is_right_cond, is_right_on, is_right_row, kinds_in}
+use Rattle.gx_rules.proofs.RightRows.{kinds_are}
 use Rattle.gx_rules.specs.Segments.{Seg, Version, local_of}
 use Rattle.gx_rules.specs.Shown.{counts, kept_one, last_images, row_in, rows_in, shown}
 use Rattle.gx_rules.specs.Slices.{Moved, adds_version, inserted, inserts_row, starts_from, version, writes_row}
@@ -35,21 +35,6 @@ use Rattle.gx_slices.specs.Picked.{AreTypedOn, IsTypedOn}
 use Rattle.gx_slices.proofs.Gxids.{same_table}
 use Rattle.gx_slices.proofs.Lists.{all_map, and_parts}
 use Rattle.gx_slices.proofs.Owning.{takes_own-with}
-
--- KINDS
-pub same_kind : (k l : Kind) → is_same_kind k l ≡ true → l ≡ k
-same_kind Int Int e = refl
-same_kind Text Text e = refl
-same_kind Int Text e = absurd (cc)
-same_kind Text Int e = absurd (cc)
-
-pub kinds_are : (kinds : List Kind) (row : List Value) → is_right_row kinds row ≡ true → kinds_of row ≡ kinds
-kinds_are [] [] e = refl
-kinds_are [] (v ∷ vs) e = absurd (cc)
-kinds_are (k ∷ ks) [] e = absurd (cc)
-kinds_are (k ∷ ks) (v ∷ vs) e =
-    let parts = and_parts (is_same_kind k (value_kind v)) (is_right_row ks vs) e in
-    ap (λ (l : Kind). l ∷ kinds_of vs) (same_kind k (value_kind v) parts.0) ∙ ap (λ (ls : List Kind). k ∷ ls) (kinds_are ks vs parts.1)
 
 -- THE ROWS THAT ARE SHOWN
 module _ (tables : List Schema) (table : Table) where
