@@ -19,7 +19,7 @@ use Rattle.gx_tree.specs.declared.stmt.Level.{Level}
 use Rattle.gx_tree.specs.declared.value.Value.{Value}
 use Rattle.gx_dsnap.specs.Gxids.{is_below}
 use Rattle.gx_dsnap.specs.declared.snapshot.Snapshot.{Snapshot}
-use Rattle.gx_waits.specs.Claims.{is_free}
+use Rattle.gx_waits.specs.Claims.{is_clear}
 use Rattle.gx_waits.specs.declared.claim.Claim.{Claim}
 use Rattle.gx_waits.specs.declared.object.Object.{Object}
 use Rattle.gx_waits.specs.declared.object.Object.TheVariants.{Relation, Transaction, Tuple}
@@ -244,7 +244,7 @@ module _ (script : Script) where
     take-right : Right (takes script s g c level snapshot horizon x (local_of s g)).seg
     take-right =
         either-right (nat_lt (local_of s g).last c.0) (starts_slice script (raised s horizon) g c level snapshot x) (repeats s g c (local_of s g))
-        (either-right (is_free s.locks.holds (slice_lock script g x)) (runs_locked (raised s horizon) g c level snapshot x (slice_lock script g x)) (suspends (raised s horizon) g c level snapshot x (slice_lock script g x))
+        (either-right (is_clear s.locks.holds s.locks.waits (slice_lock script g x)) (runs_locked (raised s horizon) g c level snapshot x (slice_lock script g x)) (suspends (raised s horizon) g c level snapshot x (slice_lock script g x))
         (slice-right _ g c level snapshot x right r) r)
         repeat-right
 
