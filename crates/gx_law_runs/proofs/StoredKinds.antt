@@ -1,14 +1,13 @@
 -- In every run, each row that a segment has stored is of its table's kinds.
-use Rattle.std.proofs.Common.{◌≡◌, ◌≤◌, ◌⊎◌, inl, inr, ℕ, ◌+◌, List, [], ◌∷◌, ◌++◌, Option, Some, None, Result, Ok, Err, Bool, true, false, refl, sym, subst, ap, ◌∙◌, if◌then◌else◌, ◌&&◌, ◌||◌, ◌==◌, nat_lt, arith, eqb, slice_get}
+use Rattle.std.proofs.Common.{◌≡◌, ◌≤◌, inl, inr, ℕ, ◌+◌, List, [], ◌∷◌, ◌++◌, Option, Some, None, Result, Ok, Err, Bool, true, false, refl, sym, subst, ◌∙◌, if◌then◌else◌, ◌&&◌, ◌==◌, nat_lt, arith, eqb, slice_get}
 use Rattle.std.proofs.lemmas.Bool.{and_parts}
 use Rattle.std.proofs.lemmas.Bool.Decides.{nat_tests}
 use Rattle.std.specs.List.{AllByRecursion, list_all}
-use Rattle.std.specs.Prelude.{fold, is_some, length, nat_le, not}
+use Rattle.std.specs.Prelude.{fold}
 use Rattle.gx_ids.specs.declared.ids.Cid.{Cid}
 use Rattle.gx_ids.specs.declared.ids.Gxid.{Gxid}
 use Rattle.gx_ids.specs.declared.ids.Table.{Table}
 use Rattle.gx_ids.specs.declared.rid.Rid.{Rid}
-use Rattle.gx_tree.specs.declared.cond.Cond.{Cond}
 use Rattle.gx_tree.specs.declared.query.Query.{Query}
 use Rattle.gx_tree.specs.declared.row.KeyedRow.{KeyedRow}
 use Rattle.gx_tree.specs.declared.schema.Schema.{Schema}
@@ -31,29 +30,27 @@ use Rattle.gx_msg.specs.declared.message.Message.TheVariants as message
 use Rattle.gx_msg.specs.declared.reply.Reply.{Reply}
 use Rattle.gx_script.specs.declared.Script.{Script}
 use Rattle.gx_store.specs.Locks.{slice_lock}
-use Rattle.gx_store.specs.Ordered.{IsSegment}
-use Rattle.gx_store.specs.Refusals.{the_coordinator}
 use Rattle.gx_store.specs.Writes.{set_row}
 use Rattle.gx_store.specs.declared.event.Event.{Event}
 use Rattle.gx_store.specs.declared.node.NodeEvent.{NodeEvent}
 use Rattle.gx_store.specs.declared.node.NodeEvent.TheVariants as here
 use Rattle.gx_rules.specs.AtSegment as segment
-use Rattle.gx_rules.specs.AtSegment.{if_fits, on_exec, on_message, raised, repeats, resumes, seg_rule, takes, unless_below}
+use Rattle.gx_rules.specs.AtSegment.{if_fits, on_exec, on_message, raised, repeats, resumes, seg_rule, takes}
 use Rattle.gx_rules.specs.Changes.{Change, change_of, changes_rows, goes_through, new_image, selected, shown_to, unless_fault}
-use Rattle.gx_rules.specs.Maps.{each_below}
-use Rattle.gx_rules.specs.Fits.{fits_exec, holds_locks, is_rid_of, is_right_assign, is_right_cond, is_right_on, is_right_row, is_right_slice, is_waiting, kinds_in, reads_nothing, table_of}
+use Rattle.gx_rules.specs.Fits.{fits_exec, is_rid_of, is_right_assign, is_right_cond, is_right_on, is_right_row, is_right_slice, kinds_in}
 use Rattle.gx_rules.specs.Locks.{hold_mark}
-use Rattle.gx_rules.specs.Machine.{World, new_world, seg_can, seg_did, world_of}
+use Rattle.gx_rules.specs.Machine.{World, seg_can, world_of}
 use Rattle.gx_rules.specs.Running.{is_granted, runs_locked, runs_slice, starts_slice, suspends, unless_end}
-use Rattle.gx_rules.specs.Segments.{Local, Phase, Seg, SegTurn, Suspended, Version, after_marks, is_unaborted, local_of, stays, tells_kept}
+use Rattle.gx_rules.specs.Segments.{Phase, Seg, SegTurn, Version, local_of, stays, tells_kept}
 use Rattle.gx_rules.specs.Segments.Phase.{Aborted, Committed, Forgotten, Prepared, Reading, Writing}
-use Rattle.gx_rules.specs.Shown.{current_of, is_current, shown}
-use Rattle.gx_rules.specs.Slices.{Moved, adds_version, first_fault, inserted, inserts_row, own_lock, selects, starts_from, takes_lock, takes_own, version, writes_row}
+use Rattle.gx_rules.specs.Shown.{is_current, shown}
+use Rattle.gx_rules.specs.Slices.{Moved, first_fault, inserted, inserts_row, selects, starts_from, takes_own, version, writes_row}
 use Rattle.gx_rules.specs.Visits.{WritesIt}
 use Rattle.gx_rules.proofs.Moving.{Ends, Keeps, loop-keeps}
 use Rattle.gx_rules.proofs.RightRows.{kinds_are, right-set}
 use Rattle.gx_law_order.specs.Standings.{at}
 use Rattle.gx_law_order.proofs.Induction.{at-events}
+use Rattle.gx_law_order.proofs.Suspensions.{fits-new}
 use Rattle.gx_law_order.proofs.Waiting.{GoesOn, GoesOnSo, freed, going-on, going-ways}
 use Rattle.gx_law_order.proofs.World.{Knows, moves_knows}
 use Rattle.gx_law_writes.proofs.Newest.{find-reverse, newest}
@@ -256,18 +253,11 @@ module _ (script : Script) where
     exec-right (Forgotten b) = r
     exec-right Aborted = r
 
-  fourth : (a b d e f : Bool) → (a && (b && (d && (e && f)))) ≡ true → e ≡ true
-  fourth a b d e f q = grind arith
-
-  fits-right : (s : Seg) (g : Gxid) (c : Cid) (snapshot : Option Snapshot) (horizon : Gxid) (x : Slice) → fits_exec script s g c snapshot horizon x ≡ true → is_right_slice script g c x ≡ true
-  fits-right s g c snapshot horizon x fit =
-      fourth (nat_le horizon.0 g.0) (each_below horizon.0 (λ h. not (holds_locks (s.locals h)))) (is_some snapshot || reads_nothing x) (is_right_slice script g c x) (not (nat_lt (s.locals g.0).last c.0 && is_waiting (s.locals g.0))) fit
-
   order-right : (s : Seg) (fails : Bool) → Right s → (g : Gxid) (c : Cid) (level : Level) (snapshot : Option Snapshot) (horizon : Gxid) (x : Slice) → Right (on_message script s fails (message.Exec g c level snapshot horizon x)).seg
   order-right s fails r g c level snapshot horizon x = either-right (is_below s.horizon g) (stays s) _ r (by_fit (fits_exec script s g c snapshot horizon x) refl)
     where
       by_fit : (b : Bool) → fits_exec script s g c snapshot horizon x ≡ b → Right (if_fits s b (on_exec script s g c level snapshot horizon x (local_of s g) (local_of s g).phase)).seg
-      by_fit true fit = exec-right s r g c level snapshot horizon x (fits-right s g c snapshot horizon x fit) (local_of s g).phase
+      by_fit true fit = exec-right s r g c level snapshot horizon x (fits-new script s g c snapshot horizon x fit).right (local_of s g).phase
       by_fit false fit = r
 
   -- who runs no slice writes nothing
