@@ -1,5 +1,5 @@
 -- Runs of scripts that were read.
-use Rattle.std.proofs.Common.{◌≤◌, Bool, ℕ, List, [], Ok}
+use Rattle.std.proofs.Common.{◌≤◌, Bool, ℕ, List, Ok}
 use Rattle.gx_script.specs.declared.Script.{Script}
 use Rattle.gx_store.specs.declared.event.Event.{Event}
 use Rattle.gx_store.specs.declared.run.Run.{Run}

@@ -3,13 +3,12 @@ use Rattle.std.proofs.Common.{◌≡◌, ◌∙◌, List, sym, subst, ap, arith}
 use Rattle.std.proofs.lemmas.List.Elements.{recursion_from_All}
 use Rattle.gx_ids.specs.declared.ids.SessionId.{SessionId}
 use Rattle.gx_meaning.specs.Statements.{IsStmtOf}
-use Rattle.gx_script.specs.declared.Line.{Line}
 use Rattle.gx_script.specs.declared.Script.{Script}
 use Rattle.gx_store.specs.declared.mark.Mark.{Mark}
 use Rattle.gx_store.specs.Commands.{RunsLine, state_at}
 use Rattle.gx_store.specs.Language.{IsScript}
 use Rattle.gx_store.specs.Limits.{HasTuplesTo, IsLineTo}
-use Rattle.gx_store.specs.Lines.{BlockState, state_of}
+use Rattle.gx_store.specs.Lines.{state_of}
 use Rattle.gx_store.specs.Points.{Point, before}
 use Rattle.gx_tree.specs.declared.stmt.Stmt.{Stmt}
 use Rattle.gx_tree.specs.declared.stmt.Stmt.TheVariants as line_is

@@ -1,5 +1,5 @@
 -- The causes of refusals, with a segment's note asked for and without.
-use Rattle.std.proofs.Common.{◌≡◌, ◌↔◌, Bool, true, false, IsTrue}
+use Rattle.std.proofs.Common.{◌↔◌, Bool, true, false, IsTrue}
 use Rattle.gx_ids.specs.declared.ids.Cid.{Cid}
 use Rattle.gx_ids.specs.declared.ids.Gxid.{Gxid}
 use Rattle.gx_store.specs.declared.answer.Refused.{Refused}

@@ -1,5 +1,5 @@
 -- Sessions one by one.
-use Rattle.std.proofs.Common.{◌≡◌, ◌↔◌, ◌<◌, ◌≤◌, ◌^◌, ◌+◌, ◌++◌, ◌&&◌, ◌==◌, ℕ, Bool, true, false, if◌then◌else◌, IsTrue, Option, List, [], ◌∷◌, Some, None, All, length, refl, subst, eqb, cond, suc, arith}
+use Rattle.std.proofs.Common.{◌≡◌, ◌↔◌, ◌<◌, ◌≤◌, ◌+◌, ◌++◌, ◌&&◌, ◌==◌, ℕ, Bool, true, false, if◌then◌else◌, IsTrue, Option, List, [], ◌∷◌, Some, None, All, length, refl, subst, eqb, cond, suc, arith}
 use Rattle.std.proofs.lemmas.List.{length-append}
 use Rattle.std.specs.List.{AllByRecursion}
 use Rattle.std.proofs.lemmas.Bool.{eqb-true}

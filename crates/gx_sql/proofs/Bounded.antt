@@ -33,7 +33,7 @@ use Rattle.gx_lines.specs.declared.syn.StmtSyn.TheVariants as stmt_syn
 use Rattle.gx_resolve.specs.declared.typed.Typed.{Typed}
 use Rattle.gx_resolve.specs.declared.typed.Typed.TheVariants as typed
 use Rattle.gx_resolve.specs.declared.fault.NameFault.TheVariants.{KeyUpdate}
-use Rattle.gx_resolve.specs.Results.{Answer, ◌>>=◌, each}
+use Rattle.gx_resolve.specs.Results.{Answer, each}
 use Rattle.gx_resolve.specs.Typing.{typed_of}
 use Rattle.gx_resolve.specs.Naming.{names_of, names_right}
 use Rattle.gx_resolve.specs.Kinding.{column_at, value_as, cond_as, where_as, constant_as, values_as, tuple_as, assign_as}
@@ -43,7 +43,7 @@ use Rattle.gx_resolve.proofs.Keeping.{bind-ok, same_ok}
 use Rattle.gx_store.specs.Limits.{is_aggregate, has_groups, IsBoundedExpr, IsBoundedTuple, IsBoundedAssign, IsBoundedWhere, IsBoundedQuery, IsBoundedStmt}
 use Rattle.gx_store.specs.Language.{IsTable}
 use Rattle.gx_sql.proofs.Extents.{IsKept, IsSmall}
-use Rattle.gx_sql.proofs.Having.{HasOne, AreSome, Maybe}
+use Rattle.gx_sql.proofs.Having.{HasOne, Maybe}
 use Rattle.gx_sql.proofs.Small.{IsSmallWhere, HaveItem, IsSmallSelect, IsSmallTuple, IsSmallAssign, IsSmallStmt}
 
 -- LISTS

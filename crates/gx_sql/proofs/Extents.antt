@@ -1,5 +1,5 @@
 -- What a written expression is keeps the limits within which it was written: it needs no more parentheses than stand there.
-use Rattle.std.proofs.Common.{◌≡◌, ◌∙◌, ℕ, ◌+◌, ◌≤◌, nat_le, max, Bool, true, false, if◌then◌else◌, List, length, Option, Some, None, pos, ◌-ℤ◌, refl, sym, ap, subst, arith}
+use Rattle.std.proofs.Common.{◌≡◌, ◌∙◌, ℕ, ◌+◌, ◌≤◌, nat_le, max, Bool, true, false, if◌then◌else◌, List, Option, Some, None, pos, ◌-ℤ◌, refl, sym, ap, subst, arith}
 use Rattle.gx_lex.specs.declared.token.Token.{Token}
 use Rattle.gx_tree.specs.declared.schema.Column.{Column}
 use Rattle.gx_tree.specs.declared.schema.Kind.{Kind}

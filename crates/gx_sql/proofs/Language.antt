@@ -1,5 +1,5 @@
 -- A script that was read keeps the rules and the limits of the language.
-use Rattle.std.proofs.Common.{◌≡◌, inl, inr, ℕ, ◌+◌, ◌<◌, ◌≤◌, nat_le, nat_lt, ◌==◌, max, if◌then◌else◌, is_some, Bool, true, false, not, ◌&&◌, ◌||◌, List, [], ◌∷◌, ◌++◌, length, map, All, Option, Some, None, Result, Ok, Err, IfOk, refl, sym, ◌∙◌, ap, subst, arith}
+use Rattle.std.proofs.Common.{◌≡◌, inl, inr, ℕ, ◌+◌, ◌<◌, ◌≤◌, nat_le, nat_lt, ◌==◌, max, if◌then◌else◌, is_some, Bool, true, false, not, ◌&&◌, ◌||◌, List, [], ◌∷◌, ◌++◌, length, map, All, Option, Some, None, Result, Ok, Err, refl, sym, ◌∙◌, ap, subst, arith}
 use Rattle.std.specs.List.{list_any}
 use Rattle.std.proofs.lemmas.Bool.{eq-eqb}
 use Rattle.std.proofs.lemmas.List.Elements.{All-nil, All-push, All-map, All-weaker, All-from_recursion}
@@ -35,7 +35,6 @@ use Rattle.gx_resolve.specs.Resolving.{column_as, stmt_of, table_from}
 use Rattle.gx_resolve.proofs.Promised.{table_promise, stmt_of-keeps}
 use Rattle.gx_sql.specs.declared.refusal.Limit.TheVariants as limit
 use Rattle.gx_sql.specs.declared.refusal.LineFault.{LineFault}
-use Rattle.gx_sql.specs.declared.refusal.Refusal.{Refusal}
 use Rattle.gx_sql.specs.declared.refusal.Refusal.TheVariants as refusal
 use Rattle.gx_sql.specs.Lines.{lines_of, is_skipped}
 use Rattle.gx_sql.specs.Counts.{is_session}

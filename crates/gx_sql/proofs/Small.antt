@@ -1,15 +1,13 @@
 -- A statement that was read within the limits: its lists have parts, and its expressions keep the limits over whatever columns.
-use Rattle.std.proofs.Common.{inl, inr, ℕ, List, [], ◌∷◌, Option, Some, None, sym, subst}
+use Rattle.std.proofs.Common.{inl, inr, Option, Some, None, sym, subst}
 use Rattle.std.specs.List.{AllByRecursion}
 use Rattle.gx_lex.specs.declared.word.Word.TheVariants as word
 use Rattle.gx_lex.specs.declared.symbol.Symbol.TheVariants as symbol
-use Rattle.gx_lex.specs.declared.token.Token.{Token}
 use Rattle.gx_tree.specs.declared.stmt.Level.{Level}
 use Rattle.gx_grammar.specs.declared.syn.Syn.{Syn}
 use Rattle.gx_grammar.specs.Rules.{behind}
 use Rattle.gx_grammar.specs.Tokens.{is_word, is_sign, listed}
 use Rattle.gx_grammar.specs.Grammar.{expr}
-use Rattle.gx_lines.specs.declared.syn.ItemSyn.{ItemSyn}
 use Rattle.gx_lines.specs.declared.syn.ItemsSyn.{ItemsSyn}
 use Rattle.gx_lines.specs.declared.syn.ItemsSyn.TheVariants as items
 use Rattle.gx_lines.specs.declared.syn.SelectSyn.{SelectSyn}

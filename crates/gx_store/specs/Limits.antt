@@ -1,6 +1,6 @@
 -- The limits of the language on names and on what a statement holds: how deep its expressions are, written with parentheses only where they are
 -- needed, how many operators they have, how long their texts are, and how many parts its lists have.
-use Rattle.std.specs.Prelude.{◌≡◌, ℕ, ◌+◌, ◌<◌, ◌≤◌, ◌==◌, nat_le, max, Bool, true, false, ◌&&◌, ◌||◌, if◌then◌else◌, List, [], ◌∷◌, length, All, Option, Some, None}
+use Rattle.std.specs.Prelude.{◌≡◌, ℕ, ◌+◌, ◌≤◌, ◌==◌, nat_le, max, Bool, true, false, ◌&&◌, ◌||◌, if◌then◌else◌, List, [], ◌∷◌, length, All, Option, Some, None}
 use Rattle.std.specs.List.{list_any}
 use Rattle.gx_lex.specs.Words.{keyword_of}
 use Rattle.gx_lex.specs.Lexing.{is_digit, Begins}
