@@ -3,5 +3,5 @@ pub mod Bytes
 pub mod Chars
 pub mod Reports
 pub mod Shown
-pub mod Steps
+pub mod Readings
 pub mod Stopped

@@ -1,4 +1,4 @@
-pub mod Before
+pub mod Reading
 pub mod Parts
 pub mod Places
 pub mod Tails

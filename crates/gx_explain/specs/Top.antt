@@ -1,6 +1,8 @@
 -- What the top call answers, and when.
-use Rattle.std.specs.Prelude.{◌≡◌, ⊤, ℕ, ◌<◌, ◌≤◌, List, [], ◌∷◌, ◌++◌, length, ◌⊎◌, Ok, Err, codes}
+use Rattle.std.specs.Prelude.{◌≡◌, ⊤, ℕ, ◌<◌, ◌≤◌, List, [], ◌∷◌, ◌++◌, length, ◌⊎◌, Result, Ok, Err, codes}
+use Rattle.std.specs.declared.alloc.Global.{Global}
 use Rattle.std.specs.declared.option.Option.{Option}
+use Rattle.std.specs.declared.vec.Vec.{Vec}
 use Rattle.std.specs.Io.KnownBytes.{Consumes, Appends, IsAtEnd}
 use Rattle.gx_outside.specs.Causes.{Rose, WritesPrefix}
 use Rattle.gx_lex.specs.declared.token.Token.{Token}
@@ -13,7 +15,7 @@ use Rattle.gx_sql.specs.declared.refusal.Refusal.TheVariants as refusal
 use Rattle.gx_sql.specs.Lines.{lines_of}
 use Rattle.gx_sql.specs.Progress.{Progress, start}
 use Rattle.gx_sql.specs.Script.{Reads}
-use Rattle.gx_explain.specs.Before.{Comes}
+use Rattle.gx_explain.specs.Reading.{Comes}
 use Rattle.gx_explain.specs.Places.{IsPlace}
 use Rattle.gx_explain.specs.Reasons.{reason_at, reason_utf8}
 use Rattle.gx_explain.specs.Tails.{IsTail}
@@ -115,6 +117,11 @@ IsOfBytes bytes IsScript = (script : Script) × Reads bytes (Ok script)
 IsOfBytes bytes (Refused text) = (refusal : Refusal) × Reads bytes (Err refusal) × IsTold bytes refusal text.items
 IsOfBytes bytes OutOfMemory = ⊤
 IsOfBytes bytes _ = ⊥
+
+-- the work where bytes are refused, by the text that tells why
+abbrev pub refused_as : {E : Type 0} → Result (Vec ℕ Global) E → Attempt
+refused_as (Ok text) = Refused text
+refused_as (Err e) = OutOfMemory
 
 -- what was read, before anything is written
 pub record Work : Type 0 where

@@ -2,13 +2,13 @@
 #![tactic(auto)]
 
 mod attempt;
-mod before;
 mod hints;
 mod kinds;
 mod names;
 mod offers;
 mod parts;
 mod places;
+mod reading;
 mod reasons;
 mod rules;
 mod spelled;

@@ -1,41 +1,41 @@
 // What is told of bytes that are no script.
-ghost use Rattle.std.specs.Prelude.{◌≡◌, ◌++◌, ◌≤◌, ℕ, List, IfOk, OnOk, length};
+ghost use Rattle.std.specs.Prelude.{◌≡◌, ◌++◌, ℕ, List, IfOk, OnOk};
+ghost use Rattle.gx_lex.specs.Lexing.{Lexes};
 ghost use Rattle.gx_sql.specs.Held.{IsHeld, progress_of};
 ghost use Rattle.gx_sql.specs.Lines.{lines_of};
+ghost use Rattle.gx_explain.specs.Reading.{AreFirst};
 ghost use Rattle.gx_explain.specs.Reasons.{reason_at, reason_utf8};
 ghost use Rattle.gx_explain.specs.Top as of;
 
-use crate::before::read_before;
 use crate::offers::words_on;
 use crate::places::find_place;
 use crate::reasons::push_reason;
 use crate::tails::tail_behind;
 use crate::windows::push_window;
 use gx_ids::{Mem, OutOfMemory};
-use gx_lex::{Token, cut_line};
+use gx_lex::Token;
+use gx_sql::first_line;
 use gx_sql::progress::Progress;
 use gx_sql::refusal::LineFault;
-use gx_sql::{Refusal, first_line};
 use gx_text::{push_bytes, push_count};
 use std::alloc::Global;
-use std::mem;
 
 // What is told where a script ends before its first head.
 const MISSING: &[u8] = b"  hint: the first line tells how many segments there are: segments 2\n";
 
-// Adds a line with a caret under the place of its fault, and words behind it. The list is for its tokens.
-fn push_shown<'t>(
+// Adds a line with a caret under the place of its fault, and words behind it.
+fn push_line(
     alloc: Global,
     text: &mut Vec<u8>,
     progress: &Progress,
     fault: LineFault,
-    line: &'t [u8],
-    tokens: &mut Vec<Token<'t>>,
+    line: &[u8],
+    tokens: &mut Vec<Token>,
 ) -> Mem<()>
-    requires { IsHeld progress.now }
+    requires held { IsHeld progress.now }
+    requires cut { Lexes tokens.old.items line.now }
     ensures { OnOk result ((shown : List ℕ) × (words : List ℕ) × of.IsShown (progress_of progress.now) fault line.now shown × (text.new.items ≡ text.old.items ++ (shown ++ words))) }
 {
-    cut_line(alloc, line, tokens)?;
     let Some(place) = find_place(alloc, progress, fault, tokens.as_slice())? else {
         return Err(OutOfMemory);
     };
@@ -49,23 +49,6 @@ fn push_shown<'t>(
     pushed
 }
 
-fn push_line(
-    alloc: Global,
-    text: &mut Vec<u8>,
-    progress: &Progress,
-    fault: LineFault,
-    line: &[u8],
-) -> Mem<()>
-    requires { IsHeld progress.now }
-    ensures { OnOk result ((shown : List ℕ) × (words : List ℕ) × of.IsShown (progress_of progress.now) fault line.now shown × (text.new.items ≡ text.old.items ++ (shown ++ words))) }
-{
-    let mut tokens = Vec::new(alloc);
-    let pushed = push_shown(alloc, text, progress, fault, line, &mut tokens);
-    // The process ends soon, and the memory of what was read with it.
-    mem::forget(tokens);
-    pushed
-}
-
 // Adds the line that stands first, where there is one, with words behind it.
 fn push_first(
     alloc: Global,
@@ -73,45 +56,39 @@ fn push_first(
     progress: &Progress,
     fault: LineFault,
     rest: &[u8],
+    tokens: &mut Vec<Token>,
 ) -> Mem<()>
-    requires { IsHeld progress.now }
+    requires held { IsHeld progress.now }
+    requires cut { AreFirst tokens.old.items (lines_of rest.now) }
     ensures { OnOk result ((shown : List ℕ) × (words : List ℕ) × of.AreShown (progress_of progress.now) fault (lines_of rest.now) shown × (text.new.items ≡ text.old.items ++ (shown ++ words))) }
 {
     match first_line(rest) {
-        Some((line, _others)) => push_line(alloc, text, progress, fault, line),
+        Some((line, _others)) => push_line(alloc, text, progress, fault, line, tokens),
         None => push_bytes(text, MISSING),
     }
 }
 
-// What is told of the line that stands first, of this number and with this fault.
-fn first_text(
+/// What is told of the line that stands first, of this number, with this fault and with these tokens.
+pub fn line_text(
     alloc: Global,
     progress: &Progress,
-    rest: &[u8],
     number: u32,
     fault: LineFault,
+    rest: &[u8],
+    tokens: &mut Vec<Token>,
 ) -> Mem<Vec<u8>>
-    requires { IsHeld progress.now }
+    requires held { IsHeld progress.now }
+    requires cut { AreFirst tokens.old.items (lines_of rest.now) }
     ensures { IfOk result (λ text. (shown : List ℕ) × (words : List ℕ) × of.AreShown (progress_of progress.now) fault (lines_of rest.now) shown × (text.items ≡ reason_at number fault ++ (shown ++ words))) }
 {
     let mut text = Vec::new(alloc);
     push_reason(&mut text, number, fault)?;
-    push_first(alloc, &mut text, progress, fault, rest)?;
+    push_first(alloc, &mut text, progress, fault, rest, tokens)?;
     Ok(text)
 }
 
-// What is told of bytes of which the line of this number has this fault.
-fn line_text(alloc: Global, bytes: &[u8], number: u32, fault: LineFault) -> Mem<Vec<u8>>
-    ensures { IfOk result (λ text. of.IsLineTold bytes.now number fault text.items) }
-{
-    let (progress, rest) = read_before(alloc, bytes, number)?;
-    let text = first_text(alloc, &progress, rest, number, fault);
-    // The process ends soon, and the memory of what was read with it.
-    mem::forget(progress);
-    text
-}
-
-fn utf8_text(alloc: Global, place: u64) -> Mem<Vec<u8>>
+/// What is told of bytes that aren't UTF-8 from this place on.
+pub fn utf8_text(alloc: Global, place: u64) -> Mem<Vec<u8>>
     ensures { IfOk result (λ text. text.items ≡ reason_utf8 place) }
 {
     let mut text = Vec::new(alloc);
@@ -119,26 +96,4 @@ fn utf8_text(alloc: Global, place: u64) -> Mem<Vec<u8>>
     push_count(&mut text, u128::from(place))?;
     push_bytes(&mut text, b"\n")?;
     Ok(text)
-}
-
-/// What is told of bytes that are refused for this.
-pub fn refusal_text(alloc: Global, bytes: &[u8], refusal: Refusal) -> Mem<Vec<u8>>
-    ensures { IfOk result (λ text. of.IsTold bytes.now refusal text.items) }
-{
-    match refusal {
-        Refusal::Syntax(number) => line_text(alloc, bytes, number, LineFault::Syntax),
-        Refusal::UnknownTable(number) => line_text(alloc, bytes, number, LineFault::UnknownTable),
-        Refusal::UnknownColumn(number) => line_text(alloc, bytes, number, LineFault::UnknownColumn),
-        Refusal::TableExists(number) => line_text(alloc, bytes, number, LineFault::TableExists),
-        Refusal::TypeMismatch(number) => line_text(alloc, bytes, number, LineFault::TypeMismatch),
-        Refusal::KeyUpdate(number) => line_text(alloc, bytes, number, LineFault::KeyUpdate),
-        Refusal::TooMany(number, limit) => line_text(
-            alloc,
-            bytes,
-            number,
-            LineFault::TooMany(limit),
-        ),
-        Refusal::NotUtf8(place) => utf8_text(alloc, place),
-        Refusal::OutOfMemory => Err(OutOfMemory),
-    }
 }

@@ -67,6 +67,12 @@ Stands may (Ok _) x = may (Ok x)
 Stands may (Err (error.Fault f)) x = may (Err f)
 Stands may (Err error.OutOfMemory) x = Unit {0}
 
+-- so where there is a fault
+abbrev pub OnFault : {X : Type 0} → Result X LineError → Type 0 → Type 0
+OnFault (Ok x) P = Unit {0}
+OnFault (Err (error.Fault f)) P = P
+OnFault (Err error.OutOfMemory) P = Unit {0}
+
 -- a limit of these, where there is one
 abbrev pub Finds : (Limit → Type 0) → Option Limit → Type 0
 Finds P (Some l) = P l

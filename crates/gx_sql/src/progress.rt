@@ -4,7 +4,7 @@ ghost use Rattle.std.specs.Option.{option_and_then, option_map, ForSome};
 ghost use Rattle.indexmap.specs.IndexMap.{set_value_at};
 ghost use Rattle.gx_resolve.specs.Resolving.{table_after, table_named, table_from, stmt_of};
 ghost use Rattle.gx_sql.specs.Counts.{is_session};
-ghost use Rattle.gx_sql.specs.Held.{named, schemas, progress_of, AreTables, AreCounts, IsHeld, HasRoom, Ends, Gives};
+ghost use Rattle.gx_sql.specs.Held.{named, schemas, progress_of, AreTables, AreCounts, IsHeld, HasRoom, Ends, Gives, OnFault};
 ghost use Rattle.gx_sql.specs.Progress as said;
 ghost use Rattle.gx_sql.specs.declared.refusal.LineError.TheVariants as error;
 
@@ -140,6 +140,7 @@ fn push_table(
     requires bounded { length table.now.columns ≤ 32 }
     ensures said { Ends result (schemas tables.new.entries) (said.giving (λ schema. schemas tables.old.entries ++ schema ∷ [])
         (table_from (said.is_known table.now.name (schemas tables.old.entries)) table.now)) }
+    ensures kept { OnFault result (tables.new ≡ tables.old) }
     ensures named { OnOk result (AreTables tables.new.entries) }
     ensures more { OnOk result (length tables.new.entries ≡ length tables.old.entries + 1) }
 {
@@ -241,6 +242,7 @@ impl Progress {
     fn add_detector(&mut self, switch: Switch) -> Result<(), LineError>
         requires { IsHeld self.old }
         ensures said { Ends result (progress_of self.new) (said.with_detector (progress_of self.old) switch) }
+        ensures kept { OnFault result (self.new ≡ self.old) }
         ensures held { IsHeld self.new }
         ensures lines { vec_len self.new.lines ≤ vec_len self.old.lines + 1 }
     {
@@ -255,6 +257,7 @@ impl Progress {
         requires held { IsHeld self.old }
         requires bounded { link.segment ≤ 16 }
         ensures said { Ends result (progress_of self.new) (said.with_link (progress_of self.old) link) }
+        ensures kept { OnFault result (self.new ≡ self.old) }
         ensures held { IsHeld self.new }
         ensures lines { vec_len self.new.lines ≤ vec_len self.old.lines + 1 }
     {
@@ -267,6 +270,7 @@ impl Progress {
         requires few { length self.old.tables.entries < 64 }
         requires bounded { length table.now.columns ≤ 32 }
         ensures said { Ends result (progress_of self.new) (said.with_table (progress_of self.old) table.now) }
+        ensures kept { OnFault result (self.new ≡ self.old) }
         ensures held { OnOk result (IsHeld self.new) }
         ensures lines { vec_len self.new.lines ≤ vec_len self.old.lines + 1 }
     {
@@ -278,6 +282,7 @@ impl Progress {
         requires few { (nat_le 64 (length (named self.old.sessions.entries)) && not (is_session name.now (named self.old.sessions.entries))) ≡ false }
         requires short { vec_len self.old.lines < 2 ^ 32 - 1 }
         ensures said { Ends result (progress_of self.new) (said.with_session (progress_of self.old) name.now stmt.now) }
+        ensures kept { OnFault result (self.new ≡ self.old) }
         ensures held { OnOk result (IsHeld self.new) }
         ensures lines { vec_len self.new.lines ≤ vec_len self.old.lines + 1 }
     {
@@ -293,6 +298,7 @@ impl Progress {
         requires room { HasRoom (length self.old.tables.entries) (named self.old.sessions.entries) line.now }
         requires short { vec_len self.old.lines < 2 ^ 32 - 1 }
         ensures said { Ends result (progress_of self.new) (said.with_line_syn (progress_of self.old) line.now) }
+        ensures kept { OnFault result (self.new ≡ self.old) }
         ensures held { OnOk result (IsHeld self.new) }
         ensures lines { vec_len self.new.lines ≤ vec_len self.old.lines + 1 }
     {

@@ -1,9 +1,10 @@
 // Reads the lines of a script, one at a time.
 ghost use Rattle.std.specs.Prelude.{◌≡◌, ◌≤◌, ◌<◌, ◌+◌, ◌-◌, ◌^◌, length, vec_len, OnOk, IfOk, IsTrue, ◌↔◌, []};
+ghost use Rattle.gx_lex.specs.Lexing.{Lexes};
 ghost use Rattle.gx_lines.specs.Heads as of;
 ghost use Rattle.gx_sql.specs.declared.refusal.Limit.{Limit};
 ghost use Rattle.gx_sql.specs.Counts.{PassesInHead, PassesInLine};
-ghost use Rattle.gx_sql.specs.Held.{named, progress_of, IsHeld, Stands, Finds};
+ghost use Rattle.gx_sql.specs.Held.{named, progress_of, IsHeld, OnFault, Stands, Finds};
 ghost use Rattle.gx_sql.specs.Progress as said;
 ghost use Rattle.gx_sql.specs.Script.{the_limits, Follows, Counts, Told, TokensSay, LineSays};
 
@@ -72,6 +73,7 @@ impl Progress {
     fn read_segments(&mut self, alloc: Global, tokens: &[Token]) -> Result<(), LineError>
         requires held { IsHeld self.old }
         ensures said { Stands (Follows of.segments (said.with_segments (progress_of self.old)) tokens.now) result (progress_of self.new) }
+        ensures kept { OnFault result (self.new ≡ self.old) }
         ensures held { OnOk result (IsHeld self.new) }
         ensures lines { vec_len self.new.lines ≤ vec_len self.old.lines + 1 }
     {
@@ -91,6 +93,7 @@ impl Progress {
         requires none { (l : Limit) → PassesInHead the_limits (length self.old.tables.entries) (named self.old.sessions.entries) tokens.now l → ⊥ }
         requires short { vec_len self.old.lines < 2 ^ 32 - 1 }
         ensures said { Stands (Follows (of.head_line segments) (said.with_line_syn (progress_of self.old)) tokens.now) result (progress_of self.new) }
+        ensures kept { OnFault result (self.new ≡ self.old) }
         ensures held { OnOk result (IsHeld self.new) }
         ensures lines { vec_len self.new.lines ≤ vec_len self.old.lines + 1 }
     {
@@ -107,6 +110,7 @@ impl Progress {
         requires short { vec_len self.old.lines < 2 ^ 32 - 1 }
         ensures said { Stands (Counts (PassesInHead the_limits (length self.old.tables.entries) (named self.old.sessions.entries) tokens.now)
             (Follows (of.head_line segments) (said.with_line_syn (progress_of self.old)) tokens.now)) result (progress_of self.new) }
+        ensures kept { OnFault result (self.new ≡ self.old) }
         ensures held { OnOk result (IsHeld self.new) }
         ensures lines { vec_len self.new.lines ≤ vec_len self.old.lines + 1 }
     {
@@ -121,6 +125,7 @@ impl Progress {
         requires none { (l : Limit) → PassesInLine (named self.old.sessions.entries) tokens.now l → ⊥ }
         requires short { vec_len self.old.lines < 2 ^ 32 - 1 }
         ensures said { Stands (Follows of.session_line (said.with_line_syn (progress_of self.old)) tokens.now) result (progress_of self.new) }
+        ensures kept { OnFault result (self.new ≡ self.old) }
         ensures held { OnOk result (IsHeld self.new) }
         ensures lines { vec_len self.new.lines ≤ vec_len self.old.lines + 1 }
     {
@@ -135,6 +140,7 @@ impl Progress {
         requires short { vec_len self.old.lines < 2 ^ 32 - 1 }
         ensures said { Stands (Counts (PassesInLine (named self.old.sessions.entries) tokens.now)
             (Follows of.session_line (said.with_line_syn (progress_of self.old)) tokens.now)) result (progress_of self.new) }
+        ensures kept { OnFault result (self.new ≡ self.old) }
         ensures held { OnOk result (IsHeld self.new) }
         ensures lines { vec_len self.new.lines ≤ vec_len self.old.lines + 1 }
     {
@@ -150,6 +156,7 @@ impl Progress {
         requires few { segments ≤ 16 }
         requires short { vec_len self.old.lines < 2 ^ 32 - 1 }
         ensures said { Stands (Told segments (progress_of self.old) self.old.lines.items tokens.now) result (progress_of self.new) }
+        ensures kept { OnFault result (self.new ≡ self.old) }
         ensures held { OnOk result (IsHeld self.new) }
         ensures lines { vec_len self.new.lines ≤ vec_len self.old.lines + 1 }
     {
@@ -164,6 +171,7 @@ impl Progress {
         requires held { IsHeld self.old }
         requires short { vec_len self.old.lines < 2 ^ 32 - 1 }
         ensures said { Stands (TokensSay self.old.segments (progress_of self.old) tokens.now) result (progress_of self.new) }
+        ensures kept { OnFault result (self.new ≡ self.old) }
         ensures held { OnOk result (IsHeld self.new) }
         ensures lines { vec_len self.new.lines ≤ vec_len self.old.lines + 1 }
     {
@@ -183,6 +191,9 @@ impl Progress {
         requires held { IsHeld self.old }
         requires short { vec_len self.old.lines < 2 ^ 32 - 1 }
         ensures said { Stands (LineSays (progress_of self.old) line.now) result (progress_of self.new) }
+        // Where the line has a fault, its tokens stand in the list, and nothing is added.
+        ensures cut { OnFault result (Lexes tokens.new.items line.now) }
+        ensures kept { OnFault result (self.new ≡ self.old) }
         ensures held { OnOk result (IsHeld self.new) }
         ensures lines { vec_len self.new.lines ≤ vec_len self.old.lines + 1 }
     {
