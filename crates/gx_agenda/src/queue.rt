@@ -16,6 +16,7 @@ ghost use Rattle.gx_agenda.specs.VecMap.{IsRising};
 
 use crate::making::{first_lines, fresh_standings};
 use crate::places::go_on;
+use crate::slots::Slots;
 use crate::standing::{Move, Standing};
 use crate::vec_map::VecMap;
 use gx_ids::{Mem, SessionId};
@@ -43,20 +44,22 @@ impl Queue {
     }
 
     /// The session whose next line stands first in the file; none where no session is idle with a line left.
-    pub fn first(&self) -> Option<SessionId>
+    pub fn first(&self, slots: &Slots) -> Option<SessionId>
         ensures { (script : Script) (steps : List Step) → AreQueued script steps self.now → option_to_list (option_map Start result) ≡ first_of (starts script steps) }
     {
-        match self.next.first() {
-            Some((_, session)) => Some(session),
-            None => None,
+        for (_, session) in self.next.entries() {
+            if !slots.is_held_up(*session) {
+                return Some(*session);
+            }
         }
+        None
     }
 
     /// Adds the starts of all lines that are their sessions' next, in the order of the file.
-    pub fn push_starts(&self, events: &mut Vec<Event>) -> Mem<()>
+    pub fn push_starts(&self, slots: &Slots, events: &mut Vec<Event>) -> Mem<()>
         ensures { OnOk result ((script : Script) (steps : List Step) → AreQueued script steps self.now → events.new.items ≡ events.old.items ++ starts script steps) }
     {
-        push_sessions(&self.next, events)
+        push_sessions(&self.next, slots, events)
     }
 
     // An event may start a line.
@@ -86,12 +89,14 @@ impl Queue {
 }
 
 // Adds the starts of these sessions' lines.
-fn push_sessions(next: &VecMap<usize, SessionId>, events: &mut Vec<Event>) -> Mem<()>
+fn push_sessions(next: &VecMap<usize, SessionId>, slots: &Slots, events: &mut Vec<Event>) -> Mem<()>
     ensures all { OnOk result (events.new.items ≡ events.old.items ++ map (λ (e : ℕ × OneSession). Start e.1) next.now) }
     ensures ordered { IsRising nat_cmp next.now }
 {
     for (_, session) in next.entries() {
-        events.push(Event::Start(*session))?;
+        if !slots.is_held_up(*session) {
+            events.push(Event::Start(*session))?;
+        }
     }
     Ok(())
 }

@@ -16,7 +16,7 @@ ghost use Rattle.gx_drive.specs.Agrees.{IsAgreed, IsDue, moves_of};
 use crate::detecting::{first_graph, next_round};
 use crate::ends::first_end;
 use crate::moves::first_move;
-use gx_agenda::{Asked, Cursors, Queue, Quiet, note_step};
+use gx_agenda::{Asked, Cursors, Queue, Quiet, Slots, note_step};
 use gx_ids::{Mem, Node};
 use gx_msg::Message;
 use gx_script::Script;
@@ -32,6 +32,7 @@ pub struct Agenda {
     pub queue: Queue,
     pub asked: Asked,
     pub quiet: Quiet,
+    pub slots: Slots,
 }
 
 impl Agenda {
@@ -43,11 +44,13 @@ impl Agenda {
         let cursors = Cursors::new(alloc, script)?;
         let queue = Queue::new(alloc, script)?;
         let asked = Asked::new(alloc);
+        let slots = Slots::new(alloc, script, &queue)?;
         Ok(Agenda {
             cursors,
             queue,
             asked,
             quiet: Quiet::new(),
+            slots,
         })
     }
 
@@ -96,14 +99,14 @@ impl Agenda {
             ++ rounds world.now.script world.now.run.steps) }
         ensures due { IfSome result (IsDue world.now.script world.now.run.steps) }
     {
-        match self.queue.first() {
+        match self.queue.first(&self.slots) {
             Some(session) => Some(Event::Start(session)),
             None => last(world),
         }
     }
 
     /// A step was done, and if it is the coordinator's, what its event received, if it received a message, is told.
-    pub fn note(&mut self, step: &StepView<'_>, told: Option<&Message>) -> Mem<()>
+    pub fn note(&mut self, script: &Script, step: &StepView<'_>, told: Option<&Message>) -> Mem<()>
         ensures { OnOk result ((script : OneScript) (steps : List OneStep) → IsAgreed script steps self.old → IsDue script steps step.now.event
             → AreCounted (steps ++ step.now ∷ []) → IsTold steps step.now (option_copied told.entry)
             → IsAgreed script (steps ++ step.now ∷ []) self.new) }
@@ -115,7 +118,8 @@ impl Agenda {
             &mut self.asked,
             step,
             told,
-        )
+        )?;
+        self.slots.note(script, &self.queue, step)
     }
 }
 

@@ -39,7 +39,7 @@ impl Agenda {
         push_option(resumption(world, Node(0)), &mut events)?;
         let running = is_round_running(world);
         push_resends(self, world, running, &mut events)?;
-        self.queue.push_starts(&mut events)?;
+        self.queue.push_starts(&self.slots, &mut events)?;
         push_ends(world, &mut events)?;
         push_option(next_round(world), &mut events)?;
         Ok(events)

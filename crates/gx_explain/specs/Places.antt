@@ -46,10 +46,11 @@ abbrev pub IsStopped : {X : Type 0} → (Limits → X → List Token → Type 0)
 IsStopped rule ts place = (us : List Token) × (rest : List Token) × (f : Fault) × (ts ≡ us ++ rest) × (length us ≡ place) × Stops rule the_limits us rest f
 
 -- BY COUNTS
--- a further session is told by the first token, a further table by its name, a further column by the name of a 33rd, a further line by its front
+-- a further session is told by the first token, a further table or group by its name, a further column by the name of a 33rd, a further line by its front
 abbrev pub counted : LineFault → Option ℕ
 counted (fault.TooMany limit.Sessions) = Some 0
 counted (fault.TooMany limit.Tables) = Some 1
+counted (fault.TooMany limit.Groups) = Some 1
 counted (fault.TooMany limit.Columns) = Some 99
 counted (fault.TooMany limit.Lines) = Some 0
 counted _ = None

@@ -151,6 +151,7 @@ fn hint_on_limit(limit: Limit) -> &'static [u8] {
         Limit::Segments => b"there are at most 16 segments",
         Limit::Sessions => b"there are at most 64 sessions",
         Limit::Tables => b"there are at most 64 tables",
+        Limit::Groups => b"there are at most 64 groups",
         Limit::Columns => b"a table has at most 32 columns",
         Limit::Lines => b"there are at most 100000 lines",
         Limit::Name => b"a name has at most 63 bytes",

@@ -41,6 +41,7 @@ fn counted(fault: LineFault) -> Option<usize>
     match fault {
         LineFault::TooMany(Limit::Sessions) => Some(0),
         LineFault::TooMany(Limit::Tables) => Some(1),
+        LineFault::TooMany(Limit::Groups) => Some(1),
         LineFault::TooMany(Limit::Columns) => Some(99),
         LineFault::TooMany(Limit::Lines) => Some(0),
         _ => None,

@@ -137,21 +137,22 @@ behind n p (line ∷ ls) s h = counted (nat_lt 100000 n) (behind (n + 1) p ls s)
 
 -- THE LINE
 -- the line of a name passes no count where there is no session
-no_count : (tables : ℕ) (name : List ℕ) (ts : List Token) (l : Limit) → PassesInHead the_limits tables [] (token.Name name ∷ token.Symbol symbol.Colon ∷ ts) l → ⊥
-no_count tables name ts limit.Sessions h = cc
-no_count tables name ts limit.Tables h = cc
-no_count tables name ts limit.Columns (none, passes) = no_table passes.written
+no_count : (tables groups : ℕ) (name : List ℕ) (ts : List Token) (l : Limit) → PassesInHead the_limits tables groups [] (token.Name name ∷ token.Symbol symbol.Colon ∷ ts) l → ⊥
+no_count tables groups name ts limit.Sessions h = cc
+no_count tables groups name ts limit.Tables h = cc
+no_count tables groups name ts limit.Groups h = cc
+no_count tables groups name ts limit.Columns (none, passes) = no_table passes.written
   where
     no_table : begun_table the_limits passes.table passes.begun → ⊥
     no_table (us, vs, named, columns, e) =
-        let first = behind_name the_limits passes.table.0 us named in
+        let first = behind_name word.Table the_limits passes.table.0 us named in
         let whole = passes.tokens ∙ ap (λ (t : List Token). t ++ token.Symbol symbol.Comma ∷ token.Name passes.further ∷ passes.rest) (e ∙ ap (λ (t : List Token). t ++ vs) first.3) in
         cc
-no_count tables name ts limit.Segments h = h
-no_count tables name ts limit.Lines h = h
-no_count tables name ts limit.Name h = h
-no_count tables name ts limit.Text h = h
-no_count tables name ts limit.Depth h = h
+no_count tables groups name ts limit.Segments h = h
+no_count tables groups name ts limit.Lines h = h
+no_count tables groups name ts limit.Name h = h
+no_count tables groups name ts limit.Text h = h
+no_count tables groups name ts limit.Depth h = h
 
 spelled : (name : List ℕ) (s : StmtSyn) (ts : List Token) → length name ≤ 63 → stmt the_limits s ts → session_line the_limits (Session name s) (token.Name name ∷ token.Symbol symbol.Colon ∷ ts)
 spelled name s ts short w = (
@@ -173,11 +174,11 @@ module _ (q : Progress) (segments : ℕ) (name : List ℕ) (x : Stmt) (text : Li
       says : ReadsAs q.tables x text → LineSays q (line_of name text) (Ok (with_line q name x))
       says (ts, s, cut, w, e) =
           let all : List Token = token.Name name ∷ token.Symbol symbol.Colon ∷ ts in
-          let none : (l : Limit) → PassesInHead the_limits (length q.tables) q.sessions all l → ⊥ = subst (λ (ss : List (List ℕ × ℕ)). (l : Limit) → PassesInHead the_limits (length q.tables) ss all l → ⊥) (sym nobody) (no_count (length q.tables) name ts) in (
+          let none : (l : Limit) → PassesInHead the_limits (length q.tables) (length q.groups) q.sessions all l → ⊥ = subst (λ (ss : List (List ℕ × ℕ)). (l : Limit) → PassesInHead the_limits (length q.tables) (length q.groups) ss all l → ⊥) (sym nobody) (no_count (length q.tables) (length q.groups) name ts) in (
             all,
             name_before_colon name ts text named.0 cut,
             subst (λ (o : Option ℕ). TokensSay o q all (Ok (with_line q name x))) (sym told) (subst (λ (ls : List Line). Told segments q ls all (Ok (with_line q name x))) (sym alone)
-                (inr (none, inl (Session name s, inr (inr (inr (spelled name s ts named.1 w))), sym (ap (giving (with_line q name)) e))))),
+                (inr (none, inl (Session name s, inr (inr (inr (inr (spelled name s ts named.1 w)))), sym (ap (giving (with_line q name)) e))))),
           )
 
   one_is : (ss : List (List ℕ × ℕ)) (ls : List Line) → [] ≡ ss → [] ≡ ls

@@ -22,6 +22,7 @@ pub mod Outgoing
 pub mod Ordered
 pub mod Rounds
 pub mod Schedule
+pub mod Groups
 pub mod Heads
 pub mod Language
 pub mod Whole
