@@ -3,6 +3,7 @@
 
 mod attempt;
 mod before;
+mod grouped;
 mod hints;
 mod kinds;
 mod names;
