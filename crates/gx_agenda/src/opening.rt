@@ -1,14 +1,16 @@
 // Whose next line begins a transaction.
 ghost use Rattle.std.specs.Prelude.{◌≡◌};
-ghost use Rattle.gx_store.specs.Groups.{draws_next};
+ghost use Rattle.gx_store.specs.Legal.{draws as draws_in};
+ghost use Rattle.gx_store.specs.Lines.{Outside};
 
 use crate::standing::Standing;
 use gx_script::{Line, Script};
-use gx_store::Mark;
 use gx_tree::Stmt;
 
 /// Outside a block, BEGIN and each command begin a transaction.
-pub(crate) fn draws(stmt: &Stmt) -> bool {
+pub(crate) fn draws(stmt: &Stmt) -> bool
+    ensures { result ≡ draws_in Outside stmt.now }
+{
     match stmt {
         Stmt::Begin(_) => true,
         Stmt::Commit => false,

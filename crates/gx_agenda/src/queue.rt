@@ -1,4 +1,4 @@
-ghost use Rattle.std.specs.Prelude.{◌≡◌, ◌<◌, ◌+◌, ◌++◌, [], ℕ, List, length, IfOk, OnOk, map, option_map, slice_get, Some};
+ghost use Rattle.std.specs.Prelude.{◌≡◌, ◌<◌, ◌+◌, ◌++◌, [], ℕ, List, length, IfOk, OnOk, filter, map, not, option_map, slice_get, Some};
 ghost use Rattle.std.specs.Ordering.{nat_cmp};
 ghost use Rattle.std.specs.Option.{option_to_list};
 ghost use Rattle.gx_ids.specs.declared.ids.SessionId.{SessionId as OneSession};
@@ -8,10 +8,13 @@ ghost use Rattle.gx_store.specs.Language.{IsScript};
 ghost use Rattle.gx_store.specs.declared.event.Event.TheVariants.{Start};
 ghost use Rattle.gx_store.specs.declared.run.Step.{Step};
 ghost use Rattle.gx_store.specs.Points.{starts_by};
+ghost use Rattle.gx_groups.specs.Table.{is_held_up};
+ghost use Rattle.gx_store.specs.Groups.{lets};
 ghost use Rattle.gx_store.specs.Schedule.{first_of, starts};
 ghost use Rattle.gx_agenda.specs.declared.standing.Standing.{Standing as OneStanding};
 ghost use Rattle.gx_agenda.specs.Moves.{AreFew, IsAdvancedAt, more_for, session_started};
 ghost use Rattle.gx_agenda.specs.Queued.{AreQueued, AreQueuedBy};
+ghost use Rattle.gx_agenda.specs.Slotted.{AreSlots};
 ghost use Rattle.gx_agenda.specs.VecMap.{IsRising};
 
 use crate::making::{first_lines, fresh_standings};
@@ -43,9 +46,10 @@ impl Queue {
         Ok(Queue { standings, next })
     }
 
-    /// The session whose next line stands first in the file; none where no session is idle with a line left.
+    /// The session whose next line stands first in the file, of those that no group holds up; none where there is none.
     pub fn first(&self, slots: &Slots) -> Option<SessionId>
-        ensures { (script : Script) (steps : List Step) → AreQueued script steps self.now → option_to_list (option_map Start result) ≡ first_of (starts script steps) }
+        ensures { (script : Script) (steps : List Step) → AreQueued script steps self.now → AreSlots script steps slots.now
+            → option_to_list (option_map Start result) ≡ first_of (filter (lets script steps) (starts script steps)) }
     {
         for (_, session) in self.next.entries() {
             if !slots.is_held_up(*session) {
@@ -55,9 +59,10 @@ impl Queue {
         None
     }
 
-    /// Adds the starts of all lines that are their sessions' next, in the order of the file.
+    /// Adds the starts of all lines that are their sessions' next and that no group holds up, in the order of the file.
     pub fn push_starts(&self, slots: &Slots, events: &mut Vec<Event>) -> Mem<()>
-        ensures { OnOk result ((script : Script) (steps : List Step) → AreQueued script steps self.now → events.new.items ≡ events.old.items ++ starts script steps) }
+        ensures { OnOk result ((script : Script) (steps : List Step) → AreQueued script steps self.now → AreSlots script steps slots.now
+            → events.new.items ≡ events.old.items ++ filter (lets script steps) (starts script steps)) }
     {
         push_sessions(&self.next, slots, events)
     }
@@ -90,7 +95,7 @@ impl Queue {
 
 // Adds the starts of these sessions' lines.
 fn push_sessions(next: &VecMap<usize, SessionId>, slots: &Slots, events: &mut Vec<Event>) -> Mem<()>
-    ensures all { OnOk result (events.new.items ≡ events.old.items ++ map (λ (e : ℕ × OneSession). Start e.1) next.now) }
+    ensures all { OnOk result (events.new.items ≡ events.old.items ++ map (λ (e : ℕ × OneSession). Start e.1) (filter (λ (e : ℕ × OneSession). not (is_held_up slots.now.groups e.1)) next.now)) }
     ensures ordered { IsRising nat_cmp next.now }
 {
     for (_, session) in next.entries() {

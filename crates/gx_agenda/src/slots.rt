@@ -1,4 +1,13 @@
-ghost use Rattle.std.specs.Prelude.{◌≡◌};
+ghost use Rattle.std.specs.Prelude.{◌≡◌, ◌++◌, ◌∷◌, [], IfOk, List, OnOk, map};
+ghost use Rattle.gx_groups.specs.Slots.{has};
+ghost use Rattle.gx_groups.specs.Table.{is_held_up};
+ghost use Rattle.gx_store.specs.Groups as of;
+ghost use Rattle.gx_store.specs.Language.{IsScript};
+ghost use Rattle.gx_store.specs.Marks.{is_answered as is_answered_in};
+ghost use Rattle.gx_store.specs.Schedule.{sessions_of};
+ghost use Rattle.gx_store.specs.declared.run.Step.{Step};
+ghost use Rattle.gx_agenda.specs.Queued.{AreQueued};
+ghost use Rattle.gx_agenda.specs.Slotted.{AreSlots};
 
 use crate::opening::{is_outside_behind, is_to_open, line_behind};
 use crate::queue::Queue;
@@ -11,12 +20,14 @@ use std::alloc::Global;
 /// The slots of a script's groups where a run has led. A script without groups costs nothing.
 #[derive(Drop)]
 pub struct Slots {
-    groups: Groups,
-    open: Vec<Opened>,
-    outside: Vec<bool>,
+    pub groups: Groups,
+    pub open: Vec<Opened>,
+    pub outside: Vec<bool>,
 }
 
-fn is_among(sessions: &[SessionId], session: SessionId) -> bool {
+fn is_among(sessions: &[SessionId], session: SessionId) -> bool
+    ensures { result ≡ has session sessions.now }
+{
     for other in sessions {
         if *other == session {
             return true;
@@ -26,7 +37,9 @@ fn is_among(sessions: &[SessionId], session: SessionId) -> bool {
 }
 
 // The place of a session's group.
-fn place_in(groups: &[SlotGroup], session: SessionId) -> Option<u8> {
+fn place_in(groups: &[SlotGroup], session: SessionId) -> Option<u8>
+    ensures { result ≡ of.place_in session groups.now }
+{
     for place in 0..groups.len() {
         if is_among(groups[place].sessions.as_slice(), session) {
             return Some(place as u8);
@@ -35,11 +48,16 @@ fn place_in(groups: &[SlotGroup], session: SessionId) -> Option<u8> {
     None
 }
 
-fn limits_of(alloc: Global, groups: &[SlotGroup]) -> Mem<Vec<u64>> {
+fn limits_of(alloc: Global, groups: &[SlotGroup]) -> Mem<Vec<u64>>
+    ensures { IfOk result (λ limits. limits.items ≡ map of.group_limit groups.now) }
+{
     Ok(groups.iter().map(|group| group.limit).collect(alloc)?)
 }
 
-fn places_of(alloc: Global, script: &Script) -> Mem<Vec<Option<u8>>> {
+fn places_of(alloc: Global, script: &Script) -> Mem<Vec<Option<u8>>>
+    requires { IsScript script.now }
+    ensures { IfOk result (λ places. places.items ≡ map (λ s. of.place_in s script.now.groups) (sessions_of script.now)) }
+{
     let mut places = Vec::new(alloc);
     for number in 0..script.sessions.len() {
         places.push(place_in(script.groups.as_slice(), SessionId(number as u8)))?;
@@ -47,7 +65,10 @@ fn places_of(alloc: Global, script: &Script) -> Mem<Vec<Option<u8>>> {
     Ok(places)
 }
 
-fn fresh_groups(alloc: Global, script: &Script) -> Mem<Groups> {
+fn fresh_groups(alloc: Global, script: &Script) -> Mem<Groups>
+    requires { IsScript script.now }
+    ensures { IfOk result (λ groups. groups ≡ of.fresh_slots script.now) }
+{
     let limits = limits_of(alloc, script.groups.as_slice())?;
     let places = places_of(alloc, script)?;
     Groups::new(alloc, limits.as_slice(), places.as_slice())
@@ -62,21 +83,27 @@ fn all_outside(alloc: Global, sessions: usize) -> Mem<Vec<bool>> {
 }
 
 // A session asks, unless it asks already or holds a slot.
-fn ask(groups: &mut Groups, session: SessionId) {
+fn ask(groups: &mut Groups, session: SessionId)
+    ensures { groups.new ≡ of.asking groups.old session }
+{
     if groups.knows(session) && !groups.asks(session) && !groups.holds(session) {
         groups.ask(session);
     }
 }
 
 // It takes a slot where it may.
-fn take(groups: &mut Groups, session: SessionId) {
+fn take(groups: &mut Groups, session: SessionId)
+    ensures { groups.new ≡ of.taking groups.old session }
+{
     if groups.may(session) {
         groups.take(session);
     }
 }
 
 // It gives back the slot that it holds.
-fn give(groups: &mut Groups, session: Option<SessionId>) {
+fn give(groups: &mut Groups, session: Option<SessionId>)
+    ensures { groups.new ≡ of.giving groups.old session }
+{
     if let Some(session) = session {
         if groups.holds(session) {
             groups.give(session);
@@ -84,7 +111,9 @@ fn give(groups: &mut Groups, session: Option<SessionId>) {
     }
 }
 
-fn opener(open: &[Opened], gxid: Gxid) -> Option<SessionId> {
+fn opener(open: &[Opened], gxid: Gxid) -> Option<SessionId>
+    ensures { result ≡ of.opener open.now gxid }
+{
     for opened in open {
         if opened.gxid == gxid {
             return Some(opened.session);
@@ -93,7 +122,9 @@ fn opener(open: &[Opened], gxid: Gxid) -> Option<SessionId> {
     None
 }
 
-fn is_answered(marks: &[Mark], session: SessionId) -> bool {
+fn is_answered(marks: &[Mark], session: SessionId) -> bool
+    ensures { result ≡ is_answered_in session marks.now }
+{
     for mark in marks {
         if let Mark::Answer { session: other, .. } = mark {
             if *other == session {
@@ -115,7 +146,11 @@ fn is_any_answered(marks: &[Mark]) -> bool {
 
 impl Slots {
     /// The slots of a run without steps, whose queue this is.
-    pub fn new(alloc: Global, script: &Script, queue: &Queue) -> Mem<Slots> {
+    pub fn new(alloc: Global, script: &Script, queue: &Queue) -> Mem<Slots>
+        requires language { IsScript script.now }
+        requires queued { AreQueued script.now [] queue.now }
+        ensures { IfOk result (AreSlots script.now []) }
+    {
         let mut slots = Slots {
             groups: fresh_groups(alloc, script)?,
             open: Vec::new(alloc),
@@ -128,7 +163,9 @@ impl Slots {
     }
 
     /// Whether a session asks for a slot and may not take one yet.
-    pub fn is_held_up(&self, session: SessionId) -> bool {
+    pub fn is_held_up(&self, session: SessionId) -> bool
+        ensures { result ≡ is_held_up self.now.groups session }
+    {
         self.groups.asks(session) && !self.groups.may(session)
     }
 
@@ -177,7 +214,10 @@ impl Slots {
     }
 
     /// A step was done, of which the queue knows.
-    pub fn note(&mut self, script: &Script, queue: &Queue, step: &StepView<'_>) -> Mem<()> {
+    pub fn note(&mut self, script: &Script, queue: &Queue, step: &StepView<'_>) -> Mem<()>
+        ensures { OnOk result ((steps : List Step) → IsScript script.now → AreSlots script.now steps self.old → AreQueued script.now (steps ++ step.now ∷ []) queue.now
+            → AreSlots script.now (steps ++ step.now ∷ []) self.new) }
+    {
         if script.groups.len() == 0 {
             return Ok(());
         }

@@ -1,4 +1,4 @@
-ghost use Rattle.std.specs.Prelude.{◌≡◌, ◌++◌, ◌∷◌, [], List, false, IfOk, OnOk, IfSome, option_copied};
+ghost use Rattle.std.specs.Prelude.{◌≡◌, ◌++◌, ◌∷◌, [], List, false, filter, IfOk, OnOk, IfSome, option_copied};
 ghost use Rattle.std.specs.List.{flat_map};
 ghost use Rattle.std.specs.Option.{option_to_list};
 ghost use Rattle.gx_agenda.specs.Awaited.{IsTold};
@@ -6,11 +6,12 @@ ghost use Rattle.gx_agenda.specs.Agrees.{Agree};
 ghost use Rattle.gx_agenda.specs.Queued.{AreCounted};
 ghost use Rattle.gx_law_runs.specs.Reached.{IsReached};
 ghost use Rattle.gx_script.specs.declared.Script.{Script as OneScript};
+ghost use Rattle.gx_store.specs.Groups.{enabled_in, lets};
 ghost use Rattle.gx_store.specs.Language.{IsScript};
 ghost use Rattle.gx_store.specs.declared.event.Event.TheVariants.{Receive};
 ghost use Rattle.gx_store.specs.declared.run.Step.{Step as OneStep};
 ghost use Rattle.gx_store.specs.Ordered.{IsLink};
-ghost use Rattle.gx_store.specs.Schedule.{enabled, ends, first_of, left_on, resends, rounds, segments_of, starts};
+ghost use Rattle.gx_store.specs.Schedule.{ends, first_of, left_on, resends, rounds, segments_of, starts};
 ghost use Rattle.gx_drive.specs.Agrees.{IsAgreed, IsDue, moves_of};
 
 use crate::detecting::{first_graph, next_round};
@@ -61,7 +62,7 @@ impl Agenda {
         requires language { IsScript world.now.script }
         requires reached { IsReached world.now.script world.now.run.steps }
         requires agreed { IsAgreed world.now.script world.now.run.steps self.old }
-        ensures first { option_to_list result ≡ first_of (enabled world.now.script world.now.run.steps) }
+        ensures first { option_to_list result ≡ first_of (enabled_in world.now.script world.now.run.steps) }
         ensures due { IfSome result (IsDue world.now.script world.now.run.steps) }
         ensures agreed { IsAgreed world.now.script world.now.run.steps self.new }
     {
@@ -80,7 +81,7 @@ impl Agenda {
         requires agreed { IsAgreed world.now.script world.now.run.steps self.now }
         requires none { first_of (moves_of world.now.script world.now.run.steps) ≡ [] }
         ensures first { option_to_list result ≡ first_of (flat_map (resends world.now.script world.now.run.steps) (segments_of world.now.script)
-            ++ starts world.now.script world.now.run.steps ++ ends world.now.script world.now.run.steps ++ rounds world.now.script world.now.run.steps) }
+            ++ filter (lets world.now.script world.now.run.steps) (starts world.now.script world.now.run.steps) ++ ends world.now.script world.now.run.steps ++ rounds world.now.script world.now.run.steps) }
         ensures due { IfSome result (IsDue world.now.script world.now.run.steps) }
     {
         match self.asked.first(first_graph(world)) {
@@ -95,7 +96,7 @@ impl Agenda {
         requires language { IsScript world.now.script }
         requires reached { IsReached world.now.script world.now.run.steps }
         requires agreed { IsAgreed world.now.script world.now.run.steps self.now }
-        ensures first { option_to_list result ≡ first_of (starts world.now.script world.now.run.steps ++ ends world.now.script world.now.run.steps
+        ensures first { option_to_list result ≡ first_of (filter (lets world.now.script world.now.run.steps) (starts world.now.script world.now.run.steps) ++ ends world.now.script world.now.run.steps
             ++ rounds world.now.script world.now.run.steps) }
         ensures due { IfSome result (IsDue world.now.script world.now.run.steps) }
     {

@@ -4,10 +4,11 @@ ghost use Rattle.std.specs.List.{flat_map};
 ghost use Rattle.std.specs.Option.{option_to_list};
 ghost use Rattle.gx_agenda.specs.Agrees.{Agree};
 ghost use Rattle.gx_law_runs.specs.Reached.{IsReached};
+ghost use Rattle.gx_store.specs.Groups.{enabled_in};
 ghost use Rattle.gx_store.specs.Language.{IsScript};
 ghost use Rattle.gx_store.specs.Ordered.{IsLink, IsSegment};
 ghost use Rattle.gx_store.specs.Refusals.{the_coordinator};
-ghost use Rattle.gx_store.specs.Schedule.{at_segment, enabled, ends, first_of, is_quiet, is_round_running, is_to_end, left_on, resends, segments_of};
+ghost use Rattle.gx_store.specs.Schedule.{at_segment, ends, first_of, is_quiet, is_round_running, is_to_end, left_on, resends, segments_of};
 ghost use Rattle.gx_store.specs.declared.event.Event.TheVariants.{End};
 ghost use Rattle.gx_drive.specs.Agrees.{IsAgreed};
 
@@ -31,7 +32,7 @@ impl Agenda {
         requires language { IsScript world.now.script }
         requires reached { IsReached world.now.script world.now.run.steps }
         requires agreed { IsAgreed world.now.script world.now.run.steps self.now }
-        ensures { IfOk result (λ events. events.items ≡ enabled world.now.script world.now.run.steps) }
+        ensures { IfOk result (λ events. events.items ≡ enabled_in world.now.script world.now.run.steps) }
     {
         let mut events = Vec::new(alloc);
         push_from(&self.cursors, world, &mut events)?;

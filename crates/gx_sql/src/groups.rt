@@ -19,7 +19,7 @@ pub struct GroupHead {
 }
 
 /// Whether there is a group of this name.
-pub(crate) fn is_group(groups: &[GroupHead], name: &[u8]) -> bool
+pub fn is_group(groups: &[GroupHead], name: &[u8]) -> bool
     ensures { result ≡ of.is_group name.now groups.now }
 {
     for group in groups {
@@ -37,7 +37,7 @@ fn copied(alloc: Global, name: &[u8]) -> Mem<Vec<u8>>
 }
 
 /// The group in which a session stands.
-fn place_of(members: &IndexMap<Vec<u8>, u32>, name: &[u8]) -> Option<u32>
+pub fn place_of(members: &IndexMap<Vec<u8>, u32>, name: &[u8]) -> Option<u32>
     ensures { result ≡ of.place_among name.now (named members.now.entries) }
 {
     match members.get(name) {
