@@ -1,0 +1,6 @@
+pub mod Strays
+pub mod Turns
+pub mod Messages
+pub mod Feigned
+pub mod Worlds
+pub mod Held
