@@ -15,6 +15,7 @@ use Rattle.gx_script.specs.declared.Script.{Script}
 use Rattle.gx_store.specs.declared.event.Event.{Event}
 use Rattle.gx_store.specs.Marks.{is_aborted}
 use Rattle.gx_store.specs.Points.{marks_in}
+use Rattle.gx_rules.specs.Fits.{holds_locks}
 use Rattle.gx_rules.specs.Machine.{World, world_of}
 use Rattle.gx_rules.specs.Segments.{Local, Phase, Suspended, has_ended, local_of}
 use Rattle.gx_rules.specs.Segments.Phase.{Aborted, Committed, Forgotten, Prepared, Reading, Writing}
@@ -22,9 +23,10 @@ use Rattle.gx_law_order.proofs.Everywhere.{parts_in}
 use Rattle.gx_law_order.proofs.Suspended.{is_open_phase}
 use Rattle.gx_law_order.specs.Standings.{at, known_at}
 use Rattle.gx_law_order.specs.Standings.Standing.{Live}
-use Rattle.gx_law_lone.specs.Rows.{AreRowsHeldByWaiters, HasFailedThere, WaitsAtRow, has_failed}
+use Rattle.gx_law_lone.specs.Rows.{AreHoldersRunning, AreRowsHeldByWaiters, HasFailedThere, WaitsAtRow, has_failed}
 use Rattle.gx_law_lone.proofs.Feigned.{IsHeardOf, heard-of, open-same}
 use Rattle.gx_law_lone.proofs.Strays.{is_at, is_stray, strays}
+use Rattle.gx_law_lone.proofs.Came.{holds_any, world-came}
 use Rattle.gx_law_lone.proofs.Turns.{is_failing, row_of}
 use Rattle.gx_law_lone.proofs.Worlds.{Feigns, world-feigns}
 
@@ -91,3 +93,17 @@ module _ (w : World) (u : Feigns w) (i : ℕ) (hold : Claim) (rid : Rid) (inside
 
 pub world-rows : (script : Script) (some : 1 ≤ script.segments) (es : List (Event × Bool)) (i : ℕ) → AreRowsHeldByWaiters (world_of script es) (at i)
 world-rows script some es i hold rid inside is = row-held (world_of script es) (world-feigns script some es) i hold rid inside is
+
+-- whoever holds a lock at a segment has come there and hasn't ended there
+pub world-runs : (script : Script) (some : 1 ≤ script.segments) (es : List (Event × Bool)) (i : ℕ) → AreHoldersRunning (world_of script es) (at i)
+world-runs script some es i hold inside = by_test (holds_locks its) refl
+  where
+    its : Local
+    its = local_of ((world_of script es).segs i) hold.gxid
+
+    by_test : (b : Bool) → holds_locks its ≡ b → holds_locks its ≡ true
+    by_test true e = e
+    by_test false e =
+        absurd (true-false (holds_any hold.gxid.0 ((world_of script es).segs i).locks.holds)
+        (list_any_at (is_of hold.gxid) ((world_of script es).segs i).locks.holds inside.0 hold inside.1 (ap (is_of hold.gxid) inside.2 ∙ eqb-self hold.gxid.0))
+        (world-came script some es i hold.gxid.0 e))

@@ -46,6 +46,14 @@ module _ {X : Type 0} (p q : X → Bool) where
       by_test true k e rest = or-both (p x) (list_any p (filter keep xs)) (f x k e) rest
       by_test false k e rest = rest
 
+-- with one more that doesn't count
+pub none-with : (p : Claim → Bool) (wanted : Claim) (holds : List Claim) → p wanted ≡ false → list_any p holds ≡ false → list_any p (with_claim wanted holds) ≡ false
+none-with p wanted holds f e = by_test (list_any (same_claim wanted) holds)
+  where
+    by_test : (b : Bool) → list_any p (if b then holds else holds ++ wanted ∷ []) ≡ false
+    by_test true = e
+    by_test false = list_any-append p holds (wanted ∷ []) ∙ or-both (list_any p holds) (p wanted || false) e (or-both (p wanted) false f refl)
+
 -- HOLDS
 -- at no row is more than at any but one
 pub strays-none : (g : Gxid) (row : Option Rid) (holds : List Claim) → strays g None holds ≡ false → strays g row holds ≡ false
@@ -56,11 +64,7 @@ strays-none g row holds e = none-less (is_stray g row) (is_stray g None) (λ x f
     fewer false b e = refl
 
 pub strays-with : (g : Gxid) (row : Option Rid) (wanted : Claim) (holds : List Claim) → is_stray g row wanted ≡ false → strays g row holds ≡ false → strays g row (with_claim wanted holds) ≡ false
-strays-with g row wanted holds f e = by_test (list_any (same_claim wanted) holds)
-  where
-    by_test : (b : Bool) → strays g row (if b then holds else holds ++ wanted ∷ []) ≡ false
-    by_test true = e
-    by_test false = list_any-append (is_stray g row) holds (wanted ∷ []) ∙ or-both (strays g row holds) (is_stray g row wanted || false) e (or-both (is_stray g row wanted) false f refl)
+strays-with g row wanted holds f e = none-with (is_stray g row) wanted holds f e
 
 pub strays-left : (g : Gxid) (row : Option Rid) (keep : Claim → Bool) (holds : List Claim) → strays g row holds ≡ false → strays g row (filter keep holds) ≡ false
 strays-left g row keep holds e = none-left (is_stray g row) (is_stray g row) keep (λ x k f. f) holds e

@@ -11,6 +11,7 @@ use Rattle.gx_store.specs.Points.{marks_in}
 use Rattle.gx_waits.specs.declared.claim.Claim.{Claim}
 use Rattle.gx_waits.specs.declared.object.Object.TheVariants.{Tuple}
 use Rattle.gx_rules.specs.Coordinators.{work_of}
+use Rattle.gx_rules.specs.Fits.{holds_locks}
 use Rattle.gx_rules.specs.Machine.{World}
 use Rattle.gx_rules.specs.Segments.{Suspended, has_ended, local_of}
 use Rattle.gx_law_order.specs.Standings.{waits_in}
@@ -40,3 +41,7 @@ abbrev pub AreRowsHeldByWaiters : World → Node → Type 0
 AreRowsHeldByWaiters w node =
     (hold : Claim) (rid : Rid) → Contains (w.segs node.0).locks.holds hold → hold.object ≡ Tuple rid
     → WaitsAtRow w node hold.gxid rid ⊎ HasFailedThere w node hold.gxid ⊎ (is_aborted (marks_in w.steps) hold.gxid ≡ true)
+
+-- each lock that is held at the segment is held by a transaction that has had a command taken there, and hasn't ended there
+abbrev pub AreHoldersRunning : World → Node → Type 0
+AreHoldersRunning w node = (hold : Claim) → Contains (w.segs node.0).locks.holds hold → holds_locks (local_of (w.segs node.0) hold.gxid) ≡ true

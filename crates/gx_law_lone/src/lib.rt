@@ -1,4 +1,5 @@
 //! Where a round of the detector is all that was enabled, it finds victims: what of it is proved.
 #![tactic(auto)]
 
+pub mod frame;
 pub mod rows;

@@ -1,7 +1,7 @@
 //! Laws of every run, whatever the network loses, repeats, delays and reorders, and whichever appends fail.
 ghost use Rattle.std.specs.Prelude.{◌≤◌, Bool, List};
 ghost use Rattle.gx_ids.specs.declared.ids.Node.{Node as OneNode};
-ghost use Rattle.gx_law_lone.specs.Rows.{AreRowsHeldByWaiters};
+ghost use Rattle.gx_law_lone.specs.Rows.{AreHoldersRunning, AreRowsHeldByWaiters};
 ghost use Rattle.gx_rules.specs.Machine.{world_of};
 ghost use Rattle.gx_script.specs.declared.Script.{Script};
 ghost use Rattle.gx_store.specs.declared.event.Event.{Event as OneEvent};
@@ -11,4 +11,9 @@ ghost use Rattle.gx_store.specs.declared.event.Event.{Event as OneEvent};
 /// holds a row's lock while its transaction may still run waits there, or something of it is still to come.
 pub fn who_holds_a_rows_lock_waits_there()
     ensures { (script : Script) (events : List (OneEvent × Bool)) (node : OneNode) → 1 ≤ script.segments → 1 ≤ node.0 → AreRowsHeldByWaiters (world_of script events) node }
+{}
+
+/// Whoever holds a lock at a segment, of whatever kind, has had a command taken there, and hasn't ended there.
+pub fn who_holds_a_lock_has_come_and_not_ended()
+    ensures { (script : Script) (events : List (OneEvent × Bool)) (node : OneNode) → 1 ≤ script.segments → AreHoldersRunning (world_of script events) node }
 {}
