@@ -13,8 +13,8 @@ CLASSES = {
     " and waits first where its writer hasn't ended.",
     "cycle": "The server's sessions wait in a cycle where those of gx don't, since it comes to rows in an order of its own; the peer"
     " cancelled one of them.",
-    "queue": "Of several that wait for a table's lock and could go on, the server takes the first in line, and gx the oldest transaction;"
-    " and the server may put a line into another order where that ends a deadlock.",
+    "queue": "A request for a table's lock stands in line behind others that wait, and the line moves from its front;"
+    " gx grants whatever meets no hold, the oldest transaction's first.",
     "order": "Of several that one end lets go on, it is open which comes to a row first.",
     "begin": "A BEGIN with a level in a block changes the block's level on a server, so it was sent without; gx changes nothing.",
 }

@@ -28,7 +28,7 @@ use Rattle.gx_sql.specs.Lines.{begins, without_returns, before, fed_lines, lines
 use Rattle.gx_sql.specs.Progress.{Progress, start, giving, count_of, counted, next_line, with_line}
 use Rattle.gx_sql.specs.Script.{the_limits, Told, TokensSay, LineSays, Goes, Where, ended, script_of, ReadsOn, Reads}
 use Rattle.gx_sql.proofs.Cuts.{Unfed, lines_of-unfed}
-use Rattle.gx_sql.proofs.Language.{read_kept}
+use Rattle.gx_sql.proofs.Language.{read_keeps}
 use Rattle.gx_sql.proofs.Room.{behind_name}
 use Rattle.gx_sql.proofs.Steps.{step_read}
 use Rattle.gx_sql.proofs.Unique.{reads_one}
@@ -263,7 +263,7 @@ module _ (heads : List ℕ) (over : Script) (name : List ℕ) (x : Stmt) (text :
   read_whole coded h =
       let there = behind 1 start (lines_of heads) over h in
       let q = there.progress in
-      let language = read_kept heads over h in
+      let language = read_keeps heads (Ok over) h in
       let alone : q.lines ≡ [] = ap (λ (s : Script). s.lines) (sym there.is) ∙ are.alone in
       let none : 0 ≡ length (map (λ (s : List ℕ × ℕ). s.0) q.sessions) = no_session over.lines (length over.sessions) are.alone language.order ∙ ap (λ (s : Script). length s.sessions) there.is in
       let nobody : q.sessions ≡ [] = none_mapped (λ (s : List ℕ × ℕ). s.0) q.sessions none in
