@@ -170,153 +170,153 @@ module _ (script : Script) (w : World) (n : Knows script w) (v : Holds script w)
     (heard : (c : ℕ) → Ran c → IsHeardOf (known_at w.coord (marks_in w.steps) i (gxid_in msg)) c)
     (newer : (c : ℕ) → Ran c → (parts_in w i (gxid_in msg)).last ≡ c → (parts_in w i (gxid_in msg)).waits ≡ false → ⊥)
   where
-  abbrev g : ℕ
-  g = gxid_in msg
+    abbrev g : ℕ
+    g = gxid_in msg
 
-  abbrev seg_turn : SegTurn
-  seg_turn = segment.on_event script (w.segs i) x fails
+    abbrev seg_turn : SegTurn
+    seg_turn = segment.on_event script (w.segs i) x fails
 
-  abbrev knew : ℕ → ℕ → Known
-  knew j h = known_at w.coord (marks_in w.steps) j h
+    abbrev knew : ℕ → ℕ → Known
+    knew j h = known_at w.coord (marks_in w.steps) j h
 
-  abbrev then_there : World
-  then_there = world_then script w n v e x fails i msg reached does
+    abbrev then_there : World
+    then_there = world_then script w n v e x fails i msg reached does
 
-  abbrev now_part : Part
-  now_part = part_then script w n v e x fails i msg reached does
+    abbrev now_part : Part
+    now_part = part_then script w n v e x fails i msg reached does
 
-  part-here : parts_in then_there i g ≡ now_part
-  part-here = here-then script w n v e x fails i msg reached does
+    part-here : parts_in then_there i g ≡ now_part
+    part-here = here-then script w n v e x fails i msg reached does
 
-  part-there : (j h : ℕ) → (eqb j i && eqb h g) ≡ false → parts_in then_there j h ≡ parts_in w j h
-  part-there = there-then script w n v e x fails i msg reached does
+    part-there : (j h : ℕ) → (eqb j i && eqb h g) ≡ false → parts_in then_there j h ≡ parts_in w j h
+    part-there = there-then script w n v e x fails i msg reached does
 
-  same-knew : (j h : ℕ) → known_at w.coord (marks_in then_there.steps) j h ≡ knew j h
-  same-knew = known-then script w n v e x fails i msg reached does
+    same-knew : (j h : ℕ) → known_at w.coord (marks_in then_there.steps) j h ≡ knew j h
+    same-knew = known-then script w n v e x fails i msg reached does
 
-  heard-now : failing now_part ≡ true → IsHeardOf (knew i g) now_part.last
-  heard-now f =
-      let a = and_parts (has_failed (seg_turn.seg.locals g).answer) (is_open (seg_turn.seg.locals g).phase) f in
-      by_way (did.failed a.0 (sym (open-same (seg_turn.seg.locals g).phase) ∙ a.1))
-    where
-      failed-then : has_failed ((w.segs i).locals g).answer ≡ true → is_open_phase ((w.segs i).locals g).phase ≡ true → failing (parts_in w i g) ≡ true
-      failed-then a b = and_from (has_failed ((w.segs i).locals g).answer) (is_open ((w.segs i).locals g).phase) a (open-same ((w.segs i).locals g).phase ∙ b)
+    heard-now : failing now_part ≡ true → IsHeardOf (knew i g) now_part.last
+    heard-now f =
+        let a = and_parts (has_failed (seg_turn.seg.locals g).answer) (is_open (seg_turn.seg.locals g).phase) f in
+        by_way (did.failed a.0 (sym (open-same (seg_turn.seg.locals g).phase) ∙ a.1))
+      where
+        failed-then : has_failed ((w.segs i).locals g).answer ≡ true → is_open_phase ((w.segs i).locals g).phase ≡ true → failing (parts_in w i g) ≡ true
+        failed-then a b = and_from (has_failed ((w.segs i).locals g).answer) (is_open ((w.segs i).locals g).phase) a (open-same ((w.segs i).locals g).phase ∙ b)
 
-      by_way : ((has_failed ((w.segs i).locals g).answer ≡ true) × (is_open_phase ((w.segs i).locals g).phase ≡ true) × ((seg_turn.seg.locals g).last ≡ ((w.segs i).locals g).last)) ⊎ Ran (seg_turn.seg.locals g).last → IsHeardOf (knew i g) now_part.last
-      by_way (inl o) = subst (IsHeardOf (knew i g)) (sym o.2) (heard-of (knew i g) (parts_in w i g) (u.pairs i g) (failed-then o.0 o.1))
-      by_way (inr r) = heard _ r
+        by_way : ((has_failed ((w.segs i).locals g).answer ≡ true) × (is_open_phase ((w.segs i).locals g).phase ≡ true) × ((seg_turn.seg.locals g).last ≡ ((w.segs i).locals g).last)) ⊎ Ran (seg_turn.seg.locals g).last → IsHeardOf (knew i g) now_part.last
+        by_way (inl o) = subst (IsHeardOf (knew i g)) (sym o.2) (heard-of (knew i g) (parts_in w i g) (u.pairs i g) (failed-then o.0 o.1))
+        by_way (inr r) = heard _ r
 
-  pair-now : Pair (knew i g) (feigned now_part)
-  pair-now = feign (knew i g) now_part does.next.pair heard-now
+    pair-now : Pair (knew i g) (feigned now_part)
+    pair-now = feign (knew i g) now_part does.next.pair heard-now
 
-  pair-next : (j h : ℕ) (b : Bool) → (eqb j i && eqb h g) ≡ b → Pair (knew j h) (so_in then_there j h)
-  pair-next j h true q =
-      let f = and_parts (eqb j i) (eqb h g) q in
-      subst (λ a. Pair (knew a h) (so_in then_there a h)) (sym (eqb-true j i f.0)) (subst (λ a. Pair (knew i a) (so_in then_there i a)) (sym (eqb-true h g f.1)) (subst (λ p. Pair (knew i g) (feigned p)) (sym part-here) pair-now))
-  pair-next j h false q = subst (λ p. Pair (knew j h) (feigned p)) (sym (part-there j h q)) (u.pairs j h)
+    pair-next : (j h : ℕ) (b : Bool) → (eqb j i && eqb h g) ≡ b → Pair (knew j h) (so_in then_there j h)
+    pair-next j h true q =
+        let f = and_parts (eqb j i) (eqb h g) q in
+        subst (λ a. Pair (knew a h) (so_in then_there a h)) (sym (eqb-true j i f.0)) (subst (λ a. Pair (knew i a) (so_in then_there i a)) (sym (eqb-true h g f.1)) (subst (λ p. Pair (knew i g) (feigned p)) (sym part-here) pair-now))
+    pair-next j h false q = subst (λ p. Pair (knew j h) (feigned p)) (sym (part-there j h q)) (u.pairs j h)
 
-  -- an older DONE isn't of the command that has failed
-  no-failure : (m : Message) → Said (knew i g) (so_in w i g) m → Said (knew i g) now_part m → IsNoFailure (knew i g) now_part m
-  no-failure (message.Answer h (reply.Done c wrote count part)) old real = λ l q. by_test l q (failing now_part) refl
-    where
-      first : (a b : Bool) → (a || b) ≡ false → a ≡ false
-      first true b z = absurd (cc)
-      first false b z = refl
+    -- an older DONE isn't of the command that has failed
+    no-failure : (m : Message) → Said (knew i g) (so_in w i g) m → Said (knew i g) now_part m → IsNoFailure (knew i g) now_part m
+    no-failure (message.Answer h (reply.Done c wrote count part)) old real = λ l q. by_test l q (failing now_part) refl
+      where
+        first : (a b : Bool) → (a || b) ≡ false → a ≡ false
+        first true b z = absurd (cc)
+        first false b z = refl
 
-      second : (a b : Bool) → (a || b) ≡ false → b ≡ false
-      second true b z = absurd (cc)
-      second false b z = z
+        second : (a b : Bool) → (a || b) ≡ false → b ≡ false
+        second true b z = absurd (cc)
+        second false b z = z
 
-      clash : (l : (knew i g).at ≡ Live) (q : c.0 ≡ (knew i g).last) → failing now_part ≡ true → ⊥
-      clash l q f =
-          let a = and_parts (has_failed (seg_turn.seg.locals g).answer) (is_open (seg_turn.seg.locals g).phase) f in
-          by_way (did.failed a.0 (sym (open-same (seg_turn.seg.locals g).phase) ∙ a.1))
-        where
-          by_way : ((has_failed ((w.segs i).locals g).answer ≡ true) × (is_open_phase ((w.segs i).locals g).phase ≡ true) × ((seg_turn.seg.locals g).last ≡ ((w.segs i).locals g).last)) ⊎ Ran (seg_turn.seg.locals g).last → ⊥
-          by_way (inl o) =
-              true-false (failing (parts_in w i g))
-              (and_from (has_failed ((w.segs i).locals g).answer) (is_open ((w.segs i).locals g).phase) o.0 (open-same ((w.segs i).locals g).phase ∙ o.1))
-              (second (parts_in w i g).waits (failing (parts_in w i g)) (old.same l q).2)
-          by_way (inr r) = newer c.0 (subst Ran (real.same l q).0 r) (old.same l q).0 (first (parts_in w i g).waits (failing (parts_in w i g)) (old.same l q).2)
+        clash : (l : (knew i g).at ≡ Live) (q : c.0 ≡ (knew i g).last) → failing now_part ≡ true → ⊥
+        clash l q f =
+            let a = and_parts (has_failed (seg_turn.seg.locals g).answer) (is_open (seg_turn.seg.locals g).phase) f in
+            by_way (did.failed a.0 (sym (open-same (seg_turn.seg.locals g).phase) ∙ a.1))
+          where
+            by_way : ((has_failed ((w.segs i).locals g).answer ≡ true) × (is_open_phase ((w.segs i).locals g).phase ≡ true) × ((seg_turn.seg.locals g).last ≡ ((w.segs i).locals g).last)) ⊎ Ran (seg_turn.seg.locals g).last → ⊥
+            by_way (inl o) =
+                true-false (failing (parts_in w i g))
+                (and_from (has_failed ((w.segs i).locals g).answer) (is_open ((w.segs i).locals g).phase) o.0 (open-same ((w.segs i).locals g).phase ∙ o.1))
+                (second (parts_in w i g).waits (failing (parts_in w i g)) (old.same l q).2)
+            by_way (inr r) = newer c.0 (subst Ran (real.same l q).0 r) (old.same l q).0 (first (parts_in w i g).waits (failing (parts_in w i g)) (old.same l q).2)
 
-      by_test : (knew i g).at ≡ Live → c.0 ≡ (knew i g).last → (b : Bool) → failing now_part ≡ b → b ≡ false
-      by_test l q true f = absurd (clash l q f)
-      by_test l q false f = refl
-  no-failure (message.Answer h (reply.Failed c z)) old real = tt
-  no-failure (message.Answer h reply.Prepared) old real = tt
-  no-failure (message.Answer h reply.Committed) old real = tt
-  no-failure (message.Answer h reply.Jfault) old real = tt
-  no-failure (message.Answer h reply.Again) old real = tt
-  no-failure (message.Answer h reply.Aborted) old real = tt
-  no-failure (message.Answer h reply.Forgotten) old real = tt
-  no-failure (message.Exec h c level a b d) old real = tt
-  no-failure (message.Prepare h) old real = tt
-  no-failure (message.Commit h) old real = tt
-  no-failure (message.CommitPrepared h) old real = tt
-  no-failure (message.Abort h) old real = tt
-  no-failure (message.Forget h) old real = tt
-  no-failure (message.Collect round) old real = tt
-  no-failure (message.Graph round graph) old real = tt
+        by_test : (knew i g).at ≡ Live → c.0 ≡ (knew i g).last → (b : Bool) → failing now_part ≡ b → b ≡ false
+        by_test l q true f = absurd (clash l q f)
+        by_test l q false f = refl
+    no-failure (message.Answer h (reply.Failed c z)) old real = tt
+    no-failure (message.Answer h reply.Prepared) old real = tt
+    no-failure (message.Answer h reply.Committed) old real = tt
+    no-failure (message.Answer h reply.Jfault) old real = tt
+    no-failure (message.Answer h reply.Again) old real = tt
+    no-failure (message.Answer h reply.Aborted) old real = tt
+    no-failure (message.Answer h reply.Forgotten) old real = tt
+    no-failure (message.Exec h c level a b d) old real = tt
+    no-failure (message.Prepare h) old real = tt
+    no-failure (message.Commit h) old real = tt
+    no-failure (message.CommitPrepared h) old real = tt
+    no-failure (message.Abort h) old real = tt
+    no-failure (message.Forget h) old real = tt
+    no-failure (message.Collect round) old real = tt
+    no-failure (message.Graph round graph) old real = tt
 
-  said-next : (j h : ℕ) (m : Message) → Said (knew j h) (parts_in w j h) m → Said (knew j h) (so_in w j h) m → (b : Bool) → (eqb j i && eqb h g) ≡ b → Said (knew j h) (so_in then_there j h) m
-  said-next j h m was old true q =
-      let f = and_parts (eqb j i) (eqb h g) q in
-      let one : Said (knew i g) (parts_in w i g) m = subst (λ a. Said (knew i a) (parts_in w i a) m) (eqb-true h g f.1) (subst (λ a. Said (knew a h) (parts_in w a h) m) (eqb-true j i f.0) was) in
-      let two : Said (knew i g) (so_in w i g) m = subst (λ a. Said (knew i a) (so_in w i a) m) (eqb-true h g f.1) (subst (λ a. Said (knew a h) (so_in w a h) m) (eqb-true j i f.0) old) in
-      let real : Said (knew i g) now_part m = said-grows (knew i g) (parts_in w i g) now_part m does.next.grows does.next.pair one in
-      let all : Said (knew i g) (so_in then_there i g) m = subst (λ p. Said (knew i g) (feigned p) m) (sym part-here) (say-feigned (knew i g) now_part m real (no-failure m two real)) in
-      subst (λ a. Said (knew a h) (so_in then_there a h) m) (sym (eqb-true j i f.0)) (subst (λ a. Said (knew i a) (so_in then_there i a) m) (sym (eqb-true h g f.1)) all)
-  said-next j h m was old false q = subst (λ p. Said (knew j h) (feigned p) m) (sym (part-there j h q)) old
+    said-next : (j h : ℕ) (m : Message) → Said (knew j h) (parts_in w j h) m → Said (knew j h) (so_in w j h) m → (b : Bool) → (eqb j i && eqb h g) ≡ b → Said (knew j h) (so_in then_there j h) m
+    said-next j h m was old true q =
+        let f = and_parts (eqb j i) (eqb h g) q in
+        let one : Said (knew i g) (parts_in w i g) m = subst (λ a. Said (knew i a) (parts_in w i a) m) (eqb-true h g f.1) (subst (λ a. Said (knew a h) (parts_in w a h) m) (eqb-true j i f.0) was) in
+        let two : Said (knew i g) (so_in w i g) m = subst (λ a. Said (knew i a) (so_in w i a) m) (eqb-true h g f.1) (subst (λ a. Said (knew a h) (so_in w a h) m) (eqb-true j i f.0) old) in
+        let real : Said (knew i g) now_part m = said-grows (knew i g) (parts_in w i g) now_part m does.next.grows does.next.pair one in
+        let all : Said (knew i g) (so_in then_there i g) m = subst (λ p. Said (knew i g) (feigned p) m) (sym part-here) (say-feigned (knew i g) now_part m real (no-failure m two real)) in
+        subst (λ a. Said (knew a h) (so_in then_there a h) m) (sym (eqb-true j i f.0)) (subst (λ a. Said (knew i a) (so_in then_there i a) m) (sym (eqb-true h g f.1)) all)
+    said-next j h m was old false q = subst (λ p. Said (knew j h) (feigned p) m) (sym (part-there j h q)) old
 
-  moved-on : (j h : ℕ) (m : Message) → Said (knew j h) (so_in then_there j h) m → Said (known_at w.coord (marks_in then_there.steps) j h) (so_in then_there j h) m
-  moved-on j h m y = subst (λ k. Said k (so_in then_there j h) m) (sym (same-knew j h)) y
+    moved-on : (j h : ℕ) (m : Message) → Said (knew j h) (so_in then_there j h) m → Said (known_at w.coord (marks_in then_there.steps) j h) (so_in then_there j h) m
+    moved-on j h m y = subst (λ k. Said k (so_in then_there j h) m) (sym (same-knew j h)) y
 
-  -- a new one tells of what is kept
-  told-so : (m : Message) → TellsSo (seg_turn.seg.locals g) m → IsNoFailure (knew i g) now_part m
-  told-so (message.Answer h (reply.Done c wrote count part)) t = λ l q. ap (λ b. b && is_open (seg_turn.seg.locals g).phase) t
-  told-so (message.Answer h (reply.Failed c z)) t = tt
-  told-so (message.Answer h reply.Prepared) t = tt
-  told-so (message.Answer h reply.Committed) t = tt
-  told-so (message.Answer h reply.Jfault) t = tt
-  told-so (message.Answer h reply.Again) t = tt
-  told-so (message.Answer h reply.Aborted) t = tt
-  told-so (message.Answer h reply.Forgotten) t = tt
-  told-so (message.Exec h c level a b d) t = tt
-  told-so (message.Prepare h) t = tt
-  told-so (message.Commit h) t = tt
-  told-so (message.CommitPrepared h) t = tt
-  told-so (message.Abort h) t = tt
-  told-so (message.Forget h) t = tt
-  told-so (message.Collect round) t = tt
-  told-so (message.Graph round graph) t = tt
+    -- a new one tells of what is kept
+    told-so : (m : Message) → TellsSo (seg_turn.seg.locals g) m → IsNoFailure (knew i g) now_part m
+    told-so (message.Answer h (reply.Done c wrote count part)) t = λ l q. ap (λ b. b && is_open (seg_turn.seg.locals g).phase) t
+    told-so (message.Answer h (reply.Failed c z)) t = tt
+    told-so (message.Answer h reply.Prepared) t = tt
+    told-so (message.Answer h reply.Committed) t = tt
+    told-so (message.Answer h reply.Jfault) t = tt
+    told-so (message.Answer h reply.Again) t = tt
+    told-so (message.Answer h reply.Aborted) t = tt
+    told-so (message.Answer h reply.Forgotten) t = tt
+    told-so (message.Exec h c level a b d) t = tt
+    told-so (message.Prepare h) t = tt
+    told-so (message.Commit h) t = tt
+    told-so (message.CommitPrepared h) t = tt
+    told-so (message.Abort h) t = tt
+    told-so (message.Forget h) t = tt
+    told-so (message.Collect round) t = tt
+    told-so (message.Graph round graph) t = tt
 
-  each-out : (outs : List Out) → Each (λ (o : Out). Tells (knew i g) now_part i g seg_turn.marks o.message) outs → Each (λ (o : Out). TellsSo (seg_turn.seg.locals g) o.message) outs
-      → Each (λ (o : Out). (number : ℕ) → SaidSo then_there (record { from = at i; to = o.node; envelope = record { number = number; clock = clock_after (w.segs i).clock x; message = o.message } })) outs
-  each-out [] y t = tt
-  each-out (o ∷ outs) y t = (
-    λ number. let z = told-answer (knew i g) now_part i g seg_turn.marks o.message y.0 in
-        subst (λ b. Said (known_at w.coord (marks_in then_there.steps) (if b then i else o.node.0) (gxid_in o.message)) (so_in then_there (if b then i else o.node.0) (gxid_in o.message)) o.message) (sym z.0)
-        (subst (λ a. Said (known_at w.coord (marks_in then_there.steps) i a) (so_in then_there i a) o.message) (sym z.1)
-        (moved-on i g o.message (subst (λ p. Said (knew i g) (feigned p) o.message) (sym part-here) (say-feigned (knew i g) now_part o.message z.2 (told-so o.message t.0))))),
-    each-out outs y.1 t.1,
-  )
+    each-out : (outs : List Out) → Each (λ (o : Out). Tells (knew i g) now_part i g seg_turn.marks o.message) outs → Each (λ (o : Out). TellsSo (seg_turn.seg.locals g) o.message) outs
+        → Each (λ (o : Out). (number : ℕ) → SaidSo then_there (record { from = at i; to = o.node; envelope = record { number = number; clock = clock_after (w.segs i).clock x; message = o.message } })) outs
+    each-out [] y t = tt
+    each-out (o ∷ outs) y t = (
+      λ number. let z = told-answer (knew i g) now_part i g seg_turn.marks o.message y.0 in
+          subst (λ b. Said (known_at w.coord (marks_in then_there.steps) (if b then i else o.node.0) (gxid_in o.message)) (so_in then_there (if b then i else o.node.0) (gxid_in o.message)) o.message) (sym z.0)
+          (subst (λ a. Said (known_at w.coord (marks_in then_there.steps) i a) (so_in then_there i a) o.message) (sym z.1)
+          (moved-on i g o.message (subst (λ p. Said (knew i g) (feigned p) o.message) (sym part-here) (say-feigned (knew i g) now_part o.message z.2 (told-so o.message t.0))))),
+      each-out outs y.1 t.1,
+    )
 
-  pub seg-feigns : Feigns (seg_did w (at i) e (seg_rule script (w.segs i) x fails))
-  seg-feigns =
-      record {
-        pairs = λ j h. subst (λ k. Pair k (so_in then_there j h)) (sym (same-knew j h)) (pair-next j h (eqb j i && eqb h g) refl);
-        said = posted-each (SaidSo then_there) (at i) (clock_after (w.segs i).clock x) seg_turn.marks (λ node. seg_turn.seg.sent) seg_turn.outs w.sent (follows-no-sent msg (knew i g) i g seg_turn.marks does.marks)
-            (each-out seg_turn.outs does.outs did.outs)
-            (each_weaker (λ l. SaidIn w l × SaidSo w l) (SaidSo then_there) (λ l y. moved-on (segment_of l) (gxid_in l.envelope.message) l.envelope.message (said-next (segment_of l) (gxid_in l.envelope.message) l.envelope.message y.0 y.1 (eqb (segment_of l) i && eqb (gxid_in l.envelope.message) g) refl)) w.sent (each-zip (SaidIn w) (SaidSo w) w.sent v.said u.said));
-        rows = λ j. subst (λ q. Rows (aborts_in q) (if eqb j i then (seg_rule script (w.segs i) x fails).seg else w.segs j)) (sym (marks-last w.steps step)) (rows-later (marks_in w.steps) step.marks (if eqb j i then (seg_rule script (w.segs i) x fails).seg else w.segs j) (by_node j (eqb j i)));
-      }
-    where
-      step : Step
-      step = record { stamp = record { clock = clock_after (w.segs i).clock x; node = at i }; event = e; marks = (seg_rule script (w.segs i) x fails).marks }
+    pub seg-feigns : Feigns (seg_did w (at i) e (seg_rule script (w.segs i) x fails))
+    seg-feigns =
+        record {
+          pairs = λ j h. subst (λ k. Pair k (so_in then_there j h)) (sym (same-knew j h)) (pair-next j h (eqb j i && eqb h g) refl);
+          said = posted-each (SaidSo then_there) (at i) (clock_after (w.segs i).clock x) seg_turn.marks (λ node. seg_turn.seg.sent) seg_turn.outs w.sent (follows-no-sent msg (knew i g) i g seg_turn.marks does.marks)
+              (each-out seg_turn.outs does.outs did.outs)
+              (each_weaker (λ l. SaidIn w l × SaidSo w l) (SaidSo then_there) (λ l y. moved-on (segment_of l) (gxid_in l.envelope.message) l.envelope.message (said-next (segment_of l) (gxid_in l.envelope.message) l.envelope.message y.0 y.1 (eqb (segment_of l) i && eqb (gxid_in l.envelope.message) g) refl)) w.sent (each-zip (SaidIn w) (SaidSo w) w.sent v.said u.said));
+          rows = λ j. subst (λ q. Rows (aborts_in q) (if eqb j i then (seg_rule script (w.segs i) x fails).seg else w.segs j)) (sym (marks-last w.steps step)) (rows-later (marks_in w.steps) step.marks (if eqb j i then (seg_rule script (w.segs i) x fails).seg else w.segs j) (by_node j (eqb j i)));
+        }
+      where
+        step : Step
+        step = record { stamp = record { clock = clock_after (w.segs i).clock x; node = at i }; event = e; marks = (seg_rule script (w.segs i) x fails).marks }
 
-      by_node : (j : ℕ) (b : Bool) → Rows (aborts_in (marks_in w.steps)) (if b then (seg_rule script (w.segs i) x fails).seg else w.segs j)
-      by_node j true = did.rows
-      by_node j false = u.rows j
+        by_node : (j : ℕ) (b : Bool) → Rows (aborts_in (marks_in w.steps)) (if b then (seg_rule script (w.segs i) x fails).seg else w.segs j)
+        by_node j true = did.rows
+        by_node j false = u.rows j
 
 -- WHAT A SEGMENT HEARS
 module _ (script : Script) (w : World) (n : Knows script w) (v : Holds script w) (u : Feigns w) (i : ℕ) where
