@@ -1,1 +1,1 @@
-pub mod Said
+mod Answered

@@ -1,10 +1,10 @@
 -- What the judge says of a script, and why.
-use Rattle.std.specs.Prelude.{◌≡◌, ◌⊎◌, ℕ, ◌≤◌, List, [], length, Option, None, Some, Result, Ok, codes}
+use Rattle.std.specs.Prelude.{◌≡◌, ◌⊎◌, ℕ, ◌≤◌, List, [], length, map, Option, None, Some, Result, Ok, codes}
 use Rattle.std.specs.declared.string.String.{String}
 use Rattle.std.specs.declared.alloc.Global.{Global}
 use Rattle.gx_outside.specs.Causes.{Rose}
-use Rattle.gx_words.specs.Asked.{AreAsked, AreGiven, AreUnknown, IsForSource, IsTooMuch, limit}
-use Rattle.gx_words.specs.declared.options.Options.{Options}
+use Rattle.gx_outside.specs.Memory.{JournalState, shelf_of}
+use Rattle.gx_words.specs.Asked.{AreGiven, IsTooMuch, limit}
 use Rattle.gx_script.specs.declared.Script.{Script}
 use Rattle.gx_store.specs.declared.run.Run.{Run}
 use Rattle.gx_store.specs.declared.run.Step.{Step}
@@ -12,9 +12,12 @@ use Rattle.gx_store.specs.Runs.{IsLegalHistory}
 use Rattle.gx_sql.specs.Script.{Reads}
 use Rattle.gx_law_runs.specs.Reached.{IsReached}
 use Rattle.gx_drive.specs.Ends.{IsEnd}
-use Rattle.gx_drive.specs.Ordered.{AreFirst}
+use Rattle.gx_drive.specs.Ordered.{AreFailuresFew, AreFirst}
 use Rattle.gx_drive.specs.Seeded.{AreDrawn}
 use Rattle.gx_drive.specs.declared.end.End.{End}
+use Rattle.gx_judge.specs.Refusing.{AreUnknown, IsAsked, IsForSource, journals_below}
+use Rattle.gx_judge.specs.Telling.{IsText}
+use Rattle.gx_judge.specs.declared.asked.Asked.{Asked}
 use Rattle.gx_judge.specs.declared.verdict.Verdict.{Verdict}
 use Rattle.gx_judge.specs.declared.verdict.Verdict.TheVariants.{Legal, NotLegal, NoRun, OutOfMemory}
 
@@ -30,43 +33,48 @@ IsSaid script run NotLegal = IsLegalHistory script run → ⊥
 IsSaid script run NoRun = ⊥
 IsSaid script run OutOfMemory = ⊥
 
--- so much is said of the run that the driver has made of the script, which came to its end: whole, stuck, or with all turns spent
-pub record IsJudged (script : Script) (options : Options) (verdict : Verdict) : Type 0 where
+-- So much is said of the run that the driver has made of the script, which came to its end: whole, stuck, or with all turns spent. No node has more marks
+-- of a failed append in it than its journal, which was empty and had not failed before, has failed behind it; and what is told of it is the text.
+pub record IsJudged (script : Script) (asked : Asked) (verdict : Verdict) (text : List ℕ) : Type 0 where
   pub run : Run
   pub end : End
+  pub journals : List JournalState
   pub reached : IsReached script run.steps
-  pub driven : AreDriven options.seed script run.steps
-  pub ended : IsEnd script run.steps options.turns end
+  pub driven : AreDriven asked.options.seed script run.steps
+  pub ended : IsEnd script run.steps asked.options.turns end
+  pub nodes : length journals ≡ 17
+  pub failures : AreFailuresFew run.steps (map shelf_of (journals_below asked.refused 17)) (map shelf_of journals)
   pub said : IsSaid script run verdict
+  pub told : IsText asked.refused asked.options script run end journals text
 
 -- of bytes that are read as a script its run is judged, and a run is judged of no other bytes
-abbrev pub IsOfBytes : List ℕ → Options → Verdict → Type 0
-IsOfBytes bytes options Legal = (script : Script) × Reads bytes (Ok script) × IsJudged script options Legal
-IsOfBytes bytes options NotLegal = (script : Script) × Reads bytes (Ok script) × IsJudged script options NotLegal
-IsOfBytes bytes options NoRun = (script : Script) → Reads bytes (Ok script) → ⊥
-IsOfBytes bytes options OutOfMemory = Unit {0}
+abbrev pub IsOfBytes : List ℕ → Asked → Verdict → List ℕ → Type 0
+IsOfBytes bytes asked Legal text = (script : Script) × Reads bytes (Ok script) × IsJudged script asked Legal text
+IsOfBytes bytes asked NotLegal text = (script : Script) × Reads bytes (Ok script) × IsJudged script asked NotLegal text
+IsOfBytes bytes asked NoRun text = ((script : Script) → Reads bytes (Ok script) → ⊥) × (text ≡ [])
+IsOfBytes bytes asked OutOfMemory text = text ≡ []
 
 -- the bytes that were given are a script of which this is so
-pub record IsJudgedOf (words : List (String Global)) (left after : Option (List ℕ)) (verdict : Verdict) : Type 0 where
-  pub options : Options
-  pub asked : AreAsked words options
+pub record IsJudgedOf (words : List (String Global)) (left after : Option (List ℕ)) (verdict : Verdict) (text : List ℕ) : Type 0 where
+  pub asked : Asked
+  pub words_ask : IsAsked words asked
   pub bytes : List ℕ
-  pub given : AreGiven options.work left after bytes
+  pub given : AreGiven asked.options.work left after bytes
   pub few : length bytes ≤ limit
-  pub is : IsOfBytes bytes options verdict
+  pub is : IsOfBytes bytes asked verdict text
 
 -- There is no run where the words are not in the language, or the source was to be read and failed or had too many bytes, or the bytes
 -- that were given are no script.
 abbrev pub HasNoRun : List (String Global) → Option (List ℕ) → Option (List ℕ) → ℕ → ℕ → Type 0
 HasNoRun words left after before now =
-    AreUnknown words ⊎ (IsForSource words × Rose before now) ⊎ (IsForSource words × IsTooMuch left after) ⊎ IsJudgedOf words left after NoRun
+    AreUnknown words ⊎ (IsForSource words × Rose before now) ⊎ (IsForSource words × IsTooMuch left after) ⊎ IsJudgedOf words left after NoRun []
 
--- what is said of what the words ask for
-abbrev pub IsAnswered : List (String Global) → Option (List ℕ) → Option (List ℕ) → ℕ → ℕ → Verdict → Type 0
-IsAnswered words left after before now Legal = IsJudgedOf words left after Legal
-IsAnswered words left after before now NotLegal = IsJudgedOf words left after NotLegal
-IsAnswered words left after before now NoRun = HasNoRun words left after before now
-IsAnswered words left after before now OutOfMemory = now ≡ before
+-- what is said of what the words ask for, and the text before it
+abbrev pub IsAnswered : List (String Global) → Option (List ℕ) → Option (List ℕ) → ℕ → ℕ → Verdict → List ℕ → Type 0
+IsAnswered words left after before now Legal text = IsJudgedOf words left after Legal text
+IsAnswered words left after before now NotLegal text = IsJudgedOf words left after NotLegal text
+IsAnswered words left after before now NoRun text = HasNoRun words left after before now × (text ≡ [])
+IsAnswered words left after before now OutOfMemory text = (now ≡ before) × (text ≡ [])
 
 -- the verdict as it is printed
 abbrev pub line_of : Verdict → List ℕ

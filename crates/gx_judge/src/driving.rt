@@ -3,6 +3,7 @@ ghost use Rattle.std.specs.Prelude.{◌≡◌, ◌≤◌, [], false, IfOk, lengt
 ghost use Rattle.gx_outside.specs.Memory.{shelf_of};
 ghost use Rattle.gx_outside.specs.Shelves.{AreEmpty};
 ghost use Rattle.gx_drive.specs.Ends.{IsEnd};
+ghost use Rattle.gx_drive.specs.Ordered.{AreFailuresFew};
 ghost use Rattle.gx_judge.specs.Judged.{AreDriven};
 
 use gx_drive::{End, run_ordered, run_seeded};
@@ -24,8 +25,10 @@ pub fn drive(
     requires journals { length journals.old ≡ 17 }
     requires empty { AreEmpty (map shelf_of journals.old) }
     requires turns { options.turns ≤ 10000000 }
+    ensures journals { length journals.new ≡ 17 }
     ensures script { world.new.script ≡ world.old.script }
     ensures driven { AreDriven options.seed world.old.script world.new.run.steps }
+    ensures failures { AreFailuresFew world.new.run.steps (map shelf_of journals.old) (map shelf_of journals.new) }
     ensures end { IfOk result (IsEnd world.old.script world.new.run.steps options.turns) }
 {
     match options.seed {

@@ -1,17 +1,20 @@
 //! `gx_judge` reads a script from the standard input, runs it as `gx` does, and says whether its run is a legal history. That every run is
-//! one is proved; here the definition itself is asked, of the runs that the tests make.
+//! one is proved; here the definition itself is asked, of the runs that the tests make. With `--refuse NODE.CALL` before `gx`'s words, that append to
+//! the node's journal fails, and the run is told before the verdict.
 #![tactic(auto)]
 
+mod asked;
 mod driving;
+mod journals;
 mod judging;
+mod telling;
 mod verdict;
 
-use gx_drive::empty_journals;
-use gx_outside::{Failed, StdinSource, StdoutSink, write_whole};
+use gx_outside::{Failed, StdinSource, StdoutSink};
 use judging::judge;
 use std::process::ExitCode;
 use std::{env, io};
-use verdict::{line_of, status_of};
+use verdict::{status_of, write_judgment};
 
 fn main(rt: HostRuntime) -> ExitCode {
     let alloc = rt.alloc();
@@ -21,14 +24,11 @@ fn main(rt: HostRuntime) -> ExitCode {
     let Ok(words) = words.skip(1).collect::<Vec<String>>(alloc) else {
         return ExitCode::from(6);
     };
-    let Ok(mut journals) = empty_journals(alloc) else {
-        return ExitCode::from(6);
-    };
     let mut source = StdinSource::new(rt.reader());
-    let verdict = judge(alloc, words.as_slice(), &mut source, &mut journals);
+    let judgment = judge(alloc, words.as_slice(), &mut source);
     let mut sink = StdoutSink::new(io::writer(&rt));
-    match write_whole(&mut sink, line_of(verdict)) {
-        Ok(()) => ExitCode::from(status_of(verdict)),
+    match write_judgment(&mut sink, &judgment) {
+        Ok(()) => ExitCode::from(status_of(judgment.verdict)),
         Err(Failed) => ExitCode::from(5),
     }
 }
