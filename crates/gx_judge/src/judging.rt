@@ -3,7 +3,7 @@ ghost use Rattle.std.specs.Prelude.{◌≡◌, ◌≤◌, [], false, IfOk, lengt
 ghost use Rattle.gx_outside.specs.Memory.{shelf_of};
 ghost use Rattle.gx_outside.specs.Shelves.{AreEmpty};
 ghost use Rattle.gx_store.specs.Language.{IsScript};
-ghost use Rattle.gx_judge.specs.Judged.{IsAnswered, IsJudged, IsOfBytes, IsSaid};
+ghost use Rattle.gx_judge.specs.Judged.{IsAnswered, IsJudged, IsOfBytes};
 ghost use Rattle.gx_judge.specs.Refusing.{journals_below};
 ghost use Rattle.gx_words.specs.Asked.{limit};
 
@@ -11,7 +11,7 @@ use crate::asked::{Asked, read_asked};
 use crate::driving::drive;
 use crate::journals::journals_for;
 use crate::telling::text_for;
-use crate::verdict::{Judgment, Verdict, alone};
+use crate::verdict::Verdict;
 use gx_ids::Mem;
 use gx_legal::legal;
 use gx_outside::{JournalMem, Source};
@@ -23,50 +23,50 @@ use std::alloc::Global;
 
 /// Reads or generates the script that the words ask for, and judges its run; where they ask for an append to be refused, its run is told
 /// before the verdict.
-pub fn judge<S: Source>(alloc: Global, words: &[String], source: &mut S) -> Judgment
-    ensures { IsAnswered words.now (S.left source.old) (S.left source.new) (S.fault_count source.old) (S.fault_count source.new) result.verdict result.text.items }
+pub fn judge<S: Source>(alloc: Global, words: &[String], source: &mut S) -> Verdict
+    ensures { IsAnswered words.now (S.left source.old) (S.left source.new) (S.fault_count source.old) (S.fault_count source.new) result }
 {
     let asked = match read_asked(alloc, words) {
         Ok(asked) => asked,
-        Err(WordsFault::Usage) => return alone(alloc, Verdict::NoRun),
-        Err(WordsFault::OutOfMemory) => return alone(alloc, Verdict::OutOfMemory),
+        Err(WordsFault::Usage) => return Verdict::NoRun,
+        Err(WordsFault::OutOfMemory) => return Verdict::OutOfMemory,
     };
     match script_bytes(alloc, asked.options, source) {
         Ok(bytes) => judge_bytes(alloc, asked, bytes.as_slice()),
-        Err(NoBytes::OutOfMemory) => alone(alloc, Verdict::OutOfMemory),
-        Err(NoBytes::ReadFault) => alone(alloc, Verdict::NoRun),
-        Err(NoBytes::TooLarge) => alone(alloc, Verdict::NoRun),
+        Err(NoBytes::OutOfMemory) => Verdict::OutOfMemory,
+        Err(NoBytes::ReadFault) => Verdict::NoRun,
+        Err(NoBytes::TooLarge) => Verdict::NoRun,
     }
 }
 
 // What is said of these bytes.
-fn judge_bytes(alloc: Global, asked: Asked, bytes: &[u8]) -> Judgment
+fn judge_bytes(alloc: Global, asked: Asked, bytes: &[u8]) -> Verdict
     requires turns { asked.options.turns ≤ 10000000 }
     requires few { length bytes.now ≤ limit }
-    ensures { IsOfBytes bytes.now asked result.verdict result.text.items }
+    ensures { IsOfBytes bytes.now asked result }
 {
     match parse_script(alloc, bytes) {
         Ok(script) => match judge_script(alloc, script, asked) {
-            Ok(judgment) => judgment,
-            Err(_) => alone(alloc, Verdict::OutOfMemory),
+            Ok(verdict) => verdict,
+            Err(_) => Verdict::OutOfMemory,
         },
-        Err(Refusal::OutOfMemory) => alone(alloc, Verdict::OutOfMemory),
-        Err(_) => alone(alloc, Verdict::NoRun),
+        Err(Refusal::OutOfMemory) => Verdict::OutOfMemory,
+        Err(_) => Verdict::NoRun,
     }
 }
 
 // Runs the script, for so many turns at most as are asked for, and judges its run.
-fn judge_script(alloc: Global, script: Script, asked: Asked) -> Mem<Judgment>
+fn judge_script(alloc: Global, script: Script, asked: Asked) -> Mem<Verdict>
     requires turns { asked.options.turns ≤ 10000000 }
     requires language { IsScript script }
-    ensures { IfOk result (λ judgment. IsJudged script asked judgment.verdict judgment.text.items) }
+    ensures { IfOk result (IsJudged script asked) }
 {
     let mut world = World::new(alloc, script)?;
     let mut journals = journals_for(alloc, asked.refused)?;
-    let judgment = judge_world(alloc, &mut world, asked, journals.as_mut_slice());
+    let verdict = judge_world(alloc, &mut world, asked, journals.as_mut_slice());
     drop(world);
     drop(journals);
-    judgment
+    verdict
 }
 
 // Drives a new world, for so many turns at most as are asked for, and judges its run.
@@ -75,7 +75,7 @@ fn judge_world(
     world: &mut World,
     asked: Asked,
     journals: &mut [JournalMem],
-) -> Mem<Judgment>
+) -> Mem<Verdict>
     requires turns { asked.options.turns ≤ 10000000 }
     requires language { IsScript world.old.script }
     requires new { world.old.run.steps ≡ [] }
@@ -83,22 +83,14 @@ fn judge_world(
     requires journals { journals.old ≡ journals_below asked.refused 17 }
     requires count { length journals.old ≡ 17 }
     requires empty { AreEmpty (map shelf_of journals.old) }
-    ensures { IfOk result (λ judgment. IsJudged world.old.script asked judgment.verdict judgment.text.items) }
+    ensures { IfOk result (IsJudged world.old.script asked) }
 {
     let end = drive(alloc, world, asked.options, journals)?;
+    let is_legal = legal(alloc, world.script(), world.run())?;
     let text = text_for(alloc, world, asked, end, journals)?;
-    let verdict = verdict_of(alloc, world)?;
-    Ok(Judgment { text, verdict })
-}
-
-// Whether the run is a legal history.
-fn verdict_of(alloc: Global, world: &World) -> Mem<Verdict>
-    requires language { IsScript world.now.script }
-    ensures { IfOk result (IsSaid world.now.script world.now.run) }
-{
-    if legal(alloc, world.script(), world.run())? {
-        Ok(Verdict::Legal)
+    if is_legal {
+        Ok(Verdict::Legal(text))
     } else {
-        Ok(Verdict::NotLegal)
+        Ok(Verdict::NotLegal(text))
     }
 }

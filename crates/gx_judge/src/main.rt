@@ -14,7 +14,7 @@ use gx_outside::{Failed, StdinSource, StdoutSink};
 use judging::judge;
 use std::process::ExitCode;
 use std::{env, io};
-use verdict::{status_of, write_judgment};
+use verdict::{status_of, write_verdict};
 
 fn main(rt: HostRuntime) -> ExitCode {
     let alloc = rt.alloc();
@@ -25,10 +25,10 @@ fn main(rt: HostRuntime) -> ExitCode {
         return ExitCode::from(6);
     };
     let mut source = StdinSource::new(rt.reader());
-    let judgment = judge(alloc, words.as_slice(), &mut source);
+    let verdict = judge(alloc, words.as_slice(), &mut source);
     let mut sink = StdoutSink::new(io::writer(&rt));
-    match write_judgment(&mut sink, &judgment) {
-        Ok(()) => ExitCode::from(status_of(judgment.verdict)),
+    match write_verdict(&mut sink, &verdict) {
+        Ok(()) => ExitCode::from(status_of(&verdict)),
         Err(Failed) => ExitCode::from(5),
     }
 }
