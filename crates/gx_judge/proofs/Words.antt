@@ -16,4 +16,5 @@ module _ {T E : Type 0} where
 module _ {T U E : Type 0} where
   -- one fault is the other where one result is
   pub as-fault : (e f : E) → (let r : Result T E = Err e in r ≡ Err f) → (let r : Result U E = Err e in r ≡ Err f)
+  unfolding or-else
   as-fault e f same = ap (λ (g : E). let r : Result U E = Err g in r) (ap (or-else e) same)
