@@ -1,5 +1,5 @@
 -- Words by their first two, and a fault of another result.
-use Rattle.std.proofs.Common.{◌≡◌, ◌≤◌, ◌∙◌, ℕ, List, [], ◌∷◌, Result, Ok, Err, ap, arith, drop, get_or, length, sym}
+use Rattle.std.proofs.Common.{◌≡◌, ◌≤◌, ◌∙◌, List, [], ◌∷◌, Result, Ok, Err, ap, arith, drop, get_or, length, sym}
 
 module _ {A : Type 0} where
   -- a list is its first two elements and the others

@@ -1,10 +1,9 @@
-use Rattle.std.proofs.Common.{◌≡◌, List, ap, codes, drop, map, rules, subst, sym}
+use Rattle.std.proofs.Common.{List, ap, drop, map, rules, subst, sym}
 use Rattle.std.specs.Prelude.{string_bytes}
 use Rattle.std.specs.declared.string.String.{String}
 use Rattle.std.specs.declared.alloc.Global.{Global}
 use Rattle.std.proofs.lemmas.List.{take_rest}
 use Rattle.gx_words.specs.Words.{IsCommand}
-use Rattle.gx_judge.specs.Refusing.{IsAppendText}
 use Rattle.gx_judge.proofs.Words.{as-fault, two-and-others}
 use Rattle.gx_judge.proofs.asked.read_refusing.Goals as goal
 
