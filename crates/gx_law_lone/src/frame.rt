@@ -14,7 +14,7 @@ pub fn rounds_leave_the_coordinator()
     ensures { (script : Script) (c : Coord) (event : NodeEvent) (fails : Bool) → is_event_of_round event ≡ true → IsCoordLeft c (coord_turn script c event fails).coord }
 {}
 
-/// Nor does it change anything at a segment but what that has told of its waits.
+/// Nor does it change a segment's horizon, transactions, rows or locks.
 pub fn rounds_leave_a_segment()
     ensures { (script : Script) (s : Seg) (event : NodeEvent) (fails : Bool) → is_event_of_round event ≡ true → IsSegLeft s (seg_rule script s event fails).seg }
 {}
