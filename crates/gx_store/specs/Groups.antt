@@ -23,17 +23,17 @@ use Rattle.gx_store.specs.Schedule.{enabled, is_idle, sessions_of}
 
 -- OPEN TRANSACTIONS
 abbrev pub without : Gxid → List Opened → List Opened
-without g open = filter (λ t. not (is_same_gxid t.gxid g)) open
+without g ongoing = filter (λ t. not (is_same_gxid t.gxid g)) ongoing
 
 abbrev pub open_after : List Opened → Mark → List Opened
-open_after open (mark.Start g s) = open ++ record { gxid = g; session = s } ∷ []
-open_after open (mark.Commit g) = without g open
-open_after open (mark.Abort g) = without g open
-open_after open _ = open
+open_after ongoing (mark.Start g s) = ongoing ++ record { gxid = g; session = s } ∷ []
+open_after ongoing (mark.Commit g) = without g ongoing
+open_after ongoing (mark.Abort g) = without g ongoing
+open_after ongoing _ = ongoing
 
 abbrev pub open_from : List Opened → List Mark → List Opened
-open_from open [] = open
-open_from open (m ∷ ms) = open_from (open_after open m) ms
+open_from ongoing [] = ongoing
+open_from ongoing (m ∷ ms) = open_from (open_after ongoing m) ms
 
 -- those that have begun and have neither committed nor aborted, with their sessions, in the order in which they began
 abbrev pub open_in : List Mark → List Opened
@@ -74,14 +74,14 @@ all_asking t (s ∷ ss) = all_asking (asking t s) ss
 
 -- a slot is taken with a transaction's beginning and given back with its end, where these are open before the mark
 abbrev pub slots_by : List Opened → Table → Mark → Table
-slots_by open t (mark.Start g s) = taking t s
-slots_by open t (mark.Commit g) = giving t (opener open g)
-slots_by open t (mark.Abort g) = giving t (opener open g)
-slots_by open t _ = t
+slots_by ongoing t (mark.Start g s) = taking t s
+slots_by ongoing t (mark.Commit g) = giving t (opener ongoing g)
+slots_by ongoing t (mark.Abort g) = giving t (opener ongoing g)
+slots_by ongoing t _ = t
 
 abbrev pub slots_through : List Opened → Table → List Mark → Table
-slots_through open t [] = t
-slots_through open t (m ∷ ms) = slots_through (open_after open m) (slots_by open t m) ms
+slots_through ongoing t [] = t
+slots_through ongoing t (m ∷ ms) = slots_through (open_after ongoing m) (slots_by ongoing t m) ms
 
 -- behind a step; who asks in it asks behind its marks, in the order of the sessions
 abbrev pub slots_behind : Script → List Step → Table → Step → Table
