@@ -6,3 +6,4 @@ pub mod Worlds
 pub mod Came
 pub mod Held
 pub mod Leaving
+pub mod Alone

@@ -90,7 +90,7 @@ module _ (script : Script) (some : 1 ≤ script.segments) (inserts : AreInsertsW
   three-parts : receipts ++ deliveries ++ resumptions-here ≡ []
   three-parts = nil-left _ again four-parts
 
-  no-resumption : resumptions-here ≡ []
+  pub no-resumption : resumptions-here ≡ []
   no-resumption = nil-right (receipts ++ deliveries) resumptions-here three-parts
 
   two-parts : receipts ++ deliveries ≡ []
@@ -103,7 +103,7 @@ module _ (script : Script) (some : 1 ≤ script.segments) (inserts : AreInsertsW
       below : (a n : ℕ) → a ≤ n → a < 1 + n
       below a n l = omega arith
 
-  none-there : (i : Node) → (1 ≤ i.0) × (i.0 ≤ script.segments) → resumes_by c i (w.segs i.0).locks ++ first_of (left_on script w.steps the_coordinator i) ≡ []
+  pub none-there : (i : Node) → (1 ≤ i.0) × (i.0 ≤ script.segments) → resumes_by c i (w.segs i.0).locks ++ first_of (left_on script w.steps the_coordinator i) ≡ []
   none-there i r = nil-first _ (at-segment (λ j. at_segment_by script w j ≡ []) (nil-flat _ (segments_of script) (nil-right receipts deliveries two-parts)) i r)
 
   quiet : (i : Node) → (1 ≤ i.0) × (i.0 ≤ script.segments) → is_quiet script w.steps i ≡ true
@@ -111,7 +111,7 @@ module _ (script : Script) (some : 1 ≤ script.segments) (inserts : AreInsertsW
       ap (λ (xs : List Event). (length xs == 0) && (length (left_on script w.steps i the_coordinator) == 0)) (nil-first _ (nil-right (resumes_by c i (w.segs i.0).locks) _ (none-there i r)))
       ∙ ap (λ (xs : List Event). length xs == 0) (nil-first _ (at-segment (λ j. first_of (left_on script w.steps j the_coordinator) ≡ []) (nil-flat _ (segments_of script) (nil-left receipts deliveries two-parts)) i r))
 
-  none-due : (i : Node) → (1 ≤ i.0) × (i.0 ≤ script.segments) → filter (is_due w i) (drawn c) ≡ []
+  pub none-due : (i : Node) → (1 ≤ i.0) × (i.0 ≤ script.segments) → filter (is_due w i) (drawn c) ≡ []
   none-due i r =
       nil-map (λ g. event.Resend i (Some g)) (filter (is_due w i) (drawn c))
       (nil-left _ (if awaits_graph c i then event.Resend i None ∷ [] else [])
@@ -147,7 +147,7 @@ module _ (script : Script) (some : 1 ≤ script.segments) (inserts : AreInsertsW
       by_test false e = e
 
   -- of all that were drawn
-  of-drawn : (p : Gxid → Bool) → filter p (drawn c) ≡ [] → (g : Gxid) → (1 ≤ g.0) × (g.0 < c.table.next.0) → p g ≡ false
+  pub of-drawn : (p : Gxid → Bool) → filter p (drawn c) ≡ [] → (g : Gxid) → (1 ≤ g.0) × (g.0 < c.table.next.0) → p g ≡ false
   of-drawn p e g d =
       in-range (λ n. p (record { 0 = n }) ≡ false) 1 (c.table.next.0 - 1) g.0
       (each-unmap (λ h. p h ≡ false) (λ n. let h : Gxid = record { 0 = n } in h) _ (nil-filter p (drawn c) e))
@@ -156,7 +156,7 @@ module _ (script : Script) (some : 1 ≤ script.segments) (inserts : AreInsertsW
       below : (g n : ℕ) → g < n → 1 ≤ g → g < 1 + (n - 1)
       below g n l h = omega arith
 
-  not-ready : (node : Node) (l : Locks) → resumes_by c node l ≡ [] → (g : Gxid) → (1 ≤ g.0) × (g.0 < c.table.next.0) → may_take l g ≡ false
+  pub not-ready : (node : Node) (l : Locks) → resumes_by c node l ≡ [] → (g : Gxid) → (1 ≤ g.0) × (g.0 < c.table.next.0) → may_take l g ≡ false
   not-ready node l e = of-drawn (λ g. may_take l g) (nil-map (event.Resume node) _ (nil-first _ e))
 
   -- what isn't due is an EXEC of who waits there
@@ -166,7 +166,7 @@ module _ (script : Script) (some : 1 ≤ script.segments) (inserts : AreInsertsW
       last : (a b d : Bool) → a ≡ true → (a && (not b || not d)) ≡ false → d ≡ true
       last a b d e f = grind arith
 
-  drawn-waits : (g : Gxid) → is_some (wait_of c.locks g) ≡ true → (1 ≤ g.0) × (g.0 < c.table.next.0)
+  pub drawn-waits : (g : Gxid) → is_some (wait_of c.locks g) ≡ true → (1 ≤ g.0) × (g.0 < c.table.next.0)
   drawn-waits g e = by_wait (wait_of c.locks g) refl e
     where
       by_wait : (o : Option Claim) → wait_of (world_of script es).coord.locks g ≡ o → is_some o ≡ true → (1 ≤ g.0) × (g.0 < (world_of script es).coord.table.next.0)
@@ -292,7 +292,7 @@ module _ (script : Script) (some : 1 ≤ script.segments) (inserts : AreInsertsW
 -- IN EVERY RUN THAT IS REACHED
 -- it is so of what the steps tell
 module _ (script : Script) (steps : List Step) (w : World) (r : AreReplayed script steps w) where
-  locks-alike : (at : Node) → locks_at w at ≡ locks_at (world_behind script steps) at
+  pub locks-alike : (at : Node) → locks_at w at ≡ locks_at (world_behind script steps) at
   locks-alike at = by_node (at.0 == 0) refl
     where
       one : (i : ℕ) → (i == 0) ≡ false → 1 ≤ i
