@@ -29,7 +29,7 @@ use Rattle.gx_store.specs.Language.{AreLinesNumbered}
 use Rattle.gx_store.specs.Marks.{is_aborted}
 use Rattle.gx_store.specs.Points.{marks_in}
 use Rattle.gx_store.specs.Refusals.{the_coordinator}
-use Rattle.gx_store.specs.Schedule.{enabled, is_exec, is_round}
+use Rattle.gx_store.specs.Schedule.{enabled, is_exec}
 use Rattle.gx_store.specs.Whole.{AreInsertsWhole}
 use Rattle.gx_store.specs.declared.event.Event.{Event}
 use Rattle.gx_store.specs.declared.run.Step.{Step}
@@ -59,12 +59,13 @@ use Rattle.gx_law_locks.proofs.Active.{world-active}
 use Rattle.gx_law_locks.proofs.Listed.{live-listed}
 use Rattle.gx_law_runs.proofs.Awaited.{world-asks}
 use Rattle.gx_law_runs.proofs.Finishing.{alike, beyond-finished}
-use Rattle.gx_law_runs.proofs.Going.{all-blocked, drawn-waits, locks-alike, no-resumption, none-due, none-there, not-ready, of-drawn, unfinished-blocked}
+use Rattle.gx_law_runs.proofs.Going.{all-blocked, drawn-waits, inside-blocked, locks-alike, no-resumption, none-due, none-there, not-ready, of-drawn}
 use Rattle.gx_law_runs.proofs.Nothing.{nil-left}
 use Rattle.gx_law_runs.specs.Awaiting.{IsBlocked, locks_at}
 use Rattle.gx_law_runs.proofs.Neat.{IsExecOf, NeatCommand}
 use Rattle.gx_law_runs.proofs.Reaching.{replayed}
 use Rattle.gx_law_runs.specs.Enabled.{is_due}
+use Rattle.gx_law_runs.specs.Openings.{is_round_or_opening}
 use Rattle.gx_law_runs.specs.Reached.{IsReached}
 use Rattle.gx_law_runs.specs.Replays.{segment_after, world_behind}
 use Rattle.gx_law_lone.specs.Alone.{WaitsSomewhere}
@@ -164,7 +165,7 @@ split true true e = absurd (cc)
 split true false e = (refl, refl)
 split false b e = absurd (cc)
 
-module _ (script : Script) (some : 1 ≤ script.segments) (inserts : AreInsertsWhole script.tables script.lines) (es : List (Event × Bool)) (nothing : list_all is_round (enabled script (world_of script es).steps) ≡ true) (i : ℕ) (there : (1 ≤ i) × (i ≤ script.segments)) (g : Gxid) (held : held_in (world_of script es).coord.table i g.0 ≡ true) where
+module _ (script : Script) (some : 1 ≤ script.segments) (inserts : AreInsertsWhole script.tables script.lines) (es : List (Event × Bool)) (nothing : list_all (is_round_or_opening script (world_of script es).steps) (enabled script (world_of script es).steps) ≡ true) (i : ℕ) (there : (1 ≤ i) × (i ≤ script.segments)) (g : Gxid) (held : held_in (world_of script es).coord.table i g.0 ≡ true) where
   abbrev w : World
   w = world_of script es
 
@@ -296,8 +297,8 @@ module _ (script : Script) (some : 1 ≤ script.segments) (inserts : AreInsertsW
     live-blocked : is_live_in (session_of c k).state.block (session_of c k).state.pending ≡ true → (b : Bool) → is_idle (session_of c k) ≡ b → IsBlocked script w k
     live-blocked l false e = all-blocked script some inserts es nothing k e
     live-blocked l true e =
-        let u : is_unfinished_there script c k ≡ true = unfinished-by (is_idle (session_of c k)) (is_in_block (session_of c k).state.block) (is_left (next_line script c k)) (open-live (session_of c k).state.block (session_of c k).state.pending l e) in
-        unfinished-blocked script some inserts es nothing k (there-session u) u
+        let inside : is_in_block (session_of c k).state.block ≡ true = open-live (session_of c k).state.block (session_of c k).state.pending l e in
+        inside-blocked script some inserts es nothing k (there-session (unfinished-by (is_idle (session_of c k)) (is_in_block (session_of c k).state.block) (is_left (next_line script c k)) inside)) inside
 
     closing-blocked : is_closing_in (session_of c k).state.block (session_of c k).state.pending ≡ true → (b : Bool) → is_idle (session_of c k) ≡ b → IsBlocked script w k
     closing-blocked l false e = all-blocked script some inserts es nothing k e
@@ -317,7 +318,7 @@ held-by script some es i hold inside =
     let its : Local = local_of ((world_of script es).segs i) hold.gxid in
     let a = split (nat_lt 0 its.last) (has_ended its.phase) (world-runs script some es i hold inside) in (world-waits script some es).locals i hold.gxid.0 a.0 a.1
 
-row-waits : (script : Script) (some : 1 ≤ script.segments) (inserts : AreInsertsWhole script.tables script.lines) (es : List (Event × Bool)) → list_all is_round (enabled script (world_of script es).steps) ≡ true → (i : ℕ) → (1 ≤ i) × (i ≤ script.segments) → (hold : Claim) (rid : Rid)
+row-waits : (script : Script) (some : 1 ≤ script.segments) (inserts : AreInsertsWhole script.tables script.lines) (es : List (Event × Bool)) → list_all (is_round_or_opening script (world_of script es).steps) (enabled script (world_of script es).steps) ≡ true → (i : ℕ) → (1 ≤ i) × (i ≤ script.segments) → (hold : Claim) (rid : Rid)
     → Contains ((world_of script es).segs i).locks.holds hold → hold.object ≡ Tuple rid → WaitsAtRow (world_of script es) (at i) hold.gxid rid
 row-waits script some inserts es nothing i there hold rid inside is = by_way (world-rows script some es i hold rid inside is)
   where
@@ -330,7 +331,7 @@ row-waits script some inserts es nothing i there hold rid inside is = by_way (wo
     by_way (inr (inr a)) = absurd (aborts script some inserts es nothing i there hold.gxid held a)
 
 -- WHO WAITS
-module _ (script : Script) (some : 1 ≤ script.segments) (inserts : AreInsertsWhole script.tables script.lines) (es : List (Event × Bool)) (nothing : list_all is_round (enabled script (world_of script es).steps) ≡ true) where
+module _ (script : Script) (some : 1 ≤ script.segments) (inserts : AreInsertsWhole script.tables script.lines) (es : List (Event × Bool)) (nothing : list_all (is_round_or_opening script (world_of script es).steps) (enabled script (world_of script es).steps) ≡ true) where
   abbrev v : World
   v = world_of script es
 
@@ -401,16 +402,16 @@ module _ (script : Script) (some : 1 ≤ script.segments) (inserts : AreInsertsW
       (contains_from_has g (active_in v.coord.table) (live-listed v.coord.table.txns g (wait-live node within g e)))
 
 -- IN EVERY RUN THAT IS REACHED
-pub alone-meets : (script : Script) (steps : List Step) (node : Node) (g : Gxid) → 1 ≤ script.segments → AreInsertsWhole script.tables script.lines → (is : IsReached script steps) → list_all is_round (enabled script steps) ≡ true
+pub alone-meets : (script : Script) (steps : List Step) (node : Node) (g : Gxid) → 1 ≤ script.segments → AreInsertsWhole script.tables script.lines → (is : IsReached script steps) → list_all (is_round_or_opening script steps) (enabled script steps) ≡ true
     → node.0 ≤ script.segments → is_some (wait_of (locks_at (world_behind script steps) node) g) ≡ true → may_take (locks_at (world_behind script steps) node) g ≡ false
 alone-meets script steps node g some inserts is nothing within waits =
     subst (λ (l : Locks). may_take l g ≡ false) same
-    (wait-meets script some inserts is.events (subst (λ ss. list_all is_round (enabled script ss) ≡ true) (sym is.is) nothing) node within g (subst (λ (l : Locks). is_some (wait_of l g) ≡ true) (sym same) waits))
+    (wait-meets script some inserts is.events (subst (λ ss. list_all (is_round_or_opening script ss) (enabled script ss) ≡ true) (sym is.is) nothing) node within g (subst (λ (l : Locks). is_some (wait_of l g) ≡ true) (sym same) waits))
   where
     same : locks_at (world_of script is.events) node ≡ locks_at (world_behind script steps) node
     same = locks-alike script steps (world_of script is.events) (replayed script steps is) node
 
-pub alone-waits : (script : Script) (steps : List Step) (node : Node) (hold : Claim) (rid : Rid) → 1 ≤ script.segments → AreInsertsWhole script.tables script.lines → (is : IsReached script steps) → list_all is_round (enabled script steps) ≡ true
+pub alone-waits : (script : Script) (steps : List Step) (node : Node) (hold : Claim) (rid : Rid) → 1 ≤ script.segments → AreInsertsWhole script.tables script.lines → (is : IsReached script steps) → list_all (is_round_or_opening script steps) (enabled script steps) ≡ true
     → (1 ≤ node.0) × (node.0 ≤ script.segments) → Contains (segment_after script node steps).locks.holds hold → hold.object ≡ Tuple rid → WaitsAtRow (world_behind script steps) node hold.gxid rid
 alone-waits script steps node hold rid some inserts is nothing there inside tuple =
     record { slice = x.slice; waits = ap (λ (s : Seg). (local_of s hold.gxid).suspended) (sym same) ∙ x.waits; row = x.row }
@@ -420,11 +421,11 @@ alone-waits script steps node hold rid some inserts is nothing there inside tupl
 
     x : WaitsAtRow (world_of script is.events) node hold.gxid rid
     x =
-        row-waits script some inserts is.events (subst (λ ss. list_all is_round (enabled script ss) ≡ true) (sym is.is) nothing) node.0 there hold rid
+        row-waits script some inserts is.events (subst (λ ss. list_all (is_round_or_opening script ss) (enabled script ss) ≡ true) (sym is.is) nothing) node.0 there hold rid
         (subst (λ (s : Seg). Contains s.locks.holds hold) (sym same) inside) tuple
 
 pub alone-holders : (script : Script) (steps : List Step) (node : Node) (hold : Claim) → 1 ≤ script.segments → AreLinesNumbered [] script.lines → All (λ line. line.session.0 < length script.sessions) script.lines
-    → AreInsertsWhole script.tables script.lines → (is : IsReached script steps) → list_all is_round (enabled script steps) ≡ true
+    → AreInsertsWhole script.tables script.lines → (is : IsReached script steps) → list_all (is_round_or_opening script steps) (enabled script steps) ≡ true
     → (1 ≤ node.0) × (node.0 ≤ script.segments) → Contains (segment_after script node steps).locks.holds hold → WaitsSomewhere script (world_behind script steps) hold.gxid
 alone-holders script steps node hold some numbered sessions inserts is nothing there inside =
     record { at = x.at; within = x.within; waits = subst (λ (l : Locks). is_some (wait_of l hold.gxid) ≡ true) (locks-alike script steps (world_of script is.events) (replayed script steps is) x.at) x.waits }
@@ -434,11 +435,11 @@ alone-holders script steps node hold some numbered sessions inserts is nothing t
 
     x : WaitsSomewhere script (world_of script is.events) hold.gxid
     x =
-        holder-waits script some inserts is.events (subst (λ ss. list_all is_round (enabled script ss) ≡ true) (sym is.is) nothing) node.0 there hold.gxid
+        holder-waits script some inserts is.events (subst (λ ss. list_all (is_round_or_opening script ss) (enabled script ss) ≡ true) (sym is.is) nothing) node.0 there hold.gxid
         (held-by script some is.events node.0 hold (subst (λ (s : Seg). Contains s.locks.holds hold) (sym same) inside)) numbered sessions
 
-pub alone-active : (script : Script) (steps : List Step) (node : Node) (g : Gxid) → 1 ≤ script.segments → AreInsertsWhole script.tables script.lines → (is : IsReached script steps) → list_all is_round (enabled script steps) ≡ true
+pub alone-active : (script : Script) (steps : List Step) (node : Node) (g : Gxid) → 1 ≤ script.segments → AreInsertsWhole script.tables script.lines → (is : IsReached script steps) → list_all (is_round_or_opening script steps) (enabled script steps) ≡ true
     → node.0 ≤ script.segments → is_some (wait_of (locks_at (world_behind script steps) node) g) ≡ true → is_active (marks_in steps) g ≡ true
 alone-active script steps node g some inserts is nothing within waits =
     subst (λ ss. is_active (marks_in ss) g ≡ true) is.is
-    (wait-active script some inserts is.events (subst (λ ss. list_all is_round (enabled script ss) ≡ true) (sym is.is) nothing) node within g (subst (λ (l : Locks). is_some (wait_of l g) ≡ true) (sym (locks-alike script steps (world_of script is.events) (replayed script steps is) node)) waits))
+    (wait-active script some inserts is.events (subst (λ ss. list_all (is_round_or_opening script ss) (enabled script ss) ≡ true) (sym is.is) nothing) node within g (subst (λ (l : Locks). is_some (wait_of l g) ≡ true) (sym (locks-alike script steps (world_of script is.events) (replayed script steps is) node)) waits))

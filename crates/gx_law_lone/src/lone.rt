@@ -8,13 +8,14 @@ ghost use Rattle.gx_law_lone.specs.Alone.{WaitsSomewhere};
 ghost use Rattle.gx_law_lone.specs.Rows.{WaitsAtRow};
 ghost use Rattle.gx_locks.specs.Locks.{may_take, wait_of};
 ghost use Rattle.gx_law_runs.specs.Awaiting.{locks_at};
+ghost use Rattle.gx_law_runs.specs.Openings.{is_round_or_opening};
 ghost use Rattle.gx_law_runs.specs.Reached.{IsReached};
 ghost use Rattle.gx_law_runs.specs.Replays.{segment_after, world_behind};
 ghost use Rattle.gx_script.specs.declared.Script.{Script};
 ghost use Rattle.gx_store.specs.Language.{AreLinesNumbered};
 ghost use Rattle.gx_store.specs.Points.{marks_in};
 ghost use Rattle.gx_store.specs.Rounds.{is_active};
-ghost use Rattle.gx_store.specs.Schedule.{enabled, is_round};
+ghost use Rattle.gx_store.specs.Schedule.{enabled};
 ghost use Rattle.gx_store.specs.Whole.{AreInsertsWhole};
 ghost use Rattle.gx_store.specs.declared.run.Step.{Step as OneStep};
 ghost use Rattle.gx_waits.specs.declared.claim.Claim.{Claim as OneClaim};
@@ -24,14 +25,14 @@ ghost use Rattle.gx_waits.specs.declared.object.Object.TheVariants.{Tuple};
 /// one that has failed there, or has aborted, something else would be enabled.
 pub fn lone_rounds_find_holders_of_rows_waiting()
     ensures { (script : Script) (steps : List OneStep) (node : OneNode) (hold : OneClaim) (rid : OneRid) → 1 ≤ script.segments → AreInsertsWhole script.tables script.lines
-        → IsReached script steps → list_all is_round (enabled script steps) ≡ true → (1 ≤ node.0) × (node.0 ≤ script.segments)
+        → IsReached script steps → list_all (is_round_or_opening script steps) (enabled script steps) ≡ true → (1 ≤ node.0) × (node.0 ≤ script.segments)
         → Contains (segment_after script node steps).locks.holds hold → hold.object ≡ Tuple rid → WaitsAtRow (world_behind script steps) node hold.gxid rid }
 {}
 
 /// And whoever waits at a node, the coordinator or a segment, meets somebody there, who holds or waits ahead.
 pub fn lone_rounds_find_waits_that_meet_somebody()
     ensures { (script : Script) (steps : List OneStep) (node : OneNode) (g : OneGxid) → 1 ≤ script.segments → AreInsertsWhole script.tables script.lines
-        → IsReached script steps → list_all is_round (enabled script steps) ≡ true → node.0 ≤ script.segments
+        → IsReached script steps → list_all (is_round_or_opening script steps) (enabled script steps) ≡ true → node.0 ≤ script.segments
         → is_some (wait_of (locks_at (world_behind script steps) node) g) ≡ true → may_take (locks_at (world_behind script steps) node) g ≡ false }
 {}
 
@@ -40,13 +41,13 @@ pub fn lone_rounds_find_waits_that_meet_somebody()
 pub fn lone_rounds_find_holders_at_segments_waiting()
     ensures { (script : Script) (steps : List OneStep) (node : OneNode) (hold : OneClaim) → 1 ≤ script.segments → AreLinesNumbered [] script.lines
         → All (λ line. line.session.0 < length script.sessions) script.lines → AreInsertsWhole script.tables script.lines
-        → IsReached script steps → list_all is_round (enabled script steps) ≡ true → (1 ≤ node.0) × (node.0 ≤ script.segments)
+        → IsReached script steps → list_all (is_round_or_opening script steps) (enabled script steps) ≡ true → (1 ≤ node.0) × (node.0 ≤ script.segments)
         → Contains (segment_after script node steps).locks.holds hold → WaitsSomewhere script (world_behind script steps) hold.gxid }
 {}
 
 /// Whoever waits at a node is active: it has begun, has neither committed nor aborted, and isn't asked to prepare or to commit.
 pub fn lone_rounds_find_waiters_active()
     ensures { (script : Script) (steps : List OneStep) (node : OneNode) (g : OneGxid) → 1 ≤ script.segments → AreInsertsWhole script.tables script.lines
-        → IsReached script steps → list_all is_round (enabled script steps) ≡ true → node.0 ≤ script.segments
+        → IsReached script steps → list_all (is_round_or_opening script steps) (enabled script steps) ≡ true → node.0 ≤ script.segments
         → is_some (wait_of (locks_at (world_behind script steps) node) g) ≡ true → is_active (marks_in steps) g ≡ true }
 {}
