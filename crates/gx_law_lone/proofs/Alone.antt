@@ -51,8 +51,8 @@ use Rattle.gx_law_order.proofs.Past.{there-drawn}
 use Rattle.gx_law_order.proofs.Waiting.{HasSlice, has-slice, has-statement, holds-there, waiting}
 use Rattle.gx_law_order.proofs.World.{Knows, world_knows}
 use Rattle.gx_law_order.specs.Stages.{Stage, stage, stage_in, stage_of}
-use Rattle.gx_law_order.specs.Sessions.{is_closing_in, is_live_in}
-use Rattle.gx_law_order.specs.Stages.Stage.{Closing, Dropped, Finished, Live as LiveStage}
+use Rattle.gx_law_order.specs.Sessions.{is_closing_in, is_live_in, is_said}
+use Rattle.gx_law_order.specs.Stages.Stage.{Absent, Closing, Dropped, Finished, Live as LiveStage}
 use Rattle.gx_law_order.specs.Standings.{at, gx, standing, standing_in, waits_in}
 use Rattle.gx_law_order.specs.Standings.Standing.{Live, Over}
 use Rattle.gx_law_locks.proofs.Active.{world-active}
@@ -67,10 +67,11 @@ use Rattle.gx_law_runs.proofs.Reaching.{replayed}
 use Rattle.gx_law_runs.specs.Enabled.{is_due}
 use Rattle.gx_law_runs.specs.Openings.{is_round_or_opening}
 use Rattle.gx_law_runs.specs.Reached.{IsReached}
-use Rattle.gx_law_runs.specs.Replays.{segment_after, world_behind}
+use Rattle.gx_law_runs.specs.Replays.{coordinator_after, segment_after, world_behind}
 use Rattle.gx_law_lone.specs.Alone.{WaitsSomewhere}
 use Rattle.gx_law_lone.specs.Rows.{HasFailedThere, WaitsAtRow, has_failed}
 use Rattle.gx_law_lone.proofs.Held.{world-rows, world-runs}
+use Rattle.gx_law_lone.proofs.Holders.{holder-runs}
 
 -- an EXEC is a message
 exec-some : (g : ℕ) (c : Cid) (o : Option Message) → IsExecOf g c o → is_some o ≡ true
@@ -280,36 +281,49 @@ module _ (script : Script) (some : 1 ≤ script.segments) (inserts : AreInsertsW
       by_found None e h = absurd (none-held i h)
       by_found (Some t) e h = runs-in t e t.phase refl (and_parts (has (at i) t.participants) (is_awaited_at t.phase i) h).1
 
-  module _ (numbered : AreLinesNumbered [] script.lines) (sessions : All (λ line. line.session.0 < length script.sessions) script.lines) where
-    abbrev k : SessionId
-    k = (c.works g.0).session
+-- WHO RUNS WAITS
+-- the session of a transaction that runs, or is on its way to a commit, has something left to do, so it is blocked
+module _ (script : Script) (some : 1 ≤ script.segments) (inserts : AreInsertsWhole script.tables script.lines) (es : List (Event × Bool)) (nothing : list_all (is_round_or_opening script (world_of script es).steps) (enabled script (world_of script es).steps) ≡ true) (numbered : AreLinesNumbered [] script.lines) (sessions : All (λ line. line.session.0 < length script.sessions) script.lines) (g : Gxid) where
+  abbrev x : World
+  x = world_of script es
 
-    waits-for : (session_of c k).transaction.0 ≡ g.0 → IsBlocked script w k → WaitsSomewhere script w g
-    waits-for same b = record { at = b.at; within = b.node; waits = subst (λ (n : ℕ). is_some (wait_of (locks_at w b.at) (gx n)) ≡ true) same b.waits }
+  abbrev d : Coord
+  d = (world_of script es).coord
 
-    there-session : is_unfinished_there script c k ≡ true → k.0 < length script.sessions
-    there-session u = by_test (nat_lt k.0 (length script.sessions)) refl
-      where
-        by_test : (b : Bool) → nat_lt k.0 (length script.sessions) ≡ b → k.0 < length script.sessions
-        by_test true e = lt-of k.0 (length script.sessions) e
-        by_test false e = absurd (true-false (is_unfinished_there script c k) u (sym (alike script some numbered k es) ∙ beyond-finished script some numbered sessions es k (le-of k.0 (length script.sessions) e)))
+  abbrev k : SessionId
+  k = ((world_of script es).coord.works g.0).session
 
-    live-blocked : is_live_in (session_of c k).state.block (session_of c k).state.pending ≡ true → (b : Bool) → is_idle (session_of c k) ≡ b → IsBlocked script w k
-    live-blocked l false e = all-blocked script some inserts es nothing k e
-    live-blocked l true e =
-        let inside : is_in_block (session_of c k).state.block ≡ true = open-live (session_of c k).state.block (session_of c k).state.pending l e in
-        inside-blocked script some inserts es nothing k (there-session (unfinished-by (is_idle (session_of c k)) (is_in_block (session_of c k).state.block) (is_left (next_line script c k)) inside)) inside
+  waits-for : (session_of d k).transaction.0 ≡ g.0 → IsBlocked script x k → WaitsSomewhere script x g
+  waits-for same b = record { at = b.at; within = b.node; waits = subst (λ (n : ℕ). is_some (wait_of (locks_at x b.at) (gx n)) ≡ true) same b.waits }
 
-    closing-blocked : is_closing_in (session_of c k).state.block (session_of c k).state.pending ≡ true → (b : Bool) → is_idle (session_of c k) ≡ b → IsBlocked script w k
-    closing-blocked l false e = all-blocked script some inserts es nothing k e
-    closing-blocked l true e = absurd (closing-busy (session_of c k).state.block (session_of c k).state.pending l e)
+  there-session : is_unfinished_there script d k ≡ true → k.0 < length script.sessions
+  there-session u = by_test (nat_lt k.0 (length script.sessions)) refl
+    where
+      by_test : (b : Bool) → nat_lt k.0 (length script.sessions) ≡ b → k.0 < length script.sessions
+      by_test true e = lt-of k.0 (length script.sessions) e
+      by_test false e = absurd (true-false (is_unfinished_there script d k) u (sym (alike script some numbered k es) ∙ beyond-finished script some numbered sessions es k (le-of k.0 (length script.sessions) e)))
 
-    pub holder-waits : WaitsSomewhere script w g
-    holder-waits = by_stage runs
-      where
-        by_stage : (stage_of c g.0 ≡ LiveStage) ⊎ (stage_of c g.0 ≡ Closing) → WaitsSomewhere script w g
-        by_stage (inl l) = let t = (knows.kept.tied g.0).live l in waits-for t.0 (live-blocked t.1 (is_idle (session_of c k)) refl)
-        by_stage (inr l) = let t = (knows.kept.tied g.0).closing l in waits-for t.0 (closing-blocked t.1 (is_idle (session_of c k)) refl)
+  live-blocked : is_live_in (session_of d k).state.block (session_of d k).state.pending ≡ true → (b : Bool) → is_idle (session_of d k) ≡ b → IsBlocked script x k
+  live-blocked l false e = all-blocked script some inserts es nothing k e
+  live-blocked l true e =
+      let inside : is_in_block (session_of d k).state.block ≡ true = open-live (session_of d k).state.block (session_of d k).state.pending l e in
+      inside-blocked script some inserts es nothing k (there-session (unfinished-by (is_idle (session_of d k)) (is_in_block (session_of d k).state.block) (is_left (next_line script d k)) inside)) inside
+
+  closing-blocked : is_closing_in (session_of d k).state.block (session_of d k).state.pending ≡ true → (b : Bool) → is_idle (session_of d k) ≡ b → IsBlocked script x k
+  closing-blocked l false e = all-blocked script some inserts es nothing k e
+  closing-blocked l true e = absurd (closing-busy (session_of d k).state.block (session_of d k).state.pending l e)
+
+  pub runner-waits : (stage_of d g.0 ≡ LiveStage) ⊎ (stage_of d g.0 ≡ Closing) → WaitsSomewhere script x g
+  runner-waits (inl l) = let t = ((world_knows script some es).kept.tied g.0).live l in waits-for t.0 (live-blocked t.1 (is_idle (session_of d k)) refl)
+  runner-waits (inr l) = let t = ((world_knows script some es).kept.tied g.0).closing l in waits-for t.0 (closing-blocked t.1 (is_idle (session_of d k)) refl)
+
+-- whose stage says so
+said-runs : (a : Stage) → is_said a ≡ true → (a ≡ LiveStage) ⊎ (a ≡ Closing)
+said-runs LiveStage e = inl refl
+said-runs Closing e = inr refl
+said-runs Absent e = absurd (cc)
+said-runs Finished e = absurd (cc)
+said-runs Dropped e = absurd (cc)
 
 -- WHO HOLDS A ROW'S LOCK
 -- the coordinator waits for the segment of a holder
@@ -318,7 +332,7 @@ held-by script some es i hold inside =
     let its : Local = local_of ((world_of script es).segs i) hold.gxid in
     let a = split (nat_lt 0 its.last) (has_ended its.phase) (world-runs script some es i hold inside) in (world-waits script some es).locals i hold.gxid.0 a.0 a.1
 
-row-waits : (script : Script) (some : 1 ≤ script.segments) (inserts : AreInsertsWhole script.tables script.lines) (es : List (Event × Bool)) → list_all (is_round_or_opening script (world_of script es).steps) (enabled script (world_of script es).steps) ≡ true → (i : ℕ) → (1 ≤ i) × (i ≤ script.segments) → (hold : Claim) (rid : Rid)
+pub row-waits : (script : Script) (some : 1 ≤ script.segments) (inserts : AreInsertsWhole script.tables script.lines) (es : List (Event × Bool)) → list_all (is_round_or_opening script (world_of script es).steps) (enabled script (world_of script es).steps) ≡ true → (i : ℕ) → (1 ≤ i) × (i ≤ script.segments) → (hold : Claim) (rid : Rid)
     → Contains ((world_of script es).segs i).locks.holds hold → hold.object ≡ Tuple rid → WaitsAtRow (world_of script es) (at i) hold.gxid rid
 row-waits script some inserts es nothing i there hold rid inside is = by_way (world-rows script some es i hold rid inside is)
   where
@@ -329,6 +343,18 @@ row-waits script some inserts es nothing i there hold rid inside is = by_way (wo
     by_way (inl x) = x
     by_way (inr (inl f)) = absurd (fails script some inserts es nothing i there hold.gxid held f)
     by_way (inr (inr a)) = absurd (aborts script some inserts es nothing i there hold.gxid held a)
+
+-- whoever holds a lock at a segment waits somewhere
+pub segment-holder-waits : (script : Script) (some : 1 ≤ script.segments) (inserts : AreInsertsWhole script.tables script.lines) (es : List (Event × Bool)) → list_all (is_round_or_opening script (world_of script es).steps) (enabled script (world_of script es).steps) ≡ true
+    → AreLinesNumbered [] script.lines → All (λ line. line.session.0 < length script.sessions) script.lines → (i : ℕ) → (1 ≤ i) × (i ≤ script.segments) → (hold : Claim) → Contains ((world_of script es).segs i).locks.holds hold → WaitsSomewhere script (world_of script es) hold.gxid
+segment-holder-waits script some inserts es nothing numbered sessions i there hold inside =
+    runner-waits script some inserts es nothing numbered sessions hold.gxid (runs script some inserts es nothing i there hold.gxid (held-by script some es i hold inside))
+
+-- and so does whoever holds one at the coordinator
+pub coordinator-holder-waits : (script : Script) (some : 1 ≤ script.segments) (inserts : AreInsertsWhole script.tables script.lines) (es : List (Event × Bool)) → list_all (is_round_or_opening script (world_of script es).steps) (enabled script (world_of script es).steps) ≡ true
+    → AreLinesNumbered [] script.lines → All (λ line. line.session.0 < length script.sessions) script.lines → (hold : Claim) → Contains (world_of script es).coord.locks.holds hold → WaitsSomewhere script (world_of script es) hold.gxid
+coordinator-holder-waits script some inserts es nothing numbered sessions hold inside =
+    runner-waits script some inserts es nothing numbered sessions hold.gxid (said-runs (stage_of (world_of script es).coord hold.gxid.0) (holder-runs script some es hold inside))
 
 -- WHO WAITS
 module _ (script : Script) (some : 1 ≤ script.segments) (inserts : AreInsertsWhole script.tables script.lines) (es : List (Event × Bool)) (nothing : list_all (is_round_or_opening script (world_of script es).steps) (enabled script (world_of script es).steps) ≡ true) where
@@ -435,11 +461,22 @@ alone-holders script steps node hold some numbered sessions inserts is nothing t
 
     x : WaitsSomewhere script (world_of script is.events) hold.gxid
     x =
-        holder-waits script some inserts is.events (subst (λ ss. list_all (is_round_or_opening script ss) (enabled script ss) ≡ true) (sym is.is) nothing) node.0 there hold.gxid
-        (held-by script some is.events node.0 hold (subst (λ (s : Seg). Contains s.locks.holds hold) (sym same) inside)) numbered sessions
+        segment-holder-waits script some inserts is.events (subst (λ ss. list_all (is_round_or_opening script ss) (enabled script ss) ≡ true) (sym is.is) nothing) numbered sessions node.0 there hold
+        (subst (λ (s : Seg). Contains s.locks.holds hold) (sym same) inside)
 
 pub alone-active : (script : Script) (steps : List Step) (node : Node) (g : Gxid) → 1 ≤ script.segments → AreInsertsWhole script.tables script.lines → (is : IsReached script steps) → list_all (is_round_or_opening script steps) (enabled script steps) ≡ true
     → node.0 ≤ script.segments → is_some (wait_of (locks_at (world_behind script steps) node) g) ≡ true → is_active (marks_in steps) g ≡ true
 alone-active script steps node g some inserts is nothing within waits =
     subst (λ ss. is_active (marks_in ss) g ≡ true) is.is
     (wait-active script some inserts is.events (subst (λ ss. list_all (is_round_or_opening script ss) (enabled script ss) ≡ true) (sym is.is) nothing) node within g (subst (λ (l : Locks). is_some (wait_of l g) ≡ true) (sym (locks-alike script steps (world_of script is.events) (replayed script steps is) node)) waits))
+
+pub alone-here : (script : Script) (steps : List Step) (hold : Claim) → 1 ≤ script.segments → AreLinesNumbered [] script.lines → All (λ line. line.session.0 < length script.sessions) script.lines
+    → AreInsertsWhole script.tables script.lines → (is : IsReached script steps) → list_all (is_round_or_opening script steps) (enabled script steps) ≡ true
+    → Contains (coordinator_after script steps).locks.holds hold → WaitsSomewhere script (world_behind script steps) hold.gxid
+alone-here script steps hold some numbered sessions inserts is nothing inside =
+    record { at = x.at; within = x.within; waits = subst (λ (l : Locks). is_some (wait_of l hold.gxid) ≡ true) (locks-alike script steps (world_of script is.events) (replayed script steps is) x.at) x.waits }
+  where
+    x : WaitsSomewhere script (world_of script is.events) hold.gxid
+    x =
+        coordinator-holder-waits script some inserts is.events (subst (λ ss. list_all (is_round_or_opening script ss) (enabled script ss) ≡ true) (sym is.is) nothing) numbered sessions hold
+        (subst (λ (c : Coord). Contains c.locks.holds hold) (sym (replayed script steps is).coordinator) inside)
