@@ -6,3 +6,6 @@ pub mod Worlds
 pub mod Came
 pub mod Held
 pub mod Leaving
+pub mod Holders
+pub mod Alone
+pub mod AllWait

@@ -2,4 +2,5 @@
 #![tactic(auto)]
 
 pub mod frame;
+pub mod lone;
 pub mod rows;

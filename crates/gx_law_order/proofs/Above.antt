@@ -120,7 +120,7 @@ module _ (script : Script) (some : 1 ≤ script.segments) where
       none : nat_lt 0 0 ≡ true → ⊥
       none a = grind (arith, nat_tests)
 
-  world-waits : (es : List (Event × Bool)) → Waits (world_of script es)
+  pub world-waits : (es : List (Event × Bool)) → Waits (world_of script es)
   world-waits =
       at-events script some (Sound script) Waits (moves-sound script some) new-waits
       (λ w k u e x fails t ok next. coord-waits script some w k.knows u e x fails ok (ended-in w k.knows u e x t)) (λ w k u g h next. victim-waits script some w k.knows u g)

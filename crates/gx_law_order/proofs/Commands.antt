@@ -67,7 +67,7 @@ one-enlists d g i w =
     let a = txn-at d g (with_part i) w in
     record { now = option_map (with_part i) (find_txn d (gx g)); at = record { whole = record { first = a.whole.first; apart = a.whole.apart; drawn = a.whole.drawn }; next = refl; finds = a.finds }; same = kept-stage (with_part i) (λ t. refl) (find_txn d (gx g)); latest = refl }
 
-all-enlists : (nodes : List Node) (d : Table) (g : ℕ) → IsWhole d → Enlists d (enlisted_all d (gx g) nodes) g
+pub all-enlists : (nodes : List Node) (d : Table) (g : ℕ) → IsWhole d → Enlists d (enlisted_all d (gx g) nodes) g
 all-enlists [] d g w = record { now = find_txn d (gx g); at = record { whole = w; next = refl; finds = same-finds d g }; same = refl; latest = refl }
 all-enlists (i ∷ is) d g w = joined (one-enlists d g i w) (all-enlists is (enlisted d (gx g) i) g (one-enlists d g i w).at.whole)
   where

@@ -22,7 +22,7 @@ use Rattle.gx_store.specs.Marks.{is_same_gxid, is_same_session, start_count}
 use Rattle.gx_store.specs.Ordered.{sent_in}
 use Rattle.gx_store.specs.Points.{marks_in}
 use Rattle.gx_store.specs.Refusals.{the_coordinator}
-use Rattle.gx_store.specs.Schedule.{asked, at_segment, enabled, ends, first_of, gxids_of, is_any_wait, is_exec, is_left, is_next, is_quiet, is_round, is_to_end, left_on, may_resend, resends, resumptions, rounds, segments_of, starts, waits_of}
+use Rattle.gx_store.specs.Schedule.{asked, at_segment, enabled, ends, first_of, gxids_of, is_any_wait, is_exec, is_left, is_next, is_quiet, is_to_end, left_on, may_resend, resends, resumptions, rounds, segments_of, starts, waits_of}
 use Rattle.gx_waits.specs.Claims.{is_clear, is_of}
 use Rattle.gx_store.specs.Waits.{holds_at, waits_at}
 use Rattle.gx_waits.specs.declared.claim.Claim.{Claim}
@@ -45,6 +45,11 @@ use Rattle.gx_law_locks.proofs.HoldsInRuns.{world-locked}
 use Rattle.gx_law_runs.proofs.World.{world-letters}
 
 -- LISTS
+abbrev pub is_start_or_round : Event → Bool
+is_start_or_round (event.Start session) = true
+is_start_or_round event.Round = true
+is_start_or_round _ = false
+
 flat-each : {A B : Type 0} (f g : A → List B) (xs : List A) → Each (λ x. f x ≡ g x) xs → flat_map f xs ≡ flat_map g xs
 flat-each f g [] e = refl
 flat-each f g (x ∷ xs) e = ap (λ ys. ys ++ flat_map f xs) e.0 ∙ ap (λ ys. g x ++ ys) (flat-each f g xs e.1)
@@ -415,9 +420,9 @@ module _ (script : Script) (some : 1 ≤ script.segments) (es : List (Event × B
       (each_flat Admits (resends_due script w) (segments_of script) (each-every (λ (i : Node). Each Admits (resends_due script w i)) again-admitted (segments_of script))))
       starts-admitted) ends-admitted) rounds-admitted
 
-  -- none of them but the last is a round
+  -- none of them but starts and the last is a start or a round
   abbrev IsOther : Event → Type 0
-  IsOther e = is_round e ≡ false
+  IsOther e = is_start_or_round e ≡ false
 
   first-other : (xs : List Event) → Each IsOther xs → Each IsOther (first_of xs)
   first-other xs e = each-first IsOther xs e
@@ -440,20 +445,19 @@ module _ (script : Script) (some : 1 ≤ script.segments) (es : List (Event × B
           each_append IsOther _ _ (each_map IsOther (λ g. event.Resend segment (Some g)) (filter (is_due w segment) (drawn w.coord)) (each-every (λ g. IsOther (event.Resend segment (Some g))) (λ g. refl) (filter (is_due w segment) (drawn w.coord)))) (graph-there b)
       by_quiet false b = tt
 
-  pub each-other : Each (λ e. is_round e ≡ false) (receipts-now ++ at-segments ++ resumes-now ++ again-now ++ starts_by script w.coord ++ ends_by script w.coord)
+  pub each-other : Each (λ e. is_start_or_round e ≡ false) (receipts-now ++ at-segments ++ resumes-now ++ again-now)
   each-other =
-      each_append IsOther _ (ends_by script w.coord)
-      (each_append IsOther _ (starts_by script w.coord)
-      (each_append IsOther _ again-now
+      each_append IsOther _ again-now
       (each_append IsOther _ resumes-now
       (each_append IsOther receipts-now at-segments
       (each_flat IsOther _ (segments_of script) (each-every (λ (i : Node). Each IsOther (first_of (left_on script w.steps i the_coordinator))) (λ i. first-other _ (left-other i the_coordinator)) (segments_of script)))
       (each_flat IsOther _ (segments_of script)
       (each-every (λ (i : Node). Each IsOther (at_segment_by script w i)) (λ i. first-other _ (each_append IsOther _ _ (resumes-other i (w.segs i.0).locks) (first-other _ (left-other the_coordinator i)))) (segments_of script))))
       (resumes-other the_coordinator w.coord.locks))
-      (each_flat IsOther (resends_due script w) (segments_of script) (each-every (λ (i : Node). Each IsOther (resends_due script w i)) again-other (segments_of script))))
-      (each_map IsOther (λ (l : Line). event.Start l.session) (filter (is_next_by w.coord) script.lines) (each-every (λ (l : Line). IsOther (event.Start l.session)) (λ l. refl) (filter (is_next_by w.coord) script.lines))))
-      (each_map IsOther event.End (filter (λ s. coord_can script w.coord (here.End s)) (sessions_of script)) (each-every (λ s. IsOther (event.End s)) (λ s. refl) (filter (λ s. coord_can script w.coord (here.End s)) (sessions_of script))))
+      (each_flat IsOther (resends_due script w) (segments_of script) (each-every (λ (i : Node). Each IsOther (resends_due script w i)) again-other (segments_of script)))
+
+  pub ends-other : Each (λ e. is_start_or_round e ≡ false) (ends_by script w.coord)
+  ends-other = each_map IsOther event.End (filter (λ s. coord_can script w.coord (here.End s)) (sessions_of script)) (each-every (λ s. IsOther (event.End s)) (λ s. refl) (filter (λ s. coord_can script w.coord (here.End s)) (sessions_of script)))
 
   pub all-admitted : list_all (can script (world_of script es)) (enabled script (world_of script es).steps) ≡ true
   all-admitted = ap (list_all (can script w)) enabled-there ∙ all-each (can script w) (enabled_there script w) each-admitted

@@ -51,11 +51,25 @@ module _ (script : Script) (some : 1 ≤ script.segments) where
     started : (k : SessionId) (es : List (Event × Bool)) → starts_in k (world_of script es).steps ≤ line_count k script.lines
     started k es = starts-counted script numbered k [] (world_of script es).steps (events-legal script some es) (omega arith)
 
-    alike : (k : SessionId) (es : List (Event × Bool)) → is_unfinished script (world_of script es).steps k ≡ is_unfinished_there script (world_of script es).coord k
+    pub alike : (k : SessionId) (es : List (Event × Bool)) → is_unfinished script (world_of script es).steps k ≡ is_unfinished_there script (world_of script es).coord k
     alike k es = unfinished-alike script k (world_of script es).steps (world_of script es).coord (sessions-stand script some es k) numbered (started k es)
 
     pub replayed-alike : (k : SessionId) (es : List (Event × Bool)) → is_unfinished script (world_of script es).steps k ≡ is_unfinished_there script (coordinator_after script (world_of script es).steps) k
     replayed-alike k es = alike k es ∙ ap (λ (c : Coord). is_unfinished_there script c k) (world-replayed script es).coordinator
+
+    -- of a session that the script lacks nothing starts
+    pub beyond-finished : All (λ line. line.session.0 < length script.sessions) script.lines → (es : List (Event × Bool)) (k : SessionId) → length script.sessions ≤ k.0 → is_unfinished script (world_of script es).steps k ≡ false
+    beyond-finished inside es k past =
+        nothing (answer_count k (marks_in (world_of script es).steps)) (line_count k script.lines) _ _ unanswered none (ap legal.is_in_block (unanswered-stays script k Outside (marks_in (world_of script es).steps) unanswered))
+      where
+        nothing : (a t : ℕ) (x y : Bool) → a ≡ 0 → t ≡ 0 → x ≡ false → (not (a == t) || (x && y)) ≡ false
+        nothing a t x y e f q = grind (arith, nat_tests)
+
+        none : line_count k script.lines ≡ 0
+        none = line_count-past k (length script.sessions) script.lines inside past
+
+        unanswered : answer_count k (marks_in (world_of script es).steps) ≡ 0
+        unanswered = omega (arith, (room k es).0, started k es, none)
 
     module _ (inside : All (λ line. line.session.0 < length script.sessions) script.lines) (es : List (Event × Bool)) (over : is_any_unfinished script (world_of script es).steps ≡ false) where
       abbrev w : World
@@ -63,20 +77,6 @@ module _ (script : Script) (some : 1 ≤ script.segments) where
 
       abbrev count : ℕ
       count = length script.sessions
-
-      -- of a session that the script lacks nothing starts
-      beyond-finished : (k : SessionId) → count ≤ k.0 → is_unfinished script w.steps k ≡ false
-      beyond-finished k past =
-          nothing (answer_count k (marks_in w.steps)) (line_count k script.lines) _ _ unanswered none (ap legal.is_in_block (unanswered-stays script k Outside (marks_in w.steps) unanswered))
-        where
-          nothing : (a t : ℕ) (x y : Bool) → a ≡ 0 → t ≡ 0 → x ≡ false → (not (a == t) || (x && y)) ≡ false
-          nothing a t x y e f q = grind (arith, nat_tests)
-
-          none : line_count k script.lines ≡ 0
-          none = line_count-past k count script.lines inside past
-
-          unanswered : answer_count k (marks_in (world_of script es).steps) ≡ 0
-          unanswered = omega (arith, (room k es).0, started k es, none)
 
       among-finished : (k : SessionId) → k.0 < count → is_unfinished script w.steps k ≡ false
       among-finished k l = by_test (is_unfinished script w.steps k) refl
@@ -98,7 +98,7 @@ module _ (script : Script) (some : 1 ≤ script.segments) where
         where
           by_test : (b : Bool) → nat_lt k.0 count ≡ b → is_unfinished script w.steps k ≡ false
           by_test true e = among-finished k (lt-of k.0 count e)
-          by_test false e = beyond-finished k (le-of k.0 count e)
+          by_test false e = beyond-finished inside es k (le-of k.0 count e)
 
       all-answered : (k : SessionId) → answer_count k (marks_in w.steps) ≡ line_count k script.lines
       all-answered k = eqb-true (answer_count k (marks_in w.steps)) (line_count k script.lines) (same _ _ (finished k))

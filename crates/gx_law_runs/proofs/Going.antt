@@ -1,8 +1,9 @@
 -- While a session is unfinished something else than a round is enabled, or the session waits for a lock that meets somebody.
 use Rattle.std.proofs.lemmas.Bool.Decides.{nat_tests}
 use Rattle.std.proofs.Common.{◌≡◌, ◌≤◌, ◌<◌, ◌⊎◌, inl, inr, ℕ, suc, ◌+◌, ◌-◌, List, [], ◌∷◌, ◌++◌, Option, None, Some, Bool, true, false, refl, sym, subst, ap, ◌∙◌, if◌then◌else◌, ◌&&◌, ◌||◌, not, arith, length}
-use Rattle.std.specs.Prelude.{◌==◌, filter, find, is_none, is_some, map, nat_le}
+use Rattle.std.specs.Prelude.{◌==◌, cond, filter, find, is_none, is_some, map, nat_le}
 use Rattle.std.specs.List.{flat_map, list_all, list_any}
+use Rattle.std.proofs.lemmas.Bool.{and_from, and_parts, eqb-true}
 use Rattle.gx_lemmas.proofs.Tests.{and-first, true-false}
 use Rattle.gx_ids.specs.declared.ids.Gxid.{Gxid}
 use Rattle.gx_ids.specs.declared.ids.Node.{Node}
@@ -13,7 +14,10 @@ use Rattle.gx_store.specs.declared.event.Event.{Event}
 use Rattle.gx_store.specs.declared.event.Event.TheVariants as event
 use Rattle.gx_store.specs.declared.node.NodeEvent.TheVariants as here
 use Rattle.gx_store.specs.declared.run.Step.{Step}
+use Rattle.gx_store.specs.Legal as legal
+use Rattle.gx_store.specs.Lines.{state_of}
 use Rattle.gx_store.specs.Marks.{is_same_session}
+use Rattle.gx_store.specs.Points.{marks_in}
 use Rattle.gx_store.specs.Refusals.{the_coordinator}
 use Rattle.gx_store.specs.Schedule.{enabled, first_of, is_exec, is_graph_awaited, is_next, is_quiet, is_round, is_round_running, left_on, segments_of}
 use Rattle.gx_waits.specs.Claims.{is_of}
@@ -37,16 +41,62 @@ use Rattle.gx_law_order.proofs.Waiting.{has-statement}
 use Rattle.gx_law_order.proofs.World.{world_knows}
 use Rattle.gx_law_order.proofs.Events.{live-stage}
 use Rattle.gx_law_runs.specs.Enabled.{at_segment_by, drawn, ends_by, is_anybody_waiting, is_due, is_next_by, resends_due, resumes_by, rounds_by, sessions_of, starts_by}
-use Rattle.gx_law_runs.proofs.Enabled.{all-segments, each-other, enabled-there}
+use Rattle.gx_law_runs.proofs.Enabled.{all-segments, each-other, enabled-there, ends-other, is_start_or_round}
 use Rattle.gx_law_runs.proofs.Neat.{clash}
 use Rattle.gx_law_runs.proofs.RoundsEnabled.{AreRoundsTold, world-told}
-use Rattle.gx_law_runs.proofs.Sessions.{next-alike, start-alike}
+use Rattle.gx_law_runs.proofs.Sessions.{block-alike, next-alike, start-alike}
+use Rattle.gx_law_runs.specs.Openings.{is_round_or_opening}
 use Rattle.gx_law_runs.specs.Awaiting.{IsAwaiting, IsBlocked, locks_at}
 use Rattle.gx_law_runs.proofs.Busy.{busy-awaits}
 use Rattle.gx_law_runs.proofs.Nothing.{any-none, in-nodes, in-range, nil-filter, nil-first, nil-flat, nil-left, nil-map, nil-right, none-any, or-neither}
 
--- NOTHING BUT A ROUND IS ENABLED
-module _ (script : Script) (some : 1 ≤ script.segments) (inserts : AreInsertsWhole script.tables script.lines) (es : List (Event × Bool)) (nothing : list_all is_round (enabled script (world_of script es).steps) ≡ true) where
+-- what passes in a row passes in its parts
+all-left : (p : Event → Bool) (xs ys : List Event) → list_all p (xs ++ ys) ≡ true → list_all p xs ≡ true
+all-left p [] ys e = refl
+all-left p (x ∷ xs) ys e = let a = and_parts (p x) (list_all p (xs ++ ys)) e in and_from (p x) (list_all p xs) a.0 (all-left p xs ys a.1)
+
+all-right : (p : Event → Bool) (xs ys : List Event) → list_all p (xs ++ ys) ≡ true → list_all p ys ≡ true
+all-right p [] ys e = e
+all-right p (x ∷ xs) ys e = all-right p xs ys (and_parts (p x) (list_all p (xs ++ ys)) e).1
+
+pub all-filtered : {A : Type 0} (p : Event → Bool) (f : A → Event) (t : A → Bool) (xs : List A) → list_all p (map f (filter t xs)) ≡ true → Each (λ x. t x ≡ true → p (f x) ≡ true) xs
+all-filtered p f t [] e = tt
+all-filtered p f t (x ∷ xs) e = by_test (t x) refl e (λ g. all-filtered p f t xs g)
+  where
+    by_test : (b : Bool) → t x ≡ b → list_all p (map f (cond b (x ∷ filter t xs) (filter t xs))) ≡ true → (list_all p (map f (filter t xs)) ≡ true → Each (λ x. t x ≡ true → p (f x) ≡ true) xs)
+        → (t x ≡ true → p (f x) ≡ true) × Each (λ x. t x ≡ true → p (f x) ≡ true) xs
+    by_test true q e later = let a = and_parts (p (f x)) (list_all p (map f (filter t xs))) e in (λ k. a.0, later a.1)
+    by_test false q e later = (λ k. absurd (true-false (t x) k q), later e)
+
+-- a row without starts and rounds in which nothing else passes is empty
+none-passes : (script : Script) (steps : List Step) (xs : List Event) → Each (λ e. is_start_or_round e ≡ false) xs → list_all (is_round_or_opening script steps) xs ≡ true → xs ≡ []
+none-passes script steps [] a e = refl
+none-passes script steps (x ∷ xs) a e = clash (is_start_or_round x) (either x (and-first (is_round_or_opening script steps x) (list_all (is_round_or_opening script steps) xs) e)) a.0
+  where
+    either : (e : Event) → is_round_or_opening script steps e ≡ true → is_start_or_round e ≡ true
+    either (event.Start s) p = refl
+    either event.Round p = refl
+    either (event.Receive from to number) p = absurd (cc)
+    either (event.Resume n g) p = absurd (cc)
+    either (event.End s) p = absurd (cc)
+    either (event.Resend segment g) p = absurd (cc)
+
+-- a round is a round, or an opening line
+pub round-passes : (script : Script) (steps : List Step) (xs : List Event) → list_all is_round xs ≡ true → list_all (is_round_or_opening script steps) xs ≡ true
+round-passes script steps [] e = refl
+round-passes script steps (x ∷ xs) e =
+    let a = and_parts (is_round x) (list_all is_round xs) e in and_from (is_round_or_opening script steps x) (list_all (is_round_or_opening script steps) xs) (one x a.0) (round-passes script steps xs a.1)
+  where
+    one : (e : Event) → is_round e ≡ true → is_round_or_opening script steps e ≡ true
+    one event.Round p = refl
+    one (event.Start s) p = absurd (cc)
+    one (event.Receive from to number) p = absurd (cc)
+    one (event.Resume n g) p = absurd (cc)
+    one (event.End s) p = absurd (cc)
+    one (event.Resend segment g) p = absurd (cc)
+
+-- NOTHING BUT A ROUND AND OPENING LINES IS ENABLED
+module _ (script : Script) (some : 1 ≤ script.segments) (inserts : AreInsertsWhole script.tables script.lines) (es : List (Event × Bool)) (nothing : list_all (is_round_or_opening script (world_of script es).steps) (enabled script (world_of script es).steps) ≡ true) where
   abbrev w : World
   w = world_of script es
 
@@ -65,24 +115,32 @@ module _ (script : Script) (some : 1 ≤ script.segments) (inserts : AreInsertsW
   abbrev again : List Event
   again = flat_map (resends_due script w) (segments_of script)
 
-  none-but-rounds : (xs ys : List Event) → Each (λ e. is_round e ≡ false) xs → list_all is_round (xs ++ ys) ≡ true → xs ≡ []
-  none-but-rounds [] ys a e = refl
-  none-but-rounds (x ∷ xs) ys a e = clash (is_round x) (and-first (is_round x) (list_all is_round (xs ++ ys)) e) a.0
+  abbrev passes : Event → Bool
+  passes = is_round_or_opening script (world_of script es).steps
 
-  six-parts : receipts ++ deliveries ++ resumptions-here ++ again ++ starts_by script c ++ ends_by script c ≡ []
-  six-parts = none-but-rounds _ (rounds_by script w) (each-other script some es) (sym (ap (list_all is_round) (enabled-there script some es)) ∙ nothing)
+  abbrev four : List Event
+  four = receipts ++ deliveries ++ resumptions-here ++ again
+
+  abbrev five : List Event
+  five = receipts ++ deliveries ++ resumptions-here ++ again ++ starts_by script c
+
+  abbrev six : List Event
+  six = receipts ++ deliveries ++ resumptions-here ++ again ++ starts_by script c ++ ends_by script c
+
+  six-pass : list_all passes (receipts ++ deliveries ++ resumptions-here ++ again ++ starts_by script c ++ ends_by script c) ≡ true
+  six-pass = all-left passes six (rounds_by script w) (sym (ap (list_all passes) (enabled-there script some es)) ∙ nothing)
 
   no-ends : ends_by script c ≡ []
-  no-ends = nil-right (receipts ++ deliveries ++ resumptions-here ++ again ++ starts_by script c) _ six-parts
+  no-ends = none-passes script w.steps (ends_by script c) (ends-other script some es) (all-right passes five (ends_by script c) six-pass)
 
-  five-parts : receipts ++ deliveries ++ resumptions-here ++ again ++ starts_by script c ≡ []
-  five-parts = nil-left _ (ends_by script c) six-parts
+  five-pass : list_all passes (receipts ++ deliveries ++ resumptions-here ++ again ++ starts_by script c) ≡ true
+  five-pass = all-left passes five (ends_by script c) six-pass
 
-  no-starts : starts_by script c ≡ []
-  no-starts = nil-right (receipts ++ deliveries ++ resumptions-here ++ again) _ five-parts
+  starts-pass : list_all passes (starts_by script c) ≡ true
+  starts-pass = all-right passes four (starts_by script c) five-pass
 
   four-parts : receipts ++ deliveries ++ resumptions-here ++ again ≡ []
-  four-parts = nil-left _ (starts_by script c) five-parts
+  four-parts = none-passes script w.steps four (each-other script some es) (all-left passes four (starts_by script c) five-pass)
 
   no-resends : again ≡ []
   no-resends = nil-right (receipts ++ deliveries ++ resumptions-here) again four-parts
@@ -90,7 +148,7 @@ module _ (script : Script) (some : 1 ≤ script.segments) (inserts : AreInsertsW
   three-parts : receipts ++ deliveries ++ resumptions-here ≡ []
   three-parts = nil-left _ again four-parts
 
-  no-resumption : resumptions-here ≡ []
+  pub no-resumption : resumptions-here ≡ []
   no-resumption = nil-right (receipts ++ deliveries) resumptions-here three-parts
 
   two-parts : receipts ++ deliveries ≡ []
@@ -103,15 +161,15 @@ module _ (script : Script) (some : 1 ≤ script.segments) (inserts : AreInsertsW
       below : (a n : ℕ) → a ≤ n → a < 1 + n
       below a n l = omega arith
 
-  none-there : (i : Node) → (1 ≤ i.0) × (i.0 ≤ script.segments) → resumes_by c i (w.segs i.0).locks ++ first_of (left_on script w.steps the_coordinator i) ≡ []
+  pub none-there : (i : Node) → (1 ≤ i.0) × (i.0 ≤ script.segments) → resumes_by c i (w.segs i.0).locks ++ first_of (left_on script w.steps the_coordinator i) ≡ []
   none-there i r = nil-first _ (at-segment (λ j. at_segment_by script w j ≡ []) (nil-flat _ (segments_of script) (nil-right receipts deliveries two-parts)) i r)
 
-  quiet : (i : Node) → (1 ≤ i.0) × (i.0 ≤ script.segments) → is_quiet script w.steps i ≡ true
+  pub quiet : (i : Node) → (1 ≤ i.0) × (i.0 ≤ script.segments) → is_quiet script w.steps i ≡ true
   quiet i r =
       ap (λ (xs : List Event). (length xs == 0) && (length (left_on script w.steps i the_coordinator) == 0)) (nil-first _ (nil-right (resumes_by c i (w.segs i.0).locks) _ (none-there i r)))
       ∙ ap (λ (xs : List Event). length xs == 0) (nil-first _ (at-segment (λ j. first_of (left_on script w.steps j the_coordinator) ≡ []) (nil-flat _ (segments_of script) (nil-left receipts deliveries two-parts)) i r))
 
-  none-due : (i : Node) → (1 ≤ i.0) × (i.0 ≤ script.segments) → filter (is_due w i) (drawn c) ≡ []
+  pub none-due : (i : Node) → (1 ≤ i.0) × (i.0 ≤ script.segments) → filter (is_due w i) (drawn c) ≡ []
   none-due i r =
       nil-map (λ g. event.Resend i (Some g)) (filter (is_due w i) (drawn c))
       (nil-left _ (if awaits_graph c i then event.Resend i None ∷ [] else [])
@@ -131,7 +189,7 @@ module _ (script : Script) (some : 1 ≤ script.segments) (inserts : AreInsertsW
   told : AreRoundsTold script (world_of script es)
   told = world-told script some es
 
-  no-round-runs : is_round_running (world_of script es).steps ≡ false
+  pub no-round-runs : is_round_running (world_of script es).steps ≡ false
   no-round-runs = by_test (is_round_running w.steps) refl
     where
       within : (a n : ℕ) → (nat_le 1 a && nat_le a n) ≡ true → (1 ≤ a) × (a ≤ n)
@@ -147,7 +205,7 @@ module _ (script : Script) (some : 1 ≤ script.segments) (inserts : AreInsertsW
       by_test false e = e
 
   -- of all that were drawn
-  of-drawn : (p : Gxid → Bool) → filter p (drawn c) ≡ [] → (g : Gxid) → (1 ≤ g.0) × (g.0 < c.table.next.0) → p g ≡ false
+  pub of-drawn : (p : Gxid → Bool) → filter p (drawn c) ≡ [] → (g : Gxid) → (1 ≤ g.0) × (g.0 < c.table.next.0) → p g ≡ false
   of-drawn p e g d =
       in-range (λ n. p (record { 0 = n }) ≡ false) 1 (c.table.next.0 - 1) g.0
       (each-unmap (λ h. p h ≡ false) (λ n. let h : Gxid = record { 0 = n } in h) _ (nil-filter p (drawn c) e))
@@ -156,7 +214,7 @@ module _ (script : Script) (some : 1 ≤ script.segments) (inserts : AreInsertsW
       below : (g n : ℕ) → g < n → 1 ≤ g → g < 1 + (n - 1)
       below g n l h = omega arith
 
-  not-ready : (node : Node) (l : Locks) → resumes_by c node l ≡ [] → (g : Gxid) → (1 ≤ g.0) × (g.0 < c.table.next.0) → may_take l g ≡ false
+  pub not-ready : (node : Node) (l : Locks) → resumes_by c node l ≡ [] → (g : Gxid) → (1 ≤ g.0) × (g.0 < c.table.next.0) → may_take l g ≡ false
   not-ready node l e = of-drawn (λ g. may_take l g) (nil-map (event.Resume node) _ (nil-first _ e))
 
   -- what isn't due is an EXEC of who waits there
@@ -166,7 +224,7 @@ module _ (script : Script) (some : 1 ≤ script.segments) (inserts : AreInsertsW
       last : (a b d : Bool) → a ≡ true → (a && (not b || not d)) ≡ false → d ≡ true
       last a b d e f = grind arith
 
-  drawn-waits : (g : Gxid) → is_some (wait_of c.locks g) ≡ true → (1 ≤ g.0) × (g.0 < c.table.next.0)
+  pub drawn-waits : (g : Gxid) → is_some (wait_of c.locks g) ≡ true → (1 ≤ g.0) × (g.0 < c.table.next.0)
   drawn-waits g e = by_wait (wait_of c.locks g) refl e
     where
       by_wait : (o : Option Claim) → wait_of (world_of script es).coord.locks g ≡ o → is_some o ≡ true → (1 ≤ g.0) × (g.0 < (world_of script es).coord.table.next.0)
@@ -197,15 +255,26 @@ module _ (script : Script) (some : 1 ≤ script.segments) (inserts : AreInsertsW
       by_kind (inr x) = record { at = the_coordinator; node = least script.segments; waits = x; meets = not-ready the_coordinator c.locks no-resumption (session_of c k).transaction (drawn-waits (session_of c k).transaction x) }
 
   -- SESSIONS THAT ARE IDLE
-  none-next : (k : SessionId) → coord_can script c (here.Start k) ≡ false
-  none-next k =
+  none-next : (k : SessionId) → is_in_block (session_of c k).state.block ≡ true → coord_can script c (here.Start k) ≡ false
+  none-next k inside =
       sym (start-alike script k w.steps c (sessions-stand script some es k))
       ∙ none-any (λ line. is_same_session line.session k && is_next w.steps line) script.lines
-      (each_weaker (λ l. is_next_by c l ≡ false) (λ l. (is_same_session l.session k && is_next w.steps l) ≡ false) (λ l e. neither (is_same_session l.session k) (is_next w.steps l) (next-alike script l.session w.steps c (sessions-stand script some es l.session) l refl ∙ e)) script.lines
-      (nil-filter (is_next_by c) script.lines (nil-map (λ (line : Line). event.Start line.session) _ no-starts)))
+      (each_weaker (λ (l : Line). is_next_by c l ≡ true → passes (event.Start l.session) ≡ true) (λ l. (is_same_session l.session k && is_next w.steps l) ≡ false)
+      (λ l e. neither (is_same_session l.session k) (is_next w.steps l) (λ same next. shut l same (e (sym (next-alike script l.session w.steps c (sessions-stand script some es l.session) l refl) ∙ next)))) script.lines
+      (all-filtered passes (λ (line : Line). event.Start line.session) (is_next_by c) script.lines starts-pass))
     where
-      neither : (a b : Bool) → b ≡ false → (a && b) ≡ false
-      neither a b e = grind arith
+      neither : (a b : Bool) → (a ≡ true → b ≡ true → ⊥) → (a && b) ≡ false
+      neither true true f = absurd (f refl refl)
+      neither true false f = refl
+      neither false b f = refl
+
+      not-both : (b : Bool) → b ≡ true → not b ≡ true → ⊥
+      not-both b e f = true-false (not b) f (ap not e)
+
+      shut : (l : Line) → is_same_session l.session k ≡ true → not (legal.is_in_block (state_of script l.session (marks_in w.steps))) ≡ true → ⊥
+      shut l same free =
+          not-both (legal.is_in_block (state_of script l.session (marks_in w.steps)))
+          (ap (λ n. legal.is_in_block (state_of script (record { 0 = n }) (marks_in w.steps))) (eqb-true l.session.0 k.0 same) ∙ block-alike script k w.steps c (sessions-stand script some es k) inside) free
 
   none-ends : (k : SessionId) → k.0 < length script.sessions → coord_can script c (here.End k) ≡ false
   none-ends k l =
@@ -219,18 +288,53 @@ module _ (script : Script) (some : 1 ≤ script.segments) (inserts : AreInsertsW
       above : (a n : ℕ) → a < n → a < 0 + n
       above a n l = omega arith
 
-  pub all-finished : (k : SessionId) → k.0 < length script.sessions → is_idle (session_of c k) ≡ true → is_unfinished_there script c k ≡ false
-  all-finished k l idle = plain (is_idle (session_of c k)) (is_left (next_line script c k)) (is_in_block (session_of c k).state.block) idle (none-next k) (none-ends k l)
+  -- whose session stands in a block waits for a lock, and so does whoever has a line under way
+  pub inside-blocked : (k : SessionId) → k.0 < length script.sessions → is_in_block (session_of c k).state.block ≡ true → IsBlocked script w k
+  inside-blocked k l inside = by_test (is_idle (session_of c k)) refl
     where
-      plain : (i l b : Bool) → i ≡ true → (i && l) ≡ false → (i && (not l && b)) ≡ false → (not i || (b || l)) ≡ false
-      plain i l b e f h = grind arith
+      plain : (i l b : Bool) → i ≡ true → b ≡ true → (i && l) ≡ false → (i && (not l && b)) ≡ false → ⊥
+      plain i l b e f g h = grind arith
 
-  pub unfinished-blocked : (k : SessionId) → k.0 < length script.sessions → is_unfinished_there script c k ≡ true → IsBlocked script w k
-  unfinished-blocked k l u = by_test (is_idle (session_of c k)) refl
-    where
       by_test : (b : Bool) → is_idle (session_of (world_of script es).coord k) ≡ b → IsBlocked script (world_of script es) k
-      by_test true e = clash (is_unfinished_there script (world_of script es).coord k) u (all-finished k l e)
+      by_test true e = absurd (plain (is_idle (session_of c k)) (is_left (next_line script c k)) (is_in_block (session_of c k).state.block) e inside (none-next k inside) (none-ends k l))
       by_test false e = all-blocked k e
+
+-- NOTHING BUT A ROUND IS ENABLED
+module _ (script : Script) (some : 1 ≤ script.segments) (inserts : AreInsertsWhole script.tables script.lines) (es : List (Event × Bool)) (nothing : list_all is_round (enabled script (world_of script es).steps) ≡ true) where
+  abbrev u : World
+  u = world_of script es
+
+  but-openings : list_all (is_round_or_opening script (world_of script es).steps) (enabled script (world_of script es).steps) ≡ true
+  but-openings = round-passes script (world_of script es).steps (enabled script (world_of script es).steps) nothing
+
+  -- no line starts
+  none-starts : (k : SessionId) → coord_can script u.coord (here.Start k) ≡ false
+  none-starts k =
+      sym (start-alike script k u.steps u.coord (sessions-stand script some es k))
+      ∙ none-any (λ line. is_same_session line.session k && is_next u.steps line) script.lines
+      (each_weaker (λ (l : Line). is_next_by u.coord l ≡ true → is_round (event.Start l.session) ≡ true) (λ l. (is_same_session l.session k && is_next u.steps l) ≡ false)
+      (λ l e. neither (is_same_session l.session k) (is_next u.steps l) (λ next. true-false (is_round (event.Start l.session)) (e (sym (next-alike script l.session u.steps u.coord (sessions-stand script some es l.session) l refl) ∙ next)) refl)) script.lines
+      (all-filtered is_round (λ (line : Line). event.Start line.session) (is_next_by u.coord) script.lines
+      (all-right is_round (four script some inserts es but-openings) (starts_by script u.coord)
+      (all-left is_round (five script some inserts es but-openings) (ends_by script u.coord)
+      (all-left is_round (six script some inserts es but-openings) (rounds_by script u) (sym (ap (list_all is_round) (enabled-there script some es)) ∙ nothing))))))
+    where
+      neither : (a b : Bool) → (b ≡ true → ⊥) → (a && b) ≡ false
+      neither true true f = absurd (f refl)
+      neither true false f = refl
+      neither false b f = refl
+
+  pub unfinished-blocked : (k : SessionId) → k.0 < length script.sessions → is_unfinished_there script u.coord k ≡ true → IsBlocked script u k
+  unfinished-blocked k l u = by_test (is_idle (session_of (world_of script es).coord k)) refl
+    where
+      inside : (i l b : Bool) → i ≡ true → (i && l) ≡ false → (not i || (b || l)) ≡ true → b ≡ true
+      inside i l b e f h = grind arith
+
+      by_test : (b : Bool) → is_idle (session_of (world_of script es).coord k) ≡ b → IsBlocked script (world_of script es) k
+      by_test true e =
+          inside-blocked script some inserts es but-openings k l
+          (inside (is_idle (session_of (world_of script es).coord k)) (is_left (next_line script (world_of script es).coord k)) (is_in_block (session_of (world_of script es).coord k).state.block) e (none-starts k) u)
+      by_test false e = all-blocked script some inserts es but-openings k e
 
 -- NOTHING AT ALL IS ENABLED
 -- who waits has a wait among those of a node
@@ -250,6 +354,9 @@ module _ (script : Script) (some : 1 ≤ script.segments) (inserts : AreInsertsW
 
   but-rounds : list_all is_round (enabled script (world_of script es).steps) ≡ true
   but-rounds = ap (list_all is_round) nothing
+
+  but-openings-none : list_all (is_round_or_opening script (world_of script es).steps) (enabled script (world_of script es).steps) ≡ true
+  but-openings-none = round-passes script (world_of script es).steps (enabled script (world_of script es).steps) but-rounds
 
   no-rounds : rounds_by script (world_of script es) ≡ []
   no-rounds = nil-right _ (rounds_by script v) (sym (enabled-there script some es) ∙ nothing)
@@ -278,7 +385,7 @@ module _ (script : Script) (some : 1 ≤ script.segments) (inserts : AreInsertsW
       by_test false e = absurd (by_node (b.at.0 == 0) refl b.waits e)
 
   pub stuck-without : (k : SessionId) → IsBlocked script (world_of script es) k → script.detector ≡ false
-  stuck-without k b = plain script.detector v.coord.reports (is_anybody_waiting script v) (anybody-waits k b) (sym told.runs ∙ no-round-runs script some inserts es but-rounds) no-rounds
+  stuck-without k b = plain script.detector v.coord.reports (is_anybody_waiting script v) (anybody-waits k b) (sym told.runs ∙ no-round-runs script some inserts es but-openings-none) no-rounds
     where
       told : AreRoundsTold script (world_of script es)
       told = world-told script some es
@@ -292,7 +399,7 @@ module _ (script : Script) (some : 1 ≤ script.segments) (inserts : AreInsertsW
 -- IN EVERY RUN THAT IS REACHED
 -- it is so of what the steps tell
 module _ (script : Script) (steps : List Step) (w : World) (r : AreReplayed script steps w) where
-  locks-alike : (at : Node) → locks_at w at ≡ locks_at (world_behind script steps) at
+  pub locks-alike : (at : Node) → locks_at w at ≡ locks_at (world_behind script steps) at
   locks-alike at = by_node (at.0 == 0) refl
     where
       one : (i : ℕ) → (i == 0) ≡ false → 1 ≤ i

@@ -4,6 +4,7 @@ use Rattle.std.proofs.lemmas.Bool.{eqb-true}
 use Rattle.std.proofs.lemmas.Bool.Decides.{nat_tests}
 use Rattle.std.specs.Prelude.{is_some, ◌==◌}
 use Rattle.std.specs.List.{list_any}
+use Rattle.gx_lemmas.proofs.Tests.{true-false}
 use Rattle.gx_ids.specs.declared.ids.SessionId.{SessionId}
 use Rattle.gx_tree.specs.declared.stmt.Stmt.{Stmt}
 use Rattle.gx_script.specs.declared.Line.{Line}
@@ -70,6 +71,14 @@ module _ (script : Script) (k : SessionId) (steps : List Step) (c : Coord) (s : 
   next-alike line e =
       subst (λ x. (schedule.is_idle steps x && (line.number == starts_in x steps + 1)) ≡ (is_idle (session_of c k) && (line.number == lines + 1))) (sym e)
       (ap (λ q. q && (line.number == starts_in k steps + 1)) idle-alike ∙ ap (λ n. is_idle (session_of c k) && (line.number == n + 1)) s.starts)
+
+  -- who stands in a block there stands in one by the steps
+  pub block-alike : is_in_block (session_of c k).state.block ≡ true → legal.is_in_block (state_of script k (marks_in steps)) ≡ true
+  block-alike there = by s.stands
+    where
+      by : IsStanding script k (marks_in steps) c.table.next.0 b p lines (session_of c k).transaction (c.works (session_of c k).transaction.0) (ends_in k steps) → legal.is_in_block (state_of script k (marks_in steps)) ≡ true
+      by (inl h) = ap legal.is_in_block h.1.state ∙ block-of b h.1.commands ∙ there
+      by (inr h) = absurd (true-false (is_in_block b) there (ap is_in_block h.1.outside))
 
   pub end-alike : schedule.is_to_end script steps k ≡ coord_can script c (here.End k)
   end-alike = ap (λ q. q && rest answered) idle-alike ∙ by s.stands

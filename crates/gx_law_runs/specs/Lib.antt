@@ -8,3 +8,4 @@ pub mod Awaiting
 pub mod Failures
 pub mod Fits
 pub mod Stored
+pub mod Openings
