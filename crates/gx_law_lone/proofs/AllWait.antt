@@ -1,5 +1,5 @@
 -- Where nothing but a round is enabled, all waits together are a blocked set, so the round that is decided over them names somebody.
-use Rattle.std.proofs.Common.{◌≡◌, ◌≤◌, ◌⊎◌, inl, inr, ℕ, List, [], ◌∷◌, ◌++◌, Option, Some, None, Bool, true, false, not, refl, sym, subst, ap, ◌∙◌, if◌then◌else◌, ◌&&◌, ◌||◌, ◌==◌, arith, eqb, length, All, Contains}
+use Rattle.std.proofs.Common.{◌≡◌, ◌≤◌, ◌<◌, ◌⊎◌, inl, inr, ℕ, List, [], ◌∷◌, ◌++◌, Option, Some, None, Bool, true, false, not, refl, sym, subst, ap, ◌∙◌, if◌then◌else◌, ◌&&◌, ◌||◌, ◌==◌, arith, eqb, length, All, Contains}
 use Rattle.std.proofs.lemmas.Bool.{eqb-true}
 use Rattle.std.proofs.lemmas.Bool.Decides.{nat_tests}
 use Rattle.std.proofs.lemmas.List.Elements.{All-contains, All-contains_itself}
@@ -59,49 +59,49 @@ use Rattle.gx_law_lone.proofs.Alone.{coordinator-holder-waits, row-waits, segmen
 -- LISTS
 any-has : {A : Type 0} (p : A → Bool) (xs : List A) → list_any p xs ≡ true → (x : A) × Has x xs × (p x ≡ true)
 any-has p [] e = absurd (cc)
-any-has p (x ∷ xs) e = by_test (p x) refl e
+any-has {A = A} p (x ∷ xs) e = by_test (p x) refl e (any-has p xs)
   where
-    by_test : (b : Bool) → p x ≡ b → (b || list_any p xs) ≡ true → (y : _) × Has y (x ∷ xs) × (p y ≡ true)
-    by_test true q f = (x, inl refl, q)
-    by_test false q f = let a = any-has p xs f in (a.0, inr a.1, a.2)
+    by_test : (b : Bool) → p x ≡ b → (b || list_any p xs) ≡ true → (list_any p xs ≡ true → (y : A) × Has y xs × (p y ≡ true)) → (y : A) × Has y (x ∷ xs) × (p y ≡ true)
+    by_test true q f later = (x, inl refl, q)
+    by_test false q f later = let a = later f in (a.0, inr a.1, a.2)
 
 find-has : (p : Claim → Bool) (xs : List Claim) (x : Claim) → find p xs ≡ Some x → Has x xs × (p x ≡ true)
 find-has p [] x e = absurd (cc)
-find-has p (y ∷ xs) x e = by_test (p y) refl e
+find-has p (y ∷ xs) x e = by_test (p y) refl e (find-has p xs x)
   where
     same : (a b : Claim) → Some a ≡ Some b → a ≡ b
     same a b q = cc
 
-    by_test : (b : Bool) → p y ≡ b → (if b then Some y else find p xs) ≡ Some x → Has x (y ∷ xs) × (p x ≡ true)
-    by_test true q f = let s = same y x f in (inl s, subst (λ z. p z ≡ true) s q)
-    by_test false q f = let a = find-has p xs x f in (inr a.0, a.1)
+    by_test : (b : Bool) → p y ≡ b → (if b then Some y else find p xs) ≡ Some x → (find p xs ≡ Some x → Has x xs × (p x ≡ true)) → Has x (y ∷ xs) × (p x ≡ true)
+    by_test true q f later = let s = same y x f in (inl s, subst (λ z. p z ≡ true) s q)
+    by_test false q f later = let a = later f in (inr a.0, a.1)
 
 has-find : (p : Claim → Bool) (xs : List Claim) (x : Claim) → Has x xs → p x ≡ true → is_some (find p xs) ≡ true
 has-find p [] x h e = absurd h
-has-find p (y ∷ xs) x h e = by_test (p y) refl h
+has-find p (y ∷ xs) x h e = by_test (p y) refl h (λ k. has-find p xs x k e)
   where
-    by_test : (b : Bool) → p y ≡ b → Has x (y ∷ xs) → is_some (if b then Some y else find p xs) ≡ true
-    by_test true q k = refl
-    by_test false q (inl s) = absurd (true-false (p x) e (ap p (sym s) ∙ q))
-    by_test false q (inr k) = has-find p xs x k e
+    by_test : (b : Bool) → p y ≡ b → Has x (y ∷ xs) → (Has x xs → is_some (find p xs) ≡ true) → is_some (if b then Some y else find p xs) ≡ true
+    by_test true q k later = refl
+    by_test false q (inl s) later = absurd (true-false (p x) e (ap p (sym s) ∙ q))
+    by_test false q (inr k) later = later k
 
 filter-has : (p : Claim → Bool) (xs : List Claim) (x : Claim) → Has x (filter p xs) → Has x xs
 filter-has p [] x h = absurd h
-filter-has p (y ∷ xs) x h = by_test (p y) h
+filter-has p (y ∷ xs) x h = by_test (p y) h (filter-has p xs x)
   where
-    by_test : (b : Bool) → Has x (cond b (y ∷ filter p xs) (filter p xs)) → Has x (y ∷ xs)
-    by_test true (inl s) = inl s
-    by_test true (inr k) = inr (filter-has p xs x k)
-    by_test false k = inr (filter-has p xs x k)
+    by_test : (b : Bool) → Has x (cond b (y ∷ filter p xs) (filter p xs)) → (Has x (filter p xs) → Has x xs) → Has x (y ∷ xs)
+    by_test true (inl s) later = inl s
+    by_test true (inr k) later = inr (later k)
+    by_test false k later = inr (later k)
 
 ahead-has : (c : Claim) (xs : List Claim) (x : Claim) → Has x (ahead c xs) → Has x xs
 ahead-has c [] x h = absurd h
-ahead-has c (y ∷ xs) x h = by_test (same_claim c y) h
+ahead-has c (y ∷ xs) x h = by_test (same_claim c y) h (ahead-has c xs x)
   where
-    by_test : (b : Bool) → Has x (if b then [] else y ∷ ahead c xs) → Has x (y ∷ xs)
-    by_test true k = absurd k
-    by_test false (inl s) = inl s
-    by_test false (inr k) = inr (ahead-has c xs x k)
+    by_test : (b : Bool) → Has x (if b then [] else y ∷ ahead c xs) → (Has x (ahead c xs) → Has x xs) → Has x (y ∷ xs)
+    by_test true k later = absurd k
+    by_test false (inl s) later = inl s
+    by_test false (inr k) later = inr (later k)
 
 each-has : (P : Claim → Type 0) (xs : List Claim) (x : Claim) → Each P xs → Has x xs → P x
 each-has P [] x e h = absurd h

@@ -130,16 +130,16 @@ module _ (script : Script) (some : 1 ≤ script.segments) (inserts : AreInsertsW
   six-pass : list_all passes (receipts ++ deliveries ++ resumptions-here ++ again ++ starts_by script c ++ ends_by script c) ≡ true
   six-pass = all-left passes six (rounds_by script w) (sym (ap (list_all passes) (enabled-there script some es)) ∙ nothing)
 
-  no-ends : ends_by script c ≡ []
+  pub no-ends : ends_by script c ≡ []
   no-ends = none-passes script w.steps (ends_by script c) (ends-other script some es) (all-right passes five (ends_by script c) six-pass)
 
   five-pass : list_all passes (receipts ++ deliveries ++ resumptions-here ++ again ++ starts_by script c) ≡ true
   five-pass = all-left passes five (ends_by script c) six-pass
 
-  starts-pass : list_all passes (starts_by script c) ≡ true
+  pub starts-pass : list_all passes (starts_by script c) ≡ true
   starts-pass = all-right passes four (starts_by script c) five-pass
 
-  four-parts : receipts ++ deliveries ++ resumptions-here ++ again ≡ []
+  pub four-parts : receipts ++ deliveries ++ resumptions-here ++ again ≡ []
   four-parts = none-passes script w.steps four (each-other script some es) (all-left passes four (starts_by script c) five-pass)
 
   no-resends : again ≡ []
