@@ -138,7 +138,7 @@ module _ (script : Script) (some : 1 ≤ script.segments) (numbered : AreLinesNu
 
   -- TWO ANSWERS
   module _ (segment : Node) (one : 1 ≤ segment.0) (g : Gxid) (c : Cid) (a b : Reply) (of-a : IsOfCommand a c) (of-b : IsOfCommand b c) (x : IsEarned script es segment g c a) (y : IsEarned script es segment g c b) where
-    both-same : x.given.before ≡ y.given.before → (x.given.event, x.given.fails) ≡ (y.given.event, y.given.fails) → a ≡ b
+    both-same : x.given.before ≡ y.given.before → ◌≡◌ {A = Event × Bool} (x.given.event, x.given.fails) (y.given.event, y.given.fails) → a ≡ b
     both-same e p =
         gives-one script (world_of script y.given.before) y.given.event y.given.fails segment g c x.level y.level x.snapshot y.snapshot x.slice y.slice a b
         (subst (λ (q : Event × Bool). Gives script (world_of script y.given.before) q.0 q.1 segment g c x.level x.snapshot x.slice a) p
