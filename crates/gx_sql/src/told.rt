@@ -102,7 +102,11 @@ impl Progress {
         ensures lines { vec_len self.new.lines ≤ vec_len self.old.lines + 1 }
     {
         match read_head_line(alloc, segments, limits(), tokens) {
-            Ok(line) => self.add(alloc, &line),
+            Ok(line) => {
+                let added = self.add(alloc, &line);
+                drop(line);
+                added
+            }
             Err(error) => Err(LineError::from(error)),
         }
     }
@@ -140,7 +144,11 @@ impl Progress {
         ensures lines { vec_len self.new.lines ≤ vec_len self.old.lines + 1 }
     {
         match read_session_line(alloc, limits(), tokens) {
-            Ok(line) => self.add(alloc, &line),
+            Ok(line) => {
+                let added = self.add(alloc, &line);
+                drop(line);
+                added
+            }
             Err(error) => Err(LineError::from(error)),
         }
     }
