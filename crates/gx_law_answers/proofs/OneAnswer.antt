@@ -1,5 +1,5 @@
 -- A segment gives one answer to a command: the command is new there when the first goes out, and that step sends it alone.
-use Rattle.std.proofs.Common.{◌≡◌, ◌≤◌, ◌<◌, ◌⊎◌, inl, inr, ℕ, Bool, List, [], ◌∷◌, ◌++◌, Option, Some, refl, sym, subst, ap, ◌∙◌, append_assoc}
+use Rattle.std.proofs.Common.{◌≡◌, ◌≤◌, ◌<◌, ◌⊎◌, inl, inr, ℕ, Bool, List, [], ◌∷◌, ◌++◌, Option, refl, sym, subst, ap, ◌∙◌, append_assoc}
 use Rattle.std.specs.Prelude.{slice_get}
 use Rattle.gx_lemmas.proofs.Lists.{get-append}
 use Rattle.gx_lemmas.proofs.Numbers.{lt-le}
@@ -20,13 +20,12 @@ use Rattle.gx_script.specs.declared.Script.{Script}
 use Rattle.gx_store.specs.declared.event.Event.{Event}
 use Rattle.gx_store.specs.declared.event.Event.TheVariants.{Receive, Resume}
 use Rattle.gx_store.specs.declared.run.Run.{Run}
-use Rattle.gx_store.specs.declared.run.Step.{Step}
 use Rattle.gx_store.specs.Language.{AreLinesNumbered}
 use Rattle.gx_store.specs.Messages.{IsSending}
 use Rattle.gx_store.specs.Points.{marks_in}
 use Rattle.gx_store.specs.Refusals.{the_coordinator}
 use Rattle.gx_rules.specs.AtSegment.{on_message}
-use Rattle.gx_rules.specs.Machine.{World, after, found, new_world, world_of}
+use Rattle.gx_rules.specs.Machine.{World, found, new_world, world_of}
 use Rattle.gx_rules.specs.Segments.{local_of, reply as reply_out}
 use Rattle.gx_rules.specs.System.{IsSystemRun}
 use Rattle.gx_law_order.proofs.Machines.{system-led}
