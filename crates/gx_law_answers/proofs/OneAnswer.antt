@@ -94,9 +94,9 @@ module _ (script : Script) (w : World) (event : Event) (fails : Bool) (segment :
   gives-one l k s t x y a b (inl p) (inl q) =
       let e = sym p.is ∙ q.is in
       let envelopes : p.envelope ≡ q.envelope =
-          some-same p.envelope q.envelope (
-          sym p.posted ∙ ap (λ (f : Node). found f segment p.number w.sent) (same-from p.from q.from segment p.number q.number e)
-          ∙ ap (λ n. found q.from segment n w.sent) (same-number p.from q.from segment p.number q.number e) ∙ q.posted) in
+      some-same p.envelope q.envelope (
+      sym p.posted ∙ ap (λ (f : Node). found f segment p.number w.sent) (same-from p.from q.from segment p.number q.number e)
+      ∙ ap (λ n. found q.from segment n w.sent) (same-number p.from q.from segment p.number q.number e) ∙ q.posted) in
       reply-one g a b (sym p.given ∙ ap (λ (v : Envelope). (on_message script (w.segs segment.0) fails v.message).outs) envelopes ∙ q.given)
   gives-one l k s t x y a b (inl p) (inr q) = absurd (no-both p.from segment segment p.number g (sym p.is ∙ q.is))
   gives-one l k s t x y a b (inr p) (inl q) = absurd (no-both q.from segment segment q.number g (sym q.is ∙ p.is))
