@@ -16,8 +16,8 @@ read_and_go-requires-clause-constants c =
     let line = c.line_at-line.ensures ∙ ap (λ (s : Script). stmt_at s.lines c.args.place) (c.deref.ensures ∙ c.in_ok-script.ensures) in
     subst HasConstants (sym line) (has-constants script.tables (stmt_at script.lines c.args.place) c.requires.command (stmt-of script c.args.place c.requires.language c.requires.inside))
 
-pub plan_line-requires-clause-short : goal.plan_line-requires-clause-short
-plan_line-requires-clause-short c =
+pub plan_line-planned-requires-clause-short : goal.plan_line-planned-requires-clause-short
+plan_line-planned-requires-clause-short c =
     let script = c.args.coord.now.script.value in
     let line = c.line_at-line.ensures ∙ ap (λ (s : Script). stmt_at s.lines c.args.place) (c.deref.ensures ∙ c.in_ok-script.ensures) in
     subst (λ (s : Stmt). is_short s ≡ true) (sym line) (short-of script c.args.place c.requires.language c.requires.inside)
