@@ -11,7 +11,6 @@ use Rattle.gx_ids.specs.declared.rid.Rid.{Rid}
 use Rattle.gx_lemmas.proofs.Lists.{place-below}
 use Rattle.gx_lemmas.proofs.Numbers.{le-apart, le-of, lt-of}
 use Rattle.gx_lemmas.proofs.Options.{some-same}
-use Rattle.gx_lemmas.proofs.Tests.{false-true}
 use Rattle.gx_msg.specs.declared.message.Message.TheVariants as message
 use Rattle.gx_msg.specs.declared.reply.Cause.{Cause}
 use Rattle.gx_msg.specs.declared.reply.Cause.TheVariants as cause
@@ -193,8 +192,3 @@ module _ (point : Point) (level : Level) (g : Gxid) (c : Cid) (rid : Rid) (h : G
 
     pub there-unsent : IsFirstSending g (word.Failed c) from the_coordinator point.steps None → IsOvertakenThere point level g c table found rid h → ⊥
     there-unsent is there = none-first g c from point.steps is there.3.0 (its-first there)
-
-    pub there-unheard : hears ≡ false → IsOvertakenThere point level g c table found rid h → ⊥
-    there-unheard silent there =
-        let heard : IsTrue hears = tells.1 (subst (λ (n : Node). HearsCause point n g c (cause.Serialization rid h)) (its-sender there) there.2) in
-        false-true (sym silent ∙ heard)

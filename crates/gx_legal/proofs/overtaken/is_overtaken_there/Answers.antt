@@ -36,4 +36,4 @@ returns c =
     let m = c.args.moment.now in
     let k = c.args.command in
     if_ok c.is_overtaken_row.result (λ b h. there-is (point_of m) k.level k.gxid k.cid c.args.row.0 c.args.row.1 c.args.table c.args.cond.now c.in-Receive.from c.in-Receive.to c.in-Receive.number
-    c.hears_cause.result c.in-Receive.is c.hears_cause.ensures c.in-Some.first m.before.now b c.if-not-delivers.false c.in-Some.ensures m.whole h) c.is_overtaken_row.ensures
+    c.hears_cause.result c.in-Receive.is c.hears_cause.ensures c.in-Some.first m.before.now b c.if-not-hears_cause.false c.in-Some.ensures m.whole h) c.is_overtaken_row.ensures
