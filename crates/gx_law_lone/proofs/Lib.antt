@@ -9,3 +9,4 @@ pub mod Leaving
 pub mod Holders
 pub mod Alone
 pub mod AllWait
+pub mod InRound
