@@ -85,7 +85,7 @@ pub record IsInRound (script : Script) (lets : List Step → Event → Bool) (w0
   pub rounds : w.coord.rounds ≡ number w0
   pub reports : AreReported script w0 w.coord.reports
   pub segs : (i : ℕ) → IsSegLeft (w0.segs i) (w.segs i)
-  pub kept : (i : ℕ) → IsKept w0 i (w.segs i)
+  pub kept : (i : ℕ) → 1 ≤ i → IsKept w0 i (w.segs i)
   pub letters : AreMore w0 w0.sent w.sent
   pub more : List Step
   pub steps : w.steps ≡ w0.steps ++ more
@@ -276,22 +276,22 @@ module _ (script : Script) (lets : List Step → Event → Bool) (holds : HoldsU
         rounds = r.rounds;
         reports = r.reports;
         segs = at-both (λ j (x : Seg). IsSegLeft (w0.segs j) x) w.segs i now (record { horizon = l.horizon ∙ (r.segs i).horizon; locals = l.locals ∙ (r.segs i).locals; versions = l.versions ∙ (r.segs i).versions; locks = l.locks ∙ (r.segs i).locks }) (λ j differs. r.segs j);
-        kept = at-both (λ j (x : Seg). IsKept w0 j x) w.segs i now s.kept (λ j differs. r.kept j);
+        kept = at-both (λ j (x : Seg). 1 ≤ j → IsKept w0 j x) w.segs i now (λ one. s.kept) (λ j differs one. r.kept j one);
         letters = all-more w0 w0.sent (at i) clock turn.marks (λ node. turn.seg.sent) turn.outs w.sent s.sends s.told r.letters;
         more = r.more ++ step ∷ [];
         steps = ap (λ ss. ss ++ step ∷ []) r.steps ∙ append_assoc w0.steps r.more (step ∷ []);
         same = λ x. holds.lasting w.steps step x reached (none-sent turn.marks (λ node. turn.seg.sent) turn.outs s.marks) ∙ r.same x;
       }
 
-  stay : (i : ℕ) → Serves i (stays (w.segs i))
-  stay i = record { left = record { horizon = refl; locals = refl; versions = refl; locks = refl }; kept = r.kept i; marks = refl; sends = tt; told = tt }
+  stay : (i : ℕ) → 1 ≤ i → Serves i (stays (w.segs i))
+  stay i one = record { left = record { horizon = refl; locals = refl; versions = refl; locks = refl }; kept = r.kept i one; marks = refl; sends = tt; told = tt }
 
   some-same : (a b : LocalGraph) → Some a ≡ Some b → a ≡ b
   some-same a b q = cc
 
-  collected : (i round : ℕ) → round ≡ number w0 → Serves i (on_collect (w.segs i) round)
-  collected i round is =
-      collect-ways (Serves i) (w.segs i) round (stay i)
+  collected : (i round : ℕ) → 1 ≤ i → round ≡ number w0 → Serves i (on_collect (w.segs i) round)
+  collected i round one is =
+      collect-ways (Serves i) (w.segs i) round (stay i one)
       (λ new. record {
         left = record { horizon = refl; locals = refl; versions = refl; locks = refl };
         kept = λ q graph f. sym (some-same (graph_at (w.segs i).locks) graph f) ∙ ap graph_at (r.segs i).locks;
@@ -299,23 +299,23 @@ module _ (script : Script) (lets : List Step → Event → Bool) (holds : HoldsU
         sends = (tt, tt);
         told = ((is, ap graph_at (r.segs i).locks), tt);
       })
-      (λ same graph f. record { left = record { horizon = refl; locals = refl; versions = refl; locks = refl }; kept = r.kept i; marks = refl; sends = tt; told = ((is, r.kept i (eqb-true (w.segs i).round round same ∙ is) graph f), tt) })
+      (λ same graph f. record { left = record { horizon = refl; locals = refl; versions = refl; locks = refl }; kept = r.kept i one; marks = refl; sends = tt; told = ((is, r.kept i one (eqb-true (w.segs i).round round same ∙ is) graph f), tt) })
 
-  served : (i : ℕ) (from : Node) (fails : Bool) (m : Message) → ToldIn w0 from m → Serves i (segment.on_message script (w.segs i) fails m)
-  served i from fails (message.Collect round) t = collected i round t
-  served i from fails (message.Graph round graph) t = stay i
-  served i from fails (message.Answer g x) t = absurd t
-  served i from fails (message.Exec g d level x h y) t = absurd t
-  served i from fails (message.Prepare g) t = absurd t
-  served i from fails (message.Commit g) t = absurd t
-  served i from fails (message.CommitPrepared g) t = absurd t
-  served i from fails (message.Abort g) t = absurd t
-  served i from fails (message.Forget g) t = absurd t
+  served : (i : ℕ) (one : 1 ≤ i) (from : Node) (fails : Bool) (m : Message) → ToldIn w0 from m → Serves i (segment.on_message script (w.segs i) fails m)
+  served i one from fails (message.Collect round) t = collected i round one t
+  served i one from fails (message.Graph round graph) t = stay i one
+  served i one from fails (message.Answer g x) t = absurd t
+  served i one from fails (message.Exec g d level x h y) t = absurd t
+  served i one from fails (message.Prepare g) t = absurd t
+  served i one from fails (message.Commit g) t = absurd t
+  served i one from fails (message.CommitPrepared g) t = absurd t
+  served i one from fails (message.Abort g) t = absurd t
+  served i one from fails (message.Forget g) t = absurd t
 
-  pub segment-goes : (e : Event) (i : ℕ) (clock : ℕ) (from : Node) (fails : Bool) (m : Message) → ToldIn w0 from m
+  pub segment-goes : (e : Event) (i : ℕ) (one : 1 ≤ i) (clock : ℕ) (from : Node) (fails : Bool) (m : Message) → ToldIn w0 from m
       → NamesOrGoesOn (verdict_in (seg_sends clock (segment.on_message script (w.segs i) fails m)).marks) (IsInRound script lets w0 (seg_did w (at i) e (seg_sends clock (segment.on_message script (w.segs i) fails m))))
-  segment-goes e i clock from fails m t =
+  segment-goes e i one clock from fails m t =
       let turn : SegTurn = segment.on_message script (w.segs i) fails m in
-      let s = served i from fails m t in
+      let s = served i one from fails m t in
       subst (λ v. NamesOrGoesOn v (IsInRound script lets w0 (seg_did w (at i) e (seg_sends clock turn)))) (sym (undecided (seg_sends clock turn).marks (none-sent turn.marks (λ node. turn.seg.sent) turn.outs s.marks)))
       (seg-on e i turn clock s)

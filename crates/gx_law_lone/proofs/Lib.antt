@@ -10,3 +10,6 @@ pub mod Holders
 pub mod Alone
 pub mod AllWait
 pub mod InRound
+pub mod Decides
+pub mod Choices
+pub mod FindsVictims
