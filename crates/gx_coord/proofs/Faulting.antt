@@ -24,6 +24,7 @@ use Rattle.gx_meaning.specs.Statements.{IsDist, IsOver, IsStmtOf, IsTuple, colum
 use Rattle.gx_script.specs.declared.Line.{Line}
 use Rattle.gx_script.specs.declared.Script.{Script}
 use Rattle.gx_store.specs.Language.{IsLine, IsScript, IsTable}
+use Rattle.gx_store.specs.Limits.{HasTuplesTo, IsLineTo}
 use Rattle.gx_store.specs.Writes.{dist_of}
 use Rattle.gx_rules.specs.AtCoordinator.{faulting_from, table_of}
 use Rattle.gx_coord.specs.Books.{stmt_at}
@@ -62,6 +63,19 @@ line-of tables n (x ∷ xs) k all l = subst (IsStmtOf tables) (sym (get-at (x �
 
 pub stmt-of : (script : Script) (k : ℕ) → IsScript script → k < length script.lines → IsStmtOf script.tables (stmt_at script.lines k)
 stmt-of script k language l = line-of script.tables (length script.sessions) script.lines k language.lines l
+
+short-in : (line : Stmt) → HasTuplesTo 4294967295 line → is_short line ≡ true
+short-in (stmt.Insert table tuples) few = grind (arith, few)
+short-in line few = refl
+
+lines-short : (lines : List Line) (k : ℕ) → All (IsLineTo 4294967295) lines → k < length lines → is_short (stmt_at lines k) ≡ true
+lines-short [] k all l = absurd (omega (arith, l))
+lines-short (x ∷ xs) k all l =
+    subst (λ (s : Stmt). is_short s ≡ true) (sym (get-at (x ∷ xs) k x l)) (short-in (get_or (x ∷ xs) k x).stmt (All-get_or (IsLineTo 4294967295) (x ∷ xs) k x l all))
+
+-- the rows of its tuples have numbers
+pub short-of : (script : Script) (k : ℕ) → IsScript script → k < length script.lines → is_short (stmt_at script.lines k) ≡ true
+short-of script k language l = lines-short script.lines k language.few_tuples l
 
 over-at : (tables : List Schema) (line : Stmt) → IsCommand line → IsStmtOf tables line → (schema : Schema) × (slice_get tables (table_of line) ≡ Some schema) × IsOver schema line
 over-at tables (stmt.Begin level) c h = absurd c

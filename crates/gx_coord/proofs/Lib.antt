@@ -34,3 +34,4 @@ pub mod Graphs
 pub mod Quiet
 pub mod Cancelled
 pub mod Stepped
+pub mod Counts

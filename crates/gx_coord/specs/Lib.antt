@@ -7,3 +7,5 @@ pub mod Sound
 pub mod Faults
 pub mod Places
 pub mod Lines
+pub mod Left
+pub mod Room

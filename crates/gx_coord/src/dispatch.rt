@@ -1,5 +1,5 @@
 // A command goes out.
-ghost use Rattle.std.specs.Prelude.{◌≡◌, ◌<◌, ◌+◌, ◌^◌, [], Err, IfOk, IfSome, None, OnOk, Ok, Some, false, length, option_map, slice_get};
+ghost use Rattle.std.specs.Prelude.{◌≡◌, ◌<◌, ◌+◌, ◌^◌, [], Err, IfOk, IfSome, None, OnOk, Ok, Some, false, length, option_map, slice_get, true};
 ghost use Rattle.std.specs.List.{list_any};
 ghost use Rattle.gx_dtx.specs.Table.{IsActive};
 ghost use Rattle.gx_eval.specs.Faults.{eval_fault};
@@ -216,16 +216,6 @@ fn table_of(line: &Stmt) -> Table
     }
 }
 
-// Whether the rows of its tuples have numbers.
-fn is_short(line: &Stmt) -> bool
-    ensures { result ≡ has_short line.now }
-{
-    match line {
-        Stmt::Insert(_, tuples) => tuples.len() < 4_294_967_296,
-        _ => true,
-    }
-}
-
 fn schema_of<'a>(script: &'a Script, line: &Stmt) -> &'a Schema
     requires command { IsCommand line.now }
     requires line { IsStmtOf script.now.tables line.now }
@@ -238,7 +228,7 @@ fn schema_of<'a>(script: &'a Script, line: &Stmt) -> &'a Schema
     }
 }
 
-// The pieces of a command, or its first fault. Rows without numbers have no room.
+// The pieces of a command, or its first fault.
 fn plan_line(
     alloc: Global,
     blank: Vec<Piece>,
@@ -251,12 +241,10 @@ fn plan_line(
     requires language { IsScript script.now }
     requires command { IsCommand line.now }
     requires line { IsStmtOf script.now.tables line.now }
+    requires short { has_short line.now ≡ true }
     ensures pieces { IfOk result (λ pieces. rule_plan script.now gxid cid line.now ≡ Ok pieces.items) }
     ensures fault { (fault : Fault) → result ≡ Err (eval_fault fault) → rule_plan script.now gxid cid line.now ≡ Err fault }
 {
-    if !is_short(line) {
-        return Err(EvalFault::OutOfMemory);
-    }
     let schema = schema_of(script, line);
     plan_in(alloc, blank, line, schema, gxid, cid, script.segments)
 }

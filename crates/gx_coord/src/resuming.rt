@@ -39,7 +39,7 @@ fn waiting_of(coord: &Coord, gxid: Gxid) -> Option<usize>
     }
 }
 
-// A statement whose lock is free takes it and goes out.
+// A statement that waits takes its lock and goes out, where nothing is in its way any more.
 pub(crate) fn resume(
     alloc: Global,
     script: &Script,

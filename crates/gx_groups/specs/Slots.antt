@@ -1,5 +1,5 @@
 -- The slots of one group.
-use Rattle.std.specs.Prelude.{ℕ, ◌+◌, ◌≤◌, ◌==◌, ◌&&◌, ◌||◌, not, Bool, false, nat_lt, List, [], ◌∷◌, ◌++◌, length, drop, filter}
+use Rattle.std.specs.Prelude.{ℕ, ◌+◌, ◌≤◌, ◌==◌, ◌&&◌, ◌||◌, not, Bool, false, nat_lt, List, [], ◌∷◌, ◌++◌, length, drop, filter, Option, None, Some}
 use Rattle.std.specs.List.{list_any}
 use Rattle.gx_ids.specs.declared.ids.SessionId.{SessionId}
 
@@ -23,6 +23,10 @@ without s sessions = filter (λ other. not (is s other)) sessions
 abbrev pub is_first : SessionId → List SessionId → Bool
 is_first s [] = false
 is_first s (first ∷ _) = is s first
+
+abbrev pub first_in : List SessionId → Option SessionId
+first_in [] = None
+first_in (first ∷ _) = Some first
 
 -- a group of which nobody holds a slot or asks for one
 abbrev pub fresh : ℕ → List SessionId → Slots

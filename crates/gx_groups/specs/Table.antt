@@ -1,5 +1,5 @@
 -- All groups, and where each session stands.
-use Rattle.std.specs.Prelude.{◌≡◌, ℕ, ◌+◌, ◌≤◌, ◌<◌, ◌==◌, Bool, true, false, if◌then◌else◌, List, [], ◌∷◌, length, All, slice_get, slice_set, Option, None, Some}
+use Rattle.std.specs.Prelude.{◌≡◌, ℕ, ◌+◌, ◌≤◌, ◌<◌, ◌==◌, ◌&&◌, not, Bool, true, false, if◌then◌else◌, List, [], ◌∷◌, length, All, slice_get, slice_set, Option, None, Some}
 use Rattle.std.specs.List.{slice_index_or}
 use Rattle.gx_ids.specs.declared.ids.SessionId.{SessionId}
 use Rattle.gx_groups.specs.declared.seat.Seat.{Seat}
@@ -7,7 +7,7 @@ use Rattle.gx_groups.specs.declared.seat.Seat.TheVariants.{Grouped, Alone}
 use Rattle.gx_groups.specs.declared.seat.Standing.{Standing}
 use Rattle.gx_groups.specs.declared.seat.Standing.TheVariants.{Idle, Asking, Holding}
 use Rattle.gx_groups.specs.Seats.{is_known_at}
-use Rattle.gx_groups.specs.Slots.{Slots, has, fresh, lets, asked, taken, given, is_member}
+use Rattle.gx_groups.specs.Slots.{Slots, first_in, has, fresh, lets, asked, taken, given, is_member}
 
 -- the groups by their places, and the sessions by their numbers
 pub record Table : Type 0 where
@@ -84,6 +84,18 @@ holds t s = holds_at t s (seat_of t s)
 -- it asks, and it has no group, or nobody of its group asked before it and a slot is free
 abbrev pub may : Table → SessionId → Bool
 may t s = may_at t s (seat_of t s)
+
+abbrev pub first_at : Table → Option Seat → Option SessionId
+first_at t (Some (Grouped place)) = first_in (group_at t place).askers
+first_at t _ = None
+
+-- of the session's group, who asked before all others that ask
+abbrev pub first_asker : Table → SessionId → Option SessionId
+first_asker t s = first_at t (seat_of t s)
+
+-- it asks, and may not take a slot
+abbrev pub is_held_up : Table → SessionId → Bool
+is_held_up t s = asks t s && not (may t s)
 
 -- WHAT CALLS CHANGE
 abbrev pub with_group : Table → ℕ → Slots → Table

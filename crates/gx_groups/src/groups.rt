@@ -26,7 +26,7 @@ impl Model for Groups {
 }
 
 impl Groups {
-    ghost use Rattle.gx_groups.specs.Table.{IsWithin, KeepsLimit, fresh_groups, new_seat, is_known, asks, holds, may, after_ask, after_take, after_give};
+    ghost use Rattle.gx_groups.specs.Table.{IsWithin, KeepsLimit, fresh_groups, new_seat, is_known, asks, first_asker, holds, may, after_ask, after_take, after_give};
 
     /// The groups of these limits, of which `of` tells the place for each session by its number; none where it has no
     /// group. This call makes the room for every session to ask: no other takes memory.
@@ -51,6 +51,45 @@ impl Groups {
         match seat_of(&self.seats, session) {
             Seat::Grouped(place) => self.groups[usize::from(place)].ask(session),
             Seat::Alone(_) => stand(&mut self.seats, session, Standing::Asking),
+        }
+    }
+
+    /// Whether there is such a session.
+    pub fn knows(&self, session: SessionId) -> bool
+        ensures { result ≡ is_known self.now session }
+    {
+        usize::from(session.0) < self.seats.len()
+    }
+
+    /// Whether a session asks for a slot.
+    pub fn asks(&self, session: SessionId) -> bool
+        ensures { result ≡ asks self.now session }
+    {
+        match self.seats.get(usize::from(session.0)) {
+            Some(Seat::Grouped(place)) => self.groups[usize::from(*place)].asks(session),
+            Some(Seat::Alone(standing)) => *standing == Standing::Asking,
+            None => false,
+        }
+    }
+
+    /// Whether a session holds a slot.
+    pub fn holds(&self, session: SessionId) -> bool
+        ensures { result ≡ holds self.now session }
+    {
+        match self.seats.get(usize::from(session.0)) {
+            Some(Seat::Grouped(place)) => self.groups[usize::from(*place)].holds(session),
+            Some(Seat::Alone(standing)) => *standing == Standing::Holding,
+            None => false,
+        }
+    }
+
+    /// Who of a session's group asked before all others of it that ask; nobody where it has no group.
+    pub fn first_asker(&self, session: SessionId) -> Option<SessionId>
+        ensures { result ≡ first_asker self.now session }
+    {
+        match self.seats.get(usize::from(session.0)) {
+            Some(Seat::Grouped(place)) => self.groups[usize::from(*place)].first(),
+            _ => None,
         }
     }
 

@@ -34,9 +34,9 @@ use Rattle.gx_store.specs.declared.run.Step.{Step}
 use Rattle.gx_store.specs.Faults.{IsFaultOf}
 use Rattle.gx_store.specs.Language.{AreLinesNumbered}
 use Rattle.gx_store.specs.Marks.{is_aborted}
-use Rattle.gx_store.specs.Messages.{IsFirstSent, IsSending, Receives}
+use Rattle.gx_store.specs.Messages.{IsSending, Receives}
 use Rattle.gx_store.specs.Points.{marks_in}
-use Rattle.gx_store.specs.Refusals.{HasFaulted, IsCause, IsChange, IsHeard, IsOvertaken, IsWord, the_coordinator}
+use Rattle.gx_store.specs.Refusals.{HasFaulted, IsCause, IsChange, IsFirstFailed, IsHeard, IsOvertaken, IsWord, failed, the_coordinator}
 use Rattle.gx_store.proofs.Runs.{marks_in-push}
 use Rattle.gx_rules.specs.AtCoordinator.{reason_of}
 use Rattle.gx_rules.specs.Machine.{world_of}
@@ -44,14 +44,12 @@ use Rattle.gx_rules.specs.Segments.{local_of}
 use Rattle.gx_rules.specs.Slices.{cause_of}
 use Rattle.gx_law_order.specs.Finish.{point_at}
 use Rattle.gx_law_order.proofs.Commits.{take-kept}
-use Rattle.gx_law_writes.proofs.Next.{below-next, next_command, waits-next}
 use Rattle.gx_law_writes.proofs.Pieces.{IsSliceOf}
-use Rattle.gx_law_writes.proofs.Told.{sending-told}
-use Rattle.gx_law_writes.proofs.World.{locals_in, world-holds}
-use Rattle.gx_law_answers.specs.Earned.{Events, IsEarned, RunsAtOnce, RunsBehindWait}
+use Rattle.gx_law_answers.specs.Earned.{Events, IsEarned}
 use Rattle.gx_law_answers.specs.Truth.{IsTrueFailure, IsTrueFault, IsTrueLoss, IsTruth, SendNothing}
 use Rattle.gx_law_writes.proofs.Statements.{IsOf}
 use Rattle.gx_law_answers.proofs.Heard.{marks-are, more, own-step, steps-are, unaborted-then}
+use Rattle.gx_law_answers.proofs.OneAnswer.{unsent}
 use Rattle.gx_law_answers.proofs.Ours.{its-level, its-slice}
 
 -- ---- lists
@@ -149,41 +147,37 @@ module _ (script : Script) (some : 1 ≤ script.segments) (numbered : AreLinesNu
     abbrev told : Message
     told = message.Answer g (reply.Failed c cause)
 
-    -- it was never sent before
-    unsent : (s m : ℕ) (to : Node) (number : ℕ) → IsSending (world_of script x.given.before).steps s m segment to number told → ⊥
-    unsent s m to number z = by_way x.given.ran
-      where
-        below : c.0 < next_command (local_of ((world_of script x.given.before).segs segment.0) g)
-        below = (sending-told script (marks_in (world_of script x.given.before).steps) (locals_in (world_of script x.given.before).segs) (world_of script x.given.before).steps s m segment to number told one (world-holds script some numbered x.given.before).told z).0
-
-        by_way : RunsAtOnce script (world_of script x.given.before) x.given.event x.given.fails segment g c x.level x.snapshot x.slice (reply.Failed c cause) ⊎ RunsBehindWait script (world_of script x.given.before) x.given.event segment g c x.level x.snapshot x.slice (reply.Failed c cause) → ⊥
-        by_way (inl r) = lt-le _ _ r.new (below-next (local_of ((world_of script x.given.before).segs segment.0) g) c.0 below)
-        by_way (inr r) = lt-le _ _ below (subst (λ (d : Cid). next_command (local_of ((world_of script x.given.before).segs segment.0) g) ≤ d.0) r.command (waits-next (local_of ((world_of script x.given.before).segs segment.0) g) r.waiting r.waits (r.last ∙ ap (λ (d : Cid). d.0) (sym r.command))))
-
     abbrev then_ : List Mark
     then_ = marks_in (world_of script x.given.before).steps
 
-    -- in the step, behind its own marks, it is sent first
-    first-sent : (own : List Mark) (number : ℕ) → SendNothing own → marks_in (world_of script x.upto).steps ≡ then_ ++ (own ++ mark.Sent the_coordinator number told ∷ []) → IsFirstSent (world_of script es).steps segment the_coordinator told (then_ ++ own)
-    first-sent own number silent are =
-        record {
-          step = length front;
-          mark = length own;
-          number = number;
-          sending = record {
-            sender = x.given.step;
-            at = own-step script some numbered es segment g c _ x;
-            node = x.given.place;
-            sent = ap (λ l. slice_get l (length own)) marks-is ∙ Rattle.gx_law_order.proofs.Lists.get_last own [] (mark.Sent the_coordinator number told);
-          };
-          first = first;
-          before =
-              sym (ap (λ ss. marks_in (take (length front) ss) ++ take (length own) (marks_in (take 1 (drop (length front) ss)))) run.1
-              ∙ ap (λ l. marks_in l ++ take (length own) (marks_in (take 1 (drop (length front) (front ++ (x.given.step ∷ run.0)))))) (take-front front x.given.step run.0)
-              ∙ ap (λ l. then_ ++ take (length own) l) (its-marks front x.given.step run.0 ∙ marks-is)
-              ∙ ap (λ l. then_ ++ l) (take-append_seam own (mark.Sent the_coordinator number told ∷ [])));
-        }
+    -- in the step, behind its own marks, FAILED of the command is sent first
+    first-sent : (own : List Mark) (number : ℕ) → SendNothing own → marks_in (world_of script x.upto).steps ≡ then_ ++ (own ++ mark.Sent the_coordinator number told ∷ [])
+        → (first : IsFirstFailed (world_of script es).steps segment g c (then_ ++ own)) × (length (world_of script x.given.before).steps ≤ first.step)
+    first-sent own number silent are = (
+      record {
+        step = length front;
+        mark = length own;
+        number = number;
+        reason = cause;
+        sending = record {
+          sender = x.given.step;
+          at = own-step script some numbered es segment g c _ x;
+          node = x.given.place;
+          sent = ap (λ l. slice_get l (length own)) marks-is ∙ Rattle.gx_law_order.proofs.Lists.get_last own [] (mark.Sent the_coordinator number told);
+        };
+        first = first;
+        before =
+            sym (ap (λ ss. marks_in (take (length front) ss) ++ take (length own) (marks_in (take 1 (drop (length front) ss)))) run.1
+            ∙ ap (λ l. marks_in l ++ take (length own) (marks_in (take 1 (drop (length front) (front ++ (x.given.step ∷ run.0)))))) (take-front front x.given.step run.0)
+            ∙ ap (λ l. then_ ++ take (length own) l) (its-marks front x.given.step run.0 ∙ marks-is)
+            ∙ ap (λ l. then_ ++ l) (take-append_seam own (mark.Sent the_coordinator number told ∷ [])));
+      },
+      le-self (length front),
+    )
       where
+        le-self : (n : ℕ) → n ≤ n
+        le-self n = omega arith
+
         front : List Step
         front = (world_of script x.given.before).steps
 
@@ -193,13 +187,17 @@ module _ (script : Script) (some : 1 ≤ script.segments) (numbered : AreLinesNu
         marks-is : x.given.step.marks ≡ own ++ mark.Sent the_coordinator number told ∷ []
         marks-is = cancel then_ x.given.step.marks (own ++ mark.Sent the_coordinator number told ∷ []) (sym (ap marks_in x.given.steps ∙ marks_in-push front x.given.step) ∙ are)
 
-        first : (s m n : ℕ) → IsSending (world_of script es).steps s m segment the_coordinator n told → (length front < s) ⊎ ((length front ≡ s) × (length own ≤ m))
-        first s m n z = by_place (at-front front x.given.step run.0 s z.sender (ap (λ ss. slice_get ss s) (sym run.1) ∙ z.at))
+        first : (s m n : ℕ) (other : Cause) → IsSending (world_of script es).steps s m segment the_coordinator n (failed g c other) → (length front < s) ⊎ ((length front ≡ s) × (length own ≤ m))
+        first s m n other z = by_place (at-front front x.given.step run.0 s z.sender (ap (λ ss. slice_get ss s) (sym run.1) ∙ z.at))
           where
             by_place : (slice_get front s ≡ Some z.sender) ⊎ ((length front ≡ s) × (x.given.step ≡ z.sender)) ⊎ (length front < s) → (length front < s) ⊎ ((length front ≡ s) × (length own ≤ m))
-            by_place (inl h) = absurd (unsent s m the_coordinator n (record { sender = z.sender; at = h; node = z.node; sent = z.sent }))
-            by_place (inr (inl h)) = inr (h.0, sent-last own (mark.Sent the_coordinator number told) (mark.Sent the_coordinator number told) m the_coordinator n told silent (ap (λ l. slice_get l m) (sym marks-is ∙ ap (λ (y : Step). y.marks) h.1) ∙ z.sent))
+            by_place (inl h) = absurd (unsent script some numbered es segment one g c (reply.Failed c cause) x (reply.Failed c other) refl s m the_coordinator n (record { sender = z.sender; at = h; node = z.node; sent = z.sent }))
+            by_place (inr (inl h)) = inr (h.0, sent-last own (mark.Sent the_coordinator number told) (mark.Sent the_coordinator number told) m the_coordinator n (failed g c other) silent (ap (λ l. slice_get l m) (sym marks-is ∙ ap (λ (y : Step). y.marks) h.1) ∙ z.sent))
             by_place (inr (inr h)) = inl h
+
+    -- as its step sends it
+    first-failed : (first : IsFirstFailed (world_of script es).steps segment g c (then_ ++ x.given.own)) × (length (world_of script x.given.before).steps ≤ first.step)
+    first-failed = first-sent x.given.own x.given.number x.given.silent (ap marks_in x.given.steps ∙ marks_in-push (world_of script x.given.before).steps x.given.step ∙ ap (λ l. then_ ++ l) x.given.marks)
 
   -- A COMMAND THAT FAILED
   module _ (now : Event) (later : List Mark) (level : Level) (g : Gxid) (c : Cid) (segment : Node) (one : 1 ≤ segment.0) where
@@ -211,16 +209,16 @@ module _ (script : Script) (some : 1 ≤ script.segments) (numbered : AreLinesNu
     Says cause = Receives (world_of script es).steps now segment the_coordinator (message.Answer g (reply.Failed c cause))
 
     -- the fault, at the point
-    module _ (line : Stmt) (is : IsOf script ms line level g c) (r : Reply) (x : IsEarned script es segment g c r)
+    module _ (line : Stmt) (is : IsOf script ms line level g c) (cause : Cause) (x : IsEarned script es segment g c (reply.Failed c cause))
         (hears : (place : ℕ) (rid : Rid) (image : Option (List Value)) (reason : Cause) → IsWord (point_at (world_of script es).steps now behind later) g c rid image reason → IsHeard (point_at (world_of script es).steps now behind later) place line g c rid image reason) where
       before : List Mark
       before = marks_in (world_of script x.upto).steps
 
       rest : List Mark
-      rest = more script some numbered es segment g c r x
+      rest = more script some numbered es segment g c _ x
 
-      faulted : (cause : Cause) (f : IsTrueFault (marks_in (world_of script x.given.before).steps) (marks_in (world_of script x.upto).steps) level g c line cause) → Says cause → HasFaulted (point_at (world_of script es).steps now behind later) line level g c f.fault (cause_of f.fault)
-      faulted cause f got =
+      faulted : (f : IsTrueFault (marks_in (world_of script x.given.before).steps) (marks_in (world_of script x.upto).steps) level g c line cause) → Says cause → HasFaulted (point_at (world_of script es).steps now behind later) line level g c f.fault (cause_of f.fault)
+      faulted f got =
           record {
             place = f.place;
             rid = f.rid;
@@ -230,10 +228,14 @@ module _ (script : Script) (some : 1 ≤ script.segments) (numbered : AreLinesNu
             faults = subst (λ m. IsFaultOf m level g c line f.rid f.image f.fault) (sym same) f.faults;
             heard = hears f.place f.rid f.image (cause_of f.fault) (record {
               segment = segment;
-              said = subst Says f.is got;
+              received = (cause, got);
+              content = subst Says f.is got;
+              then = marks_in (world_of script x.given.before).steps ++ x.given.own;
+              first = (first-failed segment one g c cause x).0;
               place = length (world_of script x.given.before).steps;
               step = x.given.step;
-              at = own-step script some numbered es segment g c r x;
+              at = own-step script some numbered es segment g c _ x;
+              by_then = (first-failed segment one g c cause x).1;
               node = x.given.place;
               noted = behind-seam (marks_in (world_of script x.given.before).steps) x.given.step.marks f.place (mark.Fault g c f.rid f.image) f.behind
                   (subst (λ m. slice_get m f.place ≡ Some (mark.Fault g c f.rid f.image)) (ap marks_in x.given.steps ∙ marks_in-push (world_of script x.given.before).steps x.given.step) f.noted);
@@ -241,19 +243,19 @@ module _ (script : Script) (some : 1 ≤ script.segments) (numbered : AreLinesNu
           }
         where
           there : slice_get ms f.place ≡ Some (mark.Fault g c f.rid f.image)
-          there = ap (λ m. slice_get m f.place) (marks-are script some numbered es segment g c r x) ∙ get-append (marks_in (world_of script x.upto).steps) (more script some numbered es segment g c r x) f.place _ f.noted
+          there = ap (λ m. slice_get m f.place) (marks-are script some numbered es segment g c _ x) ∙ get-append (marks_in (world_of script x.upto).steps) (more script some numbered es segment g c _ x) f.place _ f.noted
 
           same : take f.place (ms ++ behind) ≡ take f.place (marks_in (world_of script x.upto).steps)
           same =
-              take-kept ms behind f.place _ there ∙ ap (take f.place) (marks-are script some numbered es segment g c r x)
-              ∙ take-kept (marks_in (world_of script x.upto).steps) (more script some numbered es segment g c r x) f.place _ f.noted
+              take-kept ms behind f.place _ there ∙ ap (take f.place) (marks-are script some numbered es segment g c _ x)
+              ∙ take-kept (marks_in (world_of script x.upto).steps) (more script some numbered es segment g c _ x) f.place _ f.noted
 
-      by-fault : (cause : Cause) (f : ArithFault) → cause ≡ cause_of f → HasFaulted (point_at (world_of script es).steps now behind later) line level g c f (cause_of f) → IsCause (point_at (world_of script es).steps now behind later) line level g c (reason_of cause)
-      by-fault cause arith_fault.Overflow e h = subst (λ z. IsCause (point_at (world_of script es).steps now behind later) line level g c (reason_of z)) (sym e) h
-      by-fault cause arith_fault.DivisionByZero e h = subst (λ z. IsCause (point_at (world_of script es).steps now behind later) line level g c (reason_of z)) (sym e) h
+      by-fault : (f : ArithFault) → cause ≡ cause_of f → HasFaulted (point_at (world_of script es).steps now behind later) line level g c f (cause_of f) → IsCause (point_at (world_of script es).steps now behind later) line level g c (reason_of cause)
+      by-fault arith_fault.Overflow e h = subst (λ z. IsCause (point_at (world_of script es).steps now behind later) line level g c (reason_of z)) (sym e) h
+      by-fault arith_fault.DivisionByZero e h = subst (λ z. IsCause (point_at (world_of script es).steps now behind later) line level g c (reason_of z)) (sym e) h
 
-      pub fault-caused : (cause : Cause) → IsTrueFault (marks_in (world_of script x.given.before).steps) (marks_in (world_of script x.upto).steps) level g c line cause → Says cause → IsCause (point_at (world_of script es).steps now behind later) line level g c (reason_of cause)
-      fault-caused cause f got = by-fault cause f.fault f.is (faulted cause f got)
+      pub fault-caused : IsTrueFault (marks_in (world_of script x.given.before).steps) (marks_in (world_of script x.upto).steps) level g c line cause → Says cause → IsCause (point_at (world_of script es).steps now behind later) line level g c (reason_of cause)
+      fault-caused f got = by-fault f.fault f.is (faulted f got)
 
     -- the row that was overtaken
     loss-caused : (line : Stmt) (table : Table) (cond : Option Cond) → IsChange line table cond → (cause : Cause) (x : IsEarned script es segment g c (reply.Failed c cause)) → IsTrueLoss (marks_in (world_of script x.given.before).steps) (marks_in (world_of script x.upto).steps) level g c table cond cause → Says cause
@@ -268,9 +270,10 @@ module _ (script : Script) (some : 1 ≤ script.segments) (numbered : AreLinesNu
               cond = cond;
               change = change;
               segment = segment;
-              received = subst Says f.is got;
+              received = (cause, got);
+              content = subst Says f.is got;
               then = marks_in (world_of script x.given.before).steps ++ f.own;
-              first = subst (λ z. IsFirstSent (world_of script es).steps segment the_coordinator (message.Answer g (reply.Failed c z)) (marks_in (world_of script x.given.before).steps ++ f.own)) f.is (first-sent segment one g c cause x f.own f.number f.silent f.are);
+              first = (first-sent segment one g c cause x f.own f.number f.silent f.are).0;
               rows = f.row;
             }
 
@@ -281,7 +284,7 @@ module _ (script : Script) (some : 1 ≤ script.segments) (numbered : AreLinesNu
         → IsCause (point_at (world_of script es).steps now behind later) line level g c (reason_of cause)
     change-caused line table cond change is hears cause got x (inl a) = absurd (unaborted-then script some numbered es segment g c _ x is.running a)
     change-caused line table cond change is hears cause got x (inr (inl f)) =
-        fault-caused line is _ x hears cause (subst (λ l. IsTrueFault (marks_in (world_of script x.given.before).steps) (marks_in (world_of script x.upto).steps) l g c line cause) (its-level script some numbered es segment line level g c is _ x) f) got
+        fault-caused line is cause x hears (subst (λ l. IsTrueFault (marks_in (world_of script x.given.before).steps) (marks_in (world_of script x.upto).steps) l g c line cause) (its-level script some numbered es segment line level g c is _ x) f) got
     change-caused line table cond change is hears cause got x (inr (inr f)) =
         loss-caused line table cond change cause x (subst (λ l. IsTrueLoss (marks_in (world_of script x.given.before).steps) (marks_in (world_of script x.upto).steps) l g c table cond cause) (its-level script some numbered es segment line level g c is _ x) f) got
 
@@ -298,7 +301,7 @@ module _ (script : Script) (some : 1 ≤ script.segments) (numbered : AreLinesNu
         by_truth : IsTruth (marks_in (world_of script x.given.before).steps) (marks_in (world_of script x.upto).steps) segment x.level g c (slice.Select q) (reply.Failed c cause) → IsCause (point_at (world_of script es).steps now behind later) (stmt.Select q) level g c (reason_of cause)
         by_truth (inl a) = absurd (unaborted-then script some numbered es segment g c _ x is.running a)
         by_truth (inr f) =
-            fault-caused (stmt.Select q) is _ x (λ place rid image reason w. w) cause (subst (λ l. IsTrueFault (marks_in (world_of script x.given.before).steps) (marks_in (world_of script x.upto).steps) l g c (stmt.Select q) cause) (its-level script some numbered es segment (stmt.Select q) level g c is _ x) f.fault) got
+            fault-caused (stmt.Select q) is cause x (λ place rid image reason w. w) (subst (λ l. IsTrueFault (marks_in (world_of script x.given.before).steps) (marks_in (world_of script x.upto).steps) l g c (stmt.Select q) cause) (its-level script some numbered es segment (stmt.Select q) level g c is _ x) f.fault) got
     caused (stmt.Insert t v) is cause got x = absurd (no-insert x.slice (its-slice script some numbered es segment (stmt.Insert t v) level g c is _ x) x.truth)
       where
         no-insert : (s : Slice) → IsSliceOf (stmt.Insert t v) s → IsTruth (marks_in (world_of script x.given.before).steps) (marks_in (world_of script x.upto).steps) segment x.level g c s (reply.Failed c cause) → ⊥

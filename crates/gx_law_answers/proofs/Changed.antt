@@ -37,16 +37,11 @@ use Rattle.gx_law_order.proofs.Lists.{get_last}
 use Rattle.gx_law_order.specs.Lists.{Each}
 use Rattle.gx_law_writes.proofs.Turns.{NoWrite}
 use Rattle.gx_law_writes.specs.Says.{IsPartDone, Says, SaysDone, SaysFault, SaysOvertaken, count_at, stmt_of_change}
+use Rattle.gx_law_answers.specs.OneAnswer.{IsOfCommand}
 use Rattle.gx_law_answers.specs.Truth.{IsTrueFailure, IsTruth, SendNothing}
 use Rattle.gx_law_answers.proofs.Truths.{aborted-more, part-more, snapshot-more}
 
 -- HOW IT LEAVES ITS TURN
--- a reply to a command
-abbrev pub IsOfCommand : Reply → Cid → Type 0
-IsOfCommand (reply.Done d wrote count part) c = d ≡ c
-IsOfCommand (reply.Failed d cause) c = d ≡ c
-IsOfCommand _ c = ⊥
-
 -- what was answered before on the segment s, is so
 abbrev pub AreAnswersOf : Seg → Seg → Type 0
 AreAnswersOf s t = (h : ℕ) → (t.locals h).answer ≡ (s.locals h).answer

@@ -76,13 +76,13 @@ ordered-at script before (x ∷ ss) zero s o e = subst (λ (y : Step). AllByRecu
 ordered-at script before (x ∷ ss) (suc k) s o e = ordered-at script (before ++ x ∷ []) ss k s o.1 e
 
 -- ---- more events
-after-append : (script : Script) (w : World) (xs ys : Events) → after script w (xs ++ ys) ≡ after script (after script w xs) ys
+pub after-append : (script : Script) (w : World) (xs ys : Events) → after script w (xs ++ ys) ≡ after script (after script w xs) ys
 after-append script w [] ys = refl
 after-append script w (x ∷ xs) ys = after-append script (happens script w x.0 x.1) xs ys
 
-record Grown (w v : World) : Type 0 where
-  extra : List Step
-  is : v.steps ≡ w.steps ++ extra
+pub record Grown (w v : World) : Type 0 where
+  pub extra : List Step
+  pub is : v.steps ≡ w.steps ++ extra
 
 same-grown : (w : World) → Grown w w
 same-grown w = record { extra = []; is = sym (append-nil w.steps) }
@@ -99,7 +99,7 @@ happens-grown script w e fails = by_can (can script w e) (at_node w e)
     by_can true (Some x) = by_node (is_same_node (node_of e) the_coordinator) x
     by_can false o = same-grown w
 
-after-grown : (script : Script) (w : World) (es : Events) → Grown w (after script w es)
+pub after-grown : (script : Script) (w : World) (es : Events) → Grown w (after script w es)
 after-grown script w [] = same-grown w
 after-grown script w (x ∷ es) =
     let a = happens-grown script w x.0 x.1 in

@@ -17,6 +17,7 @@ pub mod Ordered
 pub mod Origins
 pub mod Always
 pub mod Heard
+pub mod OneAnswer
 pub mod Ours
 pub mod Totals
 pub mod Updated

@@ -76,10 +76,11 @@ use Rattle.gx_law_writes.proofs.Turns.{IsOldReply, IsOldWord, NoWrite, Quiet, ba
 use Rattle.gx_law_writes.proofs.World as writes
 use Rattle.gx_law_answers.specs.Earned.{Events, IsEarned, IsReplyEarned, RunsAtOnce, RunsBehindWait}
 use Rattle.gx_law_writes.specs.Parts.{IsPartOf}
+use Rattle.gx_law_answers.specs.OneAnswer.{IsOfCommand}
 use Rattle.gx_law_answers.specs.Truth.{AreWritten, IsLocked, IsTruth, SendNothing}
 use Rattle.gx_law_writes.proofs.Pieces.{select-line, slice-is}
 use Rattle.gx_law_writes.specs.Changes.{IsTrueTurn}
-use Rattle.gx_law_answers.proofs.Changed.{AreAnswersOf, IsOfCommand, Leaves, change-leaves, change-truth, loop-leaves, says-true}
+use Rattle.gx_law_answers.proofs.Changed.{AreAnswersOf, Leaves, change-leaves, change-truth, loop-leaves, says-true}
 use Rattle.gx_law_answers.proofs.Posts.{Came}
 use Rattle.gx_law_answers.proofs.Resumptions.{answer-of, unsuspended}
 use Rattle.gx_law_answers.proofs.Running.{AtItsRow, Doings, IsLate, Runs, snapshot-of}
@@ -231,6 +232,13 @@ module _ (script : Script) (some : 1 ≤ script.segments) (numbered_lines : AreL
         };
       }
 
+  -- its own marks send nothing
+  plain : Each (PlainAt script to) turn.marks
+  plain = subst (λ node. Each (PlainAt script node) turn.marks) ((world_well script some es).names to.0) (seg_stays script s (subst (IsSegment script) (sym ((world_well script some es).names to.0)) place) x fails).marks
+
+  silent : SendNothing turn.marks
+  silent = plain-silent script to turn.marks plain
+
   pub record TurnEarned : Type 0 where
     pub kept : (h : ℕ) → IsKeptEarned script behind to (gx h) (turn.seg.locals h).answer
     pub outs : Each (λ (o : Out). IsWordEarned script behind to o.message) turn.outs
@@ -246,7 +254,20 @@ module _ (script : Script) (some : 1 ≤ script.segments) (numbered_lines : AreL
         level = level;
         snapshot = snapshot;
         slice = y;
-        given = record { before = es; event = e; fails = fails; last = refl; step = late-step; steps = ap (λ (v : World). v.steps) is-late; place = refl; ran = ran };
+        given = record {
+          before = es;
+          event = e;
+          fails = fails;
+          last = refl;
+          step = late-step;
+          steps = ap (λ (v : World). v.steps) is-late;
+          place = refl;
+          ran = ran;
+          own = turn.marks;
+          number = turn.seg.sent + 1;
+          silent = silent;
+          marks = ap (λ outs. turn.marks ++ numbered (λ node. turn.seg.sent) outs) given;
+        };
         number = turn.seg.sent + 1;
         sent = subst (λ (v : World). IsSent v.steps to the_coordinator (turn.seg.sent + 1) (message.Answer g r)) (sym is-late) (answer-sent g r given);
         order = subst (λ v. IsOrder script (marks_in v.steps) to g c level snapshot y) (sym is-late) (subst (λ m. IsOrder script m to g c level snapshot y) (sym late-marks) (order-more script ms (turn.marks ++ sent) to (message.Exec g c level snapshot horizon y) came.order_is numbered_lines));
@@ -401,12 +422,6 @@ module _ (script : Script) (some : 1 ≤ script.segments) (numbered_lines : AreL
             }
 
     -- AN UPDATE OR DELETE
-    plain : Each (PlainAt script to) turn.marks
-    plain = subst (λ node. Each (PlainAt script node) turn.marks) ((world_well script some es).names to.0) (seg_stays script s (subst (IsSegment script) (sym ((world_well script some es).names to.0)) place) x fails).marks
-
-    silent : SendNothing turn.marks
-    silent = plain-silent script to turn.marks plain
-
     -- it answers what is so, or waits
     module _ (g : Gxid) (c : Cid) (level : Level) (snapshot : Option Snapshot) (horizon : Gxid) (y : Slice) (k : Change) (changes : change_of c level snapshot y ≡ Some k) (came : Came script es to (message.Exec g c level snapshot horizon y)) (turned : IsTrueTurn script (world_of script es) e to g k turn)
         (ran : (r : Reply) → turn.outs ≡ reply_out g r ∷ [] → RunsAtOnce script (world_of script es) e fails to g c level snapshot y r ⊎ RunsBehindWait script (world_of script es) e to g c level snapshot y r) where

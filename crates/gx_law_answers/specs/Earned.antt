@@ -16,6 +16,8 @@ use Rattle.gx_msg.specs.declared.reply.Reply.{Reply}
 use Rattle.gx_msg.specs.declared.reply.Reply.TheVariants.{Done, Failed}
 use Rattle.gx_script.specs.declared.Script.{Script}
 use Rattle.gx_store.specs.declared.event.Event.{Event}
+use Rattle.gx_store.specs.declared.mark.Mark.{Mark}
+use Rattle.gx_store.specs.declared.mark.Mark.TheVariants.{Sent}
 use Rattle.gx_store.specs.declared.run.Step.{Step}
 use Rattle.gx_store.specs.declared.event.Event.TheVariants.{Receive, Resume}
 use Rattle.gx_store.specs.Messages.{IsSent, Receives}
@@ -33,7 +35,7 @@ use Rattle.gx_locks.specs.Locks.{Locks, wait_of}
 use Rattle.gx_waits.specs.Claims.{is_clear}
 use Rattle.gx_waits.specs.declared.claim.Claim.{Claim}
 use Rattle.gx_law_order.specs.Orders.{IsOrder}
-use Rattle.gx_law_answers.specs.Truth.{IsTruth}
+use Rattle.gx_law_answers.specs.Truth.{IsTruth, SendNothing}
 
 -- events, each with whether an append to a journal fails in it
 abbrev pub Events : Type 0
@@ -73,8 +75,8 @@ WaitsFor script g slice None wanted = slice_lock script g slice ≡ wanted
 WaitsFor script g slice (Some rid) wanted = (tuple_lock g rid ≡ wanted) ⊎ ((writer : Gxid) × (end_lock g writer ≡ wanted))
 
 -- The event is the resumption of the transaction's slice, which came with an EXEC before, of the last command there, and has waited
--- since then, unanswered; what it waits for, its table's lock or at a row that row's or its writer's end, is free now; it goes on by
--- the rule, from the start or at that row, and so it is answered.
+-- since then, unanswered; nothing is in the way of what it waits for, its table's lock or at a row that row's or its writer's end; it goes
+-- on by the rule, from the start or at that row, and so it is answered.
 pub record RunsBehindWait (script : Script) (w : World) (event : Event) (segment : Node) (g : Gxid) (c : Cid)
     (level : Level) (snapshot : Option Snapshot) (slice : Slice) (answer : Reply) : Type 0 where
   pub is : event ≡ Resume segment g
@@ -96,8 +98,8 @@ pub record RunsBehindWait (script : Script) (w : World) (event : Event) (segment
       ≡ goes_on (is_granted (w.segs segment.0) g wanted) g waiting waiting.row
   pub given : (resumes (w.segs segment.0) g (wait_of (w.segs segment.0).locks g) (local_of (w.segs segment.0) g).suspended).outs ≡ reply g answer ∷ []
 
--- in the last of these events, with a step of the segment, a command's slice took its lock there and ran, or went on, and so it was
--- answered
+-- In the last of these events, with a step of the segment, a command's slice took its lock there and ran, or went on, and so it was
+-- answered: the step sends the answer, behind its other marks, and nothing else.
 pub record IsGiven (script : Script) (events : Events) (segment : Node) (g : Gxid) (c : Cid) (level : Level) (snapshot : Option Snapshot) (slice : Slice) (answer : Reply) : Type 0 where
   pub before : Events
   pub event : Event
@@ -108,6 +110,10 @@ pub record IsGiven (script : Script) (events : Events) (segment : Node) (g : Gxi
   pub place : step.stamp.node ≡ segment
   pub ran : RunsAtOnce script (world_of script before) event fails segment g c level snapshot slice answer
       ⊎ RunsBehindWait script (world_of script before) event segment g c level snapshot slice answer
+  pub own : List Mark
+  pub number : ℕ
+  pub silent : SendNothing own
+  pub marks : step.marks ≡ own ++ Sent the_coordinator number (Answer g answer) ∷ []
 
 -- Behind some of the events the segment was given the answer by its rule, for a command that was its transaction's, and had sent it;
 -- and what the answer says was so.

@@ -1,6 +1,7 @@
 //! Laws of every run, whatever the network loses, repeats, delays and reorders, and whichever appends fail.
 ghost use Rattle.std.specs.Prelude.{◌≡◌, ◌≤◌, Bool, List, []};
 ghost use Rattle.gx_law_answers.specs.Earned.{AreAnswersEarned};
+ghost use Rattle.gx_law_answers.specs.OneAnswer.{AreAnswersOne};
 ghost use Rattle.gx_store.specs.Whole.{AreInsertsWhole};
 ghost use Rattle.gx_meaning.specs.Answer.{ArePartsOf, answer_of};
 ghost use Rattle.gx_law_order.specs.Finish.{AreSegmentsLegal};
@@ -34,6 +35,13 @@ pub fn parts_give_the_answer()
 /// overtaken; all these unless the transaction had aborted. An INSERT's counts the rows that it was sent, all written.
 pub fn every_answer_was_earned()
     ensures { (script : Script) (events : List (OneEvent × Bool)) → 1 ≤ script.segments → AreLinesNumbered [] script.lines → AreAnswersEarned script events }
+{}
+
+/// A segment gives one answer to a command: any two DONE or FAILED of it that the segment ever sends, to whomever and how often, are the
+/// same, a FAILED's cause and a DONE's rows with it.
+pub fn a_segment_gives_one_answer_to_a_command()
+    ensures machine { (script : Script) (events : List (OneEvent × Bool)) → 1 ≤ script.segments → AreLinesNumbered [] script.lines → AreAnswersOne script (world_of script events).steps }
+    ensures system { (script : Script) (run : OneRun) → 1 ≤ script.segments → AreLinesNumbered [] script.lines → IsSystemRun script run → AreAnswersOne script run.steps }
 {}
 
 /// The marks of a segment's step may stand there: its writes and skips, and each fault, of a condition on a row that the command

@@ -1,4 +1,4 @@
--- Nobody is granted a lock past who waits for one that conflicts.
+-- Nobody is granted a lock past an earlier wait that conflicts, but for those that a hold of its own blocks.
 use Rattle.std.specs.Prelude.{◌≡◌, List, ◌∷◌, ◌++◌, Any, Contains}
 use Rattle.gx_waits.specs.Claim.{Meets}
 use Rattle.gx_waits.specs.Claims.{claim}

@@ -32,7 +32,7 @@ abbrev pub GetsWhatItWaitsFor : List Mark → Mark → Type 0
 GetsWhatItWaitsFor before (Hold node g object mode) = (is_waiting before node g ≡ false) ⊎ (filter (is_of g) (waits_at before node) ≡ claim g object mode ∷ [])
 GetsWhatItWaitsFor before _ = Unit {0}
 
--- a transaction's end is waited for in mode Share: those who wait for it are in nobody's way
+-- a transaction's end is waited for in mode Share, so two who wait for it don't meet each other
 abbrev pub IsForEnd : Object → Mode → Type 0
 IsForEnd (Transaction other) mode = mode ≡ Share
 IsForEnd _ mode = Unit {0}

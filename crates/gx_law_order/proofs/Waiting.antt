@@ -39,7 +39,7 @@ use Rattle.gx_law_order.proofs.Suspensions.{closed-rests}
 use Rattle.gx_law_order.proofs.World.{Knows}
 pub use Rattle.gx_law_order.proofs.Suspended.{HasCome, HasDone, IsAmong, IsWanted, Waits, each-among, is_open_phase}
 
--- a slice that goes on: it waits, and its lock is free (GoesOnSo says how)
+-- a slice that goes on: it waits, and nothing is in its way (GoesOnSo says how)
 pub record GoesOn (script : Script) (w : World) (i : ℕ) (g : Gxid) : Type 0 where
   pub slice : Suspended
   pub is : (local_of (w.segs i) g).suspended ≡ Some slice
@@ -99,7 +99,7 @@ no-wait script w good i g e = subst (λ o. AreWaits script g o (filter (is_of g)
 pub no-slice : (script : Script) (w : World) → Well script w → (i : ℕ) (g : Gxid) → is_open_phase (local_of (w.segs i) g).phase ≡ false → (local_of (w.segs i) g).suspended ≡ None
 no-slice script w good i g e = closed-rests script (HasCome w i) (w.segs i).horizon g.0 (local_of (w.segs i) g) ((good.waiting i).each g.0) e
 
--- who is admitted to go on waits, and its lock is free
+-- who is admitted to go on waits, and nothing is in its way
 pub going-on : (script : Script) (w : World) → Well script w → (i : ℕ) (g : Gxid) → seg_can script (w.segs i) (event.Resume g) ≡ true → GoesOn script w i g
 going-on script w good i g ok = by_wait (wait_of s.locks g) refl (and-second (is_segment script s.node) (may_take s.locks g) ok)
   where
@@ -184,7 +184,7 @@ going-ways script w i g o =
     subst (GoesOnSo script (w.segs i) g o.slice o.wanted) (sym (goes-on-is (w.segs i) g o.wanted o.slice o.claims o.is)) (goes-on-ways script (w.segs i) g o.slice o.wanted o.waits.done o.lock)
 
 -- AT THE COORDINATOR
--- A statement that goes out behind a wait: it waits for its table's lock, which is free; its transaction is live and has no command
+-- A statement that goes out behind a wait: it waits for its table's lock, and nothing is in its way; its transaction is live and has no command
 -- under way; and it is its session's line under way.
 pub record GoesOut (script : Script) (c : Coord) (g : Gxid) : Type 0 where
   pub line : Stmt

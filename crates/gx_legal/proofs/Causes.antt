@@ -17,10 +17,10 @@ use Rattle.gx_store.specs.declared.mark.Mark.TheVariants.{Fault, Recheck}
 use Rattle.gx_store.specs.declared.run.Step.{Step}
 use Rattle.gx_store.specs.Messages.{Receives}
 use Rattle.gx_store.specs.Points.{Point}
-use Rattle.gx_store.specs.Refusals.{IsNamed, IsWord, the_coordinator}
+use Rattle.gx_store.specs.Refusals.{HearsCause, IsNamed, IsWord}
 use Rattle.gx_tree.specs.declared.value.Value.{Value}
 use Rattle.gx_waits.specs.declared.verdict.Verdict.TheVariants.{Victims}
-use Rattle.gx_legal.specs.Causes.{NamesAt, NotesInStep, StandsAt}
+use Rattle.gx_legal.specs.Causes.{HadNoted, NamesAt, StandsAt}
 use Rattle.gx_legal.specs.Words.{Delivers}
 use Rattle.gx_legal.specs.declared.word.Word.TheVariants as word
 
@@ -60,27 +60,32 @@ module _ (g : Gxid) (from to : Node) (steps : List Step) (event : Event) (b : Bo
       of : Delivers g word.Jfault from to steps event → Receives steps event from to (message.Answer g reply.Jfault)
       of (told, (answer, e, i), r) = subst (λ (t : Message). Receives steps event from to t) (e ∙ ap (λ a. message.Answer g a) i) r
 
-  pub failed-told : (c : Cid) (why : Cause) → IsTrue b ↔ Delivers g (word.Failed c why) from to steps event → IsTrue b ↔ Receives steps event from to (message.Answer g (reply.Failed c why))
+  pub failed-told : (c : Cid) (why : Cause) → IsTrue b ↔ Delivers g (word.FailedFor c why) from to steps event → IsTrue b ↔ Receives steps event from to (message.Answer g (reply.Failed c why))
   failed-told c why h = (λ t. of (h.0 t), λ r. h.1 (message.Answer g (reply.Failed c why), (reply.Failed c why, refl, refl), r))
     where
-      of : Delivers g (word.Failed c why) from to steps event → Receives steps event from to (message.Answer g (reply.Failed c why))
+      of : Delivers g (word.FailedFor c why) from to steps event → Receives steps event from to (message.Answer g (reply.Failed c why))
       of (told, (answer, e, i), r) = subst (λ (t : Message). Receives steps event from to t) (e ∙ ap (λ a. message.Answer g a) i) r
 
 -- A SEGMENT'S WORD
 pub sender-same : (a b x y : Node) (m n : ℕ) → event.Receive a b m ≡ event.Receive x y n → a ≡ x
 sender-same a b x y m n e = cc
 
-pub word-noted : (point : Point) (g : Gxid) (c : Cid) (rid : Rid) (image : Option (List Value)) (reason : Cause) (from : Node) → Receives point.steps point.event from the_coordinator (message.Answer g (reply.Failed c reason))
-    → ((place : ℕ) × NotesInStep g c rid image from point.steps place) → IsWord point g c rid image reason
-word-noted point g c rid image reason from said (place, (step, at, (node, (p, (found, there, is))))) = record {
+pub word-noted : (point : Point) (g : Gxid) (c : Cid) (rid : Rid) (image : Option (List Value)) (reason : Cause) (from : Node) → HearsCause point from g c reason → HadNoted g c rid image from point.steps → IsWord point g c rid image reason
+word-noted point g c rid image reason from said (then, first, (place, inside, (step, at, (node, (p, (found, there, is)))))) = record {
   segment = from;
-  said = said;
+  received = (reason, said);
+  content = said;
+  then = then;
+  first = first;
   place = place;
   step = step;
   at = at;
+  by_then = inside;
   node = node;
   noted = stands-contains step.marks (Fault g c rid image) p (there ∙ ap Some is);
 }
 
-pub noted-by : (point : Point) (g : Gxid) (c : Cid) (rid : Rid) (image : Option (List Value)) (reason : Cause) (from : Node) (w : IsWord point g c rid image reason) → w.segment ≡ from → (place : ℕ) × NotesInStep g c rid image from point.steps place
-noted-by point g c rid image reason from w same = let s = contains-stands w.step.marks (Fault g c rid image) w.noted in (w.place, (w.step, w.at, (w.node ∙ same, (s.0, (Fault g c rid image, s.1, refl)))))
+pub noted-by : (point : Point) (g : Gxid) (c : Cid) (rid : Rid) (image : Option (List Value)) (reason : Cause) (from : Node) (w : IsWord point g c rid image reason) → w.segment ≡ from → HadNoted g c rid image from point.steps
+noted-by point g c rid image reason from w same =
+    let s = contains-stands w.step.marks (Fault g c rid image) w.noted in
+    subst (λ (n : Node). HadNoted g c rid image n point.steps) same (w.then, w.first, (w.place, w.by_then, (w.step, w.at, (w.node, (s.0, (Fault g c rid image, s.1, refl))))))

@@ -54,4 +54,4 @@ module _ (point : Point) (line : Stmt) (level : Level) (g : Gxid) (c : Cid) (fau
     where
       of-heard : (line : Stmt) → IsHeard point has.place line g c has.rid has.image reason → IsSaid point has.place line g c reason
       of-heard (stmt.Insert table tuples) h = h
-      of-heard line h = (h.segment, h.said)
+      of-heard line h = (h.segment, h.received, h.content)

@@ -19,19 +19,19 @@ get-drop (x ∷ xs) (suc n) i = get-drop xs n i ∙ ap (slice_get (x ∷ xs)) (n
     next : (a b : ℕ) → suc (a + b) ≡ suc a + b
     next a b = omega arith
 
-get-take : {A : Type 0} (xs : List A) (n i : ℕ) (x : A) → slice_get (take n xs) i ≡ Some x → slice_get xs i ≡ Some x
+pub get-take : {A : Type 0} (xs : List A) (n i : ℕ) (x : A) → slice_get (take n xs) i ≡ Some x → slice_get xs i ≡ Some x
 get-take xs zero i x e = absurd (cc)
 get-take [] (suc n) i x e = e
 get-take (y ∷ ys) (suc n) zero x e = e
 get-take (y ∷ ys) (suc n) (suc i) x e = get-take ys n i x e
 
-get-taken : {A : Type 0} (xs : List A) (n i : ℕ) (x : A) → i < n → slice_get xs i ≡ Some x → slice_get (take n xs) i ≡ Some x
+pub get-taken : {A : Type 0} (xs : List A) (n i : ℕ) (x : A) → i < n → slice_get xs i ≡ Some x → slice_get (take n xs) i ≡ Some x
 get-taken xs zero i x l e = absurd (omega (arith, l))
 get-taken [] (suc n) i x l e = absurd (cc)
 get-taken (y ∷ ys) (suc n) zero x l e = e
 get-taken (y ∷ ys) (suc n) (suc i) x l e = get-taken ys n i x (omega (arith, l)) e
 
-taken-below : {A : Type 0} (xs : List A) (n i : ℕ) (x : A) → slice_get (take n xs) i ≡ Some x → i < n
+pub taken-below : {A : Type 0} (xs : List A) (n i : ℕ) (x : A) → slice_get (take n xs) i ≡ Some x → i < n
 taken-below xs zero i x e = absurd (cc)
 taken-below [] (suc n) i x e = absurd (cc)
 taken-below (y ∷ ys) (suc n) zero x e = omega arith

@@ -8,19 +8,16 @@ use Rattle.gx_ids.specs.declared.ids.Table.{Table}
 use Rattle.gx_ids.specs.declared.rid.Rid.{Rid}
 use Rattle.gx_meaning.specs.declared.fault.ArithFault.{ArithFault}
 use Rattle.gx_meaning.specs.declared.fault.ArithFault.TheVariants as arith
-use Rattle.gx_msg.specs.declared.message.Message.TheVariants as message
 use Rattle.gx_msg.specs.declared.reply.Cause.{Cause}
 use Rattle.gx_msg.specs.declared.reply.Cause.TheVariants as cause
-use Rattle.gx_msg.specs.declared.reply.Reply.TheVariants as reply
 use Rattle.gx_store.specs.declared.mark.Mark.{Mark}
 use Rattle.gx_store.specs.declared.mark.Mark.TheVariants.{Fault, Recheck}
 use Rattle.gx_store.specs.declared.run.Step.{Step}
 use Rattle.gx_store.specs.Faults.{IsFaultOf}
 use Rattle.gx_store.specs.Marks.{is_aborted}
-use Rattle.gx_store.specs.Messages.{IsFirstSent, Receives}
 use Rattle.gx_store.specs.Parts.{IsFaulted, IsReason}
 use Rattle.gx_store.specs.Points.{Point, before, marks_in}
-use Rattle.gx_store.specs.Refusals.{HasFaulted, HasJournalFailed, IsNamed, IsOvertaken, IsOvertakenRow, IsWord, the_coordinator}
+use Rattle.gx_store.specs.Refusals.{HasFaulted, HasJournalFailed, HearsCause, HearsFailed, IsFirstFailed, IsNamed, IsOvertaken, IsOvertakenRow, IsWord}
 use Rattle.gx_store.specs.declared.answer.Refused.{Refused}
 use Rattle.gx_store.specs.declared.answer.Refused.TheVariants as why
 use Rattle.gx_tree.specs.declared.cond.Cond.{Cond}
@@ -57,10 +54,18 @@ abbrev pub NotesInStep : Gxid → Cid → Rid → Option (List Value) → Node �
 NotesInStep g c rid image node steps place = (step : Step) × (slice_get steps place ≡ Some step) × NotesIn g c rid image node step
 
 -- FAULTS
--- a segment's word is received, which has noted the fault where that is asked for
+-- a segment had noted it when it first sent FAILED of the command, in that step or before
+abbrev pub HadNoted : Gxid → Cid → Rid → Option (List Value) → Node → List Step → Type 0
+HadNoted g c rid image segment steps = (then : List Mark) × (first : IsFirstFailed steps segment g c then) × ((place : ℕ) × (place ≤ first.step) × NotesInStep g c rid image segment steps place)
+
+-- FAILED of the command is received from a segment, for this cause
+abbrev pub IsSaidBy : Point → Gxid → Cid → Cause → Type 0
+IsSaidBy point g c reason = (segment : Node) × HearsFailed point segment g c × HearsCause point segment g c reason
+
+-- and the segment had noted the fault, where that is asked for
 abbrev pub IsTold : Bool → Point → Gxid → Cid → Rid → Option (List Value) → Cause → Type 0
 IsTold true point g c rid image reason = IsWord point g c rid image reason
-IsTold false point g c rid image reason = (segment : Node) × Receives point.steps point.event segment the_coordinator (message.Answer g (reply.Failed c reason))
+IsTold false point g c rid image reason = IsSaidBy point g c reason
 
 abbrev pub IsHeardOf : Bool → Point → ℕ → Stmt → Gxid → Cid → Rid → Option (List Value) → Cause → Type 0
 IsHeardOf noted point place (stmt.Insert table tuples) g c rid image reason = length (marks_in point.steps) ≤ place
@@ -95,9 +100,7 @@ abbrev pub IsAbortedFor : Point → Stmt → Level → Gxid → Cid → Refused 
 IsAbortedFor point line level g c reason = (is_aborted point.earlier g ≡ true) × IsReason point line level g c reason
 
 -- OVERTAKEN ROWS
--- a segment's word that a row of the table was overtaken is received, and it was so when the segment first said so
+-- FAILED of the command is received from a segment, for a row of the table that was overtaken when the segment first sent one
 abbrev pub IsOvertakenThere : Point → Level → Gxid → Cid → Table → Option Cond → Rid → Gxid → Type 0
-IsOvertakenThere point level g c table cond rid h = (segment : Node)
-    × Receives point.steps point.event segment the_coordinator (message.Answer g (reply.Failed c (cause.Serialization rid h)))
-    × ((then : List Mark) × IsFirstSent point.steps segment the_coordinator (message.Answer g (reply.Failed c (cause.Serialization rid h))) then
-    × IsOvertakenRow then level g c table cond rid h)
+IsOvertakenThere point level g c table cond rid h = (segment : Node) × HearsFailed point segment g c × HearsCause point segment g c (cause.Serialization rid h)
+    × ((then : List Mark) × IsFirstFailed point.steps segment g c then × IsOvertakenRow then level g c table cond rid h)

@@ -4,6 +4,7 @@ use Rattle.gx_ids.specs.declared.ids.Gxid.{Gxid}
 use Rattle.gx_ids.specs.declared.ids.Node.{Node}
 use Rattle.gx_msg.specs.declared.message.Message.{Message}
 use Rattle.gx_msg.specs.declared.message.Message.TheVariants as message
+use Rattle.gx_msg.specs.declared.reply.Cause.{Cause}
 use Rattle.gx_msg.specs.declared.reply.Reply.{Reply}
 use Rattle.gx_msg.specs.declared.reply.Reply.TheVariants as reply
 use Rattle.gx_store.specs.declared.event.Event.{Event}
@@ -20,7 +21,8 @@ use Rattle.gx_legal.specs.declared.word.Word.TheVariants as word
 -- the reply says so
 abbrev pub IsReply : Word → Reply → Type 0
 IsReply (word.Done c) told = (wrote : Bool) × (count : ℕ) × (part : Part) × (told ≡ reply.Done c wrote count part)
-IsReply (word.Failed c cause) told = told ≡ reply.Failed c cause
+IsReply (word.Failed c) told = (cause : Cause) × (told ≡ reply.Failed c cause)
+IsReply (word.FailedFor c cause) told = told ≡ reply.Failed c cause
 IsReply word.Jfault told = told ≡ reply.Jfault
 
 -- the message says so of the transaction

@@ -1,9 +1,12 @@
 // The first sending of a word.
 ghost use Rattle.std.specs.Prelude.{◌≡◌, ◌↔◌, IsTrue};
+ghost use Rattle.gx_store.specs.Refusals.{the_coordinator};
+ghost use Rattle.gx_legal.specs.declared.word.Word.TheVariants.{Failed};
 ghost use Rattle.gx_legal.specs.Firsts.{IsFirstAmong, IsFirstIn, IsFirstSending, SendsWord};
 
 use crate::moment::Moment;
-use crate::word::{Report, says};
+use crate::word::{Report, Word, says};
+use gx_ids::{Cid, Gxid, Node};
 use gx_store::{Mark, Step};
 
 /// A sending: the places of its step and of its mark there, and how many marks there are before that step.
@@ -65,4 +68,22 @@ pub fn first_sending(moment: &Moment<'_, '_>, report: Report) -> Option<Sending>
         start += step.marks.len();
     }
     None
+}
+
+/// The first FAILED of the command that the segment has sent, whatever its cause.
+pub fn first_failed(
+    moment: &Moment<'_, '_>,
+    gxid: Gxid,
+    cid: Cid,
+    segment: Node,
+) -> Option<Sending>
+    ensures { IsFirstSending gxid (Failed cid) segment the_coordinator moment.now.steps.now result }
+{
+    let report = Report {
+        gxid,
+        word: Word::Failed(cid),
+        from: segment,
+        to: Node(0),
+    };
+    first_sending(moment, report)
 }

@@ -1,14 +1,11 @@
-// Whether a segment has noted a fault, and said so.
+// Whether a segment has noted a fault, and said that the command failed.
 ghost use Rattle.std.specs.Prelude.{◌≡◌, ◌↔◌, ℕ, IsTrue};
 ghost use Rattle.gx_store.specs.declared.mark.Mark.TheVariants.{Fault};
-ghost use Rattle.gx_ids.specs.declared.ids.Node.{Node as OneNode};
-ghost use Rattle.gx_msg.specs.declared.message.Message.TheVariants.{Answer};
-ghost use Rattle.gx_msg.specs.declared.reply.Reply.TheVariants.{Failed};
-ghost use Rattle.gx_store.specs.Messages.{Receives};
-ghost use Rattle.gx_store.specs.Refusals.{IsWord, the_coordinator};
-ghost use Rattle.gx_legal.specs.Causes.{IsHeardOf, IsTold, NotesIn, NotesInStep, StandsAt};
+ghost use Rattle.gx_store.specs.Refusals.{HearsCause, IsWord};
+ghost use Rattle.gx_legal.specs.Causes.{HadNoted, IsHeardOf, IsSaidBy, IsTold, NotesIn, NotesInStep, StandsAt};
 ghost use Rattle.gx_legal.specs.Moments.{point_of};
 
+use crate::firsts::first_failed;
 use crate::images::is_same_image;
 use crate::moment::Moment;
 use crate::word::{Report, Word, delivers};
@@ -78,36 +75,48 @@ fn has_noted(steps: &[Step], evaluation: Evaluation<'_>, node: Node) -> bool
     false
 }
 
-// The step receives the word of a segment that has noted it.
+// Whether the segment had noted it when it first sent FAILED of the command, in a step before the moment's.
+fn had_noted(moment: &Moment<'_, '_>, evaluation: Evaluation<'_>, segment: Node) -> bool
+    ensures { IsTrue result ↔ HadNoted evaluation.entry.gxid evaluation.entry.cid evaluation.entry.rid evaluation.entry.image.now segment moment.now.steps.now }
+{
+    let Some(first) = first_failed(moment, evaluation.gxid, evaluation.cid, segment) else {
+        return false;
+    };
+    has_noted(&moment.steps[..first.step + 1], evaluation, segment)
+}
+
+/// Whether the point's step receives FAILED of the command from the segment, for this cause.
+pub fn hears_cause(moment: &Moment<'_, '_>, gxid: Gxid, cid: Cid, reason: Cause, segment: Node) -> bool
+    ensures { IsTrue result ↔ HearsCause (point_of moment.now) segment gxid cid reason }
+{
+    let report = Report {
+        gxid,
+        word: Word::FailedFor(cid, reason),
+        from: segment,
+        to: Node(0),
+    };
+    delivers(moment.steps, moment.event, report)
+}
+
+// The step receives it from a segment that had noted the fault.
 fn is_word(moment: &Moment<'_, '_>, evaluation: Evaluation<'_>, reason: Cause) -> bool
     ensures { IsTrue result ↔ IsWord (point_of moment.now) evaluation.entry.gxid evaluation.entry.cid evaluation.entry.rid evaluation.entry.image.now reason }
 {
     let Event::Receive { from, .. } = moment.event else {
         return false;
     };
-    let report = Report {
-        gxid: evaluation.gxid,
-        word: Word::Failed(evaluation.cid, reason),
-        from,
-        to: Node(0),
-    };
-    delivers(moment.steps, moment.event, report) && has_noted(moment.steps, evaluation, from)
+    hears_cause(moment, evaluation.gxid, evaluation.cid, reason, from)
+        && had_noted(moment, evaluation, from)
 }
 
-// The step receives the word of a segment.
+// The step receives it from some segment.
 fn is_said(moment: &Moment<'_, '_>, gxid: Gxid, cid: Cid, reason: Cause) -> bool
-    ensures { IsTrue result ↔ ((segment : OneNode) × Receives moment.now.steps.now moment.now.event segment the_coordinator (Answer gxid (Failed cid reason))) }
+    ensures { IsTrue result ↔ IsSaidBy (point_of moment.now) gxid cid reason }
 {
     let Event::Receive { from, .. } = moment.event else {
         return false;
     };
-    let report = Report {
-        gxid,
-        word: Word::Failed(cid, reason),
-        from,
-        to: Node(0),
-    };
-    delivers(moment.steps, moment.event, report)
+    hears_cause(moment, gxid, cid, reason, from)
 }
 
 fn is_told(moment: &Moment<'_, '_>, evaluation: Evaluation<'_>, reason: Cause, noted: bool) -> bool
@@ -120,8 +129,8 @@ fn is_told(moment: &Moment<'_, '_>, evaluation: Evaluation<'_>, reason: Cause, n
     }
 }
 
-/// Whether the fault that is noted at this place is why the command is refused: an INSERT's in the point's own step, another's by the word
-/// of a segment, which has noted the fault where that is asked for.
+/// Whether the fault that is noted at this place is why the command is refused: an INSERT's in the point's own step, another's by FAILED
+/// of a segment, which had noted the fault where that is asked for.
 pub fn is_heard(
     moment: &Moment<'_, '_>,
     place: usize,

@@ -5,17 +5,17 @@ ghost use Rattle.gx_legal.specs.Causes.{IsOvertakenThere};
 ghost use Rattle.gx_legal.specs.Moments.{point_of};
 
 use crate::command::Command;
-use crate::firsts::first_sending;
+use crate::firsts::first_failed;
 use crate::moment::Moment;
+use crate::noted::hears_cause;
 use crate::overtaken_rows::is_overtaken_row;
-use crate::word::{Report, Word, delivers};
-use gx_ids::{Gxid, Mem, Node, Rid, Table};
+use gx_ids::{Gxid, Mem, Rid, Table};
 use gx_msg::Cause;
 use gx_store::Event;
 use gx_tree::{Cond, Level, Stmt};
 use std::alloc::Global;
 
-// A row of the table, by the word that the point's step receives, and when the segment first said so.
+// A row of the table, by FAILED that the point's step receives, and when the segment first sent one of the command.
 fn is_overtaken_there(
     alloc: Global,
     moment: &Moment<'_, '_>,
@@ -29,16 +29,11 @@ fn is_overtaken_there(
     let Event::Receive { from, .. } = moment.event else {
         return Ok(false);
     };
-    let report = Report {
-        gxid: command.gxid,
-        word: Word::Failed(command.cid, Cause::Serialization(row.0, row.1)),
-        from,
-        to: Node(0),
-    };
-    if !delivers(moment.steps, moment.event, report) {
+    let reason = Cause::Serialization(row.0, row.1);
+    if !hears_cause(moment, command.gxid, command.cid, reason, from) {
         return Ok(false);
     }
-    let Some(first) = first_sending(moment, report) else {
+    let Some(first) = first_failed(moment, command.gxid, command.cid, from) else {
         return Ok(false);
     };
     let then = &moment.before[..first.start + first.mark];

@@ -8,11 +8,12 @@ use gx_ids::{Cid, Gxid, Node};
 use gx_msg::{Cause, Message, Reply};
 use gx_store::{Event, Mark, Step};
 
-/// What a segment answers: a command is done, or can't be done for this cause, or its journal has failed.
+/// What a segment answers: a command is done, or can't be done, whatever the cause or for this one, or its journal has failed.
 #[derive(Clone, Copy)]
 pub enum Word {
     Done(Cid),
-    Failed(Cid, Cause),
+    Failed(Cid),
+    FailedFor(Cid, Cause),
     Jfault,
 }
 
@@ -30,7 +31,8 @@ fn is_reply(reply: &Reply, word: Word) -> bool
 {
     match (reply, word) {
         (Reply::Done { cid, .. }, Word::Done(done)) => *cid == done,
-        (Reply::Failed { cid, cause }, Word::Failed(failed, why)) => *cid == failed
+        (Reply::Failed { cid, .. }, Word::Failed(failed)) => *cid == failed,
+        (Reply::Failed { cid, cause }, Word::FailedFor(failed, why)) => *cid == failed
             && *cause.get() == why,
         (Reply::Jfault, Word::Jfault) => true,
         _ => false,

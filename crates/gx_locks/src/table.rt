@@ -92,9 +92,9 @@ impl LockTable {
         is_any_of(self.waits.as_slice(), gxid)
     }
 
-    /// Asks for a lock, where the transaction has no standing wait. The request is granted where no other transaction
-    /// holds a conflicting mode, or waits for one, unless that waits for what the asking transaction itself holds.
-    /// Else it stands as the last wait, for which there is room among the holds from then on.
+    /// Asks for a lock, where the transaction has no standing wait. The request is granted where nothing is in its way: no hold of
+    /// another transaction that conflicts, and no wait of another that conflicts, but for those that a hold of the asking
+    /// transaction's own blocks. Else it stands as the last wait, for which there is room among the holds from then on.
     pub fn request(&mut self, gxid: Gxid, object: Object, mode: Mode) -> Mem<LockAnswer>
         requires { list_any (is_of gxid) self.old.waits ≡ false }
         ensures ok { IfOk result (λ answer. IsAnswer self.old (record { gxid = gxid; object = object; mode = mode }) answer self.new) }

@@ -402,7 +402,7 @@ abbrev pub awaited_collect : Coord → Node → Option Message
 awaited_collect c i = if awaits_graph c i then Some (message.Collect c.rounds) else None
 
 -- RESUMPTIONS
--- A statement whose lock is free takes it and goes out.
+-- A statement that waits takes its lock and goes out, where nothing is in its way any more.
 abbrev pub resumes : Script → Coord → Gxid → Option Claim → Option Stmt → CoordTurn
 resumes script c g (Some wanted) (Some line) =
     behind (hold_mark the_coordinator wanted ∷ [])

@@ -179,7 +179,7 @@ on_message script s fails (message.Collect round) = on_collect s round
 on_message script s fails _ = stays s
 
 -- RESUMPTIONS
--- A slice whose lock is free takes it and goes on.
+-- A slice that waits takes its lock and goes on, where nothing is in its way any more.
 abbrev pub resumes : Seg → Gxid → Option Claim → Option Suspended → SegTurn
 resumes s g (Some wanted) (Some waiting) = goes_on (is_granted s g wanted) g waiting waiting.row
 resumes s g _ _ = stays s

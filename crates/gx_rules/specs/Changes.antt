@@ -115,7 +115,7 @@ end_lock g other = claim g (Transaction other) Share
 abbrev pub waits : Claim → Moved → RowTurn
 waits wanted m = ended (record { seg = record m.seg { locks = with_wait m.seg.locks wanted }; marks = m.marks ++ wait_mark m.seg.node wanted ∷ [] }) Waiting
 
--- with the row's lock it waits for who has written the row, and without it, where that isn't free, for the row's lock
+-- with the row's lock, which it takes where nothing is in its way there, it waits for who has written the row, and else for the row's lock
 abbrev pub waits_at : Moved → Gxid → Rid → Gxid → RowTurn
 waits_at m g rid writer =
     if is_holding m (tuple_lock g rid) then waits (end_lock g writer) m

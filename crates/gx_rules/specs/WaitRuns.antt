@@ -63,7 +63,7 @@ share_lock =
 abbrev pub share_lock_run : World
 share_lock_run = drives 40 share_lock never new_world
 
--- The INSERT takes its snapshot when the lock is free: it sees the block, which has ended.
+-- The INSERT takes its snapshot when it has its table's lock: it sees the block, which has ended.
 pub record WaitsForShare (w : World) : Type 0 where
   pub story : locks_and_answers w
       ≡ answer 0 1 told.Begin ∷ hold 0 1 Share ∷ hold 1 1 Share ∷ answer 0 2 told.Locked
@@ -110,7 +110,7 @@ hears w told = seg_rule lost_forget (w.segs 2) (Deliver (node 0) (record { numbe
 abbrev pub exec : ℕ → Message
 exec cid = message.Exec (gxid 2) (record { 0 = cid }) ReadCommitted None (gxid 1) (slice.Lock the_table AccessShare)
 
--- It doesn't resume while the lock isn't free. Of a command, PREPARE and COMMIT there is no mark and no answer; ABORT drops the wait.
+-- It doesn't resume while another's hold is in its way. Of a command, PREPARE and COMMIT there is no mark and no answer; ABORT drops the wait.
 pub record IsHeldUp (w : World) : Type 0 where
   pub blocked : can lost_forget w (event.Resume (node 2) (gxid 2)) ≡ false
   pub again : (hears w (exec 1)).marks ≡ []

@@ -49,7 +49,7 @@ pub fn slice_waits_for_forget()
     ensures { WaitsForForget lost_forget_run }
 {}
 
-/// A slice that waits doesn't resume while its lock isn't free, and its transaction runs, promises or commits nothing there.
+/// A slice that waits doesn't resume while something is in its way, and its transaction runs, promises or commits nothing there.
 pub fn waiting_slice_is_left_alone()
     ensures { IsHeldUp waiting_run }
 {}

@@ -12,6 +12,7 @@ mod executing;
 mod messages;
 mod ordering;
 mod probe;
+mod room;
 pub mod segment;
 mod sending;
 mod starting;

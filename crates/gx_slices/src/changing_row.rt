@@ -236,7 +236,8 @@ fn ask_for_row(
     Ok(granted)
 }
 
-// With the row's lock the command waits for who has written the row, and without it, where that isn't free, for the row's lock.
+// With the row's lock, which it takes where nothing is in its way there, the command waits for who has written the row, and else for the
+// row's lock.
 fn wait_at(
     node: Node,
     locks: &mut LockTable,

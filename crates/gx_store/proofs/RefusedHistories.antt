@@ -98,7 +98,7 @@ no-word {script = script} {point = point} session query a line outside none =
     by_refusal r = none r.g r.cause.rid r.cause.image r.cause.heard
 
 pub no-history-untold : (script : Script) (table : Table) (tuple : List Expr) (query : Query) (s t : Snapshot) (row : List Value) → IsNoHistory (insert_and_select script table tuple query) (untold table s t row)
-no-history-untold script table tuple query s t row h = no-word anna query h.1.1.1.1.1.0.marks.1.0 refl refl (λ g rid image w. nothing w.segment w.said.number w.said.is)
+no-history-untold script table tuple query s t row h = no-word anna query h.1.1.1.1.1.0.marks.1.0 refl refl (λ g rid image w. nothing w.segment w.content.number w.content.is)
   where
     nothing : (segment : Node) (number : ℕ) → event.Round ≡ event.Receive segment the_coordinator number → ⊥
     nothing segment number e = cc
@@ -125,7 +125,7 @@ unsent told steps u from to step mark number s = each-get (IsUnsaid told) s.send
 
 pub no-history-told-another : (script : Script) (table : Table) (tuple : List Expr) (query : Query) (s t : Snapshot) (row : List Value) → IsNoHistory (insert_and_select script table tuple query) (told_another table s t row)
 no-history-told-another script table tuple query s t row h =
-    no-word anna query h.1.1.1.1.1.0.marks.1.0 refl refl (λ g rid image w. unsent (word g) (take 5 (told_another table s t row)) (unsaid g) w.segment the_coordinator w.said.sent.step w.said.sent.mark w.said.number w.said.sent.sending)
+    no-word anna query h.1.1.1.1.1.0.marks.1.0 refl refl (λ g rid image w. unsent (word g) (take 5 (told_another table s t row)) (unsaid g) w.segment the_coordinator w.content.sent.step w.content.sent.mark w.content.number w.content.sent.sending)
   where
     unsaid : (g : Gxid) → Each (λ (s : Step). Each (IsUnsaid (word g)) s.marks) (take 5 (told_another table s t row))
     unsaid g = (
@@ -140,7 +140,7 @@ IsUnnoted fault s = s.stamp.node ≡ other_segment → Contains s.marks fault �
 pub no-history-by-another : (script : Script) (table : Table) (tuple : List Expr) (query : Query) (s t : Snapshot) (row : List Value) → IsNoHistory (over_two (insert_and_select script table tuple query)) (told_by_another table s t row)
 no-history-by-another script table tuple query s t row h =
     no-word anna query h.1.1.1.1.1.1.0.marks.1.0 refl refl
-    (λ g rid image w. each-get (IsUnnoted (mark.Fault g first_cid rid image)) (take 6 (told_by_another table s t row)) w.place w.step (unnoted g rid image) w.at (w.node ∙ sym (its w.segment w.said.number w.said.is)) w.noted)
+    (λ g rid image w. each-get (IsUnnoted (mark.Fault g first_cid rid image)) (take 6 (told_by_another table s t row)) w.place w.step (unnoted g rid image) w.at (w.node ∙ sym (its w.segment w.content.number w.content.is)) w.noted)
   where
     its : (segment : Node) (number : ℕ) → event.Receive other_segment the_coordinator 1 ≡ event.Receive segment the_coordinator number → other_segment ≡ segment
     its segment number e = cc

@@ -23,6 +23,7 @@ pub mod Outgoing
 pub mod Ordered
 pub mod Rounds
 pub mod Schedule
+pub mod Groups
 pub mod Limits
 pub mod Heads
 pub mod Language

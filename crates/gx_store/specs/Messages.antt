@@ -1,5 +1,5 @@
 -- Which messages were sent, and which one a step receives.
-use Rattle.std.specs.Prelude.{◌≡◌, ◌⊎◌, ℕ, ◌<◌, ◌≤◌, List, ◌++◌, take, drop, slice_get, length, Some}
+use Rattle.std.specs.Prelude.{◌≡◌, ◌⊎◌, ℕ, List, ◌++◌, take, drop, slice_get, length, Some}
 use Rattle.gx_ids.specs.declared.ids.Node.{Node}
 use Rattle.gx_msg.specs.declared.message.Message.{Message}
 use Rattle.gx_store.specs.declared.event.Event.{Event}
@@ -40,12 +40,3 @@ HasReceived point from to told = (k : ℕ) × ReceivesAt point k from to told
 -- the marks before a place of the step of a number
 abbrev pub marks_before : List Step → ℕ → ℕ → List Mark
 marks_before steps step mark = marks_in (take step steps) ++ take mark (marks_in (take 1 (drop step steps)))
-
--- the marks before the first sending by the node of a message equal to this one
-pub record IsFirstSent (steps : List Step) (from to : Node) (message : Message) (marks : List Mark) : Type 0 where
-  pub step : ℕ
-  pub mark : ℕ
-  pub number : ℕ
-  pub sending : IsSending steps step mark from to number message
-  pub first : (s m n : ℕ) → IsSending steps s m from to n message → ((step < s) ⊎ ((step ≡ s) × (mark ≤ m)))
-  pub before : marks ≡ marks_before steps step mark

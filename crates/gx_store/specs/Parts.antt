@@ -14,10 +14,8 @@ use Rattle.gx_tree.specs.declared.stmt.Stmt.TheVariants as stmt
 use Rattle.gx_tree.specs.declared.value.Value.{Value}
 use Rattle.gx_meaning.specs.declared.fault.ArithFault.{ArithFault}
 use Rattle.gx_meaning.specs.declared.fault.ArithFault.TheVariants as arith
-use Rattle.gx_msg.specs.declared.message.Message.TheVariants as message
 use Rattle.gx_msg.specs.declared.reply.Cause.{Cause}
 use Rattle.gx_msg.specs.declared.reply.Cause.TheVariants as cause
-use Rattle.gx_msg.specs.declared.reply.Reply.TheVariants as reply
 use Rattle.gx_script.specs.declared.Script.{Script}
 use Rattle.gx_store.specs.declared.answer.Refused.{Refused as Reason}
 use Rattle.gx_store.specs.declared.answer.Refused.TheVariants.{Serialization, Victim, Overflow, DivisionByZero, InFailedBlock, JournalFault, NotInBlock}
@@ -31,10 +29,9 @@ use Rattle.gx_store.specs.Faults.{IsFaultOf, LegalFault}
 use Rattle.gx_store.specs.Legal.{LegalAbort, LegalCommit, LegalSnap, LegalStart, LegalVerdict}
 use Rattle.gx_store.specs.Lines.{BlockState, Failed, InBlock, Outside, cid_of, is_command, level_of, transaction_of}
 use Rattle.gx_store.specs.Marks.{answer_count, is_aborted, is_begun}
-use Rattle.gx_store.specs.Messages.{Receives}
 use Rattle.gx_store.specs.Points.{Point, before, marks_in}
 use Rattle.gx_store.specs.Protocol.{IsReturned}
-use Rattle.gx_store.specs.Refusals.{HasJournalFailed, IsCause, IsNamed, IsOvertaken, may_refuse, the_coordinator}
+use Rattle.gx_store.specs.Refusals.{HasJournalFailed, HearsCause, HearsFailed, IsCause, IsNamed, IsOvertaken, may_refuse}
 use Rattle.gx_store.specs.Writes.{LegalSkip, LegalWrite}
 
 -- WRITES AND SKIPS
@@ -82,10 +79,10 @@ IsLegalStatement script point (mark.Answer s n a) = IsLegalReply script point s 
 IsLegalStatement script point _ = Unit {0}
 
 -- REFUSALS
--- an INSERT's fault stands in the step of its refusal; of another command's a segment's word is received
+-- an INSERT's fault stands in the step of its refusal; of another command FAILED is received, for this cause
 abbrev pub IsSaid : Point → ℕ → Stmt → Gxid → Cid → Cause → Type 0
 IsSaid point place (stmt.Insert table tuples) g c reason = length (marks_in point.steps) ≤ place
-IsSaid point place _ g c reason = (segment : Node) × Receives point.steps point.event segment the_coordinator (message.Answer g (reply.Failed c reason))
+IsSaid point place _ g c reason = (segment : Node) × HearsFailed point segment g c × HearsCause point segment g c reason
 
 -- an evaluation of the command faulted so, before its transaction aborted, whoever noted it
 pub record IsFaulted (point : Point) (line : Stmt) (level : Level) (g : Gxid) (c : Cid) (fault : ArithFault) (reason : Cause) : Type 0 where

@@ -1,10 +1,11 @@
-use Rattle.std.proofs.Common.{◌≡◌, ◌∙◌, IfOk, ap, refl, subst, sym}
+use Rattle.std.proofs.Common.{◌≡◌, ◌∙◌, IfOk, ap, refl, subst, sym, true}
 use Rattle.gx_rules.specs.Coordinators.{CoordTurn}
 use Rattle.gx_script.specs.declared.Script.{Script}
+use Rattle.gx_tree.specs.declared.stmt.Stmt.{Stmt}
 use Rattle.gx_coord.specs.Books.{coord_of, stmt_at}
-use Rattle.gx_coord.specs.Faults.{HasConstants}
+use Rattle.gx_coord.specs.Faults.{HasConstants, is_short}
 use Rattle.gx_coord.specs.declared.coord.Coord.{Coord}
-use Rattle.gx_coord.proofs.Faulting.{has-constants, stmt-of}
+use Rattle.gx_coord.proofs.Faulting.{has-constants, short-of, stmt-of}
 use Rattle.gx_coord.proofs.Going.{locked-is}
 use Rattle.gx_coord.proofs.Turned.{on_turn-from}
 use Rattle.gx_coord.proofs.dispatch.go_locked.Goals as goal
@@ -14,6 +15,12 @@ read_and_go-requires-clause-constants c =
     let script = c.args.coord.now.script.value in
     let line = c.line_at-line.ensures ∙ ap (λ (s : Script). stmt_at s.lines c.args.place) (c.deref.ensures ∙ c.in_ok-script.ensures) in
     subst HasConstants (sym line) (has-constants script.tables (stmt_at script.lines c.args.place) c.requires.command (stmt-of script c.args.place c.requires.language c.requires.inside))
+
+pub plan_line-requires-clause-short : goal.plan_line-requires-clause-short
+plan_line-requires-clause-short c =
+    let script = c.args.coord.now.script.value in
+    let line = c.line_at-line.ensures ∙ ap (λ (s : Script). stmt_at s.lines c.args.place) (c.deref.ensures ∙ c.in_ok-script.ensures) in
+    subst (λ (s : Stmt). is_short s ≡ true) (sym line) (short-of script c.args.place c.requires.language c.requires.inside)
 
 pub returns-clause-turn : goal.returns-clause-turn
 returns-clause-turn c =

@@ -1,16 +1,12 @@
-use Rattle.std.proofs.Common.{◌≡◌, IfOk, Ok, true, arith, subst, sym}
-use Rattle.std.proofs.lemmas.Grind.{common_steps}
+use Rattle.std.proofs.Common.{◌≡◌, IfOk, Ok, subst, sym}
 use Rattle.gx_tree.specs.declared.schema.Dist.{Dist}
 use Rattle.gx_meaning.specs.Plan.{plan_of}
 use Rattle.gx_rules.specs.AtCoordinator.{table_of}
-use Rattle.gx_coord.specs.Faults.{is_short}
 use Rattle.gx_coord.proofs.Faulting.{dist-at, planned-command}
 use Rattle.gx_coord.proofs.dispatch.plan_line.Goals as goal
 
 pub plan_in-requires-clause-command : goal.plan_in-requires-clause-command
-plan_in-requires-clause-command c =
-    let short : is_short c.args.line.now ≡ true = grind (arith, common_steps) in
-    planned-command c.args.script.now c.args.line.now c.schema_of-schema.result.now c.requires.language c.requires.command c.requires.line short c.schema_of-schema.ensures
+plan_in-requires-clause-command c = planned-command c.args.script.now c.args.line.now c.schema_of-schema.result.now c.requires.language c.requires.command c.requires.line c.requires.short c.schema_of-schema.ensures
 
 pub returns-clause-pieces : goal.returns-clause-pieces
 returns-clause-pieces c =
