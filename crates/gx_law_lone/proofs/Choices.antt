@@ -45,7 +45,7 @@ use Rattle.gx_law_runs.specs.Enabled.{at_segment_by, drawn, enabled_there, ends_
 use Rattle.gx_law_runs.specs.Links.{is_number}
 use Rattle.gx_law_runs.specs.Openings.{is_opening, is_round_or_opening}
 use Rattle.gx_law_runs.specs.Reached.{IsReached}
-use Rattle.gx_law_lone.specs.Victims.{HoldsUpOpenings, let_in}
+use Rattle.gx_law_lone.specs.Victims.{AreLet, HoldsUpOpenings, let_in}
 use Rattle.gx_law_lone.proofs.InRound.{AreReported, IsInRound}
 
 -- LISTS
@@ -110,7 +110,7 @@ both-nil : (xs ys : List Event) → ((length xs == 0) && (length ys == 0)) ≡ t
 both-nil xs ys e = let a = and_parts (length xs == 0) (length ys == 0) e in (none-long xs a.0, none-long ys a.1)
 
 -- WHERE JUST A ROUND IS LEFT TO CHOOSE
-module _ (script : Script) (lets : List Step → Event → Bool) (holds : HoldsUpOpenings script lets) (es : List (Event × Bool)) (lone : list_all is_round (let_in script lets (world_of script es).steps) ≡ true) where
+module _ (script : Script) (lets : List Step → Event → Bool) (holds : HoldsUpOpenings script lets) (es : List (Event × Bool)) (run : AreLet script lets [] (world_of script es).steps) (lone : list_all is_round (let_in script lets (world_of script es).steps) ≡ true) where
   abbrev now : List Step
   now = (world_of script es).steps
 
@@ -139,7 +139,7 @@ module _ (script : Script) (lets : List Step → Event → Bool) (holds : HoldsU
 
       by_let : (e : Event) → Has e (enabled script now) → (b : Bool) → lets now e ≡ b → is_round_or_opening script now e ≡ true
       by_let e h true q = round-is e (let-round e h q)
-      by_let e h false q = opening-is e (holds.openings now e (record { events = es; is = refl }) (contains_from_has e (enabled script now) h) q)
+      by_let e h false q = opening-is e (holds.openings now e (record { events = es; is = refl }) run (contains_from_has e (enabled script now) h) q)
 
   pub chosen-round : (e : Event) → Contains (let_in script lets (world_of script es).steps) e → e ≡ event.Round
   chosen-round e c = round-is e (all-has is_round (let_in script lets now) lone e (has_from_contains e (let_in script lets now) c))
@@ -160,7 +160,7 @@ MayBe script steps (event.Resend segment None) = Unit {0}
 MayBe script steps _ = ⊥
 
 module _ (script : Script) (some : 1 ≤ script.segments) (inserts : AreInsertsWhole script.tables script.lines) (lets : List Step → Event → Bool) (holds : HoldsUpOpenings script lets)
-    (es0 : List (Event × Bool)) (lone : list_all is_round (let_in script lets (world_of script es0).steps) ≡ true) (es : List (Event × Bool)) (r : IsInRound script lets (world_of script es0) (world_of script es))
+    (es0 : List (Event × Bool)) (run0 : AreLet script lets [] (world_of script es0).steps) (lone : list_all is_round (let_in script lets (world_of script es0).steps) ≡ true) (es : List (Event × Bool)) (r : IsInRound script lets (world_of script es0) (world_of script es))
   where
     abbrev w0 : World
     w0 = world_of script es0
@@ -169,7 +169,7 @@ module _ (script : Script) (some : 1 ≤ script.segments) (inserts : AreInsertsW
     w = world_of script es
 
     nothing : list_all (is_round_or_opening script (world_of script es0).steps) (enabled script (world_of script es0).steps) ≡ true
-    nothing = but-openings script lets holds es0 lone
+    nothing = but-openings script lets holds es0 run0 lone
 
     abbrev May : Event → Type 0
     May = MayBe script (world_of script es).steps
@@ -238,7 +238,7 @@ module _ (script : Script) (some : 1 ≤ script.segments) (inserts : AreInsertsW
         (each_weaker (λ (line : Line). lets w.steps (event.Start line.session) ≡ true → is_round (event.Start line.session) ≡ true) (λ (line : Line). Chosen (event.Start line.session)) (λ line h l. absurd (false-true (h l))) (filter (is_next_by w0.coord) script.lines)
         (each-unmap (λ e. lets w.steps e ≡ true → is_round e ≡ true) (λ (line : Line). event.Start line.session) (filter (is_next_by w0.coord) script.lines)
         (has-each (λ e. lets w.steps e ≡ true → is_round e ≡ true) (starts_by script w0.coord) (λ e h l.
-        let-round script lets holds es0 lone e
+        let-round script lets holds es0 run0 lone e
         (subst (Has e) (sym (enabled-there script some es0)) (has-before e _ (rounds_by script w0) (has-before e _ (ends_by script w0.coord) (has-behind e (receipts-then ++ segments-then ++ resumes_by w0.coord the_coordinator w0.coord.locks ++ again-then) (starts_by script w0.coord) h))))
         (sym (r.same e) ∙ l)))))
       where

@@ -123,10 +123,15 @@ module _ (script : Script) (some : 1 ≤ script.segments) (numbered : AreLinesNu
     (lets : List Step → Event → Bool) (holds : HoldsUpOpenings script lets)
   where
     abbrev IsLone : List (Event × Bool) → Type 0
-    IsLone es = list_all is_round (let_in script lets (world_of script es).steps) ≡ true
+    IsLone es = (list_all is_round (let_in script lets (world_of script es).steps) ≡ true) × AreLet script lets [] (world_of script es).steps
 
     abbrev In : World → World → Type 0
     In w0 w = IsInRound script lets w0 w
+
+    -- a step more that was let
+    let-more : (before ss : List Step) (s : Step) → AreLet script lets before ss → Contains (let_in script lets (before ++ ss)) s.event → AreLet script lets before (ss ++ s ∷ [])
+    let-more before [] s a c = (subst (λ xs. Contains (let_in script lets xs) s.event) (append-nil before) c, tt)
+    let-more before (x ∷ ss) s a c = (a.0, let-more (before ++ x ∷ []) ss s a.1 (subst (λ xs. Contains (let_in script lets xs) s.event) (sym (append_assoc before (x ∷ []) ss)) c))
 
     -- THE ROUND BEGINS
     module _ (es : List (Event × Bool)) (lone : IsLone es) (round-there : Has event.Round (enabled script (world_of script es).steps)) where
@@ -134,7 +139,7 @@ module _ (script : Script) (some : 1 ≤ script.segments) (numbered : AreLinesNu
       w = world_of script es
 
       nothing : list_all (is_round_or_opening script (world_of script es).steps) (enabled script (world_of script es).steps) ≡ true
-      nothing = but-openings script lets holds es lone
+      nothing = but-openings script lets holds es lone.1 lone.0
 
       waits : is_anybody_waiting script (world_of script es) ≡ true
       waits = by_round (can_begin script w.coord) (is_anybody_waiting script w) last
@@ -229,7 +234,7 @@ module _ (script : Script) (some : 1 ≤ script.segments) (numbered : AreLinesNu
 
           by_way : ToldIn (world_of script es0) from envelope.message ⊎ (found from n t.number (world_of script es0).sent ≡ Some envelope) → ToldIn (world_of script es0) from envelope.message
           by_way (inl x) = x
-          by_way (inr f) = absurd (true-false (is_left script (world_of script es).steps from n t.number) left (not-left script some inserts lets holds es0 lone es r from n t.number envelope t.link f))
+          by_way (inr f) = absurd (true-false (is_left script (world_of script es).steps from n t.number) left (not-left script some inserts lets holds es0 lone.1 lone.0 es r from n t.number envelope t.link f))
 
       of-round : (n from : Node) (e : Event) (envelope : Envelope) → IsThere script u e n (here.Deliver from envelope) → ToldIn w0 from envelope.message → is_of_round u.steps e ≡ true
       of-round n from e envelope t told =
@@ -277,7 +282,7 @@ module _ (script : Script) (some : 1 ≤ script.segments) (numbered : AreLinesNu
     -- AN EVENT MORE
     -- of a world and of what comes behind it
     record Finds (w : World) (later : List Step) : Type 0 where
-      lone : AreLet script lets w.steps later → DoLoneRoundsFindVictims script lets w.steps later
+      lone : AreLet script lets [] w.steps → AreLet script lets w.steps later → DoLoneRoundsFindVictims script lets w.steps later
       runs : (es0 : List (Event × Bool)) → IsLone es0 → Decided script (world_of script es0) → In (world_of script es0) w → AreLet script lets w.steps later → ComesToVictims w.steps later
 
     module _ (es : List (Event × Bool)) (e : Event) (fails : Bool) (later : List Step) where
@@ -285,7 +290,7 @@ module _ (script : Script) (some : 1 ≤ script.segments) (numbered : AreLinesNu
       o = world_of script es
 
       round-begins : IsLone es → Contains (let_in script lets o.steps) e → e ≡ event.Round
-      round-begins lone c = chosen-round script lets holds es lone e c
+      round-begins lone c = chosen-round script lets holds es lone.1 lone.0 e c
 
       round-enabled : IsLone es → Contains (let_in script lets o.steps) e → Has event.Round (enabled script o.steps)
       round-enabled lone c = subst (λ x. Has x (enabled script o.steps)) (round-begins lone c) (filter-has (lets o.steps) (enabled script o.steps) e (has_from_contains e (let_in script lets o.steps) c)).0
@@ -294,9 +299,9 @@ module _ (script : Script) (some : 1 ≤ script.segments) (numbered : AreLinesNu
           → Finds o (record { stamp = record { clock = (coord_rule script o.coord x fails).coord.clock; node = the_coordinator }; event = e; marks = (coord_rule script o.coord x fails).marks } ∷ later)
       coord-finds x t f =
           record {
-            lone = λ a. (λ lone. f.runs es lone (decided es lone (round-enabled lone a.0)) (began lone a.0) a.1, f.lone a.1);
+            lone = λ p a. (λ l. f.runs es (l, p) (decided es (l, p) (round-enabled (l, p) a.0)) (began (l, p) a.0) a.1, f.lone (let-more [] o.steps _ p a.0) a.1);
             runs = λ es0 lone dec r a.
-                let g = coord-goes es0 lone dec es r e fails x (chosen-is script some inserts lets holds es0 lone es r e a.0) t in
+                let g = coord-goes es0 lone dec es r e fails x (chosen-is script some inserts lets holds es0 lone.1 lone.0 es r e a.0) t in
                 (g.0, map-goes (verdict_in (coord_rule script o.coord x fails).marks) (λ q. f.runs es0 lone dec q a.1) g.1);
           }
         where
@@ -317,9 +322,9 @@ module _ (script : Script) (some : 1 ≤ script.segments) (numbered : AreLinesNu
           → Finds o (record { stamp = record { clock = (seg_rule script (o.segs i) x fails).seg.clock; node = at i }; event = e; marks = (seg_rule script (o.segs i) x fails).marks } ∷ later)
       seg-finds i one x t ok f =
           record {
-            lone = λ a. (λ lone. absurd (never lone a.0), f.lone a.1);
+            lone = λ p a. (λ l. absurd (never (l, p) a.0), f.lone (let-more [] o.steps _ p a.0) a.1);
             runs = λ es0 lone dec r a.
-                let g = seg-goes es0 lone dec es r e fails i one x (chosen-is script some inserts lets holds es0 lone es r e a.0) t ok in
+                let g = seg-goes es0 lone dec es r e fails i one x (chosen-is script some inserts lets holds es0 lone.1 lone.0 es r e a.0) t ok in
                 (g.0, map-goes (verdict_in (seg_rule script (o.segs i) x fails).marks) (λ q. f.runs es0 lone dec q a.1) g.1);
           }
         where
@@ -351,7 +356,7 @@ module _ (script : Script) (some : 1 ≤ script.segments) (numbered : AreLinesNu
         (step ∷ a.later, a.steps ∙ ap (λ (x : World). x.steps ++ a.later) q.is ∙ append_assoc (world_of script es).steps (step ∷ []) a.later, seg-finds es e fails a.later q.node q.one q.event q.there q.can (subst (λ x. Finds x a.later) q.is a.finds))
 
     ahead : (rest es : List (Event × Bool)) → Ahead (world_of script es) rest
-    ahead [] es = record { later = []; steps = sym (append-nil (world_of script es).steps); finds = record { lone = λ a. tt; runs = λ es0 lone dec r a. tt } }
+    ahead [] es = record { later = []; steps = sym (append-nil (world_of script es).steps); finds = record { lone = λ p a. tt; runs = λ es0 lone dec r a. tt } }
     ahead (x ∷ rest) es =
         let n = next-ahead es x.0 x.1 rest (happens script (world_of script es) x.0 x.1) (came script some es x.0 x.1) (subst (λ w. Ahead w rest) (after-last script new_world es x) (ahead rest (es ++ x ∷ []))) in
         record { later = n.0; steps = n.1; finds = n.2 }
@@ -360,4 +365,4 @@ module _ (script : Script) (some : 1 ≤ script.segments) (numbered : AreLinesNu
     find-victims steps is a =
         let x = ahead is.events [] in
         let same : steps ≡ x.later = sym is.is ∙ x.steps in
-        subst (DoLoneRoundsFindVictims script lets []) (sym same) (x.finds.lone (subst (AreLet script lets []) same a))
+        subst (DoLoneRoundsFindVictims script lets []) (sym same) (x.finds.lone tt (subst (AreLet script lets []) same a))

@@ -67,9 +67,10 @@ is_of_none (Sent to number message) = true
 is_of_none (Report node round graph) = true
 is_of_none _ = false
 
--- what is held up: lines of sessions that stand in no block, each until a step that tells of a transaction or a session
+-- In a run whose steps were let, what is held up is lines of sessions that stand in no block; and no step that tells of no transaction and
+-- of no session changes what is.
 pub record HoldsUpOpenings (script : Script) (lets : List Step → Event → Bool) : Type 0 where
-  pub openings : (steps : List Step) (event : Event) → IsReached script steps → Contains (enabled script steps) event → lets steps event ≡ false → is_opening script steps event ≡ true
+  pub openings : (steps : List Step) (event : Event) → IsReached script steps → AreLet script lets [] steps → Contains (enabled script steps) event → lets steps event ≡ false → is_opening script steps event ≡ true
   pub lasting : (steps : List Step) (step : Step) (event : Event) → IsReached script steps → list_all is_of_none step.marks ≡ true → lets (steps ++ step ∷ []) event ≡ lets steps event
 
 -- wherever nothing but a round is left to choose, and one begins, it comes to victims
