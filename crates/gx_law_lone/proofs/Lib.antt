@@ -13,3 +13,4 @@ pub mod InRound
 pub mod Decides
 pub mod Choices
 pub mod FindsVictims
+pub mod Grouped
