@@ -12,3 +12,4 @@ pub mod Expected
 pub mod Awaited
 pub mod Following
 pub mod Quiet
+pub mod Slotted

@@ -15,17 +15,19 @@ use Rattle.gx_agenda.specs.Agrees.{Agree}
 use Rattle.gx_agenda.specs.Quiet.{AreQuiet}
 use Rattle.gx_world.specs.Worlds.{WorldState}
 use Rattle.gx_agenda.specs.Queued.{AreQueued}
+use Rattle.gx_agenda.specs.Slotted.{AreSlots}
 use Rattle.gx_law_runs.specs.Reached.{IsReached}
 use Rattle.gx_drive.specs.Chosen.{AreChosen, Choice}
 use Rattle.gx_drive.specs.Ordered.{AreFailuresFew, AreHeld, AreHeldSoFar}
 use Rattle.gx_drive.specs.declared.agenda.Agenda.{Agenda}
 
--- links, lines and awaited answers are where the steps have led, and nothing is left where no delivery is looked for
+-- links, lines, awaited answers and slots are where the steps have led, and nothing is left where no delivery is looked for
 pub record IsAgreed (script : Script) (steps : List Step) (agenda : Agenda) : Type 0 where
   pub cursors : Agree script steps agenda.cursors
   pub queue : AreQueued script steps agenda.queue
   pub asked : AreAsked steps agenda.asked
   pub quiet : AreQuiet script steps agenda.quiet
+  pub slots : AreSlots script steps agenda.slots
 
 -- a receipt is the next delivery of its link
 abbrev pub IsDue : Script → List Step → Event → Type 0

@@ -11,7 +11,8 @@ use Rattle.gx_store.specs.Cancelled.{wait_graph, waits_in}
 use Rattle.gx_store.specs.Points.{marks_in}
 use Rattle.gx_store.specs.declared.mark.Mark.{Mark}
 use Rattle.gx_store.specs.Refusals.{the_coordinator}
-use Rattle.gx_store.specs.Schedule.{enabled, is_any_unfinished, segments_of}
+use Rattle.gx_store.specs.Groups.{enabled_in}
+use Rattle.gx_store.specs.Schedule.{is_any_unfinished, segments_of}
 use Rattle.gx_store.specs.Whole.{AreInsertsWhole}
 use Rattle.gx_store.specs.declared.run.Step.{Step}
 use Rattle.gx_drive.specs.declared.end.End.{End}
@@ -22,11 +23,11 @@ pub record AreTurnsSpent (script : Script) (steps : List Step) (turns : ℕ) : T
   pub all : length steps ≡ turns
   pub unfinished : is_any_unfinished script steps ≡ true
 
--- turns are left and a session is unfinished, but nothing is enabled
+-- turns are left and a session is unfinished, but nothing is enabled that the groups let
 pub record CannotGoOn (script : Script) (steps : List Step) (turns : ℕ) : Type 0 where
   pub left : length steps < turns
   pub unfinished : is_any_unfinished script steps ≡ true
-  pub nothing : enabled script steps ≡ []
+  pub nothing : enabled_in script steps ≡ []
 
 -- of the edges that stand at a node, in their order, those for which this holds
 abbrev pub AreThose : (PlacedEdge → Type 0) → Node → List Edge → List Edge → Type 0

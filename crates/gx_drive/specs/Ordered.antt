@@ -8,14 +8,15 @@ use Rattle.gx_store.specs.declared.event.Event.{Event}
 use Rattle.gx_store.specs.declared.run.Step.{Step}
 use Rattle.gx_store.specs.Journals.{items_of}
 use Rattle.gx_store.specs.Points.{marks_in}
-use Rattle.gx_store.specs.Schedule.{enabled, first_of, is_any_unfinished}
+use Rattle.gx_store.specs.Groups.{enabled_in}
+use Rattle.gx_store.specs.Schedule.{first_of, is_any_unfinished}
 use Rattle.gx_law_runs.specs.Failures.{failures_in}
 use Rattle.gx_drive.specs.Chosen.{AreChosen}
 
--- a session is unfinished, and the event is the first that is enabled
+-- a session is unfinished, and the event is the first that is enabled and that the groups let
 pub record IsFirst (script : Script) (before : List Step) (event : Event) : Type 0 where
   pub unfinished : is_any_unfinished script before ≡ true
-  pub first : first_of (enabled script before) ≡ event ∷ []
+  pub first : first_of (enabled_in script before) ≡ event ∷ []
 
 -- each step does what is first where the steps before it have led
 abbrev pub AreFirst : Script → List Step → List Step → Type 0

@@ -1,4 +1,4 @@
-ghost use Rattle.std.specs.Prelude.{◌≡◌, ◌++◌, ◌∷◌, [], List, false, IfOk, OnOk, IfSome, option_copied};
+ghost use Rattle.std.specs.Prelude.{◌≡◌, ◌++◌, ◌∷◌, [], List, false, filter, IfOk, OnOk, IfSome, option_copied};
 ghost use Rattle.std.specs.List.{flat_map};
 ghost use Rattle.std.specs.Option.{option_to_list};
 ghost use Rattle.gx_agenda.specs.Awaited.{IsTold};
@@ -6,17 +6,18 @@ ghost use Rattle.gx_agenda.specs.Agrees.{Agree};
 ghost use Rattle.gx_agenda.specs.Queued.{AreCounted};
 ghost use Rattle.gx_law_runs.specs.Reached.{IsReached};
 ghost use Rattle.gx_script.specs.declared.Script.{Script as OneScript};
+ghost use Rattle.gx_store.specs.Groups.{enabled_in, lets};
 ghost use Rattle.gx_store.specs.Language.{IsScript};
 ghost use Rattle.gx_store.specs.declared.event.Event.TheVariants.{Receive};
 ghost use Rattle.gx_store.specs.declared.run.Step.{Step as OneStep};
 ghost use Rattle.gx_store.specs.Ordered.{IsLink};
-ghost use Rattle.gx_store.specs.Schedule.{enabled, ends, first_of, left_on, resends, rounds, segments_of, starts};
+ghost use Rattle.gx_store.specs.Schedule.{ends, first_of, left_on, resends, rounds, segments_of, starts};
 ghost use Rattle.gx_drive.specs.Agrees.{IsAgreed, IsDue, moves_of};
 
 use crate::detecting::{first_graph, next_round};
 use crate::ends::first_end;
 use crate::moves::first_move;
-use gx_agenda::{Asked, Cursors, Queue, Quiet, note_step};
+use gx_agenda::{Asked, Cursors, Queue, Quiet, Slots, first_start, note_slots, note_step, slots_of};
 use gx_ids::{Mem, Node};
 use gx_msg::Message;
 use gx_script::Script;
@@ -32,6 +33,7 @@ pub struct Agenda {
     pub queue: Queue,
     pub asked: Asked,
     pub quiet: Quiet,
+    pub slots: Option<Slots>,
 }
 
 impl Agenda {
@@ -43,11 +45,13 @@ impl Agenda {
         let cursors = Cursors::new(alloc, script)?;
         let queue = Queue::new(alloc, script)?;
         let asked = Asked::new(alloc);
+        let slots = slots_of(alloc, script, &queue)?;
         Ok(Agenda {
             cursors,
             queue,
             asked,
             quiet: Quiet::new(),
+            slots,
         })
     }
 
@@ -58,7 +62,7 @@ impl Agenda {
         requires language { IsScript world.now.script }
         requires reached { IsReached world.now.script world.now.run.steps }
         requires agreed { IsAgreed world.now.script world.now.run.steps self.old }
-        ensures first { option_to_list result ≡ first_of (enabled world.now.script world.now.run.steps) }
+        ensures first { option_to_list result ≡ first_of (enabled_in world.now.script world.now.run.steps) }
         ensures due { IfSome result (IsDue world.now.script world.now.run.steps) }
         ensures agreed { IsAgreed world.now.script world.now.run.steps self.new }
     {
@@ -77,7 +81,7 @@ impl Agenda {
         requires agreed { IsAgreed world.now.script world.now.run.steps self.now }
         requires none { first_of (moves_of world.now.script world.now.run.steps) ≡ [] }
         ensures first { option_to_list result ≡ first_of (flat_map (resends world.now.script world.now.run.steps) (segments_of world.now.script)
-            ++ starts world.now.script world.now.run.steps ++ ends world.now.script world.now.run.steps ++ rounds world.now.script world.now.run.steps) }
+            ++ filter (lets world.now.script world.now.run.steps) (starts world.now.script world.now.run.steps) ++ ends world.now.script world.now.run.steps ++ rounds world.now.script world.now.run.steps) }
         ensures due { IfSome result (IsDue world.now.script world.now.run.steps) }
     {
         match self.asked.first(first_graph(world)) {
@@ -92,18 +96,18 @@ impl Agenda {
         requires language { IsScript world.now.script }
         requires reached { IsReached world.now.script world.now.run.steps }
         requires agreed { IsAgreed world.now.script world.now.run.steps self.now }
-        ensures first { option_to_list result ≡ first_of (starts world.now.script world.now.run.steps ++ ends world.now.script world.now.run.steps
+        ensures first { option_to_list result ≡ first_of (filter (lets world.now.script world.now.run.steps) (starts world.now.script world.now.run.steps) ++ ends world.now.script world.now.run.steps
             ++ rounds world.now.script world.now.run.steps) }
         ensures due { IfSome result (IsDue world.now.script world.now.run.steps) }
     {
-        match self.queue.first() {
+        match first_start(&self.queue, &self.slots) {
             Some(session) => Some(Event::Start(session)),
             None => last(world),
         }
     }
 
     /// A step was done, and if it is the coordinator's, what its event received, if it received a message, is told.
-    pub fn note(&mut self, step: &StepView<'_>, told: Option<&Message>) -> Mem<()>
+    pub fn note(&mut self, script: &Script, step: &StepView<'_>, told: Option<&Message>) -> Mem<()>
         ensures { OnOk result ((script : OneScript) (steps : List OneStep) → IsAgreed script steps self.old → IsDue script steps step.now.event
             → AreCounted (steps ++ step.now ∷ []) → IsTold steps step.now (option_copied told.entry)
             → IsAgreed script (steps ++ step.now ∷ []) self.new) }
@@ -115,7 +119,8 @@ impl Agenda {
             &mut self.asked,
             step,
             told,
-        )
+        )?;
+        note_slots(&mut self.slots, script, &self.queue, step)
     }
 }
 

@@ -2,8 +2,8 @@
 ghost use Rattle.std.specs.Prelude.{◌≡◌, ◌%◌, [], true, false, length, slice_get, Some, IfNone, IfOk, IfSome};
 ghost use Rattle.gx_law_runs.specs.Reached.{IsReached};
 ghost use Rattle.gx_law_runs.specs.Replays.{is_admitted};
+ghost use Rattle.gx_store.specs.Groups.{enabled_in};
 ghost use Rattle.gx_store.specs.Language.{IsScript};
-ghost use Rattle.gx_store.specs.Schedule.{enabled};
 ghost use Rattle.gx_drive.specs.Agrees.{IsAgreed, IsDue};
 ghost use Rattle.gx_drive.specs.Seeded.{seeded};
 
@@ -34,10 +34,10 @@ pub(crate) fn drawn_event(
     requires language { IsScript world.now.script }
     requires reached { IsReached world.now.script world.now.run.steps }
     requires agreed { IsAgreed world.now.script world.now.run.steps agenda.now }
-    ensures drawn { IfOk result (λ event. IfSome event (λ e. slice_get (enabled world.now.script world.now.run.steps) (word % length (enabled world.now.script world.now.run.steps)) ≡ Some e)) }
+    ensures drawn { IfOk result (λ event. IfSome event (λ e. slice_get (enabled_in world.now.script world.now.run.steps) (word % length (enabled_in world.now.script world.now.run.steps)) ≡ Some e)) }
     ensures due { IfOk result (λ event. IfSome event (IsDue world.now.script world.now.run.steps)) }
     ensures admitted { IfOk result (λ event. IfSome event (λ e. is_admitted world.now.script world.now.run.steps e ≡ true)) }
-    ensures stuck { IfOk result (λ event. IfNone event (enabled world.now.script world.now.run.steps ≡ [])) }
+    ensures stuck { IfOk result (λ event. IfNone event (enabled_in world.now.script world.now.run.steps ≡ [])) }
 {
     let events = agenda.enabled(alloc, world)?;
     Ok(drawn(events.as_slice(), word))

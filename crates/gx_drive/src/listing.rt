@@ -4,10 +4,11 @@ ghost use Rattle.std.specs.List.{flat_map};
 ghost use Rattle.std.specs.Option.{option_to_list};
 ghost use Rattle.gx_agenda.specs.Agrees.{Agree};
 ghost use Rattle.gx_law_runs.specs.Reached.{IsReached};
+ghost use Rattle.gx_store.specs.Groups.{enabled_in};
 ghost use Rattle.gx_store.specs.Language.{IsScript};
 ghost use Rattle.gx_store.specs.Ordered.{IsLink, IsSegment};
 ghost use Rattle.gx_store.specs.Refusals.{the_coordinator};
-ghost use Rattle.gx_store.specs.Schedule.{at_segment, enabled, ends, first_of, is_quiet, is_round_running, is_to_end, left_on, resends, segments_of};
+ghost use Rattle.gx_store.specs.Schedule.{at_segment, ends, first_of, is_quiet, is_round_running, is_to_end, left_on, resends, segments_of};
 ghost use Rattle.gx_store.specs.declared.event.Event.TheVariants.{End};
 ghost use Rattle.gx_drive.specs.Agrees.{IsAgreed};
 
@@ -16,7 +17,7 @@ use crate::detecting::{is_graph_awaited, is_round_running, next_round};
 use crate::ends::end_of;
 use crate::links::delivery;
 use crate::moves::{resumption, segment_move};
-use gx_agenda::Cursors;
+use gx_agenda::{Cursors, push_starts};
 use gx_ids::{Mem, Node};
 use gx_store::Event;
 use gx_world::World;
@@ -31,7 +32,7 @@ impl Agenda {
         requires language { IsScript world.now.script }
         requires reached { IsReached world.now.script world.now.run.steps }
         requires agreed { IsAgreed world.now.script world.now.run.steps self.now }
-        ensures { IfOk result (λ events. events.items ≡ enabled world.now.script world.now.run.steps) }
+        ensures { IfOk result (λ events. events.items ≡ enabled_in world.now.script world.now.run.steps) }
     {
         let mut events = Vec::new(alloc);
         push_from(&self.cursors, world, &mut events)?;
@@ -39,7 +40,7 @@ impl Agenda {
         push_option(resumption(world, Node(0)), &mut events)?;
         let running = is_round_running(world);
         push_resends(self, world, running, &mut events)?;
-        self.queue.push_starts(&mut events)?;
+        push_starts(&self.queue, &self.slots, &mut events)?;
         push_ends(world, &mut events)?;
         push_option(next_round(world), &mut events)?;
         Ok(events)

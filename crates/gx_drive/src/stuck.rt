@@ -1,8 +1,9 @@
 // How a run ends that can't go on.
 ghost use Rattle.std.specs.Prelude.{◌≡◌, ◌<◌, [], true, IfOk, length};
 ghost use Rattle.gx_law_runs.specs.Reached.{IsReached};
+ghost use Rattle.gx_store.specs.Groups.{enabled_in};
 ghost use Rattle.gx_store.specs.Language.{IsScript};
-ghost use Rattle.gx_store.specs.Schedule.{enabled, is_any_unfinished};
+ghost use Rattle.gx_store.specs.Schedule.{is_any_unfinished};
 ghost use Rattle.gx_drive.specs.Ends.{AreStuckWaits, IsEnd, IsStuckWithout};
 
 use crate::end::End;
@@ -18,7 +19,7 @@ pub(crate) fn stuck(alloc: Global, world: &World, _turns: u64) -> Mem<End>
     requires reached { IsReached world.now.script world.now.run.steps }
     requires left { length world.now.run.steps < _turns }
     requires unfinished { is_any_unfinished world.now.script world.now.run.steps ≡ true }
-    requires nothing { enabled world.now.script world.now.run.steps ≡ [] }
+    requires nothing { enabled_in world.now.script world.now.run.steps ≡ [] }
     ensures end { IfOk result (IsEnd world.now.script world.now.run.steps _turns) }
     ensures off { IfOk result (IsStuckWithout world.now.script) }
 {

@@ -3,10 +3,11 @@ ghost use Rattle.std.specs.Prelude.{◌≡◌, ◌<◌, ◌^◌, ◌++◌, ◌�
 ghost use Rattle.gx_agenda.specs.Awaited.{told_in};
 ghost use Rattle.gx_store.specs.Journals.{is_same_node};
 ghost use Rattle.gx_store.specs.Refusals.{the_coordinator};
-ghost use Rattle.gx_store.specs.Schedule.{enabled, is_any_unfinished};
+ghost use Rattle.gx_store.specs.Schedule.{is_any_unfinished};
 ghost use Rattle.gx_outside.specs.Shelves.{Shelf};
 ghost use Rattle.gx_law_runs.specs.Reached.{IsReached};
 ghost use Rattle.gx_law_runs.specs.Replays.{is_admitted};
+ghost use Rattle.gx_store.specs.Groups.{enabled_in};
 ghost use Rattle.gx_store.specs.Language.{IsScript};
 ghost use Rattle.gx_store.specs.declared.run.Step.{Step as OneStep};
 ghost use Rattle.gx_drive.specs.Agrees.{HasTurned, IsAgreed, IsDue, IsNoMore};
@@ -29,7 +30,7 @@ pub(crate) fn next_event(world: &World, agenda: &mut Agenda) -> Option<Event>
     ensures first { IfSome result (IsFirst world.now.script world.now.run.steps) }
     ensures due { IfSome result (IsDue world.now.script world.now.run.steps) }
     ensures admitted { IfSome result (λ event. is_admitted world.now.script world.now.run.steps event ≡ true) }
-    ensures stuck { IfNone result (enabled world.now.script world.now.run.steps ≡ []) }
+    ensures stuck { IfNone result (enabled_in world.now.script world.now.run.steps ≡ []) }
     ensures agreed { IsAgreed world.now.script world.now.run.steps agenda.new }
 {
     agenda.first(world)
@@ -69,7 +70,7 @@ fn note(world: &World, agenda: &mut Agenda) -> Mem<()>
         → IsReached world.now.script steps → IsAgreed world.now.script world.now.run.steps agenda.new) }
 {
     match world.run().steps.last() {
-        Some(step) => agenda.note(&step, told(world, step.stamp().node, step.event())),
+        Some(step) => agenda.note(world.script(), &step, told(world, step.stamp().node, step.event())),
         None => Ok(()),
     }
 }

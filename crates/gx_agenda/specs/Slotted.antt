@@ -1,0 +1,80 @@
+-- Slots that agree with the steps of a run.
+use Rattle.std.specs.Prelude.{◌≡◌, ◌<◌, ◌+◌, ℕ, Bool, true, false, if◌then◌else◌, List, [], ◌∷◌, length, slice_get, Some, None, nat_lt}
+use Rattle.std.specs.declared.option.Option.{Option}
+use Rattle.gx_ids.specs.declared.ids.SessionId.{SessionId}
+use Rattle.gx_tree.specs.declared.stmt.Stmt.{Stmt}
+use Rattle.gx_tree.specs.declared.stmt.Stmt.TheVariants as stmt
+use Rattle.gx_script.specs.declared.Line.{Line}
+use Rattle.gx_script.specs.declared.Script.{Script}
+use Rattle.gx_store.specs.declared.mark.Mark.{Mark}
+use Rattle.gx_store.specs.declared.mark.Mark.TheVariants.{Answer}
+use Rattle.gx_store.specs.declared.run.Step.{Step}
+use Rattle.gx_store.specs.Groups.{open_in, slots_after}
+use Rattle.gx_store.specs.Legal.{draws}
+use Rattle.gx_store.specs.Lines.{BlockState, Outside, state_of, stmt_of}
+use Rattle.gx_store.specs.Marks.{is_same_session}
+use Rattle.gx_store.specs.Points.{marks_in}
+use Rattle.gx_agenda.specs.declared.slots.Slots.{Slots}
+
+-- OUTSIDE A BLOCK
+abbrev pub is_outside : BlockState → Bool
+is_outside Outside = true
+is_outside _ = false
+
+-- behind a statement, whatever its answer
+abbrev pub outside_behind : Bool → Stmt → Bool
+outside_behind outside (stmt.Begin level) = false
+outside_behind outside stmt.Commit = true
+outside_behind outside stmt.Rollback = true
+outside_behind outside _ = outside
+
+abbrev pub outside_line : Bool → Option Line → Bool
+outside_line outside None = outside
+outside_line outside (Some line) = outside_behind outside line.stmt
+
+abbrev pub outside_stmt : Bool → Option Stmt → Bool
+outside_stmt outside None = outside
+outside_stmt outside (Some line) = outside_behind outside line
+
+-- behind marks, where it is told whether the session stood outside before them
+abbrev pub outside_from : Script → SessionId → Bool → List Mark → Bool
+outside_from script session outside [] = outside
+outside_from script session outside (Answer s n reply ∷ ms) =
+    outside_from script session (if is_same_session s session then outside_stmt outside (stmt_of session n script.lines) else outside) ms
+outside_from script session outside (_ ∷ ms) = outside_from script session outside ms
+
+-- LINES
+abbrev pub line_in : List Line → Option ℕ → Option Line
+line_in lines None = None
+line_in lines (Some place) = slice_get lines place
+
+abbrev pub opens_line : Option Line → Bool
+opens_line None = false
+opens_line (Some line) = draws Outside line.stmt
+
+-- WHO IS ANSWERED
+abbrev pub lowest_from : ℕ → List Mark → ℕ
+lowest_from least [] = least
+lowest_from least (Answer s n reply ∷ ms) = lowest_from (if nat_lt s.0 least then s.0 else least) ms
+lowest_from least (_ ∷ ms) = lowest_from least ms
+
+abbrev pub beyond_from : ℕ → List Mark → ℕ
+beyond_from past [] = past
+beyond_from past (Answer s n reply ∷ ms) = beyond_from (if nat_lt s.0 past then past else s.0 + 1) ms
+beyond_from past (_ ∷ ms) = beyond_from past ms
+
+-- WHAT IS KEPT
+-- which sessions stand outside a block
+abbrev pub AreOutside : Script → List Step → List Bool → Type 0
+AreOutside script steps outside = (session : SessionId) → session.0 < length script.sessions → slice_get outside session.0 ≡ Some (is_outside (state_of script session (marks_in steps)))
+
+-- the slots, the open transactions, and which sessions stand outside a block
+pub record AreAsTold (script : Script) (steps : List Step) (slots : Slots) : Type 0 where
+  pub groups : slots.groups ≡ slots_after script steps
+  pub begun : slots.begun.items ≡ open_in (marks_in steps)
+  pub outside : AreOutside script steps slots.outside.items
+
+-- nothing is kept of a script without groups
+abbrev pub AreSlots : Script → List Step → Option Slots → Type 0
+AreSlots script steps None = script.groups ≡ []
+AreSlots script steps (Some slots) = AreAsTold script steps slots

@@ -1,0 +1,187 @@
+// Whose next line begins a transaction.
+ghost use Rattle.std.specs.Prelude.{◌≡◌, ◌<◌, ◌≤◌, ◌++◌, ◌∷◌, [], true, filter, length, option_map, slice_get, replicate, IfOk, List};
+ghost use Rattle.gx_ids.specs.declared.ids.SessionId.{SessionId as OneSession};
+ghost use Rattle.gx_store.specs.Groups.{all_asking, asks_in, is_to_open as is_to_open_in};
+ghost use Rattle.gx_store.specs.Language.{IsScript};
+ghost use Rattle.gx_store.specs.Legal.{draws as draws_in};
+ghost use Rattle.gx_store.specs.Lines.{Outside};
+ghost use Rattle.gx_store.specs.Marks.{is_answered as is_answered_in};
+ghost use Rattle.gx_store.specs.Schedule.{sessions_of};
+ghost use Rattle.gx_store.specs.declared.run.Step.{Step};
+ghost use Rattle.gx_agenda.specs.Queued.{AreQueued, AreQueuedBy};
+ghost use Rattle.gx_agenda.specs.Slotted.{AreOutside, beyond_from, line_in, lowest_from, opens_line, outside_behind, outside_from, outside_line};
+
+use crate::queue::Queue;
+use crate::standing::Standing;
+use crate::taking::ask;
+use gx_groups::Groups;
+use gx_ids::{Mem, SessionId};
+use gx_script::{Line, Script};
+use gx_store::Mark;
+use gx_tree::Stmt;
+use std::alloc::Global;
+
+// Outside a block, BEGIN and each command begin a transaction.
+fn draws(stmt: &Stmt) -> bool
+    ensures { result ≡ draws_in Outside stmt.now }
+{
+    match stmt {
+        Stmt::Commit => false,
+        Stmt::Rollback => false,
+        Stmt::Lock(_, _) => false,
+        _ => true,
+    }
+}
+
+// Whether the line at a place begins a transaction outside a block.
+fn opens_at(lines: &[Line], place: Option<usize>) -> bool
+    ensures { result ≡ opens_line (line_in lines.now place) }
+{
+    match place {
+        Some(place) => place < lines.len() && draws(&lines[place].stmt),
+        None => false,
+    }
+}
+
+// Whether a session stands outside a block behind a statement, where it is told whether it did before.
+fn is_outside_behind(outside: bool, stmt: &Stmt) -> bool
+    ensures { result ≡ outside_behind outside stmt.now }
+{
+    match stmt {
+        Stmt::Begin(_) => false,
+        Stmt::Commit => true,
+        Stmt::Rollback => true,
+        _ => outside,
+    }
+}
+
+// The same behind the line at a place.
+fn is_outside_at(lines: &[Line], place: Option<usize>, outside: bool) -> bool
+    ensures { result ≡ outside_line outside (line_in lines.now place) }
+{
+    match place {
+        Some(place) => {
+            if place < lines.len() {
+                is_outside_behind(outside, &lines[place].stmt)
+            } else {
+                outside
+            }
+        }
+        None => outside,
+    }
+}
+
+// The place of a session's line of a number.
+fn place_of_line(standing: &Standing, number: u32) -> Option<usize> {
+    if number == 0 {
+        None
+    } else {
+        standing.places.as_slice().get((number - 1) as usize).copied()
+    }
+}
+
+pub(crate) fn all_outside(alloc: Global, sessions: usize) -> Mem<Vec<bool>>
+    ensures { IfOk result (λ outside. outside.items ≡ replicate sessions true) }
+{
+    let mut outside = Vec::with_capacity(alloc, sessions)?;
+    for _session in 0..sessions {
+        outside.push(true)?;
+    }
+    Ok(outside)
+}
+
+// Whether the session of a number is idle, and its next line begins a transaction.
+fn is_to_open(script: &Script, queue: &Queue, outside: &[bool], number: usize) -> bool {
+    if number < outside.len() && outside[number] && number < queue.standings.len() {
+        opens_at(script.lines.as_slice(), queue.standings[number].next_place())
+    } else {
+        false
+    }
+}
+
+// A session asks where its next line begins a transaction.
+fn ask_where_due(groups: &mut Groups, script: &Script, queue: &Queue, outside: &[bool], number: usize) {
+    if is_to_open(script, queue, outside, number) {
+        ask(groups, SessionId(number as u8));
+    }
+}
+
+// All ask whose first line begins a transaction.
+pub(crate) fn ask_all(groups: &mut Groups, script: &Script, queue: &Queue, outside: &[bool]) {
+    for number in 0..script.sessions.len() {
+        ask_where_due(groups, script, queue, outside, number);
+    }
+}
+
+fn is_answered(marks: &[Mark], session: SessionId) -> bool
+    ensures { result ≡ is_answered_in session marks.now }
+{
+    for mark in marks {
+        if let Mark::Answer { session: other, .. } = mark {
+            if *other == session {
+                return true;
+            }
+        }
+    }
+    false
+}
+
+// The least number of a session with an answer among the marks, or the one given where that is less.
+fn lowest(marks: &[Mark], most: usize) -> usize
+    ensures { result ≡ lowest_from most marks.now }
+{
+    let mut least = most;
+    for mark in marks {
+        if let Mark::Answer { session, .. } = mark {
+            if usize::from(session.0) < least {
+                least = usize::from(session.0);
+            }
+        }
+    }
+    least
+}
+
+// One more than the greatest such number, or 0.
+fn beyond(marks: &[Mark]) -> usize
+    ensures { result ≡ beyond_from 0 marks.now }
+{
+    let mut past = 0;
+    for mark in marks {
+        if let Mark::Answer { session, .. } = mark {
+            if usize::from(session.0) >= past {
+                past = usize::from(session.0) + 1;
+            }
+        }
+    }
+    past
+}
+
+// Those ask of whom a line was answered, and whose next one begins a transaction.
+pub(crate) fn ask_answered(groups: &mut Groups, script: &Script, queue: &Queue, outside: &[bool], marks: &[Mark]) {
+    let past = beyond(marks).min(script.sessions.len());
+    for number in lowest(marks, past)..past {
+        if is_answered(marks, SessionId(number as u8)) {
+            ask_where_due(groups, script, queue, outside, number);
+        }
+    }
+}
+
+// A line of the session of a number was answered.
+fn note_answer(outside: &mut Vec<bool>, script: &Script, queue: &Queue, number: usize, line: u32) {
+    if number < outside.len() && number < queue.standings.len() {
+        outside[number] = is_outside_at(
+            script.lines.as_slice(),
+            place_of_line(&queue.standings[number], line),
+            outside[number],
+        );
+    }
+}
+
+// Lines were answered: their sessions may have left their blocks, or stand in some.
+pub(crate) fn note_answers(outside: &mut Vec<bool>, script: &Script, queue: &Queue, marks: &[Mark]) {
+    for mark in marks {
+        if let Mark::Answer { session, number, .. } = mark {
+            note_answer(outside, script, queue, usize::from(session.0), *number);
+        }
+    }
+}

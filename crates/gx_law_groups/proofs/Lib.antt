@@ -1,0 +1,14 @@
+pub mod Marks
+pub mod Tidy
+pub mod Starting
+pub mod Answering
+pub mod Answered
+pub mod Tables
+pub mod Slots
+pub mod Through
+pub mod Giving
+pub mod Steps
+pub mod Bounds
+pub mod Ending
+pub mod Members
+pub mod Runs
