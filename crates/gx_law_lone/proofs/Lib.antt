@@ -14,3 +14,4 @@ pub mod Decides
 pub mod Choices
 pub mod FindsVictims
 pub mod Grouped
+pub mod Askers
