@@ -23,3 +23,5 @@ pub mod Oks
 pub mod Parted
 pub mod Quieter
 pub mod Stamps
+pub mod Asking
+pub mod Slotting

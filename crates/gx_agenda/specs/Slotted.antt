@@ -1,5 +1,5 @@
 -- Slots that agree with the steps of a run.
-use Rattle.std.specs.Prelude.{◌≡◌, ◌<◌, ◌+◌, ℕ, Bool, true, false, if◌then◌else◌, List, [], ◌∷◌, length, slice_get, Some, None, nat_lt}
+use Rattle.std.specs.Prelude.{◌≡◌, ◌<◌, ◌+◌, ◌-◌, ◌==◌, ℕ, Bool, true, false, if◌then◌else◌, List, [], ◌∷◌, length, slice_get, slice_set, Some, None, nat_lt}
 use Rattle.std.specs.declared.option.Option.{Option}
 use Rattle.gx_ids.specs.declared.ids.SessionId.{SessionId}
 use Rattle.gx_tree.specs.declared.stmt.Stmt.{Stmt}
@@ -9,12 +9,15 @@ use Rattle.gx_script.specs.declared.Script.{Script}
 use Rattle.gx_store.specs.declared.mark.Mark.{Mark}
 use Rattle.gx_store.specs.declared.mark.Mark.TheVariants.{Answer}
 use Rattle.gx_store.specs.declared.run.Step.{Step}
-use Rattle.gx_store.specs.Groups.{open_in, slots_after}
+use Rattle.gx_groups.specs.Table.{Table}
+use Rattle.gx_store.specs.Groups.{asking, open_in, slots_after}
 use Rattle.gx_store.specs.Legal.{draws}
 use Rattle.gx_store.specs.Lines.{BlockState, Outside, state_of, stmt_of}
 use Rattle.gx_store.specs.Marks.{is_same_session}
 use Rattle.gx_store.specs.Points.{marks_in}
+use Rattle.gx_agenda.specs.Moves.{next_place}
 use Rattle.gx_agenda.specs.declared.slots.Slots.{Slots}
+use Rattle.gx_agenda.specs.declared.standing.Standing.{Standing}
 
 -- OUTSIDE A BLOCK
 abbrev pub is_outside : BlockState → Bool
@@ -51,6 +54,33 @@ line_in lines (Some place) = slice_get lines place
 abbrev pub opens_line : Option Line → Bool
 opens_line None = false
 opens_line (Some line) = draws Outside line.stmt
+
+-- the place of a session's line of a number, where its lines stand at these places
+abbrev pub place_of : List ℕ → ℕ → Option ℕ
+place_of places number = if number == 0 then None else slice_get places (number - 1)
+
+-- whether the next line of a session begins a transaction, by whether it stands outside a block and by where it stands in the file
+abbrev pub opens_there : List Line → Option Bool → Option Standing → Bool
+opens_there lines (Some true) (Some standing) = opens_line (line_in lines (next_place standing))
+opens_there lines _ _ = false
+
+abbrev pub is_due : List Line → List Standing → List Bool → SessionId → Bool
+is_due lines standings outside session = opens_there lines (slice_get outside session.0) (slice_get standings session.0)
+
+-- those of these sessions ask for whom this holds
+abbrev pub asking_if : (SessionId → Bool) → Table → List SessionId → Table
+asking_if test t [] = t
+asking_if test t (s ∷ ss) = asking_if test (if test s then asking t s else t) ss
+
+-- a session's line of a number was answered
+abbrev pub noted_at : List Line → List Bool → SessionId → ℕ → Option Bool → Option Standing → List Bool
+noted_at lines outside session number (Some was) (Some standing) = slice_set outside session.0 (outside_line was (line_in lines (place_of standing.places number)))
+noted_at lines outside session number _ _ = outside
+
+abbrev pub noted : List Line → List Standing → List Bool → List Mark → List Bool
+noted lines standings outside [] = outside
+noted lines standings outside (Answer s n reply ∷ ms) = noted lines standings (noted_at lines outside s n (slice_get outside s.0) (slice_get standings s.0)) ms
+noted lines standings outside (_ ∷ ms) = noted lines standings outside ms
 
 -- WHO IS ANSWERED
 abbrev pub lowest_from : ℕ → List Mark → ℕ

@@ -1,15 +1,12 @@
 // Whose next line begins a transaction.
-ghost use Rattle.std.specs.Prelude.{◌≡◌, ◌<◌, ◌≤◌, ◌++◌, ◌∷◌, [], true, filter, length, option_map, slice_get, replicate, IfOk, List};
-ghost use Rattle.gx_ids.specs.declared.ids.SessionId.{SessionId as OneSession};
-ghost use Rattle.gx_store.specs.Groups.{all_asking, asks_in, is_to_open as is_to_open_in};
+ghost use Rattle.std.specs.Prelude.{◌≡◌, ◌&&◌, if◌then◌else◌, true, slice_get, replicate, IfOk};
+ghost use Rattle.gx_store.specs.Groups.{asking};
 ghost use Rattle.gx_store.specs.Language.{IsScript};
 ghost use Rattle.gx_store.specs.Legal.{draws as draws_in};
 ghost use Rattle.gx_store.specs.Lines.{Outside};
 ghost use Rattle.gx_store.specs.Marks.{is_answered as is_answered_in};
 ghost use Rattle.gx_store.specs.Schedule.{sessions_of};
-ghost use Rattle.gx_store.specs.declared.run.Step.{Step};
-ghost use Rattle.gx_agenda.specs.Queued.{AreQueued, AreQueuedBy};
-ghost use Rattle.gx_agenda.specs.Slotted.{AreOutside, beyond_from, line_in, lowest_from, opens_line, outside_behind, outside_from, outside_line};
+ghost use Rattle.gx_agenda.specs.Slotted.{asking_if, beyond_from, is_due, line_in, lowest_from, noted, noted_at, opens_line, outside_behind, outside_line, place_of};
 
 use crate::queue::Queue;
 use crate::standing::Standing;
@@ -72,7 +69,9 @@ fn is_outside_at(lines: &[Line], place: Option<usize>, outside: bool) -> bool
 }
 
 // The place of a session's line of a number.
-fn place_of_line(standing: &Standing, number: u32) -> Option<usize> {
+fn place_of_line(standing: &Standing, number: u32) -> Option<usize>
+    ensures { result ≡ place_of standing.now.places number }
+{
     if number == 0 {
         None
     } else {
@@ -90,26 +89,58 @@ pub(crate) fn all_outside(alloc: Global, sessions: usize) -> Mem<Vec<bool>>
     Ok(outside)
 }
 
-// Whether the session of a number is idle, and its next line begins a transaction.
-fn is_to_open(script: &Script, queue: &Queue, outside: &[bool], number: usize) -> bool {
-    if number < outside.len() && outside[number] && number < queue.standings.len() {
-        opens_at(script.lines.as_slice(), queue.standings[number].next_place())
-    } else {
-        false
+// Whether a session is idle, and its next line begins a transaction.
+fn is_to_open(script: &Script, queue: &Queue, outside: &[bool], session: SessionId) -> bool
+    ensures { result ≡ is_due script.now.lines queue.now.standings.items outside.now session }
+{
+    let number = usize::from(session.0);
+    match outside.get(number).copied() {
+        Some(true) => match queue.standings.get(number) {
+            Some(standing) => opens_at(script.lines.as_slice(), standing.next_place()),
+            None => false,
+        },
+        _ => false,
     }
 }
 
 // A session asks where its next line begins a transaction.
-fn ask_where_due(groups: &mut Groups, script: &Script, queue: &Queue, outside: &[bool], number: usize) {
-    if is_to_open(script, queue, outside, number) {
-        ask(groups, SessionId(number as u8));
+fn ask_where_due(
+    groups: &mut Groups,
+    script: &Script,
+    queue: &Queue,
+    outside: &[bool],
+    session: SessionId,
+)
+    ensures { groups.new ≡ (if is_due script.now.lines queue.now.standings.items outside.now session then asking groups.old session else groups.old) }
+{
+    if is_to_open(script, queue, outside, session) {
+        ask(groups, session);
+    }
+}
+
+// It does so where a line of it was answered.
+fn ask_where_answered(
+    groups: &mut Groups,
+    script: &Script,
+    queue: &Queue,
+    outside: &[bool],
+    marks: &[Mark],
+    session: SessionId,
+)
+    ensures { groups.new ≡ (if is_answered_in session marks.now && is_due script.now.lines queue.now.standings.items outside.now session then asking groups.old session else groups.old) }
+{
+    if is_answered(marks, session) {
+        ask_where_due(groups, script, queue, outside, session);
     }
 }
 
 // All ask whose first line begins a transaction.
-pub(crate) fn ask_all(groups: &mut Groups, script: &Script, queue: &Queue, outside: &[bool]) {
+pub(crate) fn ask_all(groups: &mut Groups, script: &Script, queue: &Queue, outside: &[bool])
+    requires { IsScript script.now }
+    ensures { groups.new ≡ asking_if (is_due script.now.lines queue.now.standings.items outside.now) groups.old (sessions_of script.now) }
+{
     for number in 0..script.sessions.len() {
-        ask_where_due(groups, script, queue, outside, number);
+        ask_where_due(groups, script, queue, outside, SessionId(number as u8));
     }
 }
 
@@ -157,31 +188,52 @@ fn beyond(marks: &[Mark]) -> usize
 }
 
 // Those ask of whom a line was answered, and whose next one begins a transaction.
-pub(crate) fn ask_answered(groups: &mut Groups, script: &Script, queue: &Queue, outside: &[bool], marks: &[Mark]) {
+pub(crate) fn ask_answered(
+    groups: &mut Groups,
+    script: &Script,
+    queue: &Queue,
+    outside: &[bool],
+    marks: &[Mark],
+)
+    requires { IsScript script.now }
+    ensures { groups.new ≡ asking_if (λ s. is_answered_in s marks.now && is_due script.now.lines queue.now.standings.items outside.now s) groups.old (sessions_of script.now) }
+{
     let past = beyond(marks).min(script.sessions.len());
     for number in lowest(marks, past)..past {
-        if is_answered(marks, SessionId(number as u8)) {
-            ask_where_due(groups, script, queue, outside, number);
-        }
-    }
-}
-
-// A line of the session of a number was answered.
-fn note_answer(outside: &mut Vec<bool>, script: &Script, queue: &Queue, number: usize, line: u32) {
-    if number < outside.len() && number < queue.standings.len() {
-        outside[number] = is_outside_at(
-            script.lines.as_slice(),
-            place_of_line(&queue.standings[number], line),
-            outside[number],
+        ask_where_answered(
+            groups,
+            script,
+            queue,
+            outside,
+            marks,
+            SessionId(number as u8),
         );
     }
 }
 
+// A session's line of a number was answered.
+fn note_answer(outside: &mut Vec<bool>, script: &Script, queue: &Queue, session: SessionId, line: u32)
+    ensures { outside.new.items ≡ noted_at script.now.lines outside.old.items session line (slice_get outside.old.items session.0) (slice_get queue.now.standings.items session.0) }
+{
+    let number = usize::from(session.0);
+    if let Some(was) = outside.as_slice().get(number).copied() {
+        if let Some(standing) = queue.standings.get(number) {
+            outside[number] = is_outside_at(
+                script.lines.as_slice(),
+                place_of_line(standing, line),
+                was,
+            );
+        }
+    }
+}
+
 // Lines were answered: their sessions may have left their blocks, or stand in some.
-pub(crate) fn note_answers(outside: &mut Vec<bool>, script: &Script, queue: &Queue, marks: &[Mark]) {
+pub(crate) fn note_answers(outside: &mut Vec<bool>, script: &Script, queue: &Queue, marks: &[Mark])
+    ensures { outside.new.items ≡ noted script.now.lines queue.now.standings.items outside.old.items marks.now }
+{
     for mark in marks {
         if let Mark::Answer { session, number, .. } = mark {
-            note_answer(outside, script, queue, usize::from(session.0), *number);
+            note_answer(outside, script, queue, *session, *number);
         }
     }
 }

@@ -1,4 +1,4 @@
-ghost use Rattle.std.specs.Prelude.{◌≡◌, ◌<◌, ◌++◌, ◌∷◌, [], IfOk, List, OnOk, length};
+ghost use Rattle.std.specs.Prelude.{◌≡◌, ◌++◌, ◌∷◌, [], IfOk, List, OnOk};
 ghost use Rattle.gx_groups.specs.Table.{is_held_up};
 ghost use Rattle.gx_store.specs.Groups.{open_from, slots_through};
 ghost use Rattle.gx_store.specs.Language.{IsScript};
@@ -39,8 +39,14 @@ pub fn slots_of(alloc: Global, script: &Script, queue: &Queue) -> Mem<Option<Slo
 }
 
 /// A step was done, of which the queue knows.
-pub fn note_slots(slots: &mut Option<Slots>, script: &Script, queue: &Queue, step: &StepView<'_>) -> Mem<()>
-    ensures { OnOk result ((steps : List Step) → IsScript script.now → AreSlots script.now steps slots.old → AreQueued script.now (steps ++ step.now ∷ []) queue.now
+pub fn note_slots(
+    slots: &mut Option<Slots>,
+    script: &Script,
+    queue: &Queue,
+    step: &StepView<'_>,
+) -> Mem<()>
+    requires { IsScript script.now }
+    ensures { OnOk result ((steps : List Step) → AreSlots script.now steps slots.old → AreQueued script.now (steps ++ step.now ∷ []) queue.now
         → AreSlots script.now (steps ++ step.now ∷ []) slots.new) }
 {
     match slots {
@@ -75,7 +81,8 @@ impl Slots {
 
     // These are the marks of a step.
     fn note(&mut self, script: &Script, queue: &Queue, marks: &[Mark]) -> Mem<()>
-        ensures { OnOk result ((steps : List Step) (step : Step) → step.marks ≡ marks.now → IsScript script.now → AreAsTold script.now steps self.old
+        requires { IsScript script.now }
+        ensures { OnOk result ((steps : List Step) (step : Step) → step.marks ≡ marks.now → AreAsTold script.now steps self.old
             → AreQueued script.now (steps ++ step ∷ []) queue.now → AreAsTold script.now (steps ++ step ∷ []) self.new) }
     {
         through_marks(&mut self.groups, &mut self.begun, marks)?;

@@ -1,11 +1,12 @@
 -- The first tuple whose constants fault, and what a command of a script is planned by.
-use Rattle.std.proofs.Common.{◌≡◌, ◌<◌, ℕ, zero, suc, ◌+◌, true, false, cond, List, [], ◌∷◌, Result, Ok, Err, refl, sym, ap, ◌∙◌, subst, length, get_or, slice_get, map, All, Some, None, IsSome, arith, nat_lt}
+use Rattle.std.proofs.Common.{◌≡◌, ◌<◌, ◌≤◌, ◌^◌, ℕ, zero, suc, ◌+◌, Bool, true, false, cond, List, [], ◌∷◌, Result, Ok, Err, refl, sym, ap, ◌∙◌, subst, length, get_or, slice_get, map, All, Some, None, IsSome, arith, nat_lt}
 use Rattle.std.proofs.lemmas.Bool.{ltb-true}
 use Rattle.std.proofs.lemmas.Bool.Decides.{nat_tests}
 use Rattle.std.proofs.lemmas.List.{length-map}
 use Rattle.std.proofs.lemmas.List.Elements.{All-from_recursion, All-get_or, recursion_from_All}
 use Rattle.std.specs.List.{AllByRecursion}
 use Rattle.gx_lemmas.proofs.Lists.{place-below}
+use Rattle.gx_lemmas.proofs.Numbers.{le-of}
 use Rattle.gx_tree.specs.declared.expr.Expr.{Expr}
 use Rattle.gx_tree.specs.declared.schema.Column.{Column}
 use Rattle.gx_tree.specs.declared.schema.Dist.{Dist}
@@ -65,7 +66,11 @@ pub stmt-of : (script : Script) (k : ℕ) → IsScript script → k < length scr
 stmt-of script k language l = line-of script.tables (length script.sessions) script.lines k language.lines l
 
 short-in : (line : Stmt) → HasTuplesTo 4294967295 line → is_short line ≡ true
-short-in (stmt.Insert table tuples) few = grind (arith, few)
+short-in (stmt.Insert table tuples) few = by_test (nat_lt (length tuples) (2 ^ 32)) refl
+  where
+    by_test : (b : Bool) → nat_lt (length tuples) (2 ^ 32) ≡ b → nat_lt (length tuples) (2 ^ 32) ≡ true
+    by_test true e = e
+    by_test false e = let most : 2 ^ 32 ≤ length tuples = le-of (length tuples) (2 ^ 32) e in absurd (omega (arith, few, most))
 short-in line few = refl
 
 lines-short : (lines : List Line) (k : ℕ) → All (IsLineTo 4294967295) lines → k < length lines → is_short (stmt_at lines k) ≡ true

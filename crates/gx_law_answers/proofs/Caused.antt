@@ -4,7 +4,6 @@ use Rattle.std.proofs.Math.Seq.{take-append_seam}
 use Rattle.std.proofs.lemmas.Option.{get_or_from_slice_get, slice_get_within}
 use Rattle.std.specs.Prelude.{Contains, drop, slice_get, take}
 use Rattle.gx_lemmas.proofs.Lists.{get-append}
-use Rattle.gx_lemmas.proofs.Numbers.{lt-le}
 use Rattle.gx_lemmas.proofs.Options.{some-same}
 use Rattle.gx_ids.specs.declared.ids.Cid.{Cid}
 use Rattle.gx_ids.specs.declared.ids.Gxid.{Gxid}
@@ -24,7 +23,6 @@ use Rattle.gx_meaning.specs.declared.fault.ArithFault.TheVariants as arith_fault
 use Rattle.gx_msg.specs.declared.message.Message.{Message}
 use Rattle.gx_msg.specs.declared.message.Message.TheVariants as message
 use Rattle.gx_msg.specs.declared.reply.Cause.{Cause}
-use Rattle.gx_msg.specs.declared.reply.Reply.{Reply}
 use Rattle.gx_msg.specs.declared.reply.Reply.TheVariants as reply
 use Rattle.gx_script.specs.declared.Script.{Script}
 use Rattle.gx_store.specs.declared.event.Event.{Event}
@@ -40,7 +38,6 @@ use Rattle.gx_store.specs.Refusals.{HasFaulted, IsCause, IsChange, IsFirstFailed
 use Rattle.gx_store.proofs.Runs.{marks_in-push}
 use Rattle.gx_rules.specs.AtCoordinator.{reason_of}
 use Rattle.gx_rules.specs.Machine.{world_of}
-use Rattle.gx_rules.specs.Segments.{local_of}
 use Rattle.gx_rules.specs.Slices.{cause_of}
 use Rattle.gx_law_order.specs.Finish.{point_at}
 use Rattle.gx_law_order.proofs.Commits.{take-kept}

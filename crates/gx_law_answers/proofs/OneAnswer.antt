@@ -1,5 +1,5 @@
 -- A segment gives one answer to a command: the command is new there when the first goes out, and that step sends it alone.
-use Rattle.std.proofs.Common.{◌≡◌, ◌≤◌, ◌<◌, ◌⊎◌, inl, inr, ℕ, Bool, List, [], ◌∷◌, ◌++◌, Option, Some, refl, sym, subst, ap, ◌∙◌, append_assoc}
+use Rattle.std.proofs.Common.{◌≡◌, ◌≤◌, ◌<◌, ◌⊎◌, inl, inr, ℕ, Bool, List, [], ◌∷◌, ◌++◌, Option, refl, sym, subst, ap, ◌∙◌, append_assoc}
 use Rattle.std.specs.Prelude.{slice_get}
 use Rattle.gx_lemmas.proofs.Lists.{get-append}
 use Rattle.gx_lemmas.proofs.Numbers.{lt-le}
@@ -20,13 +20,12 @@ use Rattle.gx_script.specs.declared.Script.{Script}
 use Rattle.gx_store.specs.declared.event.Event.{Event}
 use Rattle.gx_store.specs.declared.event.Event.TheVariants.{Receive, Resume}
 use Rattle.gx_store.specs.declared.run.Run.{Run}
-use Rattle.gx_store.specs.declared.run.Step.{Step}
 use Rattle.gx_store.specs.Language.{AreLinesNumbered}
 use Rattle.gx_store.specs.Messages.{IsSending}
 use Rattle.gx_store.specs.Points.{marks_in}
 use Rattle.gx_store.specs.Refusals.{the_coordinator}
 use Rattle.gx_rules.specs.AtSegment.{on_message}
-use Rattle.gx_rules.specs.Machine.{World, after, found, new_world, world_of}
+use Rattle.gx_rules.specs.Machine.{World, found, new_world, world_of}
 use Rattle.gx_rules.specs.Segments.{local_of, reply as reply_out}
 use Rattle.gx_rules.specs.System.{IsSystemRun}
 use Rattle.gx_law_order.proofs.Machines.{system-led}
@@ -40,34 +39,43 @@ use Rattle.gx_law_answers.proofs.Heard.{after-append, after-grown}
 
 -- FRONTS OF EVENTS
 -- of two fronts of one list, each with what comes next, one holds the other with its next, or both are one
-apart : {A : Type 0} (xs ys : List A) (a b : A) (us vs : List A) → xs ++ (a ∷ us) ≡ ys ++ (b ∷ vs)
-    → ((ws : List A) × (ys ≡ xs ++ (a ∷ ws))) ⊎ ((ws : List A) × (xs ≡ ys ++ (b ∷ ws))) ⊎ ((xs ≡ ys) × (a ≡ b))
-apart [] [] a b us vs e = inr (inr (refl, cc))
-apart [] (y ∷ ys) a b us vs e = inl (ys, cc)
-apart (x ∷ xs) [] a b us vs e = inr (inl (xs, cc))
-apart (x ∷ xs) (y ∷ ys) a b us vs e = by_rest (apart xs ys a b us vs (cc))
-  where
-    heads : x ≡ y
-    heads = cc
+abbrev Apart : {A : Type 0} → List A → List A → A → A → Type 0
+Apart {A = A} xs ys a b = ((ws : List A) × (ys ≡ xs ++ (a ∷ ws))) ⊎ ((ws : List A) × (xs ≡ ys ++ (b ∷ ws))) ⊎ ((xs ≡ ys) × (a ≡ b))
 
-    by_rest : ((ws : List _) × (ys ≡ xs ++ (a ∷ ws))) ⊎ ((ws : List _) × (xs ≡ ys ++ (b ∷ ws))) ⊎ ((xs ≡ ys) × (a ≡ b)) → ((ws : List _) × (y ∷ ys ≡ x ∷ (xs ++ (a ∷ ws)))) ⊎ ((ws : List _) × (x ∷ xs ≡ y ∷ (ys ++ (b ∷ ws)))) ⊎ ((x ∷ xs ≡ y ∷ ys) × (a ≡ b))
-    by_rest (inl (ws, q)) = inl (ws, cc)
-    by_rest (inr (inl (ws, q))) = inr (inl (ws, cc))
-    by_rest (inr (inr (q, p))) = inr (inr (cc, p))
+heads-same : {A : Type 0} (x y : A) (xs ys : List A) → x ∷ xs ≡ y ∷ ys → x ≡ y
+heads-same x y xs ys e = cc
+
+tails-same : {A : Type 0} (x y : A) (xs ys : List A) → x ∷ xs ≡ y ∷ ys → xs ≡ ys
+tails-same x y xs ys e = cc
+
+apart-next : {A : Type 0} (x y : A) (xs ys : List A) (a b : A) → x ≡ y → Apart xs ys a b → Apart (x ∷ xs) (y ∷ ys) a b
+apart-next x y xs ys a b e (inl (ws, q)) = inl (ws, ap (λ z. z ∷ ys) (sym e) ∙ ap (λ zs. x ∷ zs) q)
+apart-next x y xs ys a b e (inr (inl (ws, q))) = inr (inl (ws, ap (λ z. z ∷ xs) e ∙ ap (λ zs. y ∷ zs) q))
+apart-next x y xs ys a b e (inr (inr (q, p))) = inr (inr (ap (λ z. z ∷ xs) e ∙ ap (λ zs. y ∷ zs) q, p))
+
+apart : {A : Type 0} (xs ys : List A) (a b : A) (us vs : List A) → xs ++ (a ∷ us) ≡ ys ++ (b ∷ vs) → Apart xs ys a b
+apart [] [] a b us vs e = inr (inr (refl, heads-same a b us vs e))
+apart [] (y ∷ ys) a b us vs e = inl (ys, ap (λ z. z ∷ ys) (sym (heads-same a y us (ys ++ (b ∷ vs)) e)))
+apart (x ∷ xs) [] a b us vs e = inr (inl (xs, ap (λ z. z ∷ xs) (heads-same x b (xs ++ (a ∷ us)) vs e)))
+apart (x ∷ xs) (y ∷ ys) a b us vs e =
+    apart-next x y xs ys a b (heads-same x y (xs ++ (a ∷ us)) (ys ++ (b ∷ vs)) e) (apart xs ys a b us vs (tails-same x y (xs ++ (a ∷ us)) (ys ++ (b ∷ vs)) e))
 
 -- what was sent stays so
 sent-later : (script : Script) (front rest all : Events) → all ≡ front ++ rest → (s m : ℕ) (from to : Node) (number : ℕ) (told : Message) → IsSending (world_of script front).steps s m from to number told → IsSending (world_of script all).steps s m from to number told
 sent-later script front rest all e s m from to number told z =
     let grown = after-grown script (world_of script front) rest in
-    let is = ap (λ (v : World). v.steps) (ap (world_of script) e ∙ after-append script new_world front rest) ∙ grown.is in
+    let is : (world_of script all).steps ≡ (world_of script front).steps ++ grown.extra = ap (λ (v : World). v.steps) (ap (world_of script) e ∙ after-append script new_world front rest) ∙ grown.is in
     record { sender = z.sender; at = ap (λ ss. slice_get ss s) is ∙ get-append (world_of script front).steps grown.extra s z.sender z.at; node = z.node; sent = z.sent }
 
 -- ONE REPLY
+out-one : (a b : Out) → a ∷ [] ≡ b ∷ [] → a ≡ b
+out-one a b e = heads-same a b [] [] e
+
+told-one : (g : Gxid) (a b : Reply) → message.Answer g a ≡ message.Answer g b → a ≡ b
+told-one g a b e = cc
+
 reply-one : (g : Gxid) (a b : Reply) → reply_out g a ∷ [] ≡ reply_out g b ∷ [] → a ≡ b
-reply-one g a b e =
-    let out : reply_out g a ≡ reply_out g b = cc in
-    let told : message.Answer g a ≡ message.Answer g b = ap (λ (o : Out). o.message) out in
-    cc
+reply-one g a b e = told-one g a b (ap (λ (o : Out). o.message) (out-one (reply_out g a) (reply_out g b) e))
 
 no-both : (from to n : Node) (number : ℕ) (g : Gxid) → Receive from to number ≡ Resume n g → ⊥
 no-both from to n number g e = cc
@@ -86,9 +94,9 @@ module _ (script : Script) (w : World) (event : Event) (fails : Bool) (segment :
   gives-one l k s t x y a b (inl p) (inl q) =
       let e = sym p.is ∙ q.is in
       let envelopes : p.envelope ≡ q.envelope =
-          some-same p.envelope q.envelope (
-          sym p.posted ∙ ap (λ (f : Node). found f segment p.number w.sent) (same-from p.from q.from segment p.number q.number e)
-          ∙ ap (λ n. found q.from segment n w.sent) (same-number p.from q.from segment p.number q.number e) ∙ q.posted) in
+      some-same p.envelope q.envelope (
+      sym p.posted ∙ ap (λ (f : Node). found f segment p.number w.sent) (same-from p.from q.from segment p.number q.number e)
+      ∙ ap (λ n. found q.from segment n w.sent) (same-number p.from q.from segment p.number q.number e) ∙ q.posted) in
       reply-one g a b (sym p.given ∙ ap (λ (v : Envelope). (on_message script (w.segs segment.0) fails v.message).outs) envelopes ∙ q.given)
   gives-one l k s t x y a b (inl p) (inr q) = absurd (no-both p.from segment segment p.number g (sym p.is ∙ q.is))
   gives-one l k s t x y a b (inr p) (inl q) = absurd (no-both q.from segment segment q.number g (sym q.is ∙ p.is))
@@ -100,9 +108,6 @@ module _ (script : Script) (some : 1 ≤ script.segments) (numbered : AreLinesNu
     pub unsent : (other : Reply) → IsOfCommand other c → (s m : ℕ) (to : Node) (number : ℕ) → IsSending (world_of script x.given.before).steps s m segment to number (message.Answer g other) → ⊥
     unsent other kind s m to number z = by_way x.given.ran
       where
-        abbrev next : ℕ
-        next = next_command (local_of ((world_of script x.given.before).segs segment.0) g)
-
         of_word : (q : Reply) → IsOfCommand q c → IsToldOf script (marks_in (world_of script x.given.before).steps) (next_command (local_of ((world_of script x.given.before).segs segment.0) g)) segment g q
             → c.0 < next_command (local_of ((world_of script x.given.before).segs segment.0) g)
         of_word (reply.Done d wrote count part) e t = subst (λ (k : Cid). k.0 < next_command (local_of ((world_of script x.given.before).segs segment.0) g)) e t.0
@@ -132,7 +137,7 @@ module _ (script : Script) (some : 1 ≤ script.segments) (numbered : AreLinesNu
 
   -- TWO ANSWERS
   module _ (segment : Node) (one : 1 ≤ segment.0) (g : Gxid) (c : Cid) (a b : Reply) (of-a : IsOfCommand a c) (of-b : IsOfCommand b c) (x : IsEarned script es segment g c a) (y : IsEarned script es segment g c b) where
-    both-same : x.given.before ≡ y.given.before → (x.given.event, x.given.fails) ≡ (y.given.event, y.given.fails) → a ≡ b
+    both-same : x.given.before ≡ y.given.before → ◌≡◌ {A = Event × Bool} (x.given.event, x.given.fails) (y.given.event, y.given.fails) → a ≡ b
     both-same e p =
         gives-one script (world_of script y.given.before) y.given.event y.given.fails segment g c x.level y.level x.snapshot y.snapshot x.slice y.slice a b
         (subst (λ (q : Event × Bool). Gives script (world_of script y.given.before) q.0 q.1 segment g c x.level x.snapshot x.slice a) p
@@ -142,9 +147,7 @@ module _ (script : Script) (some : 1 ≤ script.segments) (numbered : AreLinesNu
     earned-one : a ≡ b
     earned-one = by_order (apart x.given.before y.given.before (x.given.event, x.given.fails) (y.given.event, y.given.fails) x.rest y.rest (sym (up-to segment one g c a x) ∙ up-to segment one g c b y))
       where
-        by_order : ((ws : Events) × (y.given.before ≡ x.given.before ++ ((x.given.event, x.given.fails) ∷ ws))) ⊎ ((ws : Events) × (x.given.before ≡ y.given.before ++ ((y.given.event, y.given.fails) ∷ ws)))
-            ⊎ ((x.given.before ≡ y.given.before) × ((x.given.event, x.given.fails) ≡ (y.given.event, y.given.fails)))
-            → a ≡ b
+        by_order : Apart x.given.before y.given.before (x.given.event, x.given.fails) (y.given.event, y.given.fails) → a ≡ b
         by_order (inl h) = absurd (unsent segment one g c b y a of-a x.sent.step x.sent.mark the_coordinator x.number (sent-before segment one g c a x y.given.before h.0 h.1))
         by_order (inr (inl h)) = absurd (unsent segment one g c a x b of-b y.sent.step y.sent.mark the_coordinator y.number (sent-before segment one g c b y x.given.before h.0 h.1))
         by_order (inr (inr h)) = both-same h.0 h.1

@@ -1,4 +1,4 @@
--- The first sending of a segment's word, and rows that were overtaken when it was said.
+-- The first FAILED of a command, what its segment had noted by then, and rows that were overtaken when it was sent.
 use Rattle.std.proofs.Common.{◌≡◌, ◌↔◌, ◌⊎◌, ◌∙◌, ◌<◌, ◌≤◌, ◌+◌, ◌++◌, ℕ, zero, suc, eqb, nat_lt, Bool, true, false, IsTrue}
 use Rattle.std.proofs.Common.{Option, List, [], ◌∷◌, Some, None, inl, inr, length, take, drop, slice_get, refl, sym, subst, ap, arith}
 use Rattle.std.proofs.lemmas.Bool.{eqb-true}

@@ -75,8 +75,8 @@ fn is_fault_at(
     )
 }
 
-/// Whether an evaluation of the command gave this fault before its transaction aborted, and is why it is refused; by the word of a segment
-/// that has noted it, where that is asked for.
+/// Whether an evaluation of the command gave this fault before its transaction aborted, and is why it is refused; by FAILED of a segment
+/// that had noted it, where that is asked for.
 pub fn has_faulted(
     alloc: Global,
     moment: &Moment<'_, '_>,

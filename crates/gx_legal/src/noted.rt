@@ -82,7 +82,8 @@ fn had_noted(moment: &Moment<'_, '_>, evaluation: Evaluation<'_>, segment: Node)
     let Some(first) = first_failed(moment, evaluation.gxid, evaluation.cid, segment) else {
         return false;
     };
-    has_noted(&moment.steps[..first.step + 1], evaluation, segment)
+    let by_then = &moment.steps[..first.step + 1];
+    has_noted(by_then, evaluation, segment)
 }
 
 /// Whether the point's step receives FAILED of the command from the segment, for this cause.

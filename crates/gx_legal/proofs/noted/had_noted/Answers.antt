@@ -11,14 +11,14 @@ returns-in_default c =
     let e = c.args.evaluation in
     (λ t. absurd (false-true t), λ had. absurd (unnoted e.gxid e.cid e.rid e.image.now c.args.segment c.args.moment.now.steps.now c.in_default.ensures had))
 
-pub overflow_add : goal.overflow_add
-overflow_add c =
+pub overflow_add-by_then : goal.overflow_add-by_then
+overflow_add-by_then c =
     let m = c.args.moment.now in
     let inside : c.in-Some.first.step + 1 ≤ length m.steps.now = first-step-inside c.args.evaluation.gxid (Failed c.args.evaluation.cid) c.args.segment the_coordinator m.steps.now c.in-Some.first c.in-Some.ensures in
     omega arith
 
-pub slice_bounds-end : goal.slice_bounds-end
-slice_bounds-end c =
+pub slice_bounds-by_then-end : goal.slice_bounds-by_then-end
+slice_bounds-by_then-end c =
     let m = c.args.moment.now in
     length-taken m.steps.now (c.in-Some.first.step + 1) (first-step-inside c.args.evaluation.gxid (Failed c.args.evaluation.cid) c.args.segment the_coordinator m.steps.now c.in-Some.first c.in-Some.ensures)
 

@@ -1,0 +1,11 @@
+use Rattle.std.specs.Prelude.{◌≡◌, ◌-◌, length, map}
+use Rattle.std.specs.List.{range_with_len}
+use Rattle.gx_ids.specs.declared.ids.SessionId.{SessionId}
+use Rattle.gx_store.specs.Schedule.{sessions_of}
+use Rattle.gx_agenda.specs.Slotted.{asking_if, is_due}
+use Rattle.gx_agenda.proofs.opening.ask_all.Given as goal
+
+abbrev pub invariant-loop-number : goal.invariant-loop-number
+invariant-loop-number l =
+    asking_if (is_due l.script.lines l.queue.standings.items l.outside) l.groups (map (λ n. let s : SessionId = record { 0 = n } in s) (range_with_len l.number (length l.script.sessions - l.number)))
+    ≡ asking_if (is_due l.script.lines l.queue.standings.items l.outside) l.initial.groups (sessions_of l.script)

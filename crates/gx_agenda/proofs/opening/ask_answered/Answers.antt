@@ -1,0 +1,18 @@
+use Rattle.std.proofs.Common.{◌≡◌, ◌∙◌, ◌<◌, ◌≤◌, ◌&&◌, Bool, arith, ap, false, length, sym, subst}
+use Rattle.std.proofs.lemmas.Grind.{common_steps}
+use Rattle.gx_ids.specs.declared.ids.SessionId.{SessionId}
+use Rattle.gx_store.specs.Marks.{is_answered}
+use Rattle.gx_agenda.specs.Slotted.{is_due}
+use Rattle.gx_agenda.proofs.Asking.{answered-between, next-asks}
+use Rattle.gx_agenda.proofs.opening.ask_answered.Goals as goal
+
+pub loop-number-init : goal.loop-number-init
+loop-number-init c =
+    answered-between (is_due c.args.script.now.lines c.args.queue.now.standings.items c.args.outside.now) c.args.groups.now c.args.marks.now c.lowest-number.result c.min-past.result (length c.args.script.now.sessions)
+    c.beyond.result c.beyond.ensures c.lowest-number.ensures (c.min-past.ensures ∙ ap (Prim.Native.Nat.min c.beyond.result) c.len.ensures)
+
+pub loop-number-preserved : goal.loop-number-preserved
+loop-number-preserved c =
+    next-asks (λ s. is_answered s c.args.marks.now && is_due c.args.script.now.lines c.args.queue.now.standings.items c.args.outside.now s) c.loop-number.groups c.ask_where_answered.new.groups c.loop-number.number c.min-past.result
+    c.loop-number-test.true c.ask_where_answered.ensures
+    ∙ c.loop-number.invariant
