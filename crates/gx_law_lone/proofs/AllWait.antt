@@ -52,12 +52,13 @@ use Rattle.gx_law_locks.specs.Marked.{AreLocksMarked, IsMarked}
 use Rattle.gx_law_runs.specs.Awaiting.{locks_at}
 use Rattle.gx_law_runs.specs.Openings.{is_round_or_opening}
 use Rattle.gx_law_runs.specs.Reached.{IsReached}
-use Rattle.gx_law_lone.specs.Alone.{AreAllWaits, NamesSomebody, WaitsSomewhere}
+use Rattle.gx_law_lone.specs.Alone.{AreAllWaits, WaitsSomewhere}
 use Rattle.gx_law_lone.specs.Rows.{WaitsAtRow}
+use Rattle.gx_law_lone.specs.Victims.{NamesSomebody}
 use Rattle.gx_law_lone.proofs.Alone.{coordinator-holder-waits, row-waits, segment-holder-waits, wait-active, wait-meets}
 
 -- LISTS
-any-has : {A : Type 0} (p : A → Bool) (xs : List A) → list_any p xs ≡ true → (x : A) × Has x xs × (p x ≡ true)
+pub any-has : {A : Type 0} (p : A → Bool) (xs : List A) → list_any p xs ≡ true → (x : A) × Has x xs × (p x ≡ true)
 any-has p [] e = absurd (cc)
 any-has {A = A} p (x ∷ xs) e = by_test (p x) refl e (any-has p xs)
   where

@@ -9,3 +9,9 @@ pub mod Leaving
 pub mod Holders
 pub mod Alone
 pub mod AllWait
+pub mod InRound
+pub mod Decides
+pub mod Choices
+pub mod FindsVictims
+pub mod Grouped
+pub mod Askers

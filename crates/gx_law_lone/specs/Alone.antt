@@ -1,5 +1,5 @@
 -- Who waits while nothing but a round is enabled.
-use Rattle.std.specs.Prelude.{◌≡◌, ◌≤◌, true, is_some, List, [], ◌∷◌, Contains}
+use Rattle.std.specs.Prelude.{◌≡◌, ◌≤◌, true, is_some, List, Contains}
 use Rattle.gx_ids.specs.declared.ids.Gxid.{Gxid}
 use Rattle.gx_ids.specs.declared.ids.Node.{Node}
 use Rattle.gx_script.specs.declared.Script.{Script}
@@ -8,8 +8,6 @@ use Rattle.gx_rules.specs.Machine.{World}
 use Rattle.gx_store.specs.declared.mark.Mark.{Mark}
 use Rattle.gx_store.specs.Rounds.{StandsAt}
 use Rattle.gx_waits.specs.declared.placed_edge.PlacedEdge.{PlacedEdge}
-use Rattle.gx_waits.specs.declared.verdict.Verdict.{Verdict}
-use Rattle.gx_waits.specs.declared.verdict.Verdict.TheVariants.{Victims}
 use Rattle.gx_law_runs.specs.Awaiting.{locks_at}
 
 -- the transaction waits for a lock at a node, of the coordinator's or a segment's
@@ -22,8 +20,3 @@ pub record WaitsSomewhere (script : Script) (w : World) (g : Gxid) : Type 0 wher
 pub record AreAllWaits (script : Script) (marks : List Mark) (edges : List PlacedEdge) : Type 0 where
   pub all_of_them : (e : PlacedEdge) → e.node.0 ≤ script.segments → StandsAt marks e → Contains edges e
   pub no_others : (e : PlacedEdge) → Contains edges e → (e.node.0 ≤ script.segments) × StandsAt marks e
-
--- the round comes to victims, one at least
-abbrev pub NamesSomebody : Verdict → Type 0
-NamesSomebody (Victims (v ∷ victims)) = Unit {0}
-NamesSomebody _ = ⊥

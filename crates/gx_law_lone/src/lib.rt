@@ -4,3 +4,4 @@
 pub mod frame;
 pub mod lone;
 pub mod rows;
+pub mod victims;

@@ -1,0 +1,46 @@
+-- A run of a driver does what the groups let; so where a round is all that is left to choose, it finds victims.
+use Rattle.std.proofs.Common.{◌≡◌, ℕ, zero, suc, List, [], ◌∷◌, ◌++◌, Some, inl, inr, Contains}
+use Rattle.std.specs.Prelude.{slice_get}
+use Rattle.gx_script.specs.declared.Script.{Script}
+use Rattle.gx_store.specs.Groups.{enabled_in, lets}
+use Rattle.gx_store.specs.Language.{IsScript}
+use Rattle.gx_store.specs.Schedule.{first_of}
+use Rattle.gx_store.specs.Whole.{AreInsertsWhole}
+use Rattle.gx_store.specs.declared.event.Event.{Event}
+use Rattle.gx_store.specs.declared.run.Step.{Step}
+use Rattle.gx_waits.proofs.Members.{Has, contains_from_has}
+use Rattle.gx_law_lone.proofs.Askers.{grouped-victims}
+use Rattle.gx_law_lone.specs.Victims.{AreLet, DoLoneRoundsFindVictims}
+use Rattle.gx_law_runs.specs.Reached.{IsReached}
+use Rattle.gx_drive.specs.Chosen.{AreChosen, Choice}
+use Rattle.gx_drive.specs.Ordered.{AreFirst, IsFirst}
+use Rattle.gx_drive.specs.Seeded.{AreDrawn, IsDrawn}
+
+-- what is chosen is one of those that the groups let
+let-chosen : (script : Script) (choice : Choice) → ((before : List Step) (e : Event) → choice before e → Contains (enabled_in script before) e) → (before steps : List Step) → AreChosen choice before steps → AreLet script (lets script) before steps
+let-chosen script choice f before [] a = tt
+let-chosen script choice f before (s ∷ ss) a = (f before s.event a.0, let-chosen script choice f (before ++ s ∷ []) ss a.1)
+
+first-in : (xs : List Event) (e : Event) → first_of xs ≡ e ∷ [] → Contains xs e
+first-in [] e f = absurd (cc)
+first-in (x ∷ xs) e f = contains_from_has e (x ∷ xs) (inl (same x e f))
+  where
+    same : (a b : Event) → a ∷ [] ≡ b ∷ [] → a ≡ b
+    same a b q = cc
+
+place-in : (xs : List Event) (n : ℕ) (e : Event) → slice_get xs n ≡ Some e → Has e xs
+place-in [] n e f = absurd (cc)
+place-in (x ∷ xs) zero e f = inl (same x e f)
+  where
+    same : (a b : Event) → Some a ≡ Some b → a ≡ b
+    same a b q = cc
+place-in (x ∷ xs) (suc n) e f = inr (place-in xs n e f)
+
+module _ (script : Script) (language : IsScript script) (inserts : AreInsertsWhole script.tables script.lines) (steps : List Step) (is : IsReached script steps) where
+  pub first-lone : AreFirst script [] steps → DoLoneRoundsFindVictims script (lets script) [] steps
+  first-lone a = grouped-victims script language inserts steps is (let-chosen script (IsFirst script) (λ before e f. first-in (enabled_in script before) e f.first) [] steps a)
+
+  pub drawn-lone : (seed : ℕ) → AreDrawn script seed [] steps → DoLoneRoundsFindVictims script (lets script) [] steps
+  drawn-lone seed a =
+      grouped-victims script language inserts steps is
+      (let-chosen script (IsDrawn script seed) (λ before e f. contains_from_has e (enabled_in script before) (place-in (enabled_in script before) _ e f.drawn)) [] steps a)
