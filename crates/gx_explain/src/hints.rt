@@ -101,8 +101,19 @@ fn is_link(word: Word) -> bool {
     }
 }
 
+// Whether tokens begin a head of a group, whose words are those of other clauses elsewhere.
+fn is_group(tokens: &[Token]) -> bool {
+    match tokens.first() {
+        Some(Token::Word(Word::Group)) => true,
+        _ => false,
+    }
+}
+
 // The clause of a line behind these tokens, or this one.
 fn clause_of(tokens: &[Token], front: &'static [u8]) -> &'static [u8] {
+    if is_group(tokens) {
+        return b"groups";
+    }
     let mut clause = front;
     for token in tokens {
         if let Token::Word(word) = token {
@@ -151,6 +162,7 @@ fn hint_on_limit(limit: Limit) -> &'static [u8] {
         Limit::Segments => b"there are at most 16 segments",
         Limit::Sessions => b"there are at most 64 sessions",
         Limit::Tables => b"there are at most 64 tables",
+        Limit::Groups => b"there are at most 64 groups",
         Limit::Columns => b"a table has at most 32 columns",
         Limit::Lines => b"there are at most 100000 lines",
         Limit::Name => b"a name has at most 63 bytes",

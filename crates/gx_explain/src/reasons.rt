@@ -14,6 +14,7 @@ fn limit_name(limit: Limit) -> &'static [u8]
         Limit::Segments => b"segments",
         Limit::Sessions => b"sessions",
         Limit::Tables => b"tables",
+        Limit::Groups => b"groups",
         Limit::Columns => b"columns",
         Limit::Lines => b"lines",
         Limit::Name => b"name",
