@@ -1,5 +1,5 @@
 -- The heads of generated work, and the line that loads the accounts.
-use Rattle.std.proofs.Common.{◌≡◌, inl, inr, ℕ, zero, suc, ◌+◌, ◌<◌, ◌≤◌, nat_le, Bool, true, false, List, [], ◌∷◌, ◌++◌, length, Some, Ok, refl, sym, ◌∙◌, ap, subst, append_assoc, append-nil, arith, codes}
+use Rattle.std.proofs.Common.{inl, inr, ℕ, zero, suc, ◌+◌, ◌<◌, List, [], ◌∷◌, ◌++◌, Some, Ok, refl, sym, ◌∙◌, subst, append-nil, arith, codes}
 use Rattle.std.specs.Fmt.{decimal}
 use Rattle.std.proofs.lemmas.Fmt.{decimal_digit}
 use Rattle.gx_lex.specs.declared.word.Word.TheVariants as word
@@ -20,7 +20,6 @@ use Rattle.gx_sql.specs.Progress.{Progress, start, with_line}
 use Rattle.gx_sql.specs.Script.{the_limits, LineSays}
 use Rattle.gx_sql.proofs.Columns.{passes_short}
 use Rattle.gx_print.specs.OneLine.{line_of}
-use Rattle.gx_print.specs.Reading.{IsNamed}
 use Rattle.gx_print.specs.Shapes.{IsName}
 use Rattle.gx_print.proofs.Cuts.{Cuts, Follows, behind, also, spaced, comma, enclosed, keyword, name_cuts, number_cuts}
 use Rattle.gx_print.proofs.OneLine.{line_says, unskipped}
@@ -28,7 +27,7 @@ use Rattle.gx_words.specs.Work.{head_text, pair_text, pairs_from}
 use Rattle.gx_words.proofs.Nexts.{pairs-none, pairs-suc}
 use Rattle.gx_law_work.specs.Work.{line_in, loading}
 use Rattle.gx_law_work.proofs.Bytes.{IsPlain, decimal_plain, plain, plain_also}
-use Rattle.gx_law_work.proofs.Leading.{Leads, at, headed, join, leads_as, line}
+use Rattle.gx_law_work.proofs.Leading.{Leads, at, headed, join, line}
 use Rattle.gx_law_work.proofs.Statements.{acct_name, bal_name, id_name, inserting_text, load_read}
 
 -- SEGMENTS

@@ -1,5 +1,5 @@
 -- Batches of transfers, pass by pass.
-use Rattle.std.proofs.Common.{◌≡◌, ℕ, zero, suc, ◌+◌, ◌*◌, ◌-◌, ◌%◌, ◌<◌, ◌≤◌, nat_le, Bool, true, false, List, [], ◌∷◌, ◌++◌, length, map, take, drop, refl, sym, ◌∙◌, ap, subst, append_assoc, append-nil, arith, codes}
+use Rattle.std.proofs.Common.{◌≡◌, ℕ, zero, suc, ◌+◌, ◌*◌, ◌-◌, ◌<◌, ◌≤◌, nat_le, Bool, true, false, List, [], ◌∷◌, ◌++◌, length, take, drop, refl, sym, ◌∙◌, ap, append_assoc, append-nil, arith, codes}
 use Rattle.std.specs.Fmt.{decimal}
 use Rattle.std.specs.List.{flat_map}
 use Rattle.std.proofs.lemmas.Fmt.{decimal_digit}
@@ -7,7 +7,7 @@ use Rattle.std.proofs.lemmas.List.{length-append, length-map, length-take, lengt
 use Rattle.gx_tree.specs.declared.stmt.Stmt.{Stmt}
 use Rattle.gx_grammar.specs.declared.syn.Op.TheVariants as op
 use Rattle.gx_script.specs.declared.Line.{Line}
-use Rattle.gx_sql.specs.Progress.{Progress, count_of, counted, next_line}
+use Rattle.gx_sql.specs.Progress.{count_of, counted, next_line}
 use Rattle.gx_sql.specs.Script.{the_limits}
 use Rattle.gx_print.specs.OneLine.{line_of}
 use Rattle.gx_print.specs.Reading.{IsNamed}
@@ -247,7 +247,7 @@ batch_count k ts e =
     (mapped (k + 1) opening) (mapped (k + 2) taking) (mapped (k + 3) giving) (mapped (k + 4) ending)
   where
     mapped : (n : ℕ) (does : Transfer → Stmt) → length (pass_lines n does ts) ≡ 8
-    mapped n does = length-map (λ (t : Transfer). line_in t.session n (does t)) ts ∙ e
+    mapped n does = length-map ts (λ (t : Transfer). line_in t.session n (does t)) ∙ e
 
     counted_all : (a b c d : ℕ) → a ≡ 8 → b ≡ 8 → c ≡ 8 → d ≡ 8 → a + b + c + d ≡ 32
     counted_all a b c d e f g h = omega (arith, e, f, g, h)

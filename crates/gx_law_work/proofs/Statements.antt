@@ -1,5 +1,5 @@
 -- What each kind of line says is read back as its statement.
-use Rattle.std.proofs.Common.{◌≡◌, ℕ, zero, suc, ◌+◌, ◌≤◌, nat_le, pos, Bool, true, false, List, [], ◌∷◌, ◌++◌, length, map, Option, Some, Ok, refl, sym, ◌∙◌, ap, subst, append_assoc, append-nil, arith, codes}
+use Rattle.std.proofs.Common.{◌≡◌, ℕ, zero, suc, ◌+◌, ◌≤◌, false, List, [], ◌∷◌, ◌++◌, length, map, Some, Ok, refl, sym, ◌∙◌, ap, subst, append_assoc, append-nil, arith, codes}
 use Rattle.std.specs.Fmt.{decimal}
 use Rattle.std.specs.List.{flat_map}
 use Rattle.std.proofs.lemmas.Fmt.{decimal_digit, decimal_step}
@@ -33,9 +33,9 @@ use Rattle.gx_resolve.specs.Naming.{tuple_names}
 use Rattle.gx_resolve.specs.Typing.{arith_typed, cmp_typed, typed_step, typed_of, positive_typed}
 use Rattle.gx_resolve.specs.Resolving.{stmt_of, key_kept}
 use Rattle.gx_sql.specs.Script.{the_limits}
-use Rattle.gx_print.specs.Forms.{Form, column_form, form_step, number_form, op_form, shape_of, IsShallow}
+use Rattle.gx_print.specs.Forms.{Form, column_form, form_step, number_form, op_form, shape_of}
 use Rattle.gx_print.specs.Shapes.{IsClear, IsName, op_text, shape_text}
-use Rattle.gx_print.specs.Limited.{Each, IsWithin, StmtClear, SynClear, TupleClear, TupleWithin}
+use Rattle.gx_print.specs.Limited.{Each, IsWithin, StmtClear, TupleClear, TupleWithin}
 use Rattle.gx_print.specs.Reprinting.{ReadsAs}
 use Rattle.gx_print.specs.Statements.{expr_text, stmt_tokens, stmt_text, tuple_text}
 use Rattle.gx_print.proofs.StmtCut.{stmt_cut}

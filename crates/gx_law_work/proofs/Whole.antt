@@ -1,6 +1,5 @@
 -- Generated work is a script.
-use Rattle.std.proofs.Common.{◌≡◌, inl, ℕ, ◌+◌, List, [], ◌∷◌, ◌++◌, length, Ok, refl, sym, ◌∙◌, ap, subst, append-nil, arith, codes}
-use Rattle.gx_script.specs.declared.Script.{Script}
+use Rattle.std.proofs.Common.{◌≡◌, inl, ℕ, List, [], ◌∷◌, ◌++◌, length, Ok, refl, subst, append-nil, arith}
 use Rattle.gx_sql.specs.Lines.{lines_of}
 use Rattle.gx_sql.specs.Progress.{start}
 use Rattle.gx_sql.specs.Script.{ReadsOn, Reads}
