@@ -158,7 +158,7 @@ no_count tables groups name ts limit.Name h = h
 no_count tables groups name ts limit.Text h = h
 no_count tables groups name ts limit.Depth h = h
 
-spelled : (name : List ℕ) (s : StmtSyn) (ts : List Token) → length name ≤ 63 → stmt the_limits s ts → session_line the_limits (Session name s) (token.Name name ∷ token.Symbol symbol.Colon ∷ ts)
+pub spelled : (name : List ℕ) (s : StmtSyn) (ts : List Token) → length name ≤ 63 → stmt the_limits s ts → session_line the_limits (Session name s) (token.Name name ∷ token.Symbol symbol.Colon ∷ ts)
 spelled name s ts short w = (
   (name, (s, None)),
   refl,
@@ -172,7 +172,7 @@ spelled name s ts short w = (
 )
 
 module _ (q : Progress) (segments : ℕ) (name : List ℕ) (x : Stmt) (text : List ℕ) (told : q.segments ≡ Some segments) (alone : q.lines ≡ []) (nobody : q.sessions ≡ []) (named : IsNamed the_limits name) (reads : ReadsAs q.tables x text) where
-  line_says : LineSays q (line_of name text) (Ok (with_line q name x))
+  pub line_says : LineSays q (line_of name text) (Ok (with_line q name x))
   line_says = says reads
     where
       says : ReadsAs q.tables x text → LineSays q (line_of name text) (Ok (with_line q name x))
@@ -229,7 +229,7 @@ unfed_name [] rest e u = u
 unfed_name (b ∷ name) rest e u = let n = name_byte_is b e.0 in (n.1, unfed_name name rest e.1 u)
 
 -- a line that begins with a name is none that is skipped
-unskipped : (name rest : List ℕ) → IsName name → is_skipped (name ++ rest) ≡ false
+pub unskipped : (name rest : List ℕ) → IsName name → is_skipped (name ++ rest) ≡ false
 unskipped [] rest i = absurd i.0
 unskipped (b ∷ name) rest i =
     let l = letter_is b i.0.0 in

@@ -1,0 +1,6 @@
+pub mod Bytes
+pub mod Statements
+pub mod Leading
+pub mod Heads
+pub mod Passes
+pub mod Whole
