@@ -191,10 +191,11 @@ module _ (script : Script) (steps : List Step) (step : Step) (legal : IsLegalSte
   who = filter (asks_in script steps step) (sessions_of script)
 
   may-ask : (s : SessionId) → s.0 < length script.sessions → asks_in script steps step s ≡ true → (s.0 < length script.sessions) × (asking_mid s ≡ false) × (list_any (is_of s) (open_in (marks_in after)) ≡ false)
-  may-ask s l e =
-      (l,
-      answered-off script steps step.event s step.marks legal.event legal.drawn legal.marks (and-first (is_answered s step.marks) (is_to_open script after s) e),
-      opens-apart script after tidy-after s (and-second (is_answered s step.marks) (is_to_open script after s) e))
+  may-ask s l e = (
+    l,
+    answered-off script steps step.event s step.marks legal.event legal.drawn legal.marks (and-first (is_answered s step.marks) (is_to_open script after s) e),
+    opens-apart script after tidy-after s (and-second (is_answered s step.marks) (is_to_open script after s) e),
+  )
 
   to-open-after : (k : SessionId) → k.0 < length script.sessions → is_to_open script after k ≡ (asking_mid k || has k who)
   to-open-after k l = by_test (is_answered k step.marks) refl ∙ ap (λ b. asking_mid k || b) (sym (has-filter script (asks_in script steps step) k l))

@@ -149,12 +149,12 @@ module _ (script : Script) (lines : Each (λ (l : Line). l.session.0 < length sc
     keeps t marks asked asking k n d l =
         let w = whole script t marks asked asking k in
         let limit : (group_at t n).limit ≡ (get_or script.groups n d).limit =
-            ap (λ x. (group_at x n).limit) k.is ∙ limit-after k.calls n k.run
-            ∙ ap (λ (g : Slots). g.limit) (fresh-at (places script) 0 (limits script) n n (fresh 0 []) (omega arith) (subst (λ m. n < m) (sym (length-mapped group_limit script.groups)) l))
-            ∙ get-limit script.groups n d l in
+        ap (λ x. (group_at x n).limit) k.is ∙ limit-after k.calls n k.run
+        ∙ ap (λ (g : Slots). g.limit) (fresh-at (places script) 0 (limits script) n n (fresh 0 []) (omega arith) (subst (λ m. n < m) (sym (length-mapped group_limit script.groups)) l))
+        ∙ get-limit script.groups n d l in
         let same : length (group_at t n).holders ≡ length (filter (is_in_group (get_or script.groups n d)) (open_in marks)) =
-            ap length (k.holders n) ∙ length-mapped session_in (filter (is_open_at script n) (open_in marks))
-            ∙ ap length (filter-alike (is_open_at script n) (is_in_group (get_or script.groups n d)) (open_in marks) (λ o. at-place n d l o.session)) in
+        ap length (k.holders n) ∙ length-mapped session_in (filter (is_open_at script n) (open_in marks))
+        ∙ ap length (filter-alike (is_open_at script n) (is_in_group (get_or script.groups n d)) (open_in marks) (λ o. at-place n d l o.session)) in
         let within_limit : length (group_at t n).holders ≤ (group_at t n).limit = kept (nat_lt n (length t.groups)) refl w.limits in
         omega (arith, limit, same, within_limit)
       where
@@ -239,14 +239,15 @@ module _ (script : Script) (lines : Each (λ (l : Line). l.session.0 < length sc
         ∙ ap (λ xs. filter (λ x. has x (get_or script.groups n d).sessions && asks_in script before s x) (sessions_of script) ++ xs) (behind-same n d l (before ++ s ∷ []) ss)
 
     pub in-their-order : (steps : List Step) → There steps → BeginAsAsked script steps
-    in-their-order steps b n d l =
-        ((group_at (after (fresh_slots script) b.slotted.calls) n).askers,
-        ap (λ xs. xs ++ asked_behind script (get_or script.groups n d) [] steps) (sym (filter-both n d l (is_to_open script []) (sessions_of script)))
-        ∙ ap (λ xs. filter (is_at script n) (filter (is_to_open script []) (sessions_of script)) ++ xs) (sym (behind-same n d l [] steps))
-        ∙ sym (b.slotted.asked_so n)
-        ∙ sym (nobody-asks (places script) 0 (limits script) n (asked_by (fresh_slots script) n b.slotted.calls))
-        ∙ sym (in-order (fresh_slots script) b.slotted.calls n b.slotted.run (whole-new script))
-        ∙ ap (λ xs. xs ++ (group_at (after (fresh_slots script) b.slotted.calls) n).askers) (b.slotted.order n ∙ begun-same n d l (marks_in steps)))
+    in-their-order steps b n d l = (
+      (group_at (after (fresh_slots script) b.slotted.calls) n).askers,
+      ap (λ xs. xs ++ asked_behind script (get_or script.groups n d) [] steps) (sym (filter-both n d l (is_to_open script []) (sessions_of script)))
+          ∙ ap (λ xs. filter (is_at script n) (filter (is_to_open script []) (sessions_of script)) ++ xs) (sym (behind-same n d l [] steps))
+          ∙ sym (b.slotted.asked_so n)
+          ∙ sym (nobody-asks (places script) 0 (limits script) n (asked_by (fresh_slots script) n b.slotted.calls))
+          ∙ sym (in-order (fresh_slots script) b.slotted.calls n b.slotted.run (whole-new script))
+          ∙ ap (λ xs. xs ++ (group_at (after (fresh_slots script) b.slotted.calls) n).askers) (b.slotted.order n ∙ begun-same n d l (marks_in steps)),
+    )
 
 -- THE LAWS
 each-line : (n : ℕ) (ls : List Line) (P : Line → Type 0) → ((l : Line) → P l → l.session.0 < n) → All P ls → Each (λ (l : Line). l.session.0 < n) ls

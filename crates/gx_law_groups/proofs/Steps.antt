@@ -63,7 +63,7 @@ module _ (script : Script) (lines : Each (λ (l : Line). l.session.0 < length sc
   through [] later earlier t l now = subst (Now t) (sym (append-nil earlier)) now
   through (m ∷ ms) later earlier t l now =
       let more : open_in (marks_in steps ++ (earlier ++ m ∷ [])) ≡ open_after (open_in (marks_in steps ++ earlier)) m =
-          ap open_in (sym (append_assoc (marks_in steps) earlier (m ∷ []))) ∙ open_from-append [] (marks_in steps ++ earlier) (m ∷ []) in
+      ap open_in (sym (append_assoc (marks_in steps) earlier (m ∷ []))) ∙ open_from-append [] (marks_in steps ++ earlier) (m ∷ []) in
       let one = one-mark t earlier (ms ++ later) m now l.0 in
       let rest = through ms later (earlier ++ m ∷ []) (slots_by (open_in (marks_in steps ++ earlier)) t m) l.1 one in
       subst (λ o. Now (slots_through o (slots_by (open_in (marks_in steps ++ earlier)) t m) ms) (earlier ++ m ∷ ms)) more

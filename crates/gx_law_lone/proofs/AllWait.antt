@@ -182,8 +182,8 @@ module _ (script : Script) (some : 1 ≤ script.segments) (inserts : AreInsertsW
             let met = any-has (meets wait) (in_the_way l.holds l.waits wait) (not-not _ h) in
             let edge : PlacedEdge = record { node = n; edge = edge_of wait met.0 } in
             let stands : IsEdge l.waits l.holds edge.edge =
-                any_from_has (λ x. IsEdgeOf x (in_the_way l.holds l.waits x) edge.edge) l.waits wait found.0
-                (any_from_has (λ claim. Meets wait claim × (edge.edge ≡ edge_of wait claim)) (in_the_way l.holds l.waits wait) met.0 met.1 (Meets_from_test wait met.0 met.2, refl)) in
+            any_from_has (λ x. IsEdgeOf x (in_the_way l.holds l.waits x) edge.edge) l.waits wait found.0
+            (any_from_has (λ claim. Meets wait claim × (edge.edge ≡ edge_of wait claim)) (in_the_way l.holds l.waits wait) met.0 met.1 (Meets_from_test wait met.0 met.2, refl)) in
             any_from_has (λ (e : PlacedEdge). (e.node ≡ n) × (e.edge.waiter ≡ g)) edges edge
             (has_from_contains edge edges (are.all_of_them edge within (subst (λ hs. IsEdge (waits_at ms n) hs edge.edge) (marked-at n).holds (subst (λ ws. IsEdge ws l.holds edge.edge) (marked-at n).waits stands))))
             (refl, gxid-of wait.gxid g found.1)
@@ -280,9 +280,10 @@ module _ (script : Script) (some : 1 ≤ script.segments) (inserts : AreInsertsW
           closed = all-closed;
           standing = all_from_each (StandsAt ms) edges (λ e h. (are.no_others e (contains_from_has e edges h)).1);
           active = all_from_each (λ (e : PlacedEdge). (is_active ms e.edge.waiter ≡ true) × (is_active ms e.edge.holder ≡ true)) edges (λ e h.
-              let b = between e h in
-              (ap (λ (x : Edge). is_active ms x.waiter) b.is ∙ wait-active script some inserts es nothing e.node (inside e h) b.wait.gxid (waits-in e.node b.wait b.among),
-              ap (λ (x : Edge). is_active ms x.holder) b.is ∙ active-there b.other.gxid (way-waits e.node (inside e h) b.wait b.other b.way)));
+              let b = between e h in (
+                ap (λ (x : Edge). is_active ms x.waiter) b.is ∙ wait-active script some inserts es nothing e.node (inside e h) b.wait.gxid (waits-in e.node b.wait b.among),
+                ap (λ (x : Edge). is_active ms x.holder) b.is ∙ active-there b.other.gxid (way-waits e.node (inside e h) b.wait b.other b.way),
+              ));
         }
 
     -- and whoever waits is the waiter of one

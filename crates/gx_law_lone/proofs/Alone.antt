@@ -237,7 +237,6 @@ module _ (script : Script) (some : 1 ≤ script.segments) (inserts : AreInsertsW
   no-stage : (t : Txn) → find_txn c.table g ≡ Some t → (s : Stage) → stage_in t.phase ≡ s → (s ≡ LiveStage → ⊥) → stage_of c g.0 ≡ LiveStage → ⊥
   no-stage t e s f n l = n (sym f ∙ sym (ap stage e) ∙ l)
 
-
   ended-asks : (t : Txn) → find_txn c.table g ≡ Some t → (aw : List Node) → t.phase ≡ status.Ended aw → has (at i) aw ≡ true → ⊥
   ended-asks t e aw f h =
       told t e (Some (message.Forget g)) refl refl (ap (λ p. status_order g (order_in p (at i))) f ∙ ap (λ b. status_order g (if b then Some order.Forget else None)) h) (no-stage t e Finished (ap stage_in f) finished)

@@ -71,12 +71,7 @@ pub fn first_sending(moment: &Moment<'_, '_>, report: Report) -> Option<Sending>
 }
 
 /// The first FAILED of the command that the segment has sent, whatever its cause.
-pub fn first_failed(
-    moment: &Moment<'_, '_>,
-    gxid: Gxid,
-    cid: Cid,
-    segment: Node,
-) -> Option<Sending>
+pub fn first_failed(moment: &Moment<'_, '_>, gxid: Gxid, cid: Cid, segment: Node) -> Option<Sending>
     ensures { IsFirstSending gxid (Failed cid) segment the_coordinator moment.now.steps.now result }
 {
     let report = Report {

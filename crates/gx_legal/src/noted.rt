@@ -87,7 +87,13 @@ fn had_noted(moment: &Moment<'_, '_>, evaluation: Evaluation<'_>, segment: Node)
 }
 
 /// Whether the point's step receives FAILED of the command from the segment, for this cause.
-pub fn hears_cause(moment: &Moment<'_, '_>, gxid: Gxid, cid: Cid, reason: Cause, segment: Node) -> bool
+pub fn hears_cause(
+    moment: &Moment<'_, '_>,
+    gxid: Gxid,
+    cid: Cid,
+    reason: Cause,
+    segment: Node,
+) -> bool
     ensures { IsTrue result ↔ HearsCause (point_of moment.now) segment gxid cid reason }
 {
     let report = Report {

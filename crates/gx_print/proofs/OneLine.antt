@@ -284,11 +284,14 @@ module _ (heads : List ℕ) (over : Script) (name : List ℕ) (x : Stmt) (text :
       let room = are.room in
       let over_q : ReadsAs q.tables x text = subst (λ (s : Script). ReadsAs s.tables x text) there.is reads in
       let line = line_read q there.segments name x text there.told alone nobody named over_q (1 + length (lines_of heads)) (omega arith) (unskipped name (58 ∷ 32 ∷ text) named.0) in
-      let whole = there.on (line_of name text ∷ []) (Ok (with_one (script_of there.segments q) gs name x)) line in
-      (gs, same, inl (
-        IsUtf8-append heads (line_of name text) coded (line_coded name text named.0 one.coded),
-        subst (λ (ls : List (List ℕ)). ReadsOn 1 start ls (Ok (with_one over gs name x))) (sym lines_all) (subst (λ (s : Script). ReadsOn 1 start (lines_of heads ++ line_of name text ∷ []) (Ok (with_one s gs name x))) (sym there.is) whole),
-      ))
+      let whole = there.on (line_of name text ∷ []) (Ok (with_one (script_of there.segments q) gs name x)) line in (
+        gs,
+        same,
+        inl (
+          IsUtf8-append heads (line_of name text) coded (line_coded name text named.0 one.coded),
+          subst (λ (ls : List (List ℕ)). ReadsOn 1 start ls (Ok (with_one over gs name x))) (sym lines_all) (subst (λ (s : Script). ReadsOn 1 start (lines_of heads ++ line_of name text ∷ []) (Ok (with_one s gs name x))) (sym there.is) whole),
+        ),
+      )
 
   read_all : Reads heads (Ok over) → (gs : List SlotGroup) × (map emptied gs ≡ over.groups) × Reads All (Ok (with_one over gs name x))
   read_all (inl (coded, h)) = read_whole coded h
