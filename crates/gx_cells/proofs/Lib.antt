@@ -1,0 +1,4 @@
+pub mod Answers
+pub mod Longer
+pub mod Marks
+pub mod AtSegments

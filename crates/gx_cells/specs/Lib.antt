@@ -1,0 +1,4 @@
+pub mod Kept
+pub mod Acts
+pub mod Receipts
+pub mod Views
