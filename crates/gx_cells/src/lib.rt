@@ -2,6 +2,9 @@
 //! run.
 #![tactic(auto)]
 
+mod acting;
+pub mod coord_cell;
+pub mod coord_history;
 pub mod history;
 pub mod inbox;
 pub mod looked;
@@ -9,6 +12,8 @@ mod receiving;
 mod resuming;
 pub mod segment_cell;
 mod sending;
+mod spreading;
 
+pub use coord_cell::CoordCell;
 pub use looked::Looked;
 pub use segment_cell::SegmentCell;

@@ -62,7 +62,7 @@ fn send_mark<R: Wait>(
 }
 
 // Sends what a step's marks have sent to a node.
-fn send_marks<R: Wait>(
+pub(crate) fn send_marks<R: Wait>(
     rt: &R,
     alloc: Global,
     out: &mut LinkOut,
