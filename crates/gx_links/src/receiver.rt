@@ -35,6 +35,13 @@ impl Model for LinkIn {
 }
 
 impl LinkIn {
+    /// How many envelopes were received.
+    pub fn count(&self) -> u64
+        ensures { result ≡ length self.now.received }
+    {
+        self.count
+    }
+
     /// Receives the next envelope: the first of those sent that wasn't received. Where the link was empty at a moment of this call, it
     /// answers the look at that moment, which nothing else makes.
     pub fn receive<R: Wait>(&mut self, rt: &R) -> Result<Envelope, EmptyLook>

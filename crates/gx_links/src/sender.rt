@@ -35,6 +35,13 @@ impl Model for LinkOut {
 }
 
 impl LinkOut {
+    /// How many envelopes were sent.
+    pub fn count(&self) -> u64
+        ensures { result ≡ length self.now.sent }
+    {
+        self.count
+    }
+
     /// Sends an envelope. It comes back where there is no memory for it, and nothing was sent.
     pub fn send<R: Wait>(&mut self, rt: &R, m: Envelope) -> Result<(), Envelope>
         requires { length self.old.sent < 2 ^ 63 }

@@ -1,5 +1,5 @@
 // Who waits at a segment.
-ghost use Rattle.std.specs.Prelude.{◌≡◌, ◌==◌, not, length, IfOk};
+ghost use Rattle.std.specs.Prelude.{◌≡◌, ◌==◌, not, true, length, IfOk, IfSome};
 ghost use Rattle.std.specs.List.{list_any};
 ghost use Rattle.gx_waits.specs.Claims.{is_of};
 ghost use Rattle.gx_locks.specs.Graphs.{graph_at};
@@ -16,7 +16,8 @@ impl Segment {
     pub fn ready(&self) -> Option<Gxid>
         ghost s: { Seg }
         requires { IsSegment self.now s }
-        ensures { result ≡ next_ready s.locks }
+        ensures value { result ≡ next_ready s.locks }
+        ensures ready { IfSome result (λ gxid. may_take s.locks gxid ≡ true) }
     {
         self.held.locks.ready()
     }

@@ -1,0 +1,6 @@
+pub mod Answers
+pub mod Longer
+pub mod Marks
+pub mod AtSegments
+pub mod Links
+pub mod AtCoordinators

@@ -1,0 +1,91 @@
+// What the coordinator apart does by itself.
+ghost use Rattle.std.specs.Prelude.{◌≡◌, true, IfOk, OnOk};
+ghost use Rattle.gx_rules.specs.AtCoordinator.{coord_can};
+ghost use Rattle.gx_rules.specs.Coordinators.{Coord as RuleCoord};
+ghost use Rattle.gx_coord.specs.Room.{has_room};
+ghost use Rattle.gx_cells.specs.CoordActs.{HasCoordGoneOn};
+ghost use Rattle.gx_cells.specs.CoordAnswers.{HasActed, event_of as event_for, is_own};
+ghost use Rattle.gx_cells.specs.CoordKept.{IsCoordApart, coordinator_apart};
+ghost use Rattle.gx_cells.specs.Receipts.{IsLonger};
+
+use crate::coord_history::CoordHistory;
+use crate::inbox::Inbox;
+use crate::looked::Looked;
+use crate::spreading::tell_all;
+use gx_coord::Coord;
+use gx_ids::{Mem, Node};
+use gx_outside::Journal;
+use gx_store::{Event, NodeEvent};
+use std::sync::Wait;
+
+fn event_of(here: &NodeEvent) -> Event
+    ensures { result ≡ event_for here.now }
+{
+    match here {
+        NodeEvent::Resume(gxid) => Event::Resume {
+            node: Node(0),
+            gxid: *gxid,
+        },
+        NodeEvent::Start(session) => Event::Start(*session),
+        NodeEvent::End(session) => Event::End(*session),
+        NodeEvent::Resend(segment, gxid) => Event::Resend {
+            segment: *segment,
+            gxid: *gxid,
+        },
+        _ => Event::Round,
+    }
+}
+
+// An event that it admits.
+fn do_own<R: Wait, J: Journal>(
+    rt: &R,
+    history: &mut CoordHistory,
+    inboxes: &[Inbox],
+    coord: &mut Coord,
+    here: NodeEvent,
+    journal: &mut J,
+) -> Mem<()>
+    ghost c: { RuleCoord }
+    requires apart { IsCoordApart history.old inboxes.now coord.old (J.shelf journal.old) }
+    requires is { c ≡ coordinator_apart history.old inboxes.now }
+    requires own { is_own here ≡ true }
+    requires may { coord_can history.old.script.value c here ≡ true }
+    requires room { has_room history.old.script.value c ≡ true }
+    ensures apart { OnOk result (IsCoordApart history.new inboxes.now coord.new (J.shelf journal.new)) }
+    ensures gone { HasCoordGoneOn history.old history.new }
+    ensures steps { OnOk result (IsLonger (event_for here) history.old.steps history.new.steps) }
+{
+    let event = event_of(&here);
+    let mut marks = history.steps.blank(history.alloc);
+    coord.step(&history.script, here, journal, &mut marks)?;
+    tell_all(rt, history, coord.clock, event, marks)
+}
+
+// An event by itself, if it admits it now.
+pub(crate) fn act_own<R: Wait, J: Journal>(
+    rt: &R,
+    history: &mut CoordHistory,
+    inboxes: &[Inbox],
+    coord: &mut Coord,
+    here: NodeEvent,
+    journal: &mut J,
+) -> Mem<Looked>
+    ghost c: { RuleCoord }
+    requires apart { IsCoordApart history.old inboxes.now coord.old (J.shelf journal.old) }
+    requires is { c ≡ coordinator_apart history.old inboxes.now }
+    requires own { is_own here ≡ true }
+    ensures apart { OnOk result (IsCoordApart history.new inboxes.now coord.new (J.shelf journal.new)) }
+    ensures gone { HasCoordGoneOn history.old history.new }
+    ensures acted { IfOk result (HasActed history.old.script.value c here history.old.steps history.new.steps) }
+{
+    if !coord.can(&here) {
+        drop(here);
+        return Ok(Looked::NotNow);
+    }
+    if !coord.has_room() {
+        drop(here);
+        return Ok(Looked::Worn);
+    }
+    do_own(rt, history, inboxes, coord, here, journal)?;
+    Ok(Looked::Stepped)
+}

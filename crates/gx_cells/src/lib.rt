@@ -1,0 +1,19 @@
+//! Nodes apart: each with its history, its links and its journal, so that whatever it does, and whenever, its history is part of one
+//! run.
+#![tactic(auto)]
+
+mod acting;
+pub mod coord_cell;
+pub mod coord_history;
+pub mod history;
+pub mod inbox;
+pub mod looked;
+mod receiving;
+mod resuming;
+pub mod segment_cell;
+mod sending;
+mod spreading;
+
+pub use coord_cell::CoordCell;
+pub use looked::Looked;
+pub use segment_cell::SegmentCell;

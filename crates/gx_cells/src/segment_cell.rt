@@ -1,0 +1,162 @@
+ghost use Rattle.std.specs.Prelude.{◌≡◌, [], true, false, None, IfOk, IsErr, OnErr, OnOk};
+ghost use Rattle.gx_store.specs.Ordered.{IsSegment as IsPlace};
+ghost use Rattle.gx_cells.specs.Receipts.{HasReceived, HasResumed};
+ghost use Rattle.gx_cells.specs.Views.{IsSameCell, data_of, sight_of};
+
+use crate::history::History;
+use crate::inbox::Inbox;
+use crate::looked::Looked;
+use crate::receiving::receive_next;
+use crate::resuming::resume_next;
+use gx_agenda::Faults;
+use gx_ids::{Mem, Node, OutOfMemory};
+use gx_links::{LinkIn, LinkOut};
+use gx_outside::{Gate, Journal};
+use gx_script::Script;
+use gx_segment::Segment;
+use gx_store::Steps;
+use std::alloc::Global;
+use std::marker::Model;
+use std::sync::{Arc, Wait};
+
+/// A segment with its history, its links and its journal. Unless it is spent, its history follows the segment's rule to what it
+/// holds, its link has just what its marks have sent, and its journal holds the items of its steps. Once memory has run out in a call
+/// it is spent, and answers the same from then on.
+#[derive(Drop)]
+pub struct SegmentCell<J: Journal> {
+    history: History,
+    inbox: Inbox,
+    segment: Segment,
+    faults: Faults,
+    journal: J,
+    spent: bool,
+}
+
+impl<J: Journal> Model for SegmentCell<J> {
+    ghost use Rattle.std.specs.Prelude.{◌≡◌, false};
+    ghost use Rattle.std.specs.Coded.{codes};
+    ghost use Rattle.gx_tree.specs.contracts.expr.Expr as expr_type;
+    ghost use Rattle.gx_tree.specs.contracts.cond.Cond as cond_type;
+    ghost use Rattle.gx_dsnap.specs.contracts.snapshot.Snapshot as snapshot_type;
+    ghost use Rattle.gx_agenda.specs.Faults.{AreFaultsOf};
+    ghost use Rattle.gx_cells.specs.Kept.{IsSegmentApart};
+    ghost use Rattle.gx_cells.specs.Views.{SegmentView};
+
+    ghost Value = { SegmentView };
+
+    ghost coded = { Prim.hlevel (codes, expr_type.the_row.coded, cond_type.the_row.coded, snapshot_type.the_row.coded) };
+
+    ghost view = { λ c. record {
+      script = c.history.script.value;
+      node = c.history.node;
+      spent = c.spent;
+      first = c.history.first;
+      steps = c.history.steps;
+      out = c.history.out;
+      source = c.inbox.source;
+      again = c.inbox.again;
+      shelf = J.shelf c.journal;
+    } };
+
+    ghost invariant = { λ c. AreFaultsOf c.history.script.value c.faults × (c.spent ≡ false → IsSegmentApart c.history c.inbox c.segment (J.shelf c.journal)) };
+}
+
+impl<J: Journal> SegmentCell<J> {
+    /// A segment to which nothing has come, with ends of links on which nothing was sent, and a journal that holds no item.
+    pub fn new(
+        alloc: Global,
+        script: Arc<Script, Global>,
+        node: Node,
+        out: LinkOut,
+        source: LinkIn,
+        journal: J,
+    ) -> Mem<SegmentCell<J>>
+        requires place { IsPlace script.value node }
+        requires blank { (J.shelf journal).items ≡ [] }
+        requires sent { out.sent ≡ [] }
+        requires received { source.received ≡ [] }
+        ensures { IfOk result (λ cell. cell ≡ record {
+          script = script.value;
+          node = node;
+          spent = false;
+          first = (J.shelf journal).faults;
+          steps = [];
+          out = out;
+          source = source;
+          again = None;
+          shelf = J.shelf journal;
+        }) }
+    {
+        let faults = Faults::new(alloc, script.faults.as_slice())?;
+        let segment = Segment::new(alloc, node, script.clone()?)?;
+        let first = journal.faults();
+        let history = History {
+            alloc,
+            script,
+            node,
+            first,
+            steps: Steps::new(alloc),
+            out,
+        };
+        let inbox = Inbox {
+            source,
+            again: None,
+        };
+        Ok(SegmentCell {
+            history,
+            inbox,
+            segment,
+            faults,
+            journal,
+            spent: false,
+        })
+    }
+
+    /// Receives the next envelope: the one that is to come once more, or else the link's next.
+    pub fn receive<R: Wait, G: Gate>(&mut self, rt: &R, gate: &G) -> Mem<Looked>
+        ensures same { IsSameCell self.old self.new }
+        ensures received { IfOk result (HasReceived self.old.script self.old.node (data_of self.old) (sight_of self.old) (sight_of self.new)) }
+        ensures unspent { OnOk result (self.new.spent ≡ false) }
+        ensures err { OnErr result (self.new.spent ≡ true) }
+        ensures again { self.old.spent ≡ true → IsErr result }
+    {
+        if self.spent {
+            return Err(OutOfMemory);
+        }
+        let SegmentCell {
+            history,
+            inbox,
+            segment,
+            faults,
+            journal,
+            spent,
+        } = self;
+        let looked = receive_next(rt, history, inbox, segment, faults, journal, gate);
+        *spent = looked.is_err();
+        looked
+    }
+
+    /// Resumes the least transaction whose wait is ready.
+    pub fn resume<R: Wait, G: Gate>(&mut self, rt: &R, gate: &G) -> Mem<Looked>
+        ensures same { IsSameCell self.old self.new }
+        ensures resumed { IfOk result (HasResumed self.old.node (data_of self.old) (sight_of self.old) (sight_of self.new)) }
+        ensures unspent { OnOk result (self.new.spent ≡ false) }
+        ensures err { OnErr result (self.new.spent ≡ true) }
+        ensures again { self.old.spent ≡ true → IsErr result }
+    {
+        if self.spent {
+            return Err(OutOfMemory);
+        }
+        let SegmentCell {
+            history,
+            inbox,
+            segment,
+            faults: _,
+            journal,
+            spent,
+        } = self;
+        let looked = resume_next(rt, history, inbox, segment, journal, gate);
+        *spent = looked.is_err();
+        looked
+    }
+}
