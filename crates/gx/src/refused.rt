@@ -15,6 +15,7 @@ fn push_limit(text: &mut Vec<u8>, limit: Limit) -> Mem<()>
         Limit::Segments => push_bytes(text, b"segments"),
         Limit::Sessions => push_bytes(text, b"sessions"),
         Limit::Tables => push_bytes(text, b"tables"),
+        Limit::Groups => push_bytes(text, b"groups"),
         Limit::Columns => push_bytes(text, b"columns"),
         Limit::Lines => push_bytes(text, b"lines"),
         Limit::Name => push_bytes(text, b"name"),

@@ -19,6 +19,7 @@ use Rattle.gx_lines.specs.declared.syn.KeySyn.{KeySyn}
 use Rattle.gx_lines.specs.declared.syn.SelectSyn.{SelectSyn}
 use Rattle.gx_lines.specs.declared.syn.StmtSyn.{StmtSyn}
 use Rattle.gx_lines.specs.declared.syn.StmtSyn.TheVariants as stmt_syn
+use Rattle.gx_lines.specs.declared.syn.GroupSyn.{GroupSyn}
 use Rattle.gx_lines.specs.declared.syn.LineSyn.{LineSyn}
 use Rattle.gx_lines.specs.declared.syn.LineSyn.TheVariants as line_syn
 use Rattle.gx_lines.specs.Heads.{segments, head_line, session_line}
@@ -33,9 +34,11 @@ use Rattle.gx_resolve.specs.Naming.{is_among, group_names}
 use Rattle.gx_resolve.specs.Kinding.{tuple_as, assign_as}
 use Rattle.gx_resolve.specs.Selecting.{item_as, is_grouped}
 use Rattle.gx_resolve.specs.Resolving.{table_after, table_named}
+use Rattle.gx_sql.specs.declared.groups.GroupHead.{GroupHead}
 use Rattle.gx_sql.specs.declared.refusal.Limit.TheVariants as limit
 use Rattle.gx_sql.specs.declared.refusal.LineFault.{LineFault}
 use Rattle.gx_sql.specs.declared.refusal.LineFault.TheVariants as fault
+use Rattle.gx_sql.specs.Groups.{before_standing, is_group}
 use Rattle.gx_sql.specs.Progress.{Progress}
 use Rattle.gx_sql.specs.Script.{the_limits}
 use Rattle.gx_explain.specs.Parts.{before_word, before_part, before_table, before_unknown, before_repeated}
@@ -46,10 +49,11 @@ abbrev pub IsStopped : {X : Type 0} → (Limits → X → List Token → Type 0)
 IsStopped rule ts place = (us : List Token) × (rest : List Token) × (f : Fault) × (ts ≡ us ++ rest) × (length us ≡ place) × Stops rule the_limits us rest f
 
 -- BY COUNTS
--- a further session is told by the first token, a further table by its name, a further column by the name of a 33rd, a further line by its front
+-- a further session is told by the first token, a further table or group by its name, a further column by the name of a 33rd, a further line by its front
 abbrev pub counted : LineFault → Option ℕ
 counted (fault.TooMany limit.Sessions) = Some 0
 counted (fault.TooMany limit.Tables) = Some 1
+counted (fault.TooMany limit.Groups) = Some 1
 counted (fault.TooMany limit.Columns) = Some 99
 counted (fault.TooMany limit.Lines) = Some 0
 counted _ = None
@@ -182,27 +186,36 @@ table_place fault.Syntax ts = before_repeated false [] false ts
 table_place fault.UnknownColumn ts = before_word word.By ts + 2
 table_place _ ts = 1
 
+-- behind the word, the name of the group, LIMIT, its number and IN
+abbrev pub before_member : ℕ → List Token → ℕ
+before_member k ts = 5 + before_part k 0 (drop 5 ts)
+
+-- the name of the group, where it is known; else the session that stands in a group already, or before in the line
+abbrev pub told_place : List GroupHead → List (List ℕ × ℕ) → GroupSyn → List Token → ℕ
+told_place groups members g ts = if is_group g.name groups then 1 else before_member (before_standing (length groups) members g.sessions) ts
+
 -- a second line on the detector is wrong from its first token on
-abbrev pub written_place : List Schema → LineSyn → LineFault → List Token → ℕ
-written_place tables (line_syn.Detector s) f ts = 0
-written_place tables (line_syn.Table t) f ts = table_place f ts
-written_place tables (line_syn.Link l) f ts = 0
-written_place tables (line_syn.Session name written) f ts = found_place (option_and_then (λ table. table_after 0 table tables) (table_named written)) written f ts
+abbrev pub written_place : List GroupHead → List (List ℕ × ℕ) → List Schema → LineSyn → LineFault → List Token → ℕ
+written_place groups members tables (line_syn.Detector s) f ts = 0
+written_place groups members tables (line_syn.Table t) f ts = table_place f ts
+written_place groups members tables (line_syn.Link l) f ts = 0
+written_place groups members tables (line_syn.Group g) f ts = told_place groups members g ts
+written_place groups members tables (line_syn.Session name written) f ts = found_place (option_and_then (λ table. table_after 0 table tables) (table_named written)) written f ts
 
 -- by the rule of a line, or by what is wrong with a line that is written by it
-abbrev pub IsPlaceBy : (Limits → LineSyn → List Token → Type 0) → List Schema → LineFault → List Token → ℕ → Type 0
-IsPlaceBy rule tables f ts place = IsStopped rule ts place ⊎ ((x : LineSyn) × rule the_limits x ts × (place ≡ written_place tables x f ts))
+abbrev pub IsPlaceBy : (Limits → LineSyn → List Token → Type 0) → List GroupHead → List (List ℕ × ℕ) → List Schema → LineFault → List Token → ℕ → Type 0
+IsPlaceBy rule groups members tables f ts place = IsStopped rule ts place ⊎ ((x : LineSyn) × rule the_limits x ts × (place ≡ written_place groups members tables x f ts))
 
 -- the first line tells the segments; where so many were told a head may stand where no session's line came before
-abbrev pub IsPlaceIn : Option ℕ → List Line → List Schema → LineFault → List Token → ℕ → Type 0
-IsPlaceIn None lines tables f ts place = IsStopped segments ts place
-IsPlaceIn (Some n) [] tables f ts place = IsPlaceBy (head_line n) tables f ts place
-IsPlaceIn (Some n) (_ ∷ _) tables f ts place = IsPlaceBy session_line tables f ts place
+abbrev pub IsPlaceIn : Option ℕ → List Line → List GroupHead → List (List ℕ × ℕ) → List Schema → LineFault → List Token → ℕ → Type 0
+IsPlaceIn None lines groups members tables f ts place = IsStopped segments ts place
+IsPlaceIn (Some n) [] groups members tables f ts place = IsPlaceBy (head_line n) groups members tables f ts place
+IsPlaceIn (Some n) (_ ∷ _) groups members tables f ts place = IsPlaceBy session_line groups members tables f ts place
 
 -- by its count, where one is passed; else as what the lines before said lets it stand
 abbrev pub IsPlaceBehind : Option ℕ → Progress → LineFault → List Token → ℕ → Type 0
 IsPlaceBehind (Some count) p f ts place = place ≡ count
-IsPlaceBehind None p f ts place = IsPlaceIn p.segments p.lines p.tables f ts place
+IsPlaceBehind None p f ts place = IsPlaceIn p.segments p.lines p.groups p.members p.tables f ts place
 
 -- what the lines before said, what is wrong with a line, its tokens, and how many of them stand before the faulty one
 abbrev pub IsPlace : Progress → LineFault → List Token → ℕ → Type 0

@@ -10,6 +10,7 @@ abbrev pub limit_name : Limit → List ℕ
 limit_name limit.Segments = codes "segments"
 limit_name limit.Sessions = codes "sessions"
 limit_name limit.Tables = codes "tables"
+limit_name limit.Groups = codes "groups"
 limit_name limit.Columns = codes "columns"
 limit_name limit.Lines = codes "lines"
 limit_name limit.Name = codes "name"

@@ -52,16 +52,23 @@ fn is_any(wanted: &[u8], found: &[u8]) -> bool {
     wanted.is_empty() || wanted == found
 }
 
+// The bytes before the first ~ and those behind it, or all of them where there is none.
+fn cut(bytes: &'static [u8]) -> (&'static [u8], &'static [u8]) {
+    for place in 0..bytes.len() {
+        if bytes[place] == b'~' {
+            return (&bytes[..place], &bytes[place + 1..]);
+        }
+    }
+    (bytes, &[])
+}
+
 // The hint of a rule where it is one for these.
-fn hint_of(rule: &'static str, clause: &[u8], last: &[u8], tail: &[u8]) -> Option<&'static [u8]> {
-    let (of_clause, rest) = rule.split_once("~")?;
-    let (behind, rest) = rest.split_once("~")?;
-    let (here, hint) = rest.split_once("~")?;
-    if is_any(of_clause.as_bytes(), clause)
-        && is_any(behind.as_bytes(), last)
-        && begins(here.as_bytes(), tail)
-    {
-        Some(hint.as_bytes())
+fn hint_of(rule: &'static [u8], clause: &[u8], last: &[u8], tail: &[u8]) -> Option<&'static [u8]> {
+    let (of_clause, rest) = cut(rule);
+    let (behind, rest) = cut(rest);
+    let (here, hint) = cut(rest);
+    if is_any(of_clause, clause) && is_any(behind, last) && begins(here, tail) {
+        Some(hint)
     } else {
         None
     }
@@ -69,7 +76,7 @@ fn hint_of(rule: &'static str, clause: &[u8], last: &[u8], tail: &[u8]) -> Optio
 
 fn hint_by(rules: &'static str, clause: &[u8], last: &[u8], tail: &[u8]) -> Option<&'static [u8]> {
     for rule in rules.split('\n') {
-        let hint = hint_of(rule, clause, last, tail);
+        let hint = hint_of(rule.as_bytes(), clause, last, tail);
         if hint.is_some() {
             return hint;
         }
@@ -101,8 +108,19 @@ fn is_link(word: Word) -> bool {
     }
 }
 
+// Whether tokens begin a head of a group, whose words are those of other clauses elsewhere.
+fn is_group(tokens: &[Token]) -> bool {
+    match tokens.first() {
+        Some(Token::Word(Word::Group)) => true,
+        _ => false,
+    }
+}
+
 // The clause of a line behind these tokens, or this one.
 fn clause_of(tokens: &[Token], front: &'static [u8]) -> &'static [u8] {
+    if is_group(tokens) {
+        return b"groups";
+    }
     let mut clause = front;
     for token in tokens {
         if let Token::Word(word) = token {
@@ -151,6 +169,7 @@ fn hint_on_limit(limit: Limit) -> &'static [u8] {
         Limit::Segments => b"there are at most 16 segments",
         Limit::Sessions => b"there are at most 64 sessions",
         Limit::Tables => b"there are at most 64 tables",
+        Limit::Groups => b"there are at most 64 groups",
         Limit::Columns => b"a table has at most 32 columns",
         Limit::Lines => b"there are at most 100000 lines",
         Limit::Name => b"a name has at most 63 bytes",

@@ -65,14 +65,12 @@ fn right_parts<T: Written>(alloc: Global, columns: &[Column], parts: &[T]) -> Me
     requires { length columns.now ≤ 256 }
     ensures { IfOk result (λ count. count ≡ prefix_len (λ part. is_ok (T.means columns.now part)) parts.now) }
 {
-    let mut count = 0usize;
-    for part in parts {
-        if !is_right(alloc, columns, part)? {
+    for count in 0..parts.len() {
+        if !is_right(alloc, columns, &parts[count])? {
             return Ok(count);
         }
-        count += 1;
     }
-    Ok(count)
+    Ok(parts.len())
 }
 
 fn right_items(alloc: Global, columns: &[Column], items: &[ItemSyn]) -> Mem<usize>
@@ -80,20 +78,6 @@ fn right_items(alloc: Global, columns: &[Column], items: &[ItemSyn]) -> Mem<usiz
     ensures { IfOk result (λ count. count ≡ of.good_items columns.now items.now) }
 {
     right_parts(alloc, columns, items)
-}
-
-fn right_tuples(alloc: Global, columns: &[Column], tuples: &[TupleSyn]) -> Mem<usize>
-    requires { length columns.now ≤ 256 }
-    ensures { IfOk result (λ count. count ≡ of.good_tuples columns.now tuples.now) }
-{
-    right_parts(alloc, columns, tuples)
-}
-
-fn right_assigns(alloc: Global, columns: &[Column], assigns: &[AssignSyn]) -> Mem<usize>
-    requires { length columns.now ≤ 256 }
-    ensures { IfOk result (λ count. count ≡ of.good_assigns columns.now assigns.now) }
-{
-    right_parts(alloc, columns, assigns)
 }
 
 fn among(count: usize, all: usize) -> Option<usize>
@@ -149,14 +133,12 @@ fn may_group(names: &[Txt], item: &ItemSyn) -> bool
 fn grouped_items(names: &[Txt], items: &[ItemSyn]) -> usize
     ensures { result ≡ prefix_len (of.may_group names.now) items.now }
 {
-    let mut count = 0usize;
-    for item in items {
-        if !may_group(names, item) {
+    for count in 0..items.len() {
+        if !may_group(names, &items[count]) {
             return count;
         }
-        count += 1;
     }
-    count
+    items.len()
 }
 
 fn plain_item(names: &[Txt], items: &ItemsSyn) -> Option<usize>
@@ -174,14 +156,12 @@ fn plain_item(names: &[Txt], items: &ItemsSyn) -> Option<usize>
 fn grouped_keys(names: &[Txt], keys: &[KeySyn]) -> usize
     ensures { result ≡ of.good_keys names.now keys.now }
 {
-    let mut count = 0usize;
-    for key in keys {
-        if !is_named(names, &key.column) {
+    for count in 0..keys.len() {
+        if !is_named(names, &keys[count].column) {
             return count;
         }
-        count += 1;
     }
-    count
+    keys.len()
 }
 
 fn plain_key(names: &[Txt], keys: &Option<Seq<KeySyn>>) -> Option<usize>
@@ -281,6 +261,45 @@ fn update_place(assign: Option<usize>, tokens: &[Token]) -> usize
     }
 }
 
+fn select_mismatch(
+    alloc: Global,
+    columns: &[Column],
+    select: &SelectSyn,
+    tokens: &[Token],
+) -> Mem<usize>
+    requires { length columns.now ≤ 256 }
+    ensures { IfOk result (λ place. place ≡ of.select_place select.now (of.wrong_item columns.now select.now.items) tokens.now) }
+{
+    let item = wrong_item(alloc, columns, &select.items)?;
+    Ok(select_place(select, item, tokens))
+}
+
+fn insert_mismatch(
+    alloc: Global,
+    columns: &[Column],
+    tuples: &[TupleSyn],
+    tokens: &[Token],
+) -> Mem<usize>
+    requires { length columns.now ≤ 256 }
+    ensures { IfOk result (λ place. place ≡ of.before_tuple (of.good_tuples columns.now tuples.now) tokens.now) }
+{
+    let count = right_parts(alloc, columns, tuples)?;
+    Ok(before_tuple(count, tokens))
+}
+
+fn update_mismatch(
+    alloc: Global,
+    columns: &[Column],
+    assigns: &[AssignSyn],
+    tokens: &[Token],
+) -> Mem<usize>
+    requires { length columns.now ≤ 256 }
+    ensures { IfOk result (λ place. place ≡ of.update_place (of.among (of.good_assigns columns.now assigns.now) (length assigns.now)) tokens.now) }
+{
+    let count = right_parts(alloc, columns, assigns)?;
+    Ok(update_place(among(count, assigns.len()), tokens))
+}
+
 /// How many tokens stand before the first part of a statement that is wrong by its kinds, counts and ranges.
 pub fn mismatch_place(
     alloc: Global,
@@ -292,18 +311,14 @@ pub fn mismatch_place(
     ensures { IfOk result (λ place. place ≡ of.mismatch_place columns.now stmt.now tokens.now) }
 {
     match stmt {
-        StmtSyn::Select(select) => {
-            let item = wrong_item(alloc, columns, &select.get().items)?;
-            Ok(select_place(select.get(), item, tokens))
-        }
-        StmtSyn::Insert(_, tuples) => {
-            let count = right_tuples(alloc, columns, tuples.as_slice())?;
-            Ok(before_tuple(count, tokens))
-        }
-        StmtSyn::Update(_, assigns, _) => {
-            let count = right_assigns(alloc, columns, assigns.as_slice())?;
-            Ok(update_place(among(count, assigns.as_slice().len()), tokens))
-        }
+        StmtSyn::Select(select) => select_mismatch(alloc, columns, select.get(), tokens),
+        StmtSyn::Insert(_, tuples) => insert_mismatch(alloc, columns, tuples.as_slice(), tokens),
+        StmtSyn::Update(_, assigns, _) => update_mismatch(
+            alloc,
+            columns,
+            assigns.as_slice(),
+            tokens,
+        ),
         StmtSyn::Delete(_, _) => Ok(before_where(tokens)),
         _ => Ok(0),
     }
@@ -329,14 +344,12 @@ fn other_assigns(alloc: Global, columns: &[Column], key: u8, assigns: &[AssignSy
     requires { length columns.now ≤ 256 }
     ensures { IfOk result (λ count. count ≡ of.other_assigns columns.now key assigns.now) }
 {
-    let mut count = 0usize;
-    for assign in assigns {
-        if sets(alloc, columns, key, assign)? {
+    for count in 0..assigns.len() {
+        if sets(alloc, columns, key, &assigns[count])? {
             return Ok(count);
         }
-        count += 1;
     }
-    Ok(count)
+    Ok(assigns.len())
 }
 
 fn key_set_place(

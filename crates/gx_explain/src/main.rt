@@ -2,6 +2,7 @@
 #![tactic(auto)]
 
 mod attempt;
+mod grouped;
 mod hints;
 mod kinds;
 mod names;

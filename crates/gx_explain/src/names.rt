@@ -38,15 +38,13 @@ pub fn before_unknown(columns: &[Column], tokens: &[Token]) -> usize
     ensures within { result ≤ length tokens.now }
 {
     let mut behind = false;
-    let mut place = 0usize;
-    for token in tokens {
-        if is_unknown(columns, behind, token) {
+    for place in 0..tokens.len() {
+        if is_unknown(columns, behind, &tokens[place]) {
             return place;
         }
-        behind = is_table_word(token);
-        place += 1;
+        behind = is_table_word(&tokens[place]);
     }
-    place
+    tokens.len()
 }
 
 fn opens(assigned: bool, token: &Token) -> bool
@@ -95,16 +93,15 @@ fn before_again<'t>(names: &mut Vec<Name<'t>>, assigned: bool, tokens: &[Token<'
     ensures { IfOk result (λ place. place ≡ of.before_repeated assigned names.old.items false tokens.now) }
 {
     let mut opened = false;
-    let mut place = 0usize;
-    for token in tokens {
+    for place in 0..tokens.len() {
+        let token = &tokens[place];
         if is_repeated(names.as_slice(), opened, token) {
             return Ok(place);
         }
         add_name(names, opened, token)?;
         opened = opens(assigned, token);
-        place += 1;
     }
-    Ok(place)
+    Ok(tokens.len())
 }
 
 /// How many tokens stand before the first column that SET assigns once more, or that a table line declares once more.

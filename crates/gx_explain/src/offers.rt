@@ -1,6 +1,4 @@
 // What could stand at the place of a fault.
-ghost use Rattle.gx_sql.specs.Held.{IsHeld};
-
 use crate::hints::{Stray, hint, push_hint};
 use crate::places::limits;
 use crate::spelled::sign_text;
@@ -18,8 +16,13 @@ use std::alloc::Global;
 // The most tokens before a place at which something is offered, since all of them are read for each offer.
 const NEAR: usize = 20_000;
 
-// The most bytes of offers, which with what stands before them make a line of 100.
-const ROOM: usize = 76;
+// What stands before offers.
+const OFFERED: &[u8] = b"  could stand there:  ";
+
+const BEFORE: usize = 22;
+
+// The most bytes of a line of offers, but for its end.
+const ROOM: usize = 98;
 
 // The signs.
 const SIGNS: [Symbol; 16] = [
@@ -41,6 +44,14 @@ const SIGNS: [Symbol; 16] = [
     Symbol::Percent,
 ];
 
+fn signs() -> &'static [Symbol] {
+    &SIGNS
+}
+
+fn keywords() -> &'static [Word] {
+    &WORDS
+}
+
 // What a reading says of tokens: they are a line, they go on, or they don't.
 #[derive(Clone, Copy)]
 pub enum Going {
@@ -61,19 +72,42 @@ fn going_of<T: Drop>(read: Result<T, ReadError>) -> Mem<Going> {
     }
 }
 
-// How far the tokens are a line behind what the lines before it said.
-fn read_on(alloc: Global, progress: &Progress, tokens: &[Token]) -> Mem<Going>
-    requires { IsHeld progress.now }
-{
+/// Where in a script a line stands: first, where a head may with so many segments told, or behind a session's line.
+#[derive(Clone, Copy)]
+pub enum Front {
+    Segments,
+    Heads(u64),
+    Lines,
+}
+
+/// Where the line behind those that said so much stands.
+pub fn front_of(progress: &Progress) -> Front {
     match progress.segments {
-        None => going_of(read_segments_line(alloc, limits(), tokens)),
+        None => Front::Segments,
         Some(segments) => {
             if progress.lines.is_empty() {
-                going_of(read_head_line(alloc, segments, limits(), tokens))
+                Front::Heads(segments)
             } else {
-                going_of(read_session_line(alloc, limits(), tokens))
+                Front::Lines
             }
         }
+    }
+}
+
+// How far the tokens are a head's line, or a session's first.
+fn read_head(alloc: Global, segments: u64, tokens: &[Token]) -> Mem<Going> {
+    if segments == 0 {
+        return Ok(Going::Not);
+    }
+    going_of(read_head_line(alloc, segments, limits(), tokens))
+}
+
+// How far the tokens are a line there.
+fn read_on(alloc: Global, front: Front, tokens: &[Token]) -> Mem<Going> {
+    match front {
+        Front::Segments => going_of(read_segments_line(alloc, limits(), tokens)),
+        Front::Heads(segments) => read_head(alloc, segments, tokens),
+        Front::Lines => going_of(read_session_line(alloc, limits(), tokens)),
     }
 }
 
@@ -85,75 +119,62 @@ fn goes(going: Going) -> bool {
     }
 }
 
-fn push_offer(offers: &mut Vec<u8>, spelling: &[u8]) -> Mem<()> {
-    if offers.len().saturating_add(spelling.len()) > ROOM {
+fn push_offer(words: &mut Vec<u8>, spelling: &[u8]) -> Mem<()> {
+    if words.len().saturating_add(spelling.len()) > ROOM {
         return Ok(());
     }
-    if !offers.is_empty() {
-        push_bytes(offers, b"  ")?;
+    if BEFORE < words.len() {
+        push_bytes(words, b"  ")?;
     }
-    push_bytes(offers, spelling)
+    push_bytes(words, spelling)
 }
 
 // Adds a token to what is offered where it lets the reading go on behind these tokens, which are the same afterwards.
 fn offer<'t>(
     alloc: Global,
-    progress: &Progress,
+    front: Front,
     tokens: &mut Vec<Token<'t>>,
     token: Token<'t>,
     spelling: &[u8],
-    offers: &mut Vec<u8>,
-) -> Mem<bool>
-    requires { IsHeld progress.now }
-{
+    words: &mut Vec<u8>,
+) -> Mem<bool> {
     tokens.push(token)?;
-    let on = goes(read_on(alloc, progress, tokens.as_slice())?);
+    let on = goes(read_on(alloc, front, tokens.as_slice())?);
     drop(tokens.pop());
     if on {
-        push_offer(offers, spelling)?;
+        push_offer(words, spelling)?;
     }
     Ok(on)
 }
 
 fn offer_words(
     alloc: Global,
-    progress: &Progress,
+    front: Front,
     tokens: &mut Vec<Token>,
-    words: &[Word],
-    offers: &mut Vec<u8>,
-) -> Mem<()>
-    requires { IsHeld progress.now }
-{
-    for word in words {
-        offer(
-            alloc,
-            progress,
-            tokens,
-            Token::Word(*word),
-            word.text(),
-            offers,
-        )?;
+    all: &[Word],
+    words: &mut Vec<u8>,
+) -> Mem<()> {
+    for word in all {
+        offer(alloc, front, tokens, Token::Word(*word), word.text(), words)?;
     }
     Ok(())
 }
 
 fn offer_signs(
     alloc: Global,
-    progress: &Progress,
+    front: Front,
     tokens: &mut Vec<Token>,
     signs: &[Symbol],
-    offers: &mut Vec<u8>,
-) -> Mem<()>
-    requires { IsHeld progress.now }
-{
+    words: &mut Vec<u8>,
+) -> Mem<()> {
     for sign in signs {
         offer(
             alloc,
-            progress,
+            front,
             tokens,
             Token::Symbol(*sign),
             sign_text(*sign),
-            offers,
+            words,
         )?;
     }
     Ok(())
@@ -162,69 +183,50 @@ fn offer_signs(
 // Offers what has no spelling of its own, and says whether a name could stand there.
 fn offer_kinds(
     alloc: Global,
-    progress: &Progress,
+    front: Front,
     tokens: &mut Vec<Token>,
-    offers: &mut Vec<u8>,
-) -> Mem<bool>
-    requires { IsHeld progress.now }
-{
+    words: &mut Vec<u8>,
+) -> Mem<bool> {
     let name = Token::Name(Name::new(b"a"));
-    let named = offer(alloc, progress, tokens, name, b"a name", offers)?;
+    let named = offer(alloc, front, tokens, name, b"a name", words)?;
     let number = Token::Number(Some(1));
-    offer(alloc, progress, tokens, number, b"a number", offers)?;
+    offer(alloc, front, tokens, number, b"a number", words)?;
     let content = Token::Text(Txt::from_vec(Vec::new(alloc)));
-    offer(alloc, progress, tokens, content, b"a text", offers)?;
+    offer(alloc, front, tokens, content, b"a text", words)?;
     Ok(named)
 }
 
-fn offer_end(alloc: Global, progress: &Progress, tokens: &[Token], offers: &mut Vec<u8>) -> Mem<()>
-    requires { IsHeld progress.now }
-{
-    match read_on(alloc, progress, tokens)? {
-        Going::Whole => push_offer(offers, b"the end"),
+fn offer_end(alloc: Global, front: Front, tokens: &[Token], words: &mut Vec<u8>) -> Mem<()> {
+    match read_on(alloc, front, tokens)? {
+        Going::Whole => push_offer(words, b"the end"),
         _ => Ok(()),
     }
 }
 
-fn push_offered(words: &mut Vec<u8>, offers: &[u8]) -> Mem<()> {
-    if offers.is_empty() {
-        return Ok(());
+// Ends a line of offers, or takes it away where nothing is offered.
+fn end_offers(words: &mut Vec<u8>) -> Mem<()> {
+    if BEFORE < words.len() {
+        push_bytes(words, b"\n")
+    } else {
+        words.clear();
+        Ok(())
     }
-    push_bytes(words, b"  could stand there:  ")?;
-    push_bytes(words, offers)?;
-    push_bytes(words, b"\n")
 }
 
-// Gives a line of what could stand behind these tokens, with a list for it, and says whether a name could.
-fn push_all(
-    alloc: Global,
-    words: &mut Vec<u8>,
-    progress: &Progress,
-    tokens: &mut Vec<Token>,
-    offers: &mut Vec<u8>,
-) -> Mem<bool>
-    requires { IsHeld progress.now }
-{
-    let named = offer_kinds(alloc, progress, tokens, offers)?;
-    offer_words(alloc, progress, tokens, &WORDS, offers)?;
-    offer_signs(alloc, progress, tokens, &SIGNS, offers)?;
-    offer_end(alloc, progress, tokens.as_slice(), offers)?;
-    push_offered(words, offers.as_slice())?;
-    Ok(named)
-}
-
+// Gives a line of what could stand behind these tokens, and says whether a name could.
 fn push_offers(
     alloc: Global,
     words: &mut Vec<u8>,
-    progress: &Progress,
+    front: Front,
     tokens: &mut Vec<Token>,
-) -> Mem<bool>
-    requires { IsHeld progress.now }
-{
-    let mut offers = Vec::new(alloc);
-    let named = push_all(alloc, words, progress, tokens, &mut offers);
-    drop(offers);
-    named
+) -> Mem<bool> {
+    push_bytes(words, OFFERED)?;
+    let named = offer_kinds(alloc, front, tokens, words)?;
+    offer_words(alloc, front, tokens, keywords(), words)?;
+    offer_signs(alloc, front, tokens, signs(), words)?;
+    offer_end(alloc, front, tokens.as_slice(), words)?;
+    end_offers(words)?;
+    Ok(named)
 }
 
 // Whether a fault may be one of the grammar.
@@ -257,11 +259,9 @@ fn stray_where(named: bool, stray: Stray) -> Stray {
 }
 
 // Whether the grammar stops at the token behind so many of these, of which no more are left then.
-fn stops(alloc: Global, progress: &Progress, tokens: &mut Vec<Token>, place: usize) -> Mem<bool>
-    requires { IsHeld progress.now }
-{
+fn stops(alloc: Global, front: Front, tokens: &mut Vec<Token>, place: usize) -> Mem<bool> {
     tokens.truncate(place.saturating_add(1));
-    let stops = tokens.len() <= place || !goes(read_on(alloc, progress, tokens.as_slice())?);
+    let stops = tokens.len() <= place || !goes(read_on(alloc, front, tokens.as_slice())?);
     tokens.truncate(place);
     Ok(stops)
 }
@@ -271,29 +271,24 @@ fn stops(alloc: Global, progress: &Progress, tokens: &mut Vec<Token>, place: usi
 fn push_offers_at(
     alloc: Global,
     words: &mut Vec<u8>,
-    progress: &Progress,
+    front: Front,
     tokens: &mut Vec<Token>,
     place: usize,
-) -> Mem<Stray>
-    requires { IsHeld progress.now }
-{
+) -> Mem<Stray> {
     let stray = stray_of(tokens.get(place));
-    if stops(alloc, progress, tokens, place)? {
-        let named = push_offers(alloc, words, progress, tokens)?;
+    if stops(alloc, front, tokens, place)? {
+        let named = push_offers(alloc, words, front, tokens)?;
         Ok(stray_where(named && !tokens.is_empty(), stray))
     } else {
         Ok(Stray::Fitting)
     }
 }
 
-// Where in a script a line stands.
-fn front_of(progress: &Progress) -> &'static [u8] {
-    if progress.segments.is_none() {
-        b"segments"
-    } else if progress.lines.is_empty() {
-        b"heads"
-    } else {
-        b"lines"
+fn front_name(front: Front) -> &'static [u8] {
+    match front {
+        Front::Segments => b"segments",
+        Front::Heads(_) => b"heads",
+        Front::Lines => b"lines",
     }
 }
 
@@ -301,39 +296,35 @@ fn front_of(progress: &Progress) -> &'static [u8] {
 fn push_words(
     alloc: Global,
     words: &mut Vec<u8>,
-    progress: &Progress,
+    front: Front,
     fault: LineFault,
     tokens: &mut Vec<Token>,
     place: usize,
     tail: &[u8],
-) -> Mem<()>
-    requires { IsHeld progress.now }
-{
+) -> Mem<()> {
     let mut stray = Stray::Other;
     if is_of_tokens(fault) && place <= NEAR {
-        stray = push_offers_at(alloc, words, progress, tokens, place)?;
+        stray = push_offers_at(alloc, words, front, tokens, place)?;
     } else {
         tokens.truncate(place);
     }
     push_hint(
         words,
-        hint(fault, stray, front_of(progress), tokens.as_slice(), tail),
+        hint(fault, stray, front_name(front), tokens.as_slice(), tail),
     )
 }
 
 /// What could stand at the place of a fault, before which so many of these tokens stand, and a hint.
 pub fn words_on(
     alloc: Global,
-    progress: &Progress,
+    front: Front,
     fault: LineFault,
     tokens: &mut Vec<Token>,
     place: usize,
     tail: &[u8],
-) -> Mem<Vec<u8>>
-    requires { IsHeld progress.now }
-{
+) -> Mem<Vec<u8>> {
     let mut words = Vec::new(alloc);
-    match push_words(alloc, &mut words, progress, fault, tokens, place, tail) {
+    match push_words(alloc, &mut words, front, fault, tokens, place, tail) {
         Ok(()) => Ok(words),
         Err(OutOfMemory) => {
             drop(words);

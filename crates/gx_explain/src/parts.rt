@@ -12,14 +12,12 @@ pub fn before_word(word: Word, tokens: &[Token]) -> usize
     ensures value { result ≡ of.before_word word tokens.now }
     ensures within { result ≤ length tokens.now }
 {
-    let mut count = 0usize;
-    for token in tokens {
-        if is_word(word, token) {
+    for count in 0..tokens.len() {
+        if is_word(word, &tokens[count]) {
             return count;
         }
-        count += 1;
     }
-    count
+    tokens.len()
 }
 
 pub fn is_table_word(token: &Token) -> bool
@@ -35,14 +33,12 @@ fn before_table_word(tokens: &[Token]) -> usize
     ensures value { result ≡ prefix_len (λ y. not (of.is_table_word y)) tokens.now }
     ensures within { result ≤ length tokens.now }
 {
-    let mut count = 0usize;
-    for token in tokens {
-        if is_table_word(token) {
+    for count in 0..tokens.len() {
+        if is_table_word(&tokens[count]) {
             return count;
         }
-        count += 1;
     }
-    count
+    tokens.len()
 }
 
 /// How many tokens stand before the name of the table.

@@ -2,10 +2,11 @@
 ghost use Rattle.std.specs.Prelude.{◌≡◌, ◌≤◌, ◌+◌, ◌-◌, List, IfOk, IfSome, length};
 ghost use Rattle.std.specs.Option.{option_map, ForSome};
 ghost use Rattle.gx_lines.specs.Heads.{head_line, segments as segments_line, session_line};
-ghost use Rattle.gx_sql.specs.Held.{AreTables, IsHeld, progress_of, schemas};
+ghost use Rattle.gx_sql.specs.Held.{AreTables, IsHeld, named, progress_of, schemas};
 ghost use Rattle.gx_sql.specs.Script.{the_limits};
 ghost use Rattle.gx_explain.specs.Places as of;
 
+use crate::grouped::told_place;
 use crate::kinds::{key_update_place, mismatch_place};
 use crate::names::{before_repeated, before_unknown};
 use crate::parts::{before_table, before_word, behind};
@@ -17,7 +18,6 @@ use gx_sql::Limit;
 use gx_sql::progress::{Progress, find_table};
 use gx_sql::refusal::LineFault;
 use gx_tree::Schema;
-use indexmap::IndexMap;
 use std::alloc::Global;
 use std::mem;
 
@@ -41,6 +41,7 @@ fn counted(fault: LineFault) -> Option<usize>
     match fault {
         LineFault::TooMany(Limit::Sessions) => Some(0),
         LineFault::TooMany(Limit::Tables) => Some(1),
+        LineFault::TooMany(Limit::Groups) => Some(1),
         LineFault::TooMany(Limit::Columns) => Some(99),
         LineFault::TooMany(Limit::Lines) => Some(0),
         _ => None,
@@ -96,21 +97,21 @@ fn found_place(
 // Where a line that is written by the grammar is wrong.
 fn written_place(
     alloc: Global,
-    tables: &IndexMap<Vec<u8>, Schema>,
+    progress: &Progress,
     line: &LineSyn,
     fault: LineFault,
     tokens: &[Token],
 ) -> Mem<usize>
-    requires named { AreTables tables.now.entries }
-    requires few { length tables.now.entries ≤ 64 }
-    ensures { IfOk result (λ place. place ≡ of.written_place (schemas tables.now.entries) line.now fault tokens.now) }
+    requires { IsHeld progress.now }
+    ensures { IfOk result (λ place. place ≡ of.written_place progress.now.groups.items (named progress.now.members.entries) (schemas progress.now.tables.entries) line.now fault tokens.now) }
 {
     match line {
         LineSyn::Detector(_) => Ok(0),
         LineSyn::Table(_) => table_place(alloc, fault, tokens),
         LineSyn::Link(_) => Ok(0),
+        LineSyn::Group(group) => told_place(alloc, progress, group, tokens),
         LineSyn::Session(_, stmt) => {
-            let found = find_table(tables, stmt);
+            let found = find_table(&progress.tables, stmt);
             found_place(alloc, found, stmt, fault, tokens)
         }
     }
@@ -135,9 +136,9 @@ fn place_in(
     tokens: &[Token],
 ) -> Mem<Option<usize>>
     requires { IsHeld progress.now }
-    ensures { IfOk result (λ found. IfSome found (λ place. place ≡ of.written_place (schemas progress.now.tables.entries) line.entry fault tokens.now)) }
+    ensures { IfOk result (λ found. IfSome found (λ place. place ≡ of.written_place progress.now.groups.items (named progress.now.members.entries) (schemas progress.now.tables.entries) line.entry fault tokens.now)) }
 {
-    let place = written_place(alloc, &progress.tables, &line, fault, tokens);
+    let place = written_place(alloc, progress, &line, fault, tokens);
     // The process ends soon, and the memory of what was read with it.
     mem::forget(line);
     Ok(Some(place?))
@@ -152,7 +153,7 @@ fn head_place(
 ) -> Mem<Option<usize>>
     requires held { IsHeld progress.now }
     requires some { 1 ≤ segments }
-    ensures { IfOk result (λ found. IfSome found (of.IsPlaceBy (head_line segments) (schemas progress.now.tables.entries) fault tokens.now)) }
+    ensures { IfOk result (λ found. IfSome found (of.IsPlaceBy (head_line segments) progress.now.groups.items (named progress.now.members.entries) (schemas progress.now.tables.entries) fault tokens.now)) }
 {
     match read_head_line(alloc, segments, limits(), tokens) {
         Ok(line) => place_in(alloc, progress, line, fault, tokens),
@@ -168,7 +169,7 @@ fn line_place(
     tokens: &[Token],
 ) -> Mem<Option<usize>>
     requires held { IsHeld progress.now }
-    ensures { IfOk result (λ found. IfSome found (of.IsPlaceBy session_line (schemas progress.now.tables.entries) fault tokens.now)) }
+    ensures { IfOk result (λ found. IfSome found (of.IsPlaceBy session_line progress.now.groups.items (named progress.now.members.entries) (schemas progress.now.tables.entries) fault tokens.now)) }
 {
     match read_session_line(alloc, limits(), tokens) {
         Ok(line) => place_in(alloc, progress, line, fault, tokens),
@@ -185,7 +186,7 @@ fn read_place(
     tokens: &[Token],
 ) -> Mem<Option<usize>>
     requires held { IsHeld progress.now }
-    ensures { IfOk result (λ found. IfSome found (of.IsPlaceIn progress.now.segments progress.now.lines.items (schemas progress.now.tables.entries) fault tokens.now)) }
+    ensures { IfOk result (λ found. IfSome found (of.IsPlaceIn progress.now.segments progress.now.lines.items progress.now.groups.items (named progress.now.members.entries) (schemas progress.now.tables.entries) fault tokens.now)) }
 {
     match progress.segments {
         None => segments_place(alloc, tokens),

@@ -3,7 +3,10 @@
 // the front of a line or its end.
 
 /// What no grammar of lines takes, by its word or by what stands before it.
-pub const WORDS: &str = "into~~select~an INSERT has VALUES, and no query
+pub const WORDS: &str =
+    "groups~~in~a group has a name, a limit and sessions: group g limit 2 in ann, bob
+groups~~;~a head has no semicolon
+into~~select~an INSERT has VALUES, and no query
 into~~(~INSERT has no list of columns: VALUES has one value for each, in the table's order
 ~~null~there is no NULL: each column of each row has a value
 ~~is~there is no NULL: each column of each row has a value
@@ -61,10 +64,13 @@ heads~bigint~~a column is its name and its kind: no keys, no defaults, and none 
 heads~text~~a column is its name and its kind: no keys, no defaults, and none is ever null
 heads~table~:~a keyword is no session's name
 heads~$~segments~the number of segments is told once
-lines~$~detector~heads stand above the first session's line";
+lines~$~detector~heads stand above the first session's line
+lines~$~group~heads stand above the first session's line";
 
 /// What else can't stand in a line, by its clause or by how it begins.
-pub const PLACES: &str = "~~$~a statement stands whole on one line, and a text ends on its line
+pub const PLACES: &str =
+    "groups~~$~a group has a name, a limit and sessions: group g limit 2 in ann, bob
+~~$~a statement stands whole on one line, and a text ends on its line
 ~~--~a comment is a line of its own, and begins with --
 ~~/*~a comment is a line of its own, and begins with --
 ~~#~a comment is a line of its own, and begins with --
@@ -86,6 +92,8 @@ lines~$~~a line is the name of a session, a colon and a statement
 heads~$~~a line is a head, or the name of a session, a colon and a statement
 heads~detector~~write detector on, or detector off
 heads~table~~a table has a name, columns and how its rows are spread: table t (a bigint) distributed by (a)
+groups~limit~~a group's limit is a number from 1 to 18446744073709551615
+groups~~~a group has a name, a limit and sessions: group g limit 2 in ann, bob
 lose~~~a link is that to or from a segment of the script, and its messages are numbered from 1
 repeat~~~a link is that to or from a segment of the script, and its messages are numbered from 1
 heads~~~a column is its name and its kind, bigint or text

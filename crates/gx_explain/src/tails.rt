@@ -12,14 +12,12 @@ fn blanks_len(line: &[u8]) -> usize
     ensures value { result ≡ prefix_len lexing.is_blank line.now }
     ensures within { result ≤ length line.now }
 {
-    let mut count = 0usize;
-    for byte in line {
-        if !is_blank(*byte) {
+    for count in 0..line.len() {
+        if !is_blank(line[count]) {
             return count;
         }
-        count += 1;
     }
-    count
+    line.len()
 }
 
 fn behind_blanks(line: &[u8]) -> &[u8]
@@ -34,14 +32,12 @@ fn word_len(bytes: &[u8]) -> usize
     ensures value { result ≡ prefix_len lexing.is_word_byte bytes.now }
     ensures within { result ≤ length bytes.now }
 {
-    let mut count = 0usize;
-    for byte in bytes {
-        if !is_word_byte(*byte) {
+    for count in 0..bytes.len() {
+        if !is_word_byte(bytes[count]) {
             return count;
         }
-        count += 1;
     }
-    count
+    bytes.len()
 }
 
 fn behind_word(first: u8, behind: &[u8]) -> &[u8]
@@ -57,14 +53,12 @@ fn digits_len(bytes: &[u8]) -> usize
     ensures value { result ≡ prefix_len lexing.is_digit bytes.now }
     ensures within { result ≤ length bytes.now }
 {
-    let mut count = 0usize;
-    for byte in bytes {
-        if !is_digit(*byte) {
+    for count in 0..bytes.len() {
+        if !is_digit(bytes[count]) {
             return count;
         }
-        count += 1;
     }
-    count
+    bytes.len()
 }
 
 fn behind_digits(first: u8, behind: &[u8]) -> &[u8]

@@ -7,7 +7,7 @@ ghost use Rattle.gx_explain.specs.Reading.{AreFirst};
 ghost use Rattle.gx_explain.specs.Reasons.{reason_at, reason_utf8};
 ghost use Rattle.gx_explain.specs.Top as of;
 
-use crate::offers::words_on;
+use crate::offers::{front_of, words_on};
 use crate::places::find_place;
 use crate::reasons::push_reason;
 use crate::tails::tail_behind;
@@ -43,7 +43,7 @@ fn push_line(
         return Err(OutOfMemory);
     };
     push_window(text, line, tail)?;
-    let words = words_on(alloc, progress, fault, tokens, place, tail)?;
+    let words = words_on(alloc, front_of(progress), fault, tokens, place, tail)?;
     let pushed = push_bytes(text, words.as_slice());
     drop(words);
     pushed

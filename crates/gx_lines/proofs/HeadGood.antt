@@ -5,7 +5,7 @@ use Rattle.gx_lex.specs.declared.symbol.Symbol.TheVariants as symbol
 use Rattle.gx_lex.specs.declared.token.Token.{Token}
 use Rattle.gx_lex.specs.declared.token.Token.TheVariants as token
 use Rattle.gx_grammar.specs.declared.fault.Limits.{Limits}
-use Rattle.gx_grammar.specs.Rules.{one, both, maybe, made, either, behind, marked, one_at, both_at, made_at, either_at, behind_at}
+use Rattle.gx_grammar.specs.Rules.{one, both, maybe, made, either, behind, marked, Reading, one_at, both_at, made_at, either_at, behind_at}
 use Rattle.gx_grammar.specs.Tokens.{is_word, is_sign, name_of, listed, listed_at, enclosed, enclosed_at}
 use Rattle.gx_grammar.proofs.Good.{Good, Always, Heads, NotHeads}
 use Rattle.gx_grammar.proofs.Parts.{one_good, both_good, made_good, behind_good, marked_class, maybe_good}
@@ -19,7 +19,7 @@ use Rattle.gx_lines.specs.declared.syn.LineSyn.TheVariants as line_syn
 use Rattle.gx_lines.specs.Classes.{switch_of, kind_of, fate_of, way_of, segments_of, number_in}
 use Rattle.gx_lines.specs.Queries.{name, name_at}
 use Rattle.gx_lines.specs.Statements.{stmt, stmt_at}
-use Rattle.gx_lines.specs.Heads.{segments, segments_at, detector, detector_at, to_column, column, column_at, dist, dist_at, to_table, table, table_at, to_link, link, link_at, is_fate, to_session, session_line, session_at, end_at, head_line, head_at}
+use Rattle.gx_lines.specs.Heads.{segments, segments_at, detector, detector_at, to_column, column, column_at, dist, dist_at, to_table, table, table_at, to_link, link, link_at, is_fate, to_group, group, group_at, to_session, session_line, session_at, end_at, head_line, head_at}
 use Rattle.gx_lines.proofs.Told.{word_is, sign_is}
 use Rattle.gx_lines.proofs.Classing.{name_first, switch_class, kind_class, fate_class, way_class, segments_class, number_class, fate_first}
 use Rattle.gx_lines.proofs.Follow.{OneOf, Next, First, first_starts, first_one, first_both, first_made, first_behind, first_either, marked_true, under, anywhere, first_next, listed_good, enclosed_good}
@@ -85,6 +85,27 @@ module _ (n : ℕ) (some : 1 ≤ n) where
   link_good = made_good to_link (λ d. both (one fate_of) (both (one way_of) (both (one (number_in 1 n)) (behind (is_word word.Number) (one (number_in 1 18446744073709551615)))))) Always (λ d. both_at (one_at fate_of) (both_at (one_at way_of) (both_at (one_at (number_in 1 n)) (behind_at (is_word word.Number) (one_at (number_in 1 18446744073709551615))))))
       (both_good (λ d. one fate_of) (λ d. both (one way_of) (both (one (number_in 1 n)) (behind (is_word word.Number) (one (number_in 1 18446744073709551615))))) Always Always (λ d. one_at fate_of) (λ d. both_at (one_at way_of) (both_at (one_at (number_in 1 n)) (behind_at (is_word word.Number) (one_at (number_in 1 18446744073709551615))))) (one_good (λ d. fate_of) fate_class) way_part (λ d b us rest q n. tt))
 
+-- GROUPS
+abbrev names_rule : Limits → List (List ℕ) → List Token → Type 0
+names_rule d = behind (is_word word.In) (listed (name d))
+
+names_good : Good names_rule (Next []) (λ d. behind_at (is_word word.In) (listed_at (name_at d)))
+names_good = behind_good (is_word word.In) (token.Word word.In) refl (λ d. listed (name d)) (Next []) (λ d. listed_at (name_at d))
+    (listed_good name name_at [] (anywhere name name_at (Next (token.Symbol symbol.Comma ∷ [])) name_good) tt)
+
+abbrev limit_rule : ℕ → List Token → Type 0
+limit_rule = behind (is_word word.Limit) (one (number_in 1 18446744073709551615))
+
+limit_good : Good (λ d. limit_rule) Always (λ d. behind_at (is_word word.Limit) (one_at (number_in 1 18446744073709551615)))
+limit_good = behind_good (is_word word.Limit) (token.Word word.Limit) refl (λ d. one (number_in 1 18446744073709551615)) Always (λ d. one_at (number_in 1 18446744073709551615)) (one_good (λ d. number_in 1 18446744073709551615) (number_class 1 18446744073709551615 (omega arith)))
+
+group_good : Good group (Next []) group_at
+group_good = made_good to_group (λ d. both (behind (is_word word.Group) (name d)) (both limit_rule (names_rule d))) (Next []) (λ d. both_at (behind_at (is_word word.Group) (name_at d)) (both_at (behind_at (is_word word.Limit) (one_at (number_in 1 18446744073709551615))) (behind_at (is_word word.In) (listed_at (name_at d)))))
+    (both_good (λ d. behind (is_word word.Group) (name d)) (λ d. both limit_rule (names_rule d)) Always (Next []) (λ d. behind_at (is_word word.Group) (name_at d)) (λ d. both_at (behind_at (is_word word.Limit) (one_at (number_in 1 18446744073709551615))) (behind_at (is_word word.In) (listed_at (name_at d))))
+    (behind_good (is_word word.Group) (token.Word word.Group) refl name Always name_at name_good)
+    (both_good (λ d. limit_rule) names_rule Always (Next []) (λ d. behind_at (is_word word.Limit) (one_at (number_in 1 18446744073709551615))) (λ d. behind_at (is_word word.In) (listed_at (name_at d))) limit_good names_good (λ d b us rest q n. tt))
+    (λ d b us rest q n. tt))
+
 -- SESSIONS' LINES
 abbrev end_rule : Option (Unit {0}) → List Token → Type 0
 end_rule = maybe (one (marked (is_sign symbol.Semicolon)))
@@ -134,31 +155,56 @@ session_head P f d x us q = first_made to_session (both (name d) (both (colon_pa
 link_head : (P : Token → Type 0) → P (token.Word word.Lose) → P (token.Word word.Repeat) → (n : ℕ) (x : LineSyn) (us : List Token) → link n x us → First P us
 link_head P a b n x us q = first_made to_link (both (one fate_of) (both (one way_of) (both (one (number_in 1 n)) (behind (is_word word.Number) (one (number_in 1 18446744073709551615)))))) P x us (λ p vs w. first_both (one fate_of) (both (one way_of) (both (one (number_in 1 n)) (behind (is_word word.Number) (one (number_in 1 18446744073709551615))))) P p vs (λ s ws z. first_one fate_of P s ws (λ y e. fate_first P a b y s e) z) w) q
 
+group_head : (P : Token → Type 0) → P (token.Word word.Group) → (d : Limits) (x : LineSyn) (us : List Token) → group d x us → First P us
+group_head P e d x us q = first_made to_group (both (behind (is_word word.Group) (name d)) (both limit_rule (names_rule d))) P x us (λ p vs w. first_both (behind (is_word word.Group) (name d)) (both limit_rule (names_rule d)) P p vs (λ a ws z. first_behind (is_word word.Group) (name d) P a ws (λ y k. subst P (sym (word_is word.Group y k)) e) z) w) q
+
 table_head : (P : Token → Type 0) → P (token.Word word.Table) → (d : Limits) (x : LineSyn) (us : List Token) → table d x us → First P us
 table_head P e d x us q = first_made to_table (both (behind (is_word word.Table) (name d)) (both (columns_rule d) (dist_part d))) P x us (λ p vs w. first_both (behind (is_word word.Table) (name d)) (both (columns_rule d) (dist_part d)) P p vs (λ a ws z. first_behind (is_word word.Table) (name d) P a ws (λ y k. subst P (sym (word_is word.Table y k)) e) z) w) q
 
 detector_head : (P : Token → Type 0) → P (token.Word word.Detector) → (x : LineSyn) (us : List Token) → detector x us → First P us
 detector_head P e x us q = first_made line_syn.Detector (behind (is_word word.Detector) (one switch_of)) P x us (λ a vs w. first_behind (is_word word.Detector) (one switch_of) P a vs (λ y k. subst P (sym (word_is word.Detector y k)) e) w) q
 
+abbrev group_or : Limits → LineSyn → List Token → Type 0
+group_or d = either (group d) (session_line d)
+
+abbrev group_or_at : Limits → List Token → Reading LineSyn
+group_or_at d = either_at (is_word word.Group) (group_at d) (session_at d)
+
+group_or_good : Good group_or Nothing group_or_at
+group_or_good = either_good (is_word word.Group) group session_line Nothing group_at session_at (under group group_at (Next []) Nothing group_good (λ rest n. nothing_next [] rest n)) session_good
+    (λ d x us rest q. first_starts (is_word word.Group) true us rest (group_head (λ y. is_word word.Group y ≡ true) refl d x us q))
+    (λ d x us rest q z. first_starts (is_word word.Group) false us rest (session_head (λ y. is_word word.Group y ≡ false) (λ m. refl) d x us q))
+
+group_or_head : (P : Token → Type 0) → P (token.Word word.Group) → ((m : List ℕ) → P (token.Name m)) → (d : Limits) (x : LineSyn) (us : List Token) → group_or d x us → First P us
+group_or_head P e f d x us q = first_either (group d) (session_line d) P x us (group_head P e d x us) (session_head P f d x us) q
+
 module _ (n : ℕ) (some : 1 ≤ n) where
   abbrev link_or : Limits → LineSyn → List Token → Type 0
-  link_or d = either (link n) (session_line d)
+  link_or d = either (link n) (group_or d)
 
-  link_or_good : Good link_or Nothing (λ d. either_at is_fate (link_at n) (session_at d))
-  link_or_good = either_good is_fate (λ d. link n) session_line Nothing (λ d. link_at n) session_at (anywhere (λ d. link n) (λ d. link_at n) Nothing (link_good n some)) session_good
+  abbrev link_or_at : Limits → List Token → Reading LineSyn
+  link_or_at d = either_at is_fate (link_at n) (group_or_at d)
+
+  link_or_good : Good link_or Nothing link_or_at
+  link_or_good = either_good is_fate (λ d. link n) group_or Nothing (λ d. link_at n) group_or_at (anywhere (λ d. link n) (λ d. link_at n) Nothing (link_good n some)) group_or_good
       (λ d x us rest q. first_starts is_fate true us rest (link_head (λ y. is_fate y ≡ true) refl refl n x us q))
-      (λ d x us rest q z. first_starts is_fate false us rest (session_head (λ y. is_fate y ≡ false) (λ m. refl) d x us q))
+      (λ d x us rest q z. first_starts is_fate false us rest (group_or_head (λ y. is_fate y ≡ false) refl (λ m. refl) d x us q))
+
+  link_or_head : (P : Token → Type 0) → P (token.Word word.Lose) → P (token.Word word.Repeat) → P (token.Word word.Group) → ((m : List ℕ) → P (token.Name m)) → (d : Limits) (x : LineSyn) (us : List Token) → link_or d x us → First P us
+  link_or_head P a b e f d x us q = first_either (link n) (group_or d) P x us (link_head P a b n x us) (group_or_head P e f d x us) q
 
   abbrev table_or : Limits → LineSyn → List Token → Type 0
   table_or d = either (table d) (link_or d)
 
-  table_or_good : Good table_or Nothing (λ d. either_at (is_word word.Table) (table_at d) (either_at is_fate (link_at n) (session_at d)))
-  table_or_good = either_good (is_word word.Table) table link_or Nothing table_at (λ d. either_at is_fate (link_at n) (session_at d)) (anywhere table table_at Nothing table_good) link_or_good
+  abbrev table_or_at : Limits → List Token → Reading LineSyn
+  table_or_at d = either_at (is_word word.Table) (table_at d) (link_or_at d)
+
+  table_or_good : Good table_or Nothing table_or_at
+  table_or_good = either_good (is_word word.Table) table link_or Nothing table_at link_or_at (anywhere table table_at Nothing table_good) link_or_good
       (λ d x us rest q. first_starts (is_word word.Table) true us rest (table_head (λ y. is_word word.Table y ≡ true) refl d x us q))
-      (λ d x us rest q z. first_starts (is_word word.Table) false us rest (first_either (link n) (session_line d) (λ y. is_word word.Table y ≡ false) x us (link_head (λ y. is_word word.Table y ≡ false) refl refl n x us) (session_head (λ y. is_word word.Table y ≡ false) (λ m. refl) d x us) q))
+      (λ d x us rest q z. first_starts (is_word word.Table) false us rest (link_or_head (λ y. is_word word.Table y ≡ false) refl refl refl (λ m. refl) d x us q))
 
   pub head_good : Good (head_line n) Nothing (head_at n)
-  head_good = either_good (is_word word.Detector) (λ d. detector) table_or Nothing (λ d. detector_at) (λ d. either_at (is_word word.Table) (table_at d) (either_at is_fate (link_at n) (session_at d))) (anywhere (λ d. detector) (λ d. detector_at) Nothing detector_good) table_or_good
+  head_good = either_good (is_word word.Detector) (λ d. detector) table_or Nothing (λ d. detector_at) table_or_at (anywhere (λ d. detector) (λ d. detector_at) Nothing detector_good) table_or_good
       (λ d x us rest q. first_starts (is_word word.Detector) true us rest (detector_head (λ y. is_word word.Detector y ≡ true) refl x us q))
-      (λ d x us rest q z. first_starts (is_word word.Detector) false us rest (first_either (table d) (link_or d) (λ y. is_word word.Detector y ≡ false) x us (table_head (λ y. is_word word.Detector y ≡ false) refl d x us)
-      (λ w. first_either (link n) (session_line d) (λ y. is_word word.Detector y ≡ false) x us (link_head (λ y. is_word word.Detector y ≡ false) refl refl n x us) (session_head (λ y. is_word word.Detector y ≡ false) (λ m. refl) d x us) w) q))
+      (λ d x us rest q z. first_starts (is_word word.Detector) false us rest (first_either (table d) (link_or d) (λ y. is_word word.Detector y ≡ false) x us (table_head (λ y. is_word word.Detector y ≡ false) refl d x us) (link_or_head (λ y. is_word word.Detector y ≡ false) refl refl refl (λ m. refl) d x us) q))

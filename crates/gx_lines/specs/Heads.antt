@@ -54,6 +54,13 @@ to_link p = line_syn.Link (record { fate = p.0; way = p.1.0; segment = p.1.1.0; 
 abbrev pub link : ℕ → LineSyn → List Token → Type 0
 link n = made to_link (both (one fate_of) (both (one way_of) (both (one (number_in 1 n)) (behind (is_word word.Number) (one (number_in 1 18446744073709551615))))))
 
+abbrev pub to_group : List ℕ × (ℕ × List (List ℕ)) → LineSyn
+to_group p = line_syn.Group (record { name = p.0; limit = p.1.0; sessions = p.1.1 })
+
+-- group = "group" NAME "limit" NUMBER "in" NAME { "," NAME }, the number being from 1 to 18446744073709551615
+abbrev pub group : Limits → LineSyn → List Token → Type 0
+group d = made to_group (both (behind (is_word word.Group) (name d)) (both (behind (is_word word.Limit) (one (number_in 1 18446744073709551615))) (behind (is_word word.In) (listed (name d)))))
+
 abbrev pub to_session : List ℕ × (StmtSyn × Option (Unit {0})) → LineSyn
 to_session p = line_syn.Session p.0 p.1.0
 
@@ -63,7 +70,7 @@ session_line d = made to_session (both (name d) (both (behind (is_sign symbol.Co
 
 -- a head behind the segments, or a line; there are n segments
 abbrev pub head_line : ℕ → Limits → LineSyn → List Token → Type 0
-head_line n d = either detector (either (table d) (either (link n) (session_line d)))
+head_line n d = either detector (either (table d) (either (link n) (either (group d) (session_line d))))
 
 -- THE READERS
 abbrev pub segments_at : Limits → List Token → Reading Segments
@@ -87,6 +94,9 @@ is_fate y = is_word word.Lose y || is_word word.Repeat y
 abbrev pub link_at : ℕ → List Token → Reading LineSyn
 link_at n = made_at to_link (both_at (one_at fate_of) (both_at (one_at way_of) (both_at (one_at (number_in 1 n)) (behind_at (is_word word.Number) (one_at (number_in 1 18446744073709551615))))))
 
+abbrev pub group_at : Limits → List Token → Reading LineSyn
+group_at d = made_at to_group (both_at (behind_at (is_word word.Group) (name_at d)) (both_at (behind_at (is_word word.Limit) (one_at (number_in 1 18446744073709551615))) (behind_at (is_word word.In) (listed_at (name_at d)))))
+
 abbrev pub end_at : List Token → Reading (Option (Unit {0}))
 end_at = maybe_at (is_sign symbol.Semicolon) (one_at (marked (is_sign symbol.Semicolon)))
 
@@ -94,4 +104,4 @@ abbrev pub session_at : Limits → List Token → Reading LineSyn
 session_at d = made_at to_session (both_at (name_at d) (both_at (behind_at (is_sign symbol.Colon) (stmt_at d)) end_at))
 
 abbrev pub head_at : ℕ → Limits → List Token → Reading LineSyn
-head_at n d = either_at (is_word word.Detector) detector_at (either_at (is_word word.Table) (table_at d) (either_at is_fate (link_at n) (session_at d)))
+head_at n d = either_at (is_word word.Detector) detector_at (either_at (is_word word.Table) (table_at d) (either_at is_fate (link_at n) (either_at (is_word word.Group) (group_at d) (session_at d))))

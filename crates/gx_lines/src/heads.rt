@@ -12,7 +12,7 @@ use crate::classes::{Segments, read_number};
 use crate::joining::{before_sign, paired};
 use crate::query::{Reading, enclosed_name};
 use crate::stmts::stmt;
-use crate::syn::{ColumnSyn, DistSyn, LineSyn, LinkSyn, StmtSyn, TableSyn};
+use crate::syn::{ColumnSyn, DistSyn, GroupSyn, LineSyn, LinkSyn, StmtSyn, TableSyn};
 use gx_grammar::{
     Limits, Part, ReadError, begins_with_word, is_sign, is_word, read_list, read_name, read_one,
     read_sign, read_word,
@@ -133,6 +133,29 @@ fn link<'a, 't>(
     ))
 }
 
+fn group<'a, 't>(
+    alloc: Global,
+    limits: Limits,
+    tokens: &'a [Token<'t>],
+) -> Reading<'a, 't, LineSyn<'t>>
+    ensures { Gives (λ r. (r.0, r.1.now)) result (of.group_at limits tokens.now) }
+{
+    let rest = read_word(Word::Group, tokens)?;
+    let (name, rest) = read_one(alloc, limits, rest)?;
+    let rest = read_word(Word::Limit, rest)?;
+    let (limit, rest) = read_number(1, 18446744073709551615, rest)?;
+    let rest = read_word(Word::In, rest)?;
+    let (sessions, rest) = read_list(alloc, limits, rest)?;
+    Ok((
+        LineSyn::Group(GroupSyn {
+            name,
+            limit,
+            sessions,
+        }),
+        rest,
+    ))
+}
+
 /// The semicolon that may end a line.
 fn end<'a, 't>(tokens: &'a [Token<'t>]) -> Reading<'a, 't, Option<()>>
     ensures { Gives (λ r. (r.0, r.1.now)) result (of.end_at tokens.now) }
@@ -205,6 +228,8 @@ pub fn head<'a, 't>(
         table(alloc, limits, tokens)
     } else if begins_with_fate(tokens) {
         link(alloc, segments, limits, tokens)
+    } else if begins_with_word(Word::Group, tokens) {
+        group(alloc, limits, tokens)
     } else {
         session(alloc, limits, tokens)
     }

@@ -12,6 +12,6 @@ pub mod syn;
 pub use classes::{Agg, Direction, Fate, KindSyn, Segments, Size, Strength, Switch, Way};
 pub use lines::{read_head_line, read_segments_line, read_session_line};
 pub use syn::{
-    AssignSyn, ColumnSyn, DistSyn, ItemSyn, ItemsSyn, KeySyn, LineSyn, LinkSyn, SelectSyn, StmtSyn,
-    TableSyn, TupleSyn,
+    AssignSyn, ColumnSyn, DistSyn, GroupSyn, ItemSyn, ItemsSyn, KeySyn, LineSyn, LinkSyn,
+    SelectSyn, StmtSyn, TableSyn, TupleSyn,
 };

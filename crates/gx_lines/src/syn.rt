@@ -91,11 +91,20 @@ pub struct LinkSyn {
     pub number: u64,
 }
 
+/// A group of sessions.
+#[derive(Drop)]
+pub struct GroupSyn {
+    pub name: Txt,
+    pub limit: u64,
+    pub sessions: Seq<Txt>,
+}
+
 /// A line behind the segments.
 #[derive(Drop)]
 pub enum LineSyn<'t> {
     Detector(Switch),
     Table(TableSyn),
     Link(LinkSyn),
+    Group(GroupSyn),
     Session(Name<'t>, StmtSyn<'t>),
 }

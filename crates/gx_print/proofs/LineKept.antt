@@ -7,6 +7,7 @@ use Rattle.gx_tree.specs.declared.schema.Schema.{Schema}
 use Rattle.gx_grammar.specs.declared.fault.Limits.{Limits}
 use Rattle.gx_lines.specs.declared.syn.StmtSyn.{StmtSyn}
 use Rattle.gx_lines.specs.declared.syn.TableSyn.{TableSyn}
+use Rattle.gx_lines.specs.declared.syn.GroupSyn.{GroupSyn}
 use Rattle.gx_lines.specs.declared.syn.LinkSyn.{LinkSyn}
 use Rattle.gx_lines.specs.declared.syn.LineSyn.{LineSyn}
 use Rattle.gx_lines.specs.declared.syn.LineSyn.TheVariants as line_syn
@@ -31,7 +32,8 @@ use Rattle.gx_sql.specs.declared.refusal.LineFault.{LineFault}
 use Rattle.gx_sql.specs.declared.refusal.LineFault.TheVariants as fault
 use Rattle.gx_sql.specs.declared.refusal.Refusal.TheVariants as refusal
 use Rattle.gx_sql.specs.Lines.{lines_of, is_skipped}
-use Rattle.gx_sql.specs.Progress.{Progress, start, giving, is_known, is_on, link_fault, with_detector, with_fault, with_table, with_link, with_line, with_session, with_segments, with_line_syn}
+use Rattle.gx_sql.specs.Progress.{Progress, start, giving, is_known, is_on, link_fault, with_detector, with_fault, with_table, with_group, with_link, with_line, with_session, with_sessions, with_segments, with_line_syn}
+use Rattle.gx_sql.specs.Groups.{is_group, with_members}
 use Rattle.gx_sql.specs.Counts.{PassesInHead, PassesInLine}
 use Rattle.gx_sql.specs.Script.{the_limits, Follows, Counts, Told, TokensSay, LineSays, Goes, Where, ended, script_of, ReadsOn, Reads}
 use Rattle.gx_print.specs.Reprinting.{Among, ReadsAs}
@@ -95,6 +97,17 @@ detector_kept p s q k e = pick p.detector e
 link_kept : (p : Progress) (l : LinkSyn) (q : Progress) → Kept p → with_link p l ≡ Ok q → Kept q
 link_kept p l q k e = let same : q ≡ record p { faults = with_fault (link_fault l) p.faults } = cc in subst Kept (sym same) (record { tables = k.tables; lines = k.lines })
 
+sessions_kept : (p : Progress) (g : GroupSyn) (q : Progress) (r : Result (List (List ℕ × ℕ)) LineFault) → Kept p → with_sessions p g r ≡ Ok q → Kept q
+sessions_kept p g q (Ok members) k e = let same : q ≡ record p { groups = p.groups ++ record { name = g.name; limit = g.limit } ∷ []; members = members } = cc in subst Kept (sym same) (record { tables = k.tables; lines = k.lines })
+sessions_kept p g q (Err f) k e = absurd cc
+
+group_kept : (p : Progress) (g : GroupSyn) (q : Progress) → Kept p → with_group p g ≡ Ok q → Kept q
+group_kept p g q k e = pick (is_group g.name p.groups) e
+  where
+    pick : (b : Bool) → (if b then Err fault.Syntax else with_sessions p g (with_members (length p.groups) g.sessions (Ok p.members))) ≡ Ok q → Kept q
+    pick true e = absurd cc
+    pick false e = sessions_kept p g q (with_members (length p.groups) g.sessions (Ok p.members)) k e
+
 -- a session's line holds a statement of the rule
 line_kept : (p : Progress) (x : LineSyn) (q : Progress) (ts : List Token) → Kept p → AreOne ts → session_line the_limits x ts → with_line_syn p x ≡ Ok q → Kept q
 line_kept p x q ts k one (a, e, (us, vs, n, (ws, xs, (b, f, (os, ls, on, st, r3)), en, r1), r0)) h =
@@ -108,9 +121,11 @@ head_kept n p x q line ts none k l one (inr (inl w)) h = tabled x h w
     tabled (line_syn.Table t) h w = table_kept p t q line ts none k l w h
     tabled (line_syn.Detector s) h w = absurd (let e = w.1 in cc)
     tabled (line_syn.Link s) h w = absurd (let e = w.1 in cc)
+    tabled (line_syn.Group s) h w = absurd (let e = w.1 in cc)
     tabled (line_syn.Session n s) h w = absurd (let e = w.1 in cc)
 head_kept n p x q line ts none k l one (inr (inr (inl (a, e, w)))) h = link_kept p _ q k (ap (with_line_syn p) (sym e) ∙ h)
-head_kept n p x q line ts none k l one (inr (inr (inr w))) h = line_kept p x q ts k one w h
+head_kept n p x q line ts none k l one (inr (inr (inr (inl (a, e, w))))) h = group_kept p _ q k (ap (with_line_syn p) (sym e) ∙ h)
+head_kept n p x q line ts none k l one (inr (inr (inr (inr w)))) h = line_kept p x q ts k one w h
 
 read_of : {X : Type 0} (rule : Limits → X → List Token → Type 0) (go : X → Result Progress LineFault) (ts : List Token) (q : Progress) → Follows rule go ts (Ok q) → (x : X) × rule the_limits x ts × (go x ≡ Ok q)
 read_of rule go ts q (inl (x, h, e)) = (x, h, sym e)
@@ -122,7 +137,7 @@ uncounted passes follows q (inr (n, h)) = h
 
 told_kept : (n : ℕ) (p : Progress) (ls : List Line) (q : Progress) (line : List ℕ) (ts : List Token) → ls ≡ p.lines → Kept p → Lexes ts line → AreOne ts → Told n p ls ts (Ok q) → Kept q
 told_kept n p [] q line ts s k l one h =
-    let r = read_of (head_line n) (with_line_syn p) ts q (uncounted (PassesInHead the_limits (length p.tables) p.sessions ts) (Follows (head_line n) (with_line_syn p) ts) q h) in
+    let r = read_of (head_line n) (with_line_syn p) ts q (uncounted (PassesInHead the_limits (length p.tables) (length p.groups) p.sessions ts) (Follows (head_line n) (with_line_syn p) ts) q h) in
     head_kept n p r.0 q line ts (sym s) k l one r.1 r.2
 told_kept n p (m ∷ ls) q line ts s k l one h =
     let r = read_of session_line (with_line_syn p) ts q (uncounted (PassesInLine p.sessions ts) (Follows session_line (with_line_syn p) ts) q h) in

@@ -4,12 +4,14 @@ use Rattle.std.specs.Prelude.{IsUtf8, IsAscii}
 use Rattle.std.specs.List.{prefix_len}
 use Rattle.std.proofs.lemmas.Str.{IsUtf8-append, IsUtf8-from_ascii}
 use Rattle.gx_lex.specs.declared.symbol.Symbol.TheVariants as symbol
+use Rattle.gx_lex.specs.declared.word.Word.TheVariants as word
 use Rattle.gx_lex.specs.declared.token.Token.{Token}
 use Rattle.gx_lex.specs.declared.token.Token.TheVariants as token
 use Rattle.gx_lex.specs.Lexing.{is_blank, every}
 use Rattle.gx_tree.specs.declared.stmt.Stmt.{Stmt}
 use Rattle.gx_script.specs.declared.Line.{Line}
 use Rattle.gx_script.specs.declared.Script.{Script}
+use Rattle.gx_script.specs.declared.group.SlotGroup.{SlotGroup}
 use Rattle.gx_store.specs.Language.{BeginInOrder}
 use Rattle.gx_grammar.specs.declared.fault.LineLimit.TheVariants as line_limit
 use Rattle.gx_grammar.specs.Rules.{Is, Passes}
@@ -24,6 +26,8 @@ use Rattle.gx_sql.specs.declared.refusal.Refusal.{Refusal}
 use Rattle.gx_sql.specs.declared.refusal.Refusal.TheVariants as refusal
 use Rattle.gx_sql.specs.Cutting.{is_within}
 use Rattle.gx_sql.specs.Counts.{begun_table, PassesInHead}
+use Rattle.gx_sql.specs.declared.groups.GroupHead.{GroupHead}
+use Rattle.gx_sql.specs.Groups.{groups_from}
 use Rattle.gx_sql.specs.Lines.{begins, without_returns, before, fed_lines, lines_of, is_nothing, is_skipped}
 use Rattle.gx_sql.specs.Progress.{Progress, start, giving, count_of, counted, next_line, with_line}
 use Rattle.gx_sql.specs.Script.{the_limits, Told, TokensSay, LineSays, Goes, Where, ended, script_of, ReadsOn, Reads}
@@ -35,7 +39,7 @@ use Rattle.gx_sql.proofs.Unique.{reads_one}
 use Rattle.gx_print.specs.Shapes.{is_small_letter, is_name_byte, IsName}
 use Rattle.gx_print.specs.Reading.{IsNamed}
 use Rattle.gx_print.specs.Reprinting.{ReadsAs}
-use Rattle.gx_print.specs.OneLine.{IsReadAs, AreHeads, IsOneLine, line_of, with_one}
+use Rattle.gx_print.specs.OneLine.{AreHeads, IsOneLine, IsReadWith, emptied, line_of, with_one}
 use Rattle.gx_print.proofs.Cuts.{name_before_colon}
 use Rattle.gx_print.proofs.Levels.{by_le}
 
@@ -137,21 +141,22 @@ behind n p (line ∷ ls) s h = counted (nat_lt 100000 n) (behind (n + 1) p ls s)
 
 -- THE LINE
 -- the line of a name passes no count where there is no session
-no_count : (tables : ℕ) (name : List ℕ) (ts : List Token) (l : Limit) → PassesInHead the_limits tables [] (token.Name name ∷ token.Symbol symbol.Colon ∷ ts) l → ⊥
-no_count tables name ts limit.Sessions h = cc
-no_count tables name ts limit.Tables h = cc
-no_count tables name ts limit.Columns (none, passes) = no_table passes.written
+no_count : (tables groups : ℕ) (name : List ℕ) (ts : List Token) (l : Limit) → PassesInHead the_limits tables groups [] (token.Name name ∷ token.Symbol symbol.Colon ∷ ts) l → ⊥
+no_count tables groups name ts limit.Sessions h = cc
+no_count tables groups name ts limit.Tables h = cc
+no_count tables groups name ts limit.Groups h = cc
+no_count tables groups name ts limit.Columns (none, passes) = no_table passes.written
   where
     no_table : begun_table the_limits passes.table passes.begun → ⊥
     no_table (us, vs, named, columns, e) =
-        let first = behind_name the_limits passes.table.0 us named in
+        let first = behind_name word.Table the_limits passes.table.0 us named in
         let whole = passes.tokens ∙ ap (λ (t : List Token). t ++ token.Symbol symbol.Comma ∷ token.Name passes.further ∷ passes.rest) (e ∙ ap (λ (t : List Token). t ++ vs) first.3) in
         cc
-no_count tables name ts limit.Segments h = h
-no_count tables name ts limit.Lines h = h
-no_count tables name ts limit.Name h = h
-no_count tables name ts limit.Text h = h
-no_count tables name ts limit.Depth h = h
+no_count tables groups name ts limit.Segments h = h
+no_count tables groups name ts limit.Lines h = h
+no_count tables groups name ts limit.Name h = h
+no_count tables groups name ts limit.Text h = h
+no_count tables groups name ts limit.Depth h = h
 
 spelled : (name : List ℕ) (s : StmtSyn) (ts : List Token) → length name ≤ 63 → stmt the_limits s ts → session_line the_limits (Session name s) (token.Name name ∷ token.Symbol symbol.Colon ∷ ts)
 spelled name s ts short w = (
@@ -173,23 +178,26 @@ module _ (q : Progress) (segments : ℕ) (name : List ℕ) (x : Stmt) (text : Li
       says : ReadsAs q.tables x text → LineSays q (line_of name text) (Ok (with_line q name x))
       says (ts, s, cut, w, e) =
           let all : List Token = token.Name name ∷ token.Symbol symbol.Colon ∷ ts in
-          let none : (l : Limit) → PassesInHead the_limits (length q.tables) q.sessions all l → ⊥ = subst (λ (ss : List (List ℕ × ℕ)). (l : Limit) → PassesInHead the_limits (length q.tables) ss all l → ⊥) (sym nobody) (no_count (length q.tables) name ts) in (
+          let none : (l : Limit) → PassesInHead the_limits (length q.tables) (length q.groups) q.sessions all l → ⊥ = subst (λ (ss : List (List ℕ × ℕ)). (l : Limit) → PassesInHead the_limits (length q.tables) (length q.groups) ss all l → ⊥) (sym nobody) (no_count (length q.tables) (length q.groups) name ts) in (
             all,
             name_before_colon name ts text named.0 cut,
             subst (λ (o : Option ℕ). TokensSay o q all (Ok (with_line q name x))) (sym told) (subst (λ (ls : List Line). Told segments q ls all (Ok (with_line q name x))) (sym alone)
-                (inr (none, inl (Session name s, inr (inr (inr (spelled name s ts named.1 w))), sym (ap (giving (with_line q name)) e))))),
+                (inr (none, inl (Session name s, inr (inr (inr (inr (spelled name s ts named.1 w)))), sym (ap (giving (with_line q name)) e))))),
           )
 
-  one_is : (ss : List (List ℕ × ℕ)) (ls : List Line) → [] ≡ ss → [] ≡ ls
-      → with_one (script_of segments q) name x ≡ script_of segments (record q { sessions = counted name (count_of name ss + 1) ss; lines = ls ++ next_line name ss x ∷ [] })
-  one_is ss ls e f =
-      subst (λ (ss : List (List ℕ × ℕ)). with_one (script_of segments q) name x ≡ script_of segments (record q { sessions = counted name (count_of name ss + 1) ss; lines = ls ++ next_line name ss x ∷ [] })) e
-      (subst (λ (ls : List Line). with_one (script_of segments q) name x ≡ script_of segments (record q { sessions = counted name (count_of name [] + 1) []; lines = ls ++ next_line name [] x ∷ [] })) f refl)
+  abbrev Groups : List SlotGroup
+  Groups = groups_from q.members (name ∷ []) 0 q.groups
 
-  line_read : (number : ℕ) → number ≤ 100000 → is_skipped (line_of name text) ≡ false → ReadsOn number q (line_of name text ∷ []) (Ok (with_one (script_of segments q) name x))
+  one_is : (ss : List (List ℕ × ℕ)) (ls : List Line) → [] ≡ ss → [] ≡ ls
+      → with_one (script_of segments q) Groups name x ≡ script_of segments (record q { sessions = counted name (count_of name ss + 1) ss; lines = ls ++ next_line name ss x ∷ [] })
+  one_is ss ls e f =
+      subst (λ (ss : List (List ℕ × ℕ)). with_one (script_of segments q) Groups name x ≡ script_of segments (record q { sessions = counted name (count_of name ss + 1) ss; lines = ls ++ next_line name ss x ∷ [] })) e
+      (subst (λ (ls : List Line). with_one (script_of segments q) Groups name x ≡ script_of segments (record q { sessions = counted name (count_of name [] + 1) []; lines = ls ++ next_line name [] x ∷ [] })) f refl)
+
+  line_read : (number : ℕ) → number ≤ 100000 → is_skipped (line_of name text) ≡ false → ReadsOn number q (line_of name text ∷ []) (Ok (with_one (script_of segments q) Groups name x))
   line_read number few line =
       let said : Where (is_skipped (line_of name text)) (with_line q name x ≡ q) (LineSays q (line_of name text) (Ok (with_line q name x))) = subst (λ (b : Bool). Where b (with_line q name x ≡ q) (LineSays q (line_of name text) (Ok (with_line q name x)))) (sym line) line_says in
-      step_read number q (with_line q name x) (line_of name text) [] (Ok (with_one (script_of segments q) name x)) few said
+      step_read number q (with_line q name x) (line_of name text) [] (Ok (with_one (script_of segments q) Groups name x)) few said
       (ap Ok (one_is q.sessions q.lines (sym nobody) (sym alone)) ∙ ap (ended (number + 1) (with_line q name x)) (sym told))
 
 -- ITS BYTES
@@ -247,6 +255,10 @@ none_mapped f (x ∷ xs) e = absurd (more (length (map f xs)) e)
     more : (n : ℕ) → 0 ≡ suc n → ⊥
     more n e = omega arith
 
+emptied-from : (members : List (List ℕ × ℕ)) (names : List (List ℕ)) (place : ℕ) (gs : List GroupHead) → map emptied (groups_from members names place gs) ≡ groups_from members [] place gs
+emptied-from members names place [] = refl
+emptied-from members names place (g ∷ gs) = ap (λ (t : List SlotGroup). record { name = g.name; limit = g.limit; sessions = [] } ∷ t) (emptied-from members names (place + 1) gs)
+
 -- where no line was read, no session was
 no_session : (lines : List Line) (sessions : ℕ) → lines ≡ [] → BeginInOrder 0 lines sessions → 0 ≡ sessions
 no_session lines sessions e o = subst (λ (ls : List Line). BeginInOrder 0 ls sessions) e o
@@ -259,7 +271,7 @@ module _ (heads : List ℕ) (over : Script) (name : List ℕ) (x : Stmt) (text :
   lines_all = ap (λ (t : List ℕ). lines_of (t ++ line_of name text)) are.fed ∙ ap lines_of (append_assoc are.front (10 ∷ []) (line_of name text)) ∙ lines_parts are.front (line_of name text)
       ∙ ap (λ (ls : List (List ℕ)). lines_of (are.front ++ 10 ∷ []) ++ ls) (one_line name text named.0 one) ∙ ap (λ (t : List ℕ). lines_of t ++ line_of name text ∷ []) (sym are.fed)
 
-  read_whole : IsUtf8 heads → ReadsOn 1 start (lines_of heads) (Ok over) → Reads All (Ok (with_one over name x))
+  read_whole : IsUtf8 heads → ReadsOn 1 start (lines_of heads) (Ok over) → (gs : List SlotGroup) × (map emptied gs ≡ over.groups) × Reads All (Ok (with_one over gs name x))
   read_whole coded h =
       let there = behind 1 start (lines_of heads) over h in
       let q = there.progress in
@@ -267,18 +279,22 @@ module _ (heads : List ℕ) (over : Script) (name : List ℕ) (x : Stmt) (text :
       let alone : q.lines ≡ [] = ap (λ (s : Script). s.lines) (sym there.is) ∙ are.alone in
       let none : 0 ≡ length (map (λ (s : List ℕ × ℕ). s.0) q.sessions) = no_session over.lines (length over.sessions) are.alone language.order ∙ ap (λ (s : Script). length s.sessions) there.is in
       let nobody : q.sessions ≡ [] = none_mapped (λ (s : List ℕ × ℕ). s.0) q.sessions none in
+      let gs : List SlotGroup = groups_from q.members (name ∷ []) 0 q.groups in
+      let same : map emptied gs ≡ over.groups = emptied-from q.members (name ∷ []) 0 q.groups ∙ ap (λ (ss : List (List ℕ × ℕ)). groups_from q.members (map (λ (s : List ℕ × ℕ). s.0) ss) 0 q.groups) (sym nobody) ∙ ap (λ (s : Script). s.groups) (sym there.is) in
       let room = are.room in
       let over_q : ReadsAs q.tables x text = subst (λ (s : Script). ReadsAs s.tables x text) there.is reads in
       let line = line_read q there.segments name x text there.told alone nobody named over_q (1 + length (lines_of heads)) (omega arith) (unskipped name (58 ∷ 32 ∷ text) named.0) in
-      let whole = there.on (line_of name text ∷ []) (Ok (with_one (script_of there.segments q) name x)) line in
-      inl (
+      let whole = there.on (line_of name text ∷ []) (Ok (with_one (script_of there.segments q) gs name x)) line in
+      (gs, same, inl (
         IsUtf8-append heads (line_of name text) coded (line_coded name text named.0 one.coded),
-        subst (λ (ls : List (List ℕ)). ReadsOn 1 start ls (Ok (with_one over name x))) (sym lines_all) (subst (λ (s : Script). ReadsOn 1 start (lines_of heads ++ line_of name text ∷ []) (Ok (with_one s name x))) (sym there.is) whole),
-      )
+        subst (λ (ls : List (List ℕ)). ReadsOn 1 start ls (Ok (with_one over gs name x))) (sym lines_all) (subst (λ (s : Script). ReadsOn 1 start (lines_of heads ++ line_of name text ∷ []) (Ok (with_one s gs name x))) (sym there.is) whole),
+      ))
 
-  read_all : Reads heads (Ok over) → Reads All (Ok (with_one over name x))
+  read_all : Reads heads (Ok over) → (gs : List SlotGroup) × (map emptied gs ≡ over.groups) × Reads All (Ok (with_one over gs name x))
   read_all (inl (coded, h)) = read_whole coded h
   read_all (inr (n, e)) = absurd cc
 
-  pub line_is_read : IsReadAs All (with_one over name x)
-  line_is_read = let is = read_all are.read in record { is = is; only = λ r h. reads_one All r (Ok (with_one over name x)) h is }
+  pub line_is_read : IsReadWith All over name x
+  line_is_read =
+      let all = read_all are.read in
+      record { groups = all.0; same = all.1; read = record { is = all.2; only = λ r h. reads_one All r (Ok (with_one over all.0 name x)) h all.2 } }

@@ -1,7 +1,8 @@
 -- A script of heads and one line.
-use Rattle.std.specs.Prelude.{◌≡◌, ℕ, ◌<◌, List, [], ◌∷◌, ◌++◌, codes, length, Result, Ok, IsUtf8}
+use Rattle.std.specs.Prelude.{◌≡◌, ℕ, ◌<◌, List, [], ◌∷◌, ◌++◌, codes, length, map, Result, Ok, IsUtf8}
 use Rattle.gx_tree.specs.declared.stmt.Stmt.{Stmt}
 use Rattle.gx_script.specs.declared.Script.{Script}
+use Rattle.gx_script.specs.declared.group.SlotGroup.{SlotGroup}
 use Rattle.gx_lex.specs.Lexing.{every}
 use Rattle.gx_sql.specs.declared.refusal.Refusal.{Refusal}
 use Rattle.gx_sql.specs.Cutting.{is_within}
@@ -30,6 +31,15 @@ pub record IsOneLine (text : List ℕ) : Type 0 where
 abbrev pub line_of : List ℕ → List ℕ → List ℕ
 line_of name text = name ++ (codes ": " ++ text)
 
--- heads, and the first line of a session of this name
-abbrev pub with_one : Script → List ℕ → Stmt → Script
-with_one heads name stmt = record heads { sessions = name ∷ []; lines = record { session = record { 0 = 0 }; number = 1; stmt = stmt } ∷ [] }
+-- heads with these groups, and the first line of a session of this name
+abbrev pub with_one : Script → List SlotGroup → List ℕ → Stmt → Script
+with_one heads groups name stmt = record heads { sessions = name ∷ []; lines = record { session = record { 0 = 0 }; number = 1; stmt = stmt } ∷ []; groups = groups }
+
+abbrev pub emptied : SlotGroup → SlotGroup
+emptied group = record group { sessions = [] }
+
+-- The bytes are read as the heads and one line. A group that names its session has that, and is else as the heads have it.
+pub record IsReadWith (bytes : List ℕ) (heads : Script) (name : List ℕ) (stmt : Stmt) : Type 0 where
+  pub groups : List SlotGroup
+  pub same : map emptied groups ≡ heads.groups
+  pub read : IsReadAs bytes (with_one heads groups name stmt)

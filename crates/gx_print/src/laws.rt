@@ -23,7 +23,7 @@ ghost use Rattle.gx_script.specs.declared.Script.{Script};
 ghost use Rattle.gx_script.specs.declared.Line.{Line};
 ghost use Rattle.gx_sql.specs.Script.{Reads, the_limits};
 ghost use Rattle.gx_print.specs.Reprinting.{Among, ReadsAs};
-ghost use Rattle.gx_print.specs.OneLine.{IsReadAs, AreHeads, IsOneLine, line_of, with_one};
+ghost use Rattle.gx_print.specs.OneLine.{AreHeads, IsOneLine, IsReadWith, line_of};
 
 /// A statement's bytes are cut into its tokens.
 pub fn printed_is_cut()
@@ -59,10 +59,10 @@ pub fn declared_is_table()
 {}
 
 /// Behind the heads of a script, a session's line with such a text is read as just that statement: the bytes are a script of
-/// these heads and that line, and nothing else.
+/// these heads and that line, and nothing else; a group that names its session then has it.
 pub fn one_line_is_read()
     ensures { (heads : List ℕ) (over : Script) (name : List ℕ) (x : Stmt) (text : List ℕ) → AreHeads heads over → IsNamed the_limits name
-        → ReadsAs over.tables x text → IsOneLine text → IsReadAs (heads ++ line_of name text) (with_one over name x) }
+        → ReadsAs over.tables x text → IsOneLine text → IsReadWith (heads ++ line_of name text) over name x }
 {}
 
 /// A line of a script that was read is written within the limits: its names and texts are short enough, no token stands too

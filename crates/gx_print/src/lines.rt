@@ -4,7 +4,7 @@ ghost use Rattle.gx_print.specs.Reading.{HasSize, IsNamed};
 ghost use Rattle.gx_print.specs.Written.{printed};
 ghost use Rattle.gx_script.specs.declared.Script.{Script as OneScript};
 ghost use Rattle.gx_sql.specs.Script.{Reads, the_limits};
-ghost use Rattle.gx_print.specs.OneLine.{AreHeads, IsReadAs, line_of, with_one};
+ghost use Rattle.gx_print.specs.OneLine.{AreHeads, IsReadWith, line_of};
 ghost use Rattle.gx_print.specs.Reprinting.{Among, ReadsAs};
 
 use crate::print_stmt;
@@ -42,7 +42,7 @@ pub fn print_line(alloc: Global, script: &Script, line: &Line) -> Mem<Vec<u8>>
     // And behind heads with its tables the text as a session's line is read as just that statement, and as nothing else.
     ensures whole { (bytes heads : List ℕ) (over : OneScript) (name : List ℕ) → Reads bytes (Ok script.now) → Among line.now script.now.lines
         → AreHeads heads over → over.tables ≡ script.now.tables → IsNamed the_limits name
-        → IfOk result (λ text. IsReadAs (heads ++ line_of name text.items) (with_one over name line.now.stmt)) }
+        → IfOk result (λ text. IsReadWith (heads ++ line_of name text.items) over name line.now.stmt) }
 {
     let _limit = limit_of(&line.stmt);
     print_stmt(alloc, script.tables.as_slice(), &line.stmt)

@@ -1,6 +1,7 @@
 -- A script that was read keeps the rules and the limits of the language.
-use Rattle.std.proofs.Common.{◌≡◌, inl, inr, ℕ, ◌+◌, ◌<◌, ◌≤◌, nat_le, nat_lt, ◌==◌, max, if◌then◌else◌, is_some, Bool, true, false, not, ◌&&◌, ◌||◌, List, [], ◌∷◌, ◌++◌, length, map, All, Option, Some, None, Result, Ok, Err, refl, sym, ◌∙◌, ap, subst, arith}
+use Rattle.std.proofs.Common.{◌≡◌, inl, inr, ℕ, ◌+◌, ◌<◌, ◌≤◌, nat_eq, nat_le, nat_lt, ◌==◌, max, if◌then◌else◌, is_some, Bool, true, false, not, ◌&&◌, ◌||◌, List, [], ◌∷◌, ◌++◌, length, map, All, Option, Some, None, Result, Ok, Err, refl, sym, ◌∙◌, ap, subst, arith}
 use Rattle.std.specs.List.{list_any}
+use Rattle.std.specs.Cmp.Lexicographic.{pointwise, other_text}
 use Rattle.std.proofs.lemmas.Bool.{eq-eqb}
 use Rattle.std.proofs.lemmas.List.Elements.{All-nil, All-push, All-map, All-weaker, All-from_recursion}
 use Rattle.gx_lex.specs.declared.word.Word.TheVariants as word
@@ -14,6 +15,7 @@ use Rattle.gx_grammar.specs.Tokens.{is_word, is_sign, listed}
 use Rattle.gx_lines.specs.declared.classes.Segments.{Segments}
 use Rattle.gx_lines.specs.declared.classes.Switch.{Switch}
 use Rattle.gx_lines.specs.declared.syn.ColumnSyn.{ColumnSyn}
+use Rattle.gx_lines.specs.declared.syn.GroupSyn.{GroupSyn}
 use Rattle.gx_lines.specs.declared.syn.LinkSyn.{LinkSyn}
 use Rattle.gx_lines.specs.declared.syn.StmtSyn.{StmtSyn}
 use Rattle.gx_lines.specs.declared.syn.TableSyn.{TableSyn}
@@ -22,7 +24,7 @@ use Rattle.gx_lines.specs.declared.syn.LineSyn.TheVariants as line_syn
 use Rattle.gx_lines.specs.Classes.{segments_of, in_range, number_in}
 use Rattle.gx_lines.specs.Queries.{name}
 use Rattle.gx_lines.specs.Statements.{stmt as spelled}
-use Rattle.gx_lines.specs.Heads.{segments, column, table, link, session_line, head_line}
+use Rattle.gx_lines.specs.Heads.{segments, column, table, link, group, session_line, head_line}
 use Rattle.gx_tree.specs.declared.schema.Column.{Column}
 use Rattle.gx_tree.specs.declared.schema.Schema.{Schema}
 use Rattle.gx_tree.specs.declared.stmt.Stmt.{Stmt}
@@ -35,15 +37,19 @@ use Rattle.gx_resolve.specs.Resolving.{column_as, stmt_of, table_from}
 use Rattle.gx_resolve.proofs.Promised.{table_promise, stmt_of-keeps}
 use Rattle.gx_sql.specs.declared.refusal.Limit.TheVariants as limit
 use Rattle.gx_sql.specs.declared.refusal.LineFault.{LineFault}
+use Rattle.gx_sql.specs.declared.refusal.LineFault.TheVariants as fault
 use Rattle.gx_sql.specs.declared.refusal.Refusal.TheVariants as refusal
 use Rattle.gx_sql.specs.Lines.{lines_of, is_skipped}
 use Rattle.gx_sql.specs.Counts.{is_session}
 use Rattle.gx_sql.specs.Held.{HasRoom}
-use Rattle.gx_sql.specs.Progress.{Progress, start, giving, is_on, is_known, same_way, same_fault, with_fault, link_fault, place_of, count_of, counted, next_line, with_detector, with_table, with_link, with_line, with_session, with_line_syn}
+use Rattle.gx_sql.specs.Progress.{Progress, start, giving, is_on, is_known, same_way, same_fault, with_fault, link_fault, place_of, count_of, counted, next_line, with_detector, with_table, with_link, with_group, with_line, with_session, with_sessions, with_line_syn}
+use Rattle.gx_sql.specs.Groups.{is_group, with_members}
+use Rattle.gx_sql.specs.declared.groups.GroupHead.{GroupHead}
 use Rattle.gx_sql.specs.Script.{the_limits, Told, TokensSay, LineSays, Goes, Where, ReadsOn, script_of, ended}
 use Rattle.gx_store.specs.Limits.{IsBoundedLine, IsBoundedStmt}
 use Rattle.gx_store.specs.Language.{table_name, IsName, IsTable, IsLine, lines_in, AreLinesNumbered, BeginInOrder, IsFault, HasFaultsOnce}
-use Rattle.gx_store.specs.Heads.{AreGroups, IsGroup}
+use Rattle.gx_store.specs.Heads.{AreGroups}
+use Rattle.gx_sql.proofs.Grouping.{IsHead, groups_are, head_name}
 use Rattle.gx_sql.proofs.Held.{length_snoc}
 use Rattle.gx_sql.proofs.Having.{AreProper, Has, AreSome, IsNamed, tokens_proper, front, back, behind_has, list_has, parens_have, name_named}
 use Rattle.gx_sql.proofs.Small.{IsSmallStmt, stmt_small}
@@ -109,6 +115,7 @@ column_named d c ts e (p, q, (us, vs, w, m, k)) = subst (IsColumn d) (sym q) (na
 abbrev Fits : Limits → ℕ → LineSyn → Type 0
 Fits d n (line_syn.Table t) = IsNamed d t.name × AreSome (IsColumn d) t.columns
 Fits d n (line_syn.Link l) = (1 ≤ l.segment) × (l.segment ≤ n) × (1 ≤ l.number)
+Fits d n (line_syn.Group g) = IsNamed d g.name × (1 ≤ g.limit) × (g.limit ≤ 18446744073709551615)
 Fits d n (line_syn.Session name s) = IsNamed d name × IsSmallStmt s
 Fits d n (line_syn.Detector s) = Unit {0}
 
@@ -127,6 +134,15 @@ link_fits d n line ts (p, e, (us, vs, q, (us2, vs2, q2, (us3, vs3, (y, ny, oy), 
     let number = number_both 1 18446744073709551615 z p4.1 nz in
     subst (Fits d n) (sym e) (segment.0, segment.1, subst (λ (m : ℕ). 1 ≤ m) (sym e4) number.0)
 
+group_fits : (d : Limits) (n : ℕ) (line : LineSyn) (ts : List Token) → AreProper ts → group d line ts → Fits d n line
+group_fits d n line ts e (p, q, (us, vs, w, (ws, xs, (p2, q2, (ls, ms, l, (y, ny, oy), t)), i, k1), k)) =
+    let limit = number_both 1 18446744073709551615 y p2.1 ny in
+    subst (Fits d n) (sym q) (
+      behind_has (is_word word.Group) (name d) (IsNamed d) (name_named d) p.0 us (front us vs (subst AreProper k e)) w,
+      subst (λ (m : ℕ). 1 ≤ m) (sym q2) limit.0,
+      subst (λ (m : ℕ). m ≤ 18446744073709551615) (sym q2) limit.1,
+    )
+
 session_fits : (n : ℕ) (line : LineSyn) (ts : List Token) → AreProper ts → session_line the_limits line ts → Fits the_limits n line
 session_fits n line ts e (p, q, (us, vs, w, (us1, vs1, s, m, k1), k)) =
     let both = subst AreProper k e in
@@ -140,7 +156,8 @@ head_fits : (n : ℕ) (line : LineSyn) (ts : List Token) → AreProper ts → he
 head_fits n line ts e (inl (a, q, w)) = subst (Fits the_limits n) (sym q) tt
 head_fits n line ts e (inr (inl w)) = table_fits the_limits n line ts e w
 head_fits n line ts e (inr (inr (inl w))) = link_fits the_limits n line ts w
-head_fits n line ts e (inr (inr (inr w))) = session_fits n line ts e w
+head_fits n line ts e (inr (inr (inr (inl w)))) = group_fits the_limits n line ts e w
+head_fits n line ts e (inr (inr (inr (inr w)))) = session_fits n line ts e w
 
 -- WHAT LINES KEEP
 abbrev KeepsFaults : Option ℕ → List LinkFault → Type 0
@@ -161,12 +178,15 @@ record Keeps (number : ℕ) (p : Progress) : Type 0 where
   pub numbers : AreLinesNumbered [] p.lines
   pub order : BeginInOrder 0 p.lines (length p.sessions)
   pub counts : AreCounted 0 p.sessions p.lines
+  pub groups : All IsHead p.groups
+  pub group_names : AreDistinct (map head_name p.groups)
+  pub few_groups : length p.groups ≤ 64
   pub faults : KeepsFaults p.segments p.faults
 
 keeps_more : (number : ℕ) (p : Progress) → Keeps number p → Keeps (number + 1) p
 keeps_more number p k =
     let few = k.few_lines in
-    record { tables = k.tables; table_names = k.table_names; few_tables = k.few_tables; sessions = k.sessions; session_names = k.session_names; few_sessions = k.few_sessions; lines = k.lines; limits = k.limits; few_lines = omega arith; numbers = k.numbers; order = k.order; counts = k.counts; faults = k.faults }
+    record { tables = k.tables; table_names = k.table_names; few_tables = k.few_tables; sessions = k.sessions; session_names = k.session_names; few_sessions = k.few_sessions; lines = k.lines; limits = k.limits; few_lines = omega arith; numbers = k.numbers; order = k.order; counts = k.counts; groups = k.groups; group_names = k.group_names; few_groups = k.few_groups; faults = k.faults }
 
 detector_keeps : (number : ℕ) (p : Progress) (s : Switch) (q : Progress) → Keeps number p → with_detector p s ≡ Ok q → Keeps number q
 detector_keeps number p s q k e = pick (is_some p.detector) refl
@@ -175,7 +195,7 @@ detector_keeps number p s q k e = pick (is_some p.detector) refl
     pick true h = absurd cc
     pick false h =
         let same : q ≡ record p { detector = Some (is_on s) } = cc in
-        subst (Keeps number) (sym same) (record { tables = k.tables; table_names = k.table_names; few_tables = k.few_tables; sessions = k.sessions; session_names = k.session_names; few_sessions = k.few_sessions; lines = k.lines; limits = k.limits; few_lines = k.few_lines; numbers = k.numbers; order = k.order; counts = k.counts; faults = k.faults })
+        subst (Keeps number) (sym same) (record { tables = k.tables; table_names = k.table_names; few_tables = k.few_tables; sessions = k.sessions; session_names = k.session_names; few_sessions = k.few_sessions; lines = k.lines; limits = k.limits; few_lines = k.few_lines; numbers = k.numbers; order = k.order; counts = k.counts; groups = k.groups; group_names = k.group_names; few_groups = k.few_groups; faults = k.faults })
 
 way_is : (b : Bool) → same_way b b ≡ true
 way_is true = refl
@@ -221,7 +241,53 @@ faults_snoc (Some m) n fs f e h k =
 link_keeps : (number n : ℕ) (p : Progress) (l : LinkSyn) (q : Progress) → p.segments ≡ Some n → Fits the_limits n (line_syn.Link l) → Keeps number p → with_link p l ≡ Ok q → Keeps number q
 link_keeps number n p l q s f k e =
     let same : q ≡ record p { faults = with_fault (link_fault l) p.faults } = cc in
-    subst (Keeps number) (sym same) (record { tables = k.tables; table_names = k.table_names; few_tables = k.few_tables; sessions = k.sessions; session_names = k.session_names; few_sessions = k.few_sessions; lines = k.lines; limits = k.limits; few_lines = k.few_lines; numbers = k.numbers; order = k.order; counts = k.counts; faults = faults_snoc p.segments n p.faults (link_fault l) s f k.faults })
+    subst (Keeps number) (sym same) (record { tables = k.tables; table_names = k.table_names; few_tables = k.few_tables; sessions = k.sessions; session_names = k.session_names; few_sessions = k.few_sessions; lines = k.lines; limits = k.limits; few_lines = k.few_lines; numbers = k.numbers; order = k.order; counts = k.counts; groups = k.groups; group_names = k.group_names; few_groups = k.few_groups; faults = faults_snoc p.segments n p.faults (link_fault l) s f k.faults })
+
+-- a group more
+group_apart : (name : List ℕ) (gs : List GroupHead) → is_group name gs ≡ false → ¬ (IsOneOf name (map head_name gs))
+group_apart name [] e h = h
+group_apart name (g ∷ gs) e h = at (pointwise nat_eq g.name name) refl (group_apart name gs) e h
+  where
+    at : (b : Bool) → pointwise nat_eq g.name name ≡ b → (is_group name gs ≡ false → ¬ (IsOneOf name (map head_name gs))) → (b || is_group name gs) ≡ false → IsOneOf name (g.name ∷ map head_name gs) → ⊥
+    at true q rest e h = cc
+    at false q rest e (inl s) = other_text g.name name (sym q) (sym s)
+    at false q rest e (inr h) = rest e h
+
+heads_snoc : (gs : List GroupHead) (g : GroupHead) → map head_name (gs ++ g ∷ []) ≡ map head_name gs ++ g.name ∷ []
+heads_snoc [] g = refl
+heads_snoc (h ∷ gs) g = ap (λ (ns : List (List ℕ)). h.name ∷ ns) (heads_snoc gs g)
+
+sessions_keep : (number : ℕ) (p : Progress) (g : GroupSyn) (q : Progress) (r : Result (List (List ℕ × ℕ)) LineFault) → IsName g.name → 1 ≤ g.limit → g.limit ≤ 18446744073709551615 → length p.groups < 64 → is_group g.name p.groups ≡ false → Keeps number p → with_sessions p g r ≡ Ok q → Keeps number q
+sessions_keep number p g q (Err f) short some fits few apart k e = absurd cc
+sessions_keep number p g q (Ok members) short some fits few apart k e =
+    let head : GroupHead = record { name = g.name; limit = g.limit } in
+    let same : q ≡ record p { groups = p.groups ++ head ∷ []; members = members } = cc in
+    let len = length_snoc p.groups head in
+    subst (Keeps number) (sym same) (record {
+      tables = k.tables;
+      table_names = k.table_names;
+      few_tables = k.few_tables;
+      sessions = k.sessions;
+      session_names = k.session_names;
+      few_sessions = k.few_sessions;
+      lines = k.lines;
+      limits = k.limits;
+      few_lines = k.few_lines;
+      numbers = k.numbers;
+      order = k.order;
+      counts = k.counts;
+      groups = All-push IsHead p.groups head k.groups (record { name = short; some_slots = some; fits = fits });
+      group_names = subst AreDistinct (sym (heads_snoc p.groups head)) (distinct_snoc (map head_name p.groups) g.name k.group_names (group_apart g.name p.groups apart));
+      few_groups = omega arith;
+      faults = k.faults;
+    })
+
+group_keeps : (number n : ℕ) (p : Progress) (g : GroupSyn) (q : Progress) → Fits the_limits n (line_syn.Group g) → length p.groups < 64 → Keeps number p → with_group p g ≡ Ok q → Keeps number q
+group_keeps number n p g q f room k e = pick (is_group g.name p.groups) refl e
+  where
+    pick : (b : Bool) → is_group g.name p.groups ≡ b → (if b then Err fault.Syntax else with_sessions p g (with_members (length p.groups) g.sessions (Ok p.members))) ≡ Ok q → Keeps number q
+    pick true h e = absurd cc
+    pick false h e = sessions_keep number p g q (with_members (length p.groups) g.sessions (Ok p.members)) f.0 f.1 f.2 room h k e
 
 given : {A : Type 0} (f : A → Progress) (answer : Answer A) (q : Progress) → giving f answer ≡ Ok q → (a : A) × (answer ≡ Ok a) × (q ≡ f a)
 given f (Ok a) q e = (a, refl, cc)
@@ -244,10 +310,13 @@ table_keeps number p s is apart few k =
       numbers = k.numbers;
       order = k.order;
       counts = k.counts;
+      groups = k.groups;
+      group_names = k.group_names;
+      few_groups = k.few_groups;
       faults = k.faults;
     }
 
-declared_keeps : (number n : ℕ) (p : Progress) (t : TableSyn) (q : Progress) → Fits the_limits n (line_syn.Table t) → HasRoom (length p.tables) p.sessions (line_syn.Table t) → Keeps number p → with_table p t ≡ Ok q → Keeps number q
+declared_keeps : (number n : ℕ) (p : Progress) (t : TableSyn) (q : Progress) → Fits the_limits n (line_syn.Table t) → HasRoom (length p.tables) (length p.groups) p.sessions (line_syn.Table t) → Keeps number p → with_table p t ≡ Ok q → Keeps number q
 declared_keeps number n p t q f room k e =
     let g = given (λ (schema : Schema). record p { tables = p.tables ++ schema ∷ [] }) (table_from (is_known t.name p.tables) t) q e in
     let made = table_made (is_known t.name p.tables) t g.0 g.1 in
@@ -289,6 +358,9 @@ module _ (number : ℕ) (p : Progress) (name : List ℕ) (stmt : Stmt) (k : Keep
         numbers = numbered_snoc [] p.lines The (ap (λ (n : ℕ). n + 1) count) k.numbers;
         order = order;
         counts = counted_next 0 (count_of name p.sessions + 1) name p.sessions p.lines The (omega arith) (ap (λ (n : ℕ). n + 1) count) k.counts;
+        groups = k.groups;
+        group_names = k.group_names;
+        few_groups = k.few_groups;
         faults = k.faults;
       }
     where
@@ -320,15 +392,16 @@ module _ (number : ℕ) (p : Progress) (name : List ℕ) (stmt : Stmt) (k : Keep
           let few : length p.sessions < 64 = grind arith in
           new_keeps e few
 
-session_keeps : (number : ℕ) (p : Progress) (name : List ℕ) (s : StmtSyn) (q : Progress) → IsName name → IsSmallStmt s → HasRoom (length p.tables) p.sessions (line_syn.Session name s) → Keeps number p → with_session p name s ≡ Ok q → Keeps (number + 1) q
+session_keeps : (number : ℕ) (p : Progress) (name : List ℕ) (s : StmtSyn) (q : Progress) → IsName name → IsSmallStmt s → HasRoom (length p.tables) (length p.groups) p.sessions (line_syn.Session name s) → Keeps number p → with_session p name s ≡ Ok q → Keeps (number + 1) q
 session_keeps number p name s q short small room k e =
     let g = given (with_line p name) (stmt_of p.tables s) q e in
     subst (Keeps (number + 1)) (sym g.2) (next_keeps number p name g.0 k short (stmt_of-keeps p.tables s g.0 g.1) (stmt_kept p.tables s g.0 k.tables small g.1) room)
 
-syn_keeps : (number n : ℕ) (p : Progress) (l : LineSyn) (q : Progress) → p.segments ≡ Some n → Fits the_limits n l → HasRoom (length p.tables) p.sessions l → Keeps number p → with_line_syn p l ≡ Ok q → Keeps (number + 1) q
+syn_keeps : (number n : ℕ) (p : Progress) (l : LineSyn) (q : Progress) → p.segments ≡ Some n → Fits the_limits n l → HasRoom (length p.tables) (length p.groups) p.sessions l → Keeps number p → with_line_syn p l ≡ Ok q → Keeps (number + 1) q
 syn_keeps number n p (line_syn.Detector s) q o f room k e = keeps_more number q (detector_keeps number p s q k e)
 syn_keeps number n p (line_syn.Table t) q o f room k e = keeps_more number q (declared_keeps number n p t q f room k e)
 syn_keeps number n p (line_syn.Link l) q o f room k e = keeps_more number q (link_keeps number n p l q o f k e)
+syn_keeps number n p (line_syn.Group g) q o f room k e = keeps_more number q (group_keeps number n p g q f room k e)
 syn_keeps number n p (line_syn.Session name s) q o f room k e = session_keeps number p name s q f.0 f.1 room k e
 
 few_of : (o : Option ℕ) (n : ℕ) (fs : List LinkFault) → o ≡ Some n → KeepsFaults o fs → n ≤ 16
@@ -338,11 +411,11 @@ few_of (Some m) n fs e k = let same : m ≡ n = cc in subst (λ (n : ℕ). n ≤
 told_keeps : (number n : ℕ) (p : Progress) (ls : List Line) (ts : List Token) (q : Progress) → AreProper ts → p.segments ≡ Some n → Keeps number p → Told n p ls ts (Ok q) → Keeps (number + 1) q
 told_keeps number n p [] ts q proper o k (inl (l, h, e)) = absurd cc
 told_keeps number n p [] ts q proper o k (inr (none, inl (x, h, e))) =
-    syn_keeps number n p x q o (head_fits n x ts proper h) (head_room the_limits n (length p.tables) p.sessions x ts (few_of p.segments n p.faults o k.faults) none h) k (sym e)
+    syn_keeps number n p x q o (head_fits n x ts proper h) (head_room the_limits n (length p.tables) (length p.groups) p.sessions x ts (few_of p.segments n p.faults o k.faults) none h) k (sym e)
 told_keeps number n p [] ts q proper o k (inr (none, inr (f, v, e))) = absurd cc
 told_keeps number n p (l ∷ ls) ts q proper o k (inl (m, h, e)) = absurd cc
 told_keeps number n p (l ∷ ls) ts q proper o k (inr (none, inl (x, h, e))) =
-    syn_keeps number n p x q o (session_fits n x ts proper h) (line_room the_limits (length p.tables) p.sessions x ts none h) k (sym e)
+    syn_keeps number n p x q o (session_fits n x ts proper h) (line_room the_limits (length p.tables) (length p.groups) p.sessions x ts none h) k (sym e)
 told_keeps number n p (l ∷ ls) ts q proper o k (inr (none, inr (f, v, e))) = absurd cc
 
 no_faults : (o : Option ℕ) (fs : List LinkFault) → o ≡ None → KeepsFaults o fs → fs ≡ []
@@ -354,7 +427,7 @@ tokens_keep number None p ts q proper o k (inl (n, r, e)) =
     let same : q ≡ record p { segments = Some n.0 } = cc in
     let both = told_both the_limits n ts r in
     let none = no_faults p.segments p.faults o k.faults in
-    subst (Keeps (number + 1)) (sym same) (keeps_more number (record p { segments = Some n.0 }) (record { tables = k.tables; table_names = k.table_names; few_tables = k.few_tables; sessions = k.sessions; session_names = k.session_names; few_sessions = k.few_sessions; lines = k.lines; limits = k.limits; few_lines = k.few_lines; numbers = k.numbers; order = k.order; counts = k.counts; faults = (both.0, both.1, subst (All (IsFault n.0)) (sym none) (All-nil (IsFault n.0)), subst AreDistinct (sym none) tt) }))
+    subst (Keeps (number + 1)) (sym same) (keeps_more number (record p { segments = Some n.0 }) (record { tables = k.tables; table_names = k.table_names; few_tables = k.few_tables; sessions = k.sessions; session_names = k.session_names; few_sessions = k.few_sessions; lines = k.lines; limits = k.limits; few_lines = k.few_lines; numbers = k.numbers; order = k.order; counts = k.counts; groups = k.groups; group_names = k.group_names; few_groups = k.few_groups; faults = (both.0, both.1, subst (All (IsFault n.0)) (sym none) (All-nil (IsFault n.0)), subst AreDistinct (sym none) tt) }))
 tokens_keep number None p ts q proper o k (inr (f, v, e)) = absurd cc
 tokens_keep number (Some n) p ts q proper o k h = told_keeps number n p p.lines ts q proper o k h
 
@@ -379,9 +452,6 @@ pub record IsKept (script : Script) : Type 0 where
   pub faults : All (IsFault script.segments) script.faults
   pub once : HasFaultsOnce script
 
-no_groups : (sessions : ℕ) → AreGroups sessions []
-no_groups sessions = record { each = All-nil (IsGroup sessions); names = tt; few = omega arith; once = tt }
-
 ended_keeps : (number : ℕ) (o : Option ℕ) (p : Progress) (s : Script) → p.segments ≡ o → number ≤ 100001 → Keeps number p → Ok s ≡ ended number p o → IsKept s
 ended_keeps number None p s o l k e = absurd cc
 ended_keeps number (Some n) p s o l k e =
@@ -402,7 +472,7 @@ ended_keeps number (Some n) p s o l k e =
       few_lines = omega arith;
       numbers = k.numbers;
       order = subst (BeginInOrder 0 p.lines) (sym (length_names p.sessions)) k.order;
-      groups = no_groups _;
+      groups = groups_are p.members (names p.sessions) p.groups k.groups k.group_names k.few_groups;
       restarts = refl;
       faults = faults.2;
       once = faults.3;
@@ -429,7 +499,7 @@ reads_keep number p (line ∷ ls) s l k h = within (nat_lt 100000 number) refl (
         says (λ q. rest q (omega arith)) (is_skipped line) h
 
 start_keeps : Keeps 1 start
-start_keeps = record { tables = All-nil IsTable; table_names = tt; few_tables = omega arith; sessions = All-nil IsName; session_names = tt; few_sessions = omega arith; lines = All-nil (IsLine [] 0); limits = All-nil IsBoundedLine; few_lines = omega arith; numbers = tt; order = refl; counts = tt; faults = refl }
+start_keeps = record { tables = All-nil IsTable; table_names = tt; few_tables = omega arith; sessions = All-nil IsName; session_names = tt; few_sessions = omega arith; lines = All-nil (IsLine [] 0); limits = All-nil IsBoundedLine; few_lines = omega arith; numbers = tt; order = refl; counts = tt; groups = All-nil IsHead; group_names = tt; few_groups = omega arith; faults = refl }
 
 pub read_kept : (bytes : List ℕ) (s : Script) → ReadsOn 1 start (lines_of bytes) (Ok s) → IsKept s
 read_kept bytes s h = reads_keep 1 start (lines_of bytes) s (omega arith) start_keeps h

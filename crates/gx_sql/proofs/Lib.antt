@@ -2,6 +2,8 @@ pub mod Cuts
 pub mod Verdicts
 pub mod Columns
 pub mod Held
+pub mod Grouping
+pub mod Members
 pub mod Named
 pub mod Room
 pub mod Saying

@@ -7,6 +7,7 @@ use Rattle.std.proofs.lemmas.List.Elements.{All-from_recursion}
 use Rattle.gx_lex.specs.declared.token.Token.{Token}
 use Rattle.gx_tree.specs.declared.schema.Schema.{Schema}
 use Rattle.gx_grammar.specs.declared.fault.Limits.{Limits}
+use Rattle.gx_lines.specs.declared.syn.GroupSyn.{GroupSyn}
 use Rattle.gx_lines.specs.declared.syn.LineSyn.{LineSyn}
 use Rattle.gx_lines.specs.declared.syn.LineSyn.TheVariants as line_syn
 use Rattle.gx_lines.specs.Heads.{segments, head_line, session_line}
@@ -25,7 +26,8 @@ use Rattle.gx_sql.specs.Counts.{PassesInHead, PassesInLine}
 use Rattle.gx_store.specs.Language.{HasFaultsOnce, IsScript}
 use Rattle.gx_store.specs.Limits.{HasTuplesTo, IsLineTo, HaveTuplesTo}
 use Rattle.gx_sql.specs.Lines.{lines_of, is_skipped}
-use Rattle.gx_sql.specs.Progress.{Progress, start, giving, is_known, is_on, with_line, with_segments, with_line_syn}
+use Rattle.gx_sql.specs.Progress.{Progress, start, giving, is_known, is_on, with_line, with_segments, with_sessions, with_line_syn}
+use Rattle.gx_sql.specs.Groups.{is_group, with_members}
 use Rattle.gx_sql.specs.Script.{the_limits, Follows, Counts, Told, TokensSay, LineSays, Goes, Where, ended, script_of, ReadsOn, Reads}
 use Rattle.gx_sql.proofs.Language.{IsKept, read_kept}
 use Rattle.gx_sql.proofs.Filled.{IsWritten, more-written, stmt-written, stmt_of-filled}
@@ -55,7 +57,8 @@ module _ (most : ℕ) where
   head-written n d x ts few (inl (s, e, w)) = subst IsLineWritten (sym e) tt
   head-written n d x ts few (inr (inl (p, e, w))) = subst IsLineWritten (sym e) tt
   head-written n d x ts few (inr (inr (inl (p, e, w)))) = subst IsLineWritten (sym e) tt
-  head-written n d x ts few (inr (inr (inr w))) = session-written d x ts few w
+  head-written n d x ts few (inr (inr (inr (inl (p, e, w))))) = subst IsLineWritten (sym e) tt
+  head-written n d x ts few (inr (inr (inr (inr w)))) = session-written d x ts few w
 
   -- WHAT LINES ADD
   abbrev Fills : Progress → Type 0
@@ -69,6 +72,14 @@ module _ (most : ℕ) where
   detector-fills p q true on k e = absurd cc
   detector-fills p q false on k e = let same : record p { detector = Some on } ≡ q = cc in subst Fills same k
 
+  sessions-fill : (p : Progress) (g : GroupSyn) (q : Progress) (r : Result (List (List ℕ × ℕ)) LineFault) → Fills p → with_sessions p g r ≡ Ok q → Fills q
+  sessions-fill p g q (Ok members) k e = let same : q ≡ record p { groups = q.groups; members = q.members } = cc in subst Fills (sym same) k
+  sessions-fill p g q (Err f) k e = absurd cc
+
+  group-fills : (p : Progress) (g : GroupSyn) (q : Progress) (b : Bool) → Fills p → (if b then Err fault.Syntax else with_sessions p g (with_members (length p.groups) g.sessions (Ok p.members))) ≡ Ok q → Fills q
+  group-fills p g q true k e = absurd cc
+  group-fills p g q false k e = sessions-fill p g q (with_members (length p.groups) g.sessions (Ok p.members)) k e
+
   line-fills : (p : Progress) (x : LineSyn) (q : Progress) → Fills p → IsLineWritten x → with_line_syn p x ≡ Ok q → Fills q
   line-fills p (line_syn.Detector s) q k w e = detector-fills p q (is_some p.detector) (is_on s) k e
   line-fills p (line_syn.Table t) q k w e =
@@ -77,6 +88,7 @@ module _ (most : ℕ) where
   line-fills p (line_syn.Link l) q k w e =
       let same : q ≡ record p { faults = q.faults } = cc in
       subst Fills (sym same) k
+  line-fills p (line_syn.Group g) q k w e = group-fills p g q (is_group g.name p.groups) k e
   line-fills p (line_syn.Session name s) q k w e =
       let made = given (with_line p name) (stmt_of p.tables s) q e in
       subst Fills (sym made.2) (one-more p.lines _ k (stmt_of-filled most p.tables s made.0 made.1 w))
@@ -91,7 +103,7 @@ module _ (most : ℕ) where
 
   told-fills : (n : ℕ) (p : Progress) (ls : List Line) (q : Progress) (ts : List Token) → length ts ≤ most → Fills p → Told n p ls ts (Ok q) → Fills q
   told-fills n p [] q ts few k h =
-      let r = read_of (head_line n) (with_line_syn p) ts q (uncounted (PassesInHead the_limits (length p.tables) p.sessions ts) (Follows (head_line n) (with_line_syn p) ts) q h) in
+      let r = read_of (head_line n) (with_line_syn p) ts q (uncounted (PassesInHead the_limits (length p.tables) (length p.groups) p.sessions ts) (Follows (head_line n) (with_line_syn p) ts) q h) in
       line-fills p r.0 q k (head-written n the_limits r.0 ts few r.1) r.2
   told-fills n p (l ∷ ls) q ts few k h =
       let r = read_of session_line (with_line_syn p) ts q (uncounted (PassesInLine p.sessions ts) (Follows session_line (with_line_syn p) ts) q h) in

@@ -2,6 +2,7 @@
 use Rattle.std.proofs.Common.{◌≡◌, inl, inr, ℕ, zero, suc, ◌≤◌, ◌<◌, nat_le, nat_lt, Bool, true, false, not, ◌&&◌, List, [], ◌∷◌, ◌++◌, length, Some, None, refl, sym, ◌∙◌, ap, subst, append_assoc, arith}
 use Rattle.gx_lex.specs.declared.token.Token.{Token}
 use Rattle.gx_lex.specs.declared.token.Token.TheVariants as token
+use Rattle.gx_lex.specs.declared.word.Word.{Word}
 use Rattle.gx_lex.specs.declared.word.Word.TheVariants as word
 use Rattle.gx_lex.specs.declared.symbol.Symbol.TheVariants as symbol
 use Rattle.gx_grammar.specs.declared.fault.Limits.{Limits}
@@ -13,14 +14,14 @@ use Rattle.gx_lines.specs.declared.syn.LineSyn.{LineSyn}
 use Rattle.gx_lines.specs.declared.syn.LineSyn.TheVariants as line_syn
 use Rattle.gx_lines.specs.Classes.{number_in, in_range}
 use Rattle.gx_lines.specs.Queries.{name}
-use Rattle.gx_lines.specs.Heads.{column, table, link, session_line, head_line}
+use Rattle.gx_lines.specs.Heads.{column, table, link, group, session_line, head_line}
 use Rattle.gx_lines.proofs.Told.{sign_is}
 use Rattle.gx_lines.proofs.Classing.{name_first}
 use Rattle.gx_lines.proofs.Follow.{marked_true}
 use Rattle.gx_sql.specs.declared.refusal.Limit.{Limit}
 use Rattle.gx_sql.specs.declared.refusal.Limit.TheVariants as limit
-use Rattle.gx_sql.specs.declared.refusal.Limit.TheVariants.{Sessions, Tables, Columns}
-use Rattle.gx_sql.specs.Counts.{is_session, passes_sessions, passes_tables, PassesColumns, PassesInHead, PassesInLine}
+use Rattle.gx_sql.specs.declared.refusal.Limit.TheVariants.{Sessions, Tables, Groups, Columns}
+use Rattle.gx_sql.specs.Counts.{is_session, passes_sessions, passes_tables, passes_groups, PassesColumns, PassesInHead, PassesInLine}
 use Rattle.gx_sql.specs.Held.{HasRoom}
 
 -- TOKENS
@@ -34,14 +35,14 @@ same_name d m n e = pick (nat_le (length m) d.name) refl
     pick true q = cc
     pick false q = absurd cc
 
--- the first tokens of a table's line
+-- a word and a name
 abbrev pub IsNamed : (Token → Type 0) → List Token → Type 0
 IsNamed P us = (k : Token) × (m : List ℕ) × P k × (us ≡ k ∷ token.Name m ∷ [])
 
-pub behind_name : (d : Limits) (n : List ℕ) (us : List Token) → behind (is_word word.Table) (name d) n us → IsNamed (λ k. is_word word.Table k ≡ true) us
-behind_name d n us (p, e, (ks, ls, (k, mk, o), (y, ny, oy), r)) =
+pub behind_name : (w : Word) (d : Limits) (n : List ℕ) (us : List Token) → behind (is_word w) (name d) n us → IsNamed (λ k. is_word w k ≡ true) us
+behind_name w d n us (p, e, (ks, ls, (k, mk, o), (y, ny, oy), r)) =
     let m = is_name d y p.1 ny in
-    (k, m.0, marked_true (is_word word.Table) k p.0 mk, r ∙ ap (λ (t : List Token). t ++ ls) o ∙ ap (λ (t : List Token). k ∷ t) (oy ∙ ap (λ (y : Token). y ∷ []) m.1))
+    (k, m.0, marked_true (is_word w) k p.0 mk, r ∙ ap (λ (t : List Token). t ++ ls) o ∙ ap (λ (t : List Token). k ∷ t) (oy ∙ ap (λ (y : Token). y ∷ []) m.1))
 
 -- a comma, a name and one token more
 comma_column : (d : Limits) (c : ColumnSyn) (us : List Token) → behind is_comma (column d) c us → (m : List ℕ) × (more : List Token) × (us ≡ token.Symbol symbol.Comma ∷ token.Name m ∷ more)
@@ -147,25 +148,25 @@ number_to a b (token.Text t) m e = absurd cc
 number_to a b (token.Symbol s) m e = absurd cc
 number_to a b token.Bad m e = absurd cc
 
-session_room : (d : Limits) (tables : ℕ) (sessions : List (List ℕ × ℕ)) (line : LineSyn) (ts : List Token) → (passes_sessions sessions ts ≡ true → ⊥) → session_line d line ts → HasRoom tables sessions line
-session_room d tables sessions line ts n (p, e, (us, vs, (y, ny, oy), q, r)) =
+session_room : (d : Limits) (tables groups : ℕ) (sessions : List (List ℕ × ℕ)) (line : LineSyn) (ts : List Token) → (passes_sessions sessions ts ≡ true → ⊥) → session_line d line ts → HasRoom tables groups sessions line
+session_room d tables groups sessions line ts n (p, e, (us, vs, (y, ny, oy), q, r)) =
     let m = is_name d y p.0 ny in
     let same = same_name d m.0 p.0 (subst (λ (y : Token). name_of d y ≡ Is p.0) m.1 ny) in
     let whole : ts ≡ token.Name p.0 ∷ vs = r ∙ ap (λ (t : List Token). t ++ vs) (oy ∙ ap (λ (y : Token). y ∷ []) (m.1 ∙ ap token.Name same)) in
-    subst (λ (l : LineSyn). HasRoom tables sessions l) (sym e) (untrue (nat_le 64 (length sessions) && not (is_session p.0 sessions)) (λ h. n (ap (passes_sessions sessions) whole ∙ h)))
+    subst (λ (l : LineSyn). HasRoom tables groups sessions l) (sym e) (untrue (nat_le 64 (length sessions) && not (is_session p.0 sessions)) (λ h. n (ap (passes_sessions sessions) whole ∙ h)))
 
-link_room : (n tables : ℕ) (sessions : List (List ℕ × ℕ)) (line : LineSyn) (ts : List Token) → n ≤ 16 → link n line ts → HasRoom tables sessions line
-link_room n tables sessions line ts l (p, e, (us, vs, q, (us2, vs2, q2, (us3, vs3, (y, ny, oy), q4, r3), r2), r1)) =
+link_room : (n tables groups : ℕ) (sessions : List (List ℕ × ℕ)) (line : LineSyn) (ts : List Token) → n ≤ 16 → link n line ts → HasRoom tables groups sessions line
+link_room n tables groups sessions line ts l (p, e, (us, vs, q, (us2, vs2, q2, (us3, vs3, (y, ny, oy), q4, r3), r2), r1)) =
     let to = number_to 1 n y p.1.1.0 ny in
     let bound : p.1.1.0 ≤ 16 = omega arith in
-    subst (λ (l : LineSyn). HasRoom tables sessions l) (sym e) bound
+    subst (λ (l : LineSyn). HasRoom tables groups sessions l) (sym e) bound
 
-table_room : (d : Limits) (tables : ℕ) (sessions : List (List ℕ × ℕ)) (line : LineSyn) (ts : List Token) → (passes_tables tables ts ≡ true → ⊥) → (PassesColumns d ts → ⊥) → table d line ts → HasRoom tables sessions line
-table_room d tables sessions line ts n m (p, e, (us, vs, q, r, s)) =
-    let first = behind_name d p.0 us q in
+table_room : (d : Limits) (tables groups : ℕ) (sessions : List (List ℕ × ℕ)) (line : LineSyn) (ts : List Token) → (passes_tables tables ts ≡ true → ⊥) → (PassesColumns d ts → ⊥) → table d line ts → HasRoom tables groups sessions line
+table_room d tables groups sessions line ts n m (p, e, (us, vs, q, r, s)) =
+    let first = behind_name word.Table d p.0 us q in
     let whole : ts ≡ first.0 ∷ token.Name first.1 ∷ vs = s ∙ ap (λ (t : List Token). t ++ vs) first.3 in
     let few = full_false tables (is_word word.Table first.0) first.2 (untrue (nat_le 64 tables && is_word word.Table first.0) (λ h. n (ap (passes_tables tables) whole ∙ h))) in
-    subst (λ (l : LineSyn). HasRoom tables sessions l) (sym e) (few, narrow (nat_lt 32 (length p.1.0)) refl)
+    subst (λ (l : LineSyn). HasRoom tables groups sessions l) (sym e) (few, narrow (nat_lt 32 (length p.1.0)) refl)
   where
     narrow : (b : Bool) → nat_lt 32 (length p.1.0) ≡ b → length p.1.0 ≤ 32
     narrow true h =
@@ -173,29 +174,39 @@ table_room d tables sessions line ts n m (p, e, (us, vs, q, r, s)) =
         absurd (m (long_passes d line (record { name = p.0; columns = p.1.0; dist = p.1.1 }) ts e (p, e, (us, vs, q, r, s)) long))
     narrow false h = not_below 32 (length p.1.0) h
 
-pub head_room : (d : Limits) (n tables : ℕ) (sessions : List (List ℕ × ℕ)) (line : LineSyn) (ts : List Token) → n ≤ 16 → ((l : Limit) → PassesInHead d tables sessions ts l → ⊥) → head_line n d line ts → HasRoom tables sessions line
-head_room d n tables sessions line ts l h (inl (a, e, q)) = subst (λ (l : LineSyn). HasRoom tables sessions l) (sym e) tt
-head_room d n tables sessions line ts l h (inr (inl q)) = table_room d tables sessions line ts (h Tables) (λ p. h Columns (untrue (passes_tables tables ts) (h Tables), p)) q
-head_room d n tables sessions line ts l h (inr (inr (inl q))) = link_room n tables sessions line ts l q
-head_room d n tables sessions line ts l h (inr (inr (inr q))) = session_room d tables sessions line ts (h Sessions) q
+group_room : (d : Limits) (tables groups : ℕ) (sessions : List (List ℕ × ℕ)) (line : LineSyn) (ts : List Token) → (passes_groups groups ts ≡ true → ⊥) → group d line ts → HasRoom tables groups sessions line
+group_room d tables groups sessions line ts n (p, e, (us, vs, q, r, s)) =
+    let first = behind_name word.Group d p.0 us q in
+    let whole : ts ≡ first.0 ∷ token.Name first.1 ∷ vs = s ∙ ap (λ (t : List Token). t ++ vs) first.3 in
+    let few = full_false groups (is_word word.Group first.0) first.2 (untrue (nat_le 64 groups && is_word word.Group first.0) (λ h. n (ap (passes_groups groups) whole ∙ h))) in
+    subst (λ (l : LineSyn). HasRoom tables groups sessions l) (sym e) few
 
-pub line_room : (d : Limits) (tables : ℕ) (sessions : List (List ℕ × ℕ)) (line : LineSyn) (ts : List Token) → ((l : Limit) → PassesInLine sessions ts l → ⊥) → session_line d line ts → HasRoom tables sessions line
-line_room d tables sessions line ts h q = session_room d tables sessions line ts (h Sessions) q
+pub head_room : (d : Limits) (n tables groups : ℕ) (sessions : List (List ℕ × ℕ)) (line : LineSyn) (ts : List Token) → n ≤ 16 → ((l : Limit) → PassesInHead d tables groups sessions ts l → ⊥) → head_line n d line ts → HasRoom tables groups sessions line
+head_room d n tables groups sessions line ts l h (inl (a, e, q)) = subst (λ (l : LineSyn). HasRoom tables groups sessions l) (sym e) tt
+head_room d n tables groups sessions line ts l h (inr (inl q)) = table_room d tables groups sessions line ts (h Tables) (λ p. h Columns (untrue (passes_tables tables ts) (h Tables), p)) q
+head_room d n tables groups sessions line ts l h (inr (inr (inl q))) = link_room n tables groups sessions line ts l q
+head_room d n tables groups sessions line ts l h (inr (inr (inr (inl q)))) = group_room d tables groups sessions line ts (h Groups) q
+head_room d n tables groups sessions line ts l h (inr (inr (inr (inr q)))) = session_room d tables groups sessions line ts (h Sessions) q
+
+pub line_room : (d : Limits) (tables groups : ℕ) (sessions : List (List ℕ × ℕ)) (line : LineSyn) (ts : List Token) → ((l : Limit) → PassesInLine sessions ts l → ⊥) → session_line d line ts → HasRoom tables groups sessions line
+line_room d tables groups sessions line ts h q = session_room d tables groups sessions line ts (h Sessions) q
 
 -- NO COUNT
-pub none_in_head : (d : Limits) (tables : ℕ) (sessions : List (List ℕ × ℕ)) (ts : List Token) → passes_sessions sessions ts ≡ false → passes_tables tables ts ≡ false → (PassesColumns d ts → ⊥) → (l : Limit) → PassesInHead d tables sessions ts l → ⊥
-none_in_head d tables sessions ts a b n Sessions h = cc
-none_in_head d tables sessions ts a b n Tables h = cc
-none_in_head d tables sessions ts a b n Columns h = n h.1
-none_in_head d tables sessions ts a b n limit.Segments h = h
-none_in_head d tables sessions ts a b n limit.Lines h = h
-none_in_head d tables sessions ts a b n limit.Name h = h
-none_in_head d tables sessions ts a b n limit.Text h = h
-none_in_head d tables sessions ts a b n limit.Depth h = h
+pub none_in_head : (d : Limits) (tables groups : ℕ) (sessions : List (List ℕ × ℕ)) (ts : List Token) → passes_sessions sessions ts ≡ false → passes_tables tables ts ≡ false → passes_groups groups ts ≡ false → (PassesColumns d ts → ⊥) → (l : Limit) → PassesInHead d tables groups sessions ts l → ⊥
+none_in_head d tables groups sessions ts a b g n Sessions h = cc
+none_in_head d tables groups sessions ts a b g n Tables h = cc
+none_in_head d tables groups sessions ts a b g n Groups h = cc
+none_in_head d tables groups sessions ts a b g n Columns h = n h.1
+none_in_head d tables groups sessions ts a b g n limit.Segments h = h
+none_in_head d tables groups sessions ts a b g n limit.Lines h = h
+none_in_head d tables groups sessions ts a b g n limit.Name h = h
+none_in_head d tables groups sessions ts a b g n limit.Text h = h
+none_in_head d tables groups sessions ts a b g n limit.Depth h = h
 
 pub none_in_line : (sessions : List (List ℕ × ℕ)) (ts : List Token) → passes_sessions sessions ts ≡ false → (l : Limit) → PassesInLine sessions ts l → ⊥
 none_in_line sessions ts a Sessions h = cc
 none_in_line sessions ts a Tables h = h
+none_in_line sessions ts a Groups h = h
 none_in_line sessions ts a Columns h = h
 none_in_line sessions ts a limit.Segments h = h
 none_in_line sessions ts a limit.Lines h = h

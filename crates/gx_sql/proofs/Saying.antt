@@ -46,5 +46,7 @@ stands_line p q line ts (Ok u) l h = (ts, l, h)
 stands_line p q line ts (Err (error.Fault f)) l h = (ts, l, h)
 stands_line p q line ts (Err error.OutOfMemory) l h = tt
 
-pub stands_told : (n m : ℕ) (p q : Progress) (ls : List Line) (ts : List Token) (r : Result (Unit {0}) LineError) → ls ≡ [] → m ≡ length p.tables → Stands (Counts (PassesInHead the_limits m p.sessions ts) (Follows (head_line n) (with_line_syn p) ts)) r q → Stands (Told n p ls ts) r q
-stands_told n m p q ls ts r e l h = subst (λ (ls : List Line). Stands (Told n p ls ts) r q) (sym e) (subst (λ (m : ℕ). Stands (Counts (PassesInHead the_limits m p.sessions ts) (Follows (head_line n) (with_line_syn p) ts)) r q) l h)
+pub stands_told : (n m k : ℕ) (p q : Progress) (ls : List Line) (ts : List Token) (r : Result (Unit {0}) LineError) → ls ≡ [] → m ≡ length p.tables → k ≡ length p.groups → Stands (Counts (PassesInHead the_limits m k p.sessions ts) (Follows (head_line n) (with_line_syn p) ts)) r q → Stands (Told n p ls ts) r q
+stands_told n m k p q ls ts r e l g h =
+    subst (λ (ls : List Line). Stands (Told n p ls ts) r q) (sym e)
+    (subst (λ (m : ℕ). Stands (Counts (PassesInHead the_limits m (length p.groups) p.sessions ts) (Follows (head_line n) (with_line_syn p) ts)) r q) l (subst (λ (k : ℕ). Stands (Counts (PassesInHead the_limits m k p.sessions ts) (Follows (head_line n) (with_line_syn p) ts)) r q) g h))

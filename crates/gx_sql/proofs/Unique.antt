@@ -9,6 +9,7 @@ use Rattle.gx_grammar.specs.declared.fault.Fault.{Fault}
 use Rattle.gx_grammar.specs.declared.fault.LineLimit.TheVariants as line_limit_of
 use Rattle.gx_lines.specs.declared.classes.Segments.{Segments}
 use Rattle.gx_lines.specs.declared.classes.Switch.{Switch}
+use Rattle.gx_lines.specs.declared.syn.GroupSyn.{GroupSyn}
 use Rattle.gx_lines.specs.declared.syn.LineSyn.{LineSyn}
 use Rattle.gx_lines.specs.declared.syn.LineSyn.TheVariants as line_syn
 use Rattle.gx_lines.specs.Classes.{segments_of}
@@ -16,6 +17,7 @@ use Rattle.gx_tree.specs.declared.schema.Schema.{Schema}
 use Rattle.gx_resolve.specs.Results.{Answer}
 use Rattle.gx_resolve.specs.Resolving.{stmt_of, table_from}
 use Rattle.gx_lex.proofs.Lexed.{lexed}
+use Rattle.gx_grammar.specs.Tokens.{is_word}
 use Rattle.gx_grammar.specs.Rules.{Is, Isnt, Passes, Reading, whole_at}
 use Rattle.gx_grammar.proofs.Good.{Good, Always}
 use Rattle.gx_grammar.proofs.Lines.{whole_complete}
@@ -33,8 +35,9 @@ use Rattle.gx_sql.specs.declared.refusal.Refusal.{Refusal}
 use Rattle.gx_sql.specs.declared.refusal.Refusal.TheVariants as refusal
 use Rattle.gx_sql.specs.Lines.{lines_of, is_skipped}
 use Rattle.gx_sql.specs.Answering.{Answers, Is as IsAnswer}
-use Rattle.gx_sql.specs.Progress.{Progress, start, giving, is_on, is_known, link_fault, with_detector, with_fault, with_line, with_segments, with_line_syn}
-use Rattle.gx_sql.specs.Counts.{passes_sessions, passes_tables, begun_table, PassesColumns, PassesInHead, PassesInLine}
+use Rattle.gx_sql.specs.Progress.{Progress, start, giving, is_on, is_known, link_fault, with_detector, with_fault, with_group, with_line, with_segments, with_sessions, with_line_syn}
+use Rattle.gx_sql.specs.Groups.{is_group, with_members}
+use Rattle.gx_sql.specs.Counts.{passes_sessions, passes_tables, passes_groups, begun_table, PassesColumns, PassesInHead, PassesInLine}
 use Rattle.gx_sql.specs.Script.{the_limits, fault_of_tokens, Follows, Counts, Told, TokensSay, LineSays, Goes, Where, ReadsOn, Reads}
 use Rattle.gx_sql.proofs.Room.{behind_name}
 use Rattle.gx_sql.proofs.Verdicts.{read_fault, one_fault}
@@ -62,6 +65,7 @@ counts_one passes follows one same r s (inr (n, h)) (inr (m, k)) = same r s h k
 line_limit : (ss : List (List ℕ × ℕ)) (ts : List Token) (l : Limit) → PassesInLine ss ts l → l ≡ limit.Sessions
 line_limit ss ts limit.Sessions h = refl
 line_limit ss ts limit.Tables h = absurd h
+line_limit ss ts limit.Groups h = absurd h
 line_limit ss ts limit.Columns h = absurd h
 line_limit ss ts limit.Segments h = absurd h
 line_limit ss ts limit.Lines h = absurd h
@@ -71,7 +75,7 @@ line_limit ss ts limit.Depth h = absurd h
 
 table_first : (d : Limits) (t : List ℕ × List ColumnSyn) (us rest : List Token) (ss : List (List ℕ × ℕ)) → begun_table d t us → passes_sessions ss (us ++ rest) ≡ false
 table_first d t us rest ss (vs, ws, q, r, e) =
-    let first = behind_name d t.0 vs q in
+    let first = behind_name word.Table d t.0 vs q in
     ap (λ (us : List Token). passes_sessions ss (us ++ rest)) (e ∙ ap (λ (vs : List Token). vs ++ ws) first.3)
     ∙ ap (λ (k : Token). passes_sessions ss (k ∷ token.Name first.1 ∷ (ws ++ rest))) (word_is word.Table first.0 first.2)
 
@@ -100,35 +104,86 @@ tables_session n ss (token.Text t ∷ z ∷ ts) p q = cc
 tables_session n ss (token.Symbol s ∷ z ∷ ts) p q = cc
 tables_session n ss (token.Bad ∷ z ∷ ts) p q = cc
 
+-- a line begins with one word
+group_first : (k : ℕ) (d : Limits) (t : List ℕ × List ColumnSyn) (us rest : List Token) → begun_table d t us → passes_groups k (us ++ rest) ≡ false
+group_first k d t us rest (vs, ws, q, r, e) =
+    let first = behind_name word.Table d t.0 vs q in
+    ap (λ (us : List Token). passes_groups k (us ++ rest)) (e ∙ ap (λ (vs : List Token). vs ++ ws) first.3)
+    ∙ ap (λ (y : Token). passes_groups k (y ∷ token.Name first.1 ∷ (ws ++ rest))) (word_is word.Table first.0 first.2)
+    ∙ none (nat_le 64 k)
+  where
+    none : (b : Bool) → (b && false) ≡ false
+    none true = refl
+    none false = refl
+
+columns_groups : (k : ℕ) (d : Limits) (ts : List Token) → PassesColumns d ts → passes_groups k ts ≡ false
+columns_groups k d ts p = ap (passes_groups k) p.tokens ∙ group_first k d p.table p.begun (token.Symbol symbol.Comma ∷ token.Name p.further ∷ p.rest) p.written
+
+-- a line of a 65th group is no other's
+passes-groups : (k : ℕ) (ts : List Token) → passes_groups k ts ≡ true → (m : List ℕ) × (rest : List Token) × (ts ≡ token.Word word.Group ∷ token.Name m ∷ rest)
+passes-groups k [] p = absurd cc
+passes-groups k (y ∷ []) p = absurd cc
+passes-groups k (y ∷ token.Name m ∷ ts) p = (m, ts, ap (λ (y : Token). y ∷ token.Name m ∷ ts) (word_is word.Group y (second (nat_le 64 k) (is_word word.Group y) p)))
+  where
+    second : (b c : Bool) → (b && c) ≡ true → c ≡ true
+    second true c e = e
+    second false c e = absurd cc
+passes-groups k (y ∷ token.Word w ∷ ts) p = absurd cc
+passes-groups k (y ∷ token.Number w ∷ ts) p = absurd cc
+passes-groups k (y ∷ token.Text w ∷ ts) p = absurd cc
+passes-groups k (y ∷ token.Symbol w ∷ ts) p = absurd cc
+passes-groups k (y ∷ token.Bad ∷ ts) p = absurd cc
+
+no_word : (b : Bool) → (b && false) ≡ true → ⊥
+no_word true e = cc
+no_word false e = cc
+
+groups_session : (k : ℕ) (ss : List (List ℕ × ℕ)) (ts : List Token) → passes_groups k ts ≡ true → passes_sessions ss ts ≡ true → ⊥
+groups_session k ss ts p q = let is = passes-groups k ts p in absurd (false_true (sym (ap (passes_sessions ss) is.2) ∙ q))
+  where
+    false_true : false ≡ true → ⊥
+    false_true e = cc
+
+groups_tables : (k n : ℕ) (ts : List Token) → passes_groups k ts ≡ true → passes_tables n ts ≡ true → ⊥
+groups_tables k n ts p q = let is = passes-groups k ts p in no_word (nat_le 64 n) (sym (ap (passes_tables n) is.2) ∙ q)
+
 -- which count a head passes
-abbrev InHead : Limits → ℕ → List (List ℕ × ℕ) → List Token → Limit → Type 0
-InHead d n ss ts l = ((l ≡ limit.Sessions) × (passes_sessions ss ts ≡ true)) ⊎ (((l ≡ limit.Tables) × (passes_tables n ts ≡ true)) ⊎ ((l ≡ limit.Columns) × (passes_tables n ts ≡ false) × PassesColumns d ts))
+abbrev InHead : Limits → ℕ → ℕ → List (List ℕ × ℕ) → List Token → Limit → Type 0
+InHead d n k ss ts l = ((l ≡ limit.Sessions) × (passes_sessions ss ts ≡ true)) ⊎ (((l ≡ limit.Tables) × (passes_tables n ts ≡ true)) ⊎ (((l ≡ limit.Columns) × (passes_tables n ts ≡ false) × PassesColumns d ts) ⊎ ((l ≡ limit.Groups) × (passes_groups k ts ≡ true))))
 
-in_head : (d : Limits) (n : ℕ) (ss : List (List ℕ × ℕ)) (ts : List Token) (l : Limit) → PassesInHead d n ss ts l → InHead d n ss ts l
-in_head d n ss ts limit.Sessions h = inl (refl, h)
-in_head d n ss ts limit.Tables h = inr (inl (refl, h))
-in_head d n ss ts limit.Columns h = inr (inr (refl, h.0, h.1))
-in_head d n ss ts limit.Segments h = absurd h
-in_head d n ss ts limit.Lines h = absurd h
-in_head d n ss ts limit.Name h = absurd h
-in_head d n ss ts limit.Text h = absurd h
-in_head d n ss ts limit.Depth h = absurd h
+in_head : (d : Limits) (n k : ℕ) (ss : List (List ℕ × ℕ)) (ts : List Token) (l : Limit) → PassesInHead d n k ss ts l → InHead d n k ss ts l
+in_head d n k ss ts limit.Sessions h = inl (refl, h)
+in_head d n k ss ts limit.Tables h = inr (inl (refl, h))
+in_head d n k ss ts limit.Groups h = inr (inr (inr (refl, h)))
+in_head d n k ss ts limit.Columns h = inr (inr (inl (refl, h.0, h.1)))
+in_head d n k ss ts limit.Segments h = absurd h
+in_head d n k ss ts limit.Lines h = absurd h
+in_head d n k ss ts limit.Name h = absurd h
+in_head d n k ss ts limit.Text h = absurd h
+in_head d n k ss ts limit.Depth h = absurd h
 
-head_one : (d : Limits) (n : ℕ) (ss : List (List ℕ × ℕ)) (ts : List Token) (l m : Limit) → InHead d n ss ts l → InHead d n ss ts m → l ≡ m
-head_one d n ss ts l m (inl (e, p)) (inl (f, q)) = e ∙ sym f
-head_one d n ss ts l m (inl (e, p)) (inr (inl (f, q))) = absurd (tables_session n ss ts q p)
-head_one d n ss ts l m (inl (e, p)) (inr (inr (f, t, q))) = let other = columns_session d ss ts q in absurd cc
-head_one d n ss ts l m (inr (inl (e, p))) (inl (f, q)) = absurd (tables_session n ss ts p q)
-head_one d n ss ts l m (inr (inl (e, p))) (inr (inl (f, q))) = e ∙ sym f
-head_one d n ss ts l m (inr (inl (e, p))) (inr (inr (f, t, q))) = absurd cc
-head_one d n ss ts l m (inr (inr (e, t, p))) (inl (f, q)) = let other = columns_session d ss ts p in absurd cc
-head_one d n ss ts l m (inr (inr (e, t, p))) (inr (inl (f, q))) = absurd cc
-head_one d n ss ts l m (inr (inr (e, t, p))) (inr (inr (f, u, q))) = e ∙ sym f
+head_one : (d : Limits) (n k : ℕ) (ss : List (List ℕ × ℕ)) (ts : List Token) (l m : Limit) → InHead d n k ss ts l → InHead d n k ss ts m → l ≡ m
+head_one d n k ss ts l m (inl (e, p)) (inl (f, q)) = e ∙ sym f
+head_one d n k ss ts l m (inl (e, p)) (inr (inl (f, q))) = absurd (tables_session n ss ts q p)
+head_one d n k ss ts l m (inl (e, p)) (inr (inr (inl (f, t, q)))) = let other = columns_session d ss ts q in absurd cc
+head_one d n k ss ts l m (inl (e, p)) (inr (inr (inr (f, q)))) = absurd (groups_session k ss ts q p)
+head_one d n k ss ts l m (inr (inl (e, p))) (inl (f, q)) = absurd (tables_session n ss ts p q)
+head_one d n k ss ts l m (inr (inl (e, p))) (inr (inl (f, q))) = e ∙ sym f
+head_one d n k ss ts l m (inr (inl (e, p))) (inr (inr (inl (f, t, q)))) = absurd cc
+head_one d n k ss ts l m (inr (inl (e, p))) (inr (inr (inr (f, q)))) = absurd (groups_tables k n ts q p)
+head_one d n k ss ts l m (inr (inr (inl (e, t, p)))) (inl (f, q)) = let other = columns_session d ss ts p in absurd cc
+head_one d n k ss ts l m (inr (inr (inl (e, t, p)))) (inr (inl (f, q))) = absurd cc
+head_one d n k ss ts l m (inr (inr (inl (e, t, p)))) (inr (inr (inl (f, u, q)))) = e ∙ sym f
+head_one d n k ss ts l m (inr (inr (inl (e, t, p)))) (inr (inr (inr (f, q)))) = let other = columns_groups k d ts p in absurd cc
+head_one d n k ss ts l m (inr (inr (inr (e, p)))) (inl (f, q)) = absurd (groups_session k ss ts p q)
+head_one d n k ss ts l m (inr (inr (inr (e, p)))) (inr (inl (f, q))) = absurd (groups_tables k n ts p q)
+head_one d n k ss ts l m (inr (inr (inr (e, p)))) (inr (inr (inl (f, u, q)))) = let other = columns_groups k d ts q in absurd cc
+head_one d n k ss ts l m (inr (inr (inr (e, p)))) (inr (inr (inr (f, q)))) = e ∙ sym f
 
 -- LINES
 told_one : (n : ℕ) (some : 1 ≤ n) (p : Progress) (ls : List Line) (ts : List Token) (r s : Result Progress LineFault) → Told n p ls ts r → Told n p ls ts s → r ≡ s
 told_one n some p [] ts r s h k =
-    counts_one (PassesInHead the_limits (length p.tables) p.sessions ts) (Follows (head_line n) (with_line_syn p) ts) (λ l m a b. head_one the_limits (length p.tables) p.sessions ts l m (in_head the_limits (length p.tables) p.sessions ts l a) (in_head the_limits (length p.tables) p.sessions ts m b))
+    counts_one (PassesInHead the_limits (length p.tables) (length p.groups) p.sessions ts) (Follows (head_line n) (with_line_syn p) ts) (λ l m a b. head_one the_limits (length p.tables) (length p.groups) p.sessions ts l m (in_head the_limits (length p.tables) (length p.groups) p.sessions ts l a) (in_head the_limits (length p.tables) (length p.groups) p.sessions ts m b))
     (follows_one (head_line n) Nothing (head_at n) (head_good n some) tt (with_line_syn p) ts) r s h k
 told_one n some p (l ∷ ls) ts r s h k =
     counts_one (PassesInLine p.sessions ts) (Follows session_line (with_line_syn p) ts) (λ l m a b. line_limit p.sessions ts l a ∙ sym (line_limit p.sessions ts m b))
@@ -178,10 +233,22 @@ detector_keeps p s q e = pick (is_some p.detector) refl
     pick true h = absurd cc
     pick false h = let same : q ≡ record p { detector = Some (is_on s) } = cc in ap (λ (q : Progress). q.segments) same
 
+sessions_keep : (p : Progress) (g : GroupSyn) (q : Progress) (r : Result (List (List ℕ × ℕ)) LineFault) → with_sessions p g r ≡ Ok q → q.segments ≡ p.segments
+sessions_keep p g q (Ok members) e = let same : q ≡ record p { groups = p.groups ++ record { name = g.name; limit = g.limit } ∷ []; members = members } = cc in ap (λ (q : Progress). q.segments) same
+sessions_keep p g q (Err f) e = absurd cc
+
+group_keeps : (p : Progress) (g : GroupSyn) (q : Progress) → with_group p g ≡ Ok q → q.segments ≡ p.segments
+group_keeps p g q e = pick (is_group g.name p.groups) e
+  where
+    pick : (b : Bool) → (if b then Err fault.Syntax else with_sessions p g (with_members (length p.groups) g.sessions (Ok p.members))) ≡ Ok q → q.segments ≡ p.segments
+    pick true e = absurd cc
+    pick false e = sessions_keep p g q (with_members (length p.groups) g.sessions (Ok p.members)) e
+
 syn_keeps : (p : Progress) (l : LineSyn) (q : Progress) → with_line_syn p l ≡ Ok q → q.segments ≡ p.segments
 syn_keeps p (line_syn.Detector s) q e = detector_keeps p s q e
 syn_keeps p (line_syn.Table t) q e = giving_keeps p (λ (schema : Schema). record p { tables = p.tables ++ schema ∷ [] }) (table_from (is_known t.name p.tables) t) q (λ schema. refl) e
 syn_keeps p (line_syn.Link l) q e = let same : q ≡ record p { faults = with_fault (link_fault l) p.faults } = cc in ap (λ (q : Progress). q.segments) same
+syn_keeps p (line_syn.Group g) q e = group_keeps p g q e
 syn_keeps p (line_syn.Session n s) q e = giving_keeps p (with_line p n) (stmt_of p.tables s) q (λ stmt. refl) e
 
 follows_keeps : (rule : Limits → LineSyn → List Token → Type 0) (p : Progress) (ts : List Token) (q : Progress) → Follows rule (with_line_syn p) ts (Ok q) → q.segments ≡ p.segments
@@ -193,7 +260,7 @@ counts_keep passes rule p ts q (inl (l, h, e)) = absurd cc
 counts_keep passes rule p ts q (inr (n, h)) = follows_keeps rule p ts q h
 
 told_keeps : (n : ℕ) (p : Progress) (ls : List Line) (ts : List Token) (q : Progress) → Told n p ls ts (Ok q) → q.segments ≡ p.segments
-told_keeps n p [] ts q h = counts_keep (PassesInHead the_limits (length p.tables) p.sessions ts) (head_line n) p ts q h
+told_keeps n p [] ts q h = counts_keep (PassesInHead the_limits (length p.tables) (length p.groups) p.sessions ts) (head_line n) p ts q h
 told_keeps n p (l ∷ ls) ts q h = counts_keep (PassesInLine p.sessions ts) session_line p ts q h
 
 tokens_some : (o : Option ℕ) (p : Progress) (ts : List Token) (q : Progress) → o ≡ p.segments → SomeSegments o → TokensSay o p ts (Ok q) → SomeSegments q.segments

@@ -12,7 +12,7 @@ use Rattle.gx_lines.specs.declared.syn.ColumnSyn.{ColumnSyn}
 use Rattle.gx_lines.specs.Queries.{name}
 use Rattle.gx_lines.specs.Heads.{column}
 use Rattle.gx_sql.specs.declared.refusal.Limit.{Limit}
-use Rattle.gx_sql.specs.declared.refusal.Limit.TheVariants.{Sessions, Tables, Columns}
+use Rattle.gx_sql.specs.declared.refusal.Limit.TheVariants.{Sessions, Tables, Groups, Columns}
 
 abbrev pub is_session : List ℕ → List (List ℕ × ℕ) → Bool
 is_session name [] = false
@@ -27,6 +27,11 @@ passes_sessions sessions _ = false
 abbrev pub passes_tables : ℕ → List Token → Bool
 passes_tables tables (y ∷ token.Name name ∷ rest) = nat_le 64 tables && is_word word.Table y
 passes_tables tables _ = false
+
+-- the line is that of a 65th group
+abbrev pub passes_groups : ℕ → List Token → Bool
+passes_groups groups (y ∷ token.Name name ∷ rest) = nat_le 64 groups && is_word word.Group y
+passes_groups groups _ = false
 
 -- "table" NAME "(" col { "," col }
 abbrev pub begun_table : Limits → List ℕ × List ColumnSyn → List Token → Type 0
@@ -43,11 +48,12 @@ pub record PassesColumns (d : Limits) (ts : List Token) : Type 0 where
   pub tokens : ts ≡ begun ++ token.Symbol symbol.Comma ∷ token.Name further ∷ rest
 
 -- where a head may stand
-abbrev pub PassesInHead : Limits → ℕ → List (List ℕ × ℕ) → List Token → Limit → Type 0
-PassesInHead d tables sessions ts Sessions = passes_sessions sessions ts ≡ true
-PassesInHead d tables sessions ts Tables = passes_tables tables ts ≡ true
-PassesInHead d tables sessions ts Columns = (passes_tables tables ts ≡ false) × PassesColumns d ts
-PassesInHead d tables sessions ts _ = ⊥
+abbrev pub PassesInHead : Limits → ℕ → ℕ → List (List ℕ × ℕ) → List Token → Limit → Type 0
+PassesInHead d tables groups sessions ts Sessions = passes_sessions sessions ts ≡ true
+PassesInHead d tables groups sessions ts Tables = passes_tables tables ts ≡ true
+PassesInHead d tables groups sessions ts Groups = passes_groups groups ts ≡ true
+PassesInHead d tables groups sessions ts Columns = (passes_tables tables ts ≡ false) × PassesColumns d ts
+PassesInHead d tables groups sessions ts _ = ⊥
 
 -- where a session's line came before
 abbrev pub PassesInLine : List (List ℕ × ℕ) → List Token → Limit → Type 0

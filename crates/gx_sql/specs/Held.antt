@@ -23,7 +23,7 @@ schemas entries = map (λ e. e.1) entries
 
 -- what the lines have said
 abbrev pub progress_of : Progress → said.Progress
-progress_of p = record { segments = p.segments; detector = p.detector; tables = schemas p.tables.entries; sessions = named p.sessions.entries; lines = p.lines.items; faults = p.faults.keys }
+progress_of p = record { segments = p.segments; detector = p.detector; tables = schemas p.tables.entries; sessions = named p.sessions.entries; lines = p.lines.items; faults = p.faults.keys; groups = p.groups.items; members = named p.members.entries }
 
 -- each table stands at its own name, and isn't too wide for places of columns
 abbrev pub AreTables : List (Vec ℕ Global × Schema) → Type 0
@@ -39,15 +39,17 @@ pub record IsHeld (p : Progress) : Type 0 where
   pub segments : ForSome p.segments (λ n. (1 ≤ n) × (n ≤ 16))
   pub tables : AreTables p.tables.entries
   pub few_tables : length p.tables.entries ≤ 64
+  pub few_groups : length p.groups.items ≤ 64
   pub few_sessions : length p.sessions.entries ≤ 64
   pub counts : AreCounts (vec_len p.lines) p.sessions.entries
 
--- where there are so many tables and these sessions, there is room for the line
-abbrev pub HasRoom : ℕ → List (List ℕ × ℕ) → LineSyn → Type 0
-HasRoom tables sessions (line_syn.Table t) = (tables < 64) × (length t.columns ≤ 32)
-HasRoom tables sessions (line_syn.Link l) = l.segment ≤ 16
-HasRoom tables sessions (line_syn.Session name s) = (nat_le 64 (length sessions) && not (is_session name sessions)) ≡ false
-HasRoom tables sessions _ = Unit {0}
+-- where there are so many tables and groups and these sessions, there is room for the line
+abbrev pub HasRoom : ℕ → ℕ → List (List ℕ × ℕ) → LineSyn → Type 0
+HasRoom tables groups sessions (line_syn.Table t) = (tables < 64) × (length t.columns ≤ 32)
+HasRoom tables groups sessions (line_syn.Link l) = l.segment ≤ 16
+HasRoom tables groups sessions (line_syn.Group g) = groups < 64
+HasRoom tables groups sessions (line_syn.Session name s) = (nat_le 64 (length sessions) && not (is_session name sessions)) ≡ false
+HasRoom tables groups sessions _ = Unit {0}
 
 -- a result with what it left is this answer
 abbrev pub Ends : {X : Type 0} → Result (Unit {0}) LineError → X → Result X LineFault → Type 0

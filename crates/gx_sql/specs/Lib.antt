@@ -3,6 +3,7 @@ pub mod Cutting
 pub mod Held
 pub mod Errors
 pub mod Answering
+pub mod Groups
 pub mod Progress
 pub mod Script
 pub mod Counts

@@ -1,5 +1,5 @@
 -- What the lines of a script have said so far, and what a further one adds.
-use Rattle.std.specs.Prelude.{ℕ, ◌+◌, ◌==◌, nat_eq, Bool, true, false, not, if◌then◌else◌, ◌&&◌, List, [], ◌∷◌, ◌++◌, Option, Some, None, Result, Ok, Err, is_some}
+use Rattle.std.specs.Prelude.{ℕ, ◌+◌, ◌==◌, nat_eq, Bool, true, false, not, if◌then◌else◌, ◌&&◌, List, [], ◌∷◌, ◌++◌, length, Option, Some, None, Result, Ok, Err, is_some}
 use Rattle.std.specs.Cmp.Lexicographic.{pointwise}
 use Rattle.std.specs.List.{list_any}
 use Rattle.gx_tree.specs.declared.schema.Schema.{Schema}
@@ -13,6 +13,7 @@ use Rattle.gx_lines.specs.declared.classes.Fate.TheVariants as fate
 use Rattle.gx_lines.specs.declared.classes.Way.{Way}
 use Rattle.gx_lines.specs.declared.classes.Way.TheVariants as way
 use Rattle.gx_lines.specs.declared.classes.Segments.{Segments}
+use Rattle.gx_lines.specs.declared.syn.GroupSyn.{GroupSyn}
 use Rattle.gx_lines.specs.declared.syn.LinkSyn.{LinkSyn}
 use Rattle.gx_lines.specs.declared.syn.StmtSyn.{StmtSyn}
 use Rattle.gx_lines.specs.declared.syn.TableSyn.{TableSyn}
@@ -21,10 +22,12 @@ use Rattle.gx_lines.specs.declared.syn.LineSyn.TheVariants as line_syn
 use Rattle.gx_resolve.specs.declared.fault.NameFault.{NameFault}
 use Rattle.gx_resolve.specs.declared.fault.NameFault.TheVariants as name_fault
 use Rattle.gx_resolve.specs.Resolving.{table_after, stmt_of, table_from}
+use Rattle.gx_sql.specs.Groups.{is_group, with_members}
+use Rattle.gx_sql.specs.declared.groups.GroupHead.{GroupHead}
 use Rattle.gx_sql.specs.declared.refusal.LineFault.{LineFault}
 use Rattle.gx_sql.specs.declared.refusal.LineFault.TheVariants as fault
 
--- the sessions stand by their names in the order of their first lines, each with the number of its lines
+-- the sessions stand by their names in the order of their first lines, each with the number of its lines; and those of groups in the order of their heads, each with the place of its group
 pub record Progress : Type 0 where
   pub segments : Option ℕ
   pub detector : Option Bool
@@ -32,9 +35,11 @@ pub record Progress : Type 0 where
   pub sessions : List (List ℕ × ℕ)
   pub lines : List Line
   pub faults : List LinkFault
+  pub groups : List GroupHead
+  pub members : List (List ℕ × ℕ)
 
 abbrev pub start : Progress
-start = record { segments = None; detector = None; tables = []; sessions = []; lines = []; faults = [] }
+start = record { segments = None; detector = None; tables = []; sessions = []; lines = []; faults = []; groups = []; members = [] }
 
 abbrev pub fault_of : NameFault → LineFault
 fault_of name_fault.Syntax = fault.Syntax
@@ -87,6 +92,14 @@ with_fault fault faults = if list_any (same_fault fault) faults then faults else
 abbrev pub with_link : Progress → LinkSyn → Result Progress LineFault
 with_link p l = Ok (record p { faults = with_fault (link_fault l) p.faults })
 
+abbrev pub with_sessions : Progress → GroupSyn → Result (List (List ℕ × ℕ)) LineFault → Result Progress LineFault
+with_sessions p g (Err f) = Err f
+with_sessions p g (Ok members) = Ok (record p { groups = p.groups ++ record { name = g.name; limit = g.limit } ∷ []; members = members })
+
+-- a group whose name is known, and a session that stands in a group already, are wrong
+abbrev pub with_group : Progress → GroupSyn → Result Progress LineFault
+with_group p g = if is_group g.name p.groups then Err fault.Syntax else with_sessions p g (with_members (length p.groups) g.sessions (Ok p.members))
+
 -- the place of a name, or the next one
 abbrev pub place_of : List ℕ → List (List ℕ × ℕ) → ℕ
 place_of name [] = 0
@@ -120,4 +133,5 @@ abbrev pub with_line_syn : Progress → LineSyn → Result Progress LineFault
 with_line_syn p (line_syn.Detector s) = with_detector p s
 with_line_syn p (line_syn.Table t) = with_table p t
 with_line_syn p (line_syn.Link l) = with_link p l
+with_line_syn p (line_syn.Group g) = with_group p g
 with_line_syn p (line_syn.Session name s) = with_session p name s

@@ -21,6 +21,7 @@ use Rattle.gx_sql.specs.declared.refusal.LineFault.TheVariants as fault
 use Rattle.gx_sql.specs.declared.refusal.Refusal.{Refusal}
 use Rattle.gx_sql.specs.declared.refusal.Refusal.TheVariants as refusal
 use Rattle.gx_sql.specs.Lines.{lines_of, is_skipped}
+use Rattle.gx_sql.specs.Groups.{groups_from}
 use Rattle.gx_sql.specs.Progress.{Progress, start, with_segments, with_line_syn}
 use Rattle.gx_sql.specs.Counts.{PassesInHead, PassesInLine}
 
@@ -48,7 +49,7 @@ Counts passes follows r = ((l : Limit) × passes l × (r ≡ Err (fault.TooMany 
 
 -- a line where n segments were told: a head where no session's line came before
 abbrev pub Told : ℕ → Progress → List Line → List Token → Result Progress LineFault → Type 0
-Told n p [] ts r = Counts (PassesInHead the_limits (length p.tables) p.sessions ts) (Follows (head_line n) (with_line_syn p) ts) r
+Told n p [] ts r = Counts (PassesInHead the_limits (length p.tables) (length p.groups) p.sessions ts) (Follows (head_line n) (with_line_syn p) ts) r
 Told n p (_ ∷ _) ts r = Counts (PassesInLine p.sessions ts) (Follows session_line (with_line_syn p) ts) r
 
 -- the first line tells the segments
@@ -71,7 +72,7 @@ refused number (fault.TooMany l) = refusal.TooMany number l
 
 -- the script of all lines; the detector is on where no line says more
 abbrev pub script_of : ℕ → Progress → Script
-script_of n p = record { segments = n; detector = unwrap_or p.detector true; tables = p.tables; sessions = map (λ s. s.0) p.sessions; lines = p.lines; faults = p.faults; groups = []; restarts = [] }
+script_of n p = record { segments = n; detector = unwrap_or p.detector true; tables = p.tables; sessions = map (λ s. s.0) p.sessions; lines = p.lines; faults = p.faults; groups = groups_from p.members (map (λ s. s.0) p.sessions) 0 p.groups; restarts = [] }
 
 -- at the end; a script that doesn't tell its segments is wrong behind its last line
 abbrev pub ended : ℕ → Progress → Option ℕ → Result Script Refusal

@@ -23,6 +23,8 @@ const SESSIONS: usize = 64;
 
 const TABLES: usize = 64;
 
+const GROUPS: usize = 64;
+
 const COLUMNS: usize = 32;
 
 /// Whether the session is a further one than there may be.
@@ -47,6 +49,15 @@ pub fn passes_tables(tables: usize, tokens: &[Token]) -> bool
 {
     match tokens {
         [first, Token::Name(_), ..] => TABLES <= tables && is_word(Word::Table, first),
+        _ => false,
+    }
+}
+
+pub fn passes_groups(groups: usize, tokens: &[Token]) -> bool
+    ensures { result ≡ of.passes_groups groups tokens.now }
+{
+    match tokens {
+        [first, Token::Name(_), ..] => GROUPS <= groups && is_word(Word::Group, first),
         _ => false,
     }
 }

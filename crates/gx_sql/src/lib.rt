@@ -2,6 +2,7 @@
 #![tactic(auto)]
 
 mod count;
+pub mod groups;
 pub mod progress;
 pub mod refusal;
 pub mod script;

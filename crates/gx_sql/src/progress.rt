@@ -8,12 +8,13 @@ ghost use Rattle.gx_sql.specs.Held.{named, schemas, progress_of, AreTables, AreC
 ghost use Rattle.gx_sql.specs.Progress as said;
 ghost use Rattle.gx_sql.specs.declared.refusal.LineError.TheVariants as error;
 
+use crate::groups::{GroupHead, add_members, is_group};
 use crate::refusal::{LineError, LineFault, fault_of};
 use gx_ids::{Mem, Node, SessionId, Table};
-use gx_lines::{Fate, LineSyn, LinkSyn, StmtSyn, Switch, TableSyn, Way};
+use gx_lines::{Fate, GroupSyn, LineSyn, LinkSyn, StmtSyn, Switch, TableSyn, Way};
 use gx_resolve::{ResolveError, named_table, resolve_stmt, resolve_table};
 use gx_script::{Line, LinkFault};
-use gx_tree::{Schema, Stmt};
+use gx_tree::{Schema, Stmt, Txt};
 use indexmap::{IndexMap, IndexSet};
 use std::alloc::Global;
 
@@ -26,6 +27,8 @@ pub struct Progress {
     pub sessions: IndexMap<Vec<u8>, u32>,
     pub lines: Vec<Line>,
     pub faults: IndexSet<LinkFault>,
+    pub groups: Vec<GroupHead>,
+    pub members: IndexMap<Vec<u8>, u32>,
 }
 
 fn link_fault(link: LinkSyn) -> LinkFault
@@ -149,6 +152,19 @@ fn push_table(
     insert_table(alloc, tables, schema)
 }
 
+/// Adds a group without its sessions.
+fn push_group(alloc: Global, groups: &mut Vec<GroupHead>, group: &GroupSyn) -> Result<(), LineError>
+    ensures never { IfErr result (λ e. e ≡ error.OutOfMemory) }
+    ensures more { OnOk result (groups.new.items ≡ groups.old.items ++ record { name = group.now.name; limit = group.now.limit } ∷ []) }
+{
+    let name = key_of(alloc, group.name.as_slice())?;
+    groups.push(GroupHead {
+        name: Txt::from_vec(name),
+        limit: group.limit,
+    })?;
+    Ok(())
+}
+
 /// Sets how many lines the session at a place has.
 fn set_count(sessions: &mut IndexMap<Vec<u8>, u32>, place: usize, count: u32)
     requires { place < length sessions.old.entries }
@@ -236,6 +252,8 @@ impl Progress {
             sessions: IndexMap::new(alloc),
             lines: Vec::new(alloc),
             faults: IndexSet::new(alloc),
+            groups: Vec::new(alloc),
+            members: IndexMap::new(alloc),
         }
     }
 
@@ -277,6 +295,24 @@ impl Progress {
         push_table(alloc, &mut self.tables, table)
     }
 
+    fn add_group(&mut self, alloc: Global, group: &GroupSyn) -> Result<(), LineError>
+        requires held { IsHeld self.old }
+        requires few { length self.old.groups.items < 64 }
+        ensures said { Ends result (progress_of self.new) (said.with_group (progress_of self.old) group.now) }
+        ensures kept { OnFault result (self.new ≡ self.old) }
+        ensures held { OnOk result (IsHeld self.new) }
+        ensures lines { vec_len self.new.lines ≤ vec_len self.old.lines + 1 }
+    {
+        if is_group(self.groups.as_slice(), group.name.as_slice()) {
+            return Err(LineError::Fault(LineFault::Syntax));
+        }
+        let place = self.groups.len() as u32;
+        match add_members(alloc, &mut self.members, group.sessions.as_slice(), place) {
+            Ok(()) => push_group(alloc, &mut self.groups, group),
+            Err(error) => Err(error),
+        }
+    }
+
     fn add_line(&mut self, alloc: Global, name: &[u8], stmt: &StmtSyn) -> Result<(), LineError>
         requires held { IsHeld self.old }
         requires few { (nat_le 64 (length (named self.old.sessions.entries)) && not (is_session name.now (named self.old.sessions.entries))) ≡ false }
@@ -295,7 +331,7 @@ impl Progress {
     /// Adds what a line says for which there is room.
     pub fn add(&mut self, alloc: Global, line: &LineSyn) -> Result<(), LineError>
         requires held { IsHeld self.old }
-        requires room { HasRoom (length self.old.tables.entries) (named self.old.sessions.entries) line.now }
+        requires room { HasRoom (length self.old.tables.entries) (length self.old.groups.items) (named self.old.sessions.entries) line.now }
         requires short { vec_len self.old.lines < 2 ^ 32 - 1 }
         ensures said { Ends result (progress_of self.new) (said.with_line_syn (progress_of self.old) line.now) }
         ensures kept { OnFault result (self.new ≡ self.old) }
@@ -306,6 +342,7 @@ impl Progress {
             LineSyn::Detector(switch) => self.add_detector(*switch),
             LineSyn::Table(table) => self.add_table(alloc, table),
             LineSyn::Link(link) => self.add_link(*link),
+            LineSyn::Group(group) => self.add_group(alloc, group),
             LineSyn::Session(name, stmt) => self.add_line(alloc, name.as_slice(), stmt),
         }
     }

@@ -7,13 +7,14 @@ use gx_ids::OutOfMemory;
 use gx_resolve::{NameFault, ResolveError};
 use std::alloc::AllocFailed;
 
-/// The limits of a script: 16 segments, 64 sessions, 64 tables, 32 columns of a table, 100,000 lines, 63 bytes of a name,
+/// The limits of a script: 16 segments, 64 sessions, 64 tables, 64 groups, 32 columns of a table, 100,000 lines, 63 bytes of a name,
 /// 1,000 bytes of a text, and of an expression 100 parentheses, NOTs and minus signs around a token and 1,000 operators.
 #[derive(Clone, Copy)]
 pub enum Limit {
     Segments,
     Sessions,
     Tables,
+    Groups,
     Columns,
     Lines,
     Name,

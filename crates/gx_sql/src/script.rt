@@ -9,6 +9,7 @@ ghost use Rattle.gx_sql.specs.Progress.{start};
 ghost use Rattle.gx_sql.specs.Script as of;
 ghost use Rattle.gx_sql.specs.declared.refusal.Refusal.{Refusal};
 
+use crate::groups::all_groups;
 use crate::progress::Progress;
 use crate::refusal::{Limit, LineError, LineFault, Refusal};
 use crate::split::{first_line, is_skipped};
@@ -88,7 +89,8 @@ fn all_faults(alloc: Global, faults: IndexSet<LinkFault>) -> Mem<Seq<LinkFault>>
 
 /// The script of all lines.
 fn into_script(alloc: Global, segments: u64, progress: Progress) -> Mem<Script>
-    requires { segments ≤ 16 }
+    requires segments { segments ≤ 16 }
+    requires sessions { length progress.sessions.entries ≤ 64 }
     ensures { IfOk result (λ s. s ≡ of.script_of segments (progress_of progress)) }
 {
     let Progress {
@@ -97,16 +99,20 @@ fn into_script(alloc: Global, segments: u64, progress: Progress) -> Mem<Script>
         sessions,
         lines,
         faults,
+        groups,
+        members,
         ..
     } = progress;
+    let sessions = all_sessions(alloc, sessions)?;
+    let groups = all_groups(alloc, groups.as_slice(), &members, sessions.as_slice())?;
     Ok(Script {
         segments: segments as u8,
         detector: detector.unwrap_or(true),
         tables: all_tables(alloc, tables)?,
-        sessions: all_sessions(alloc, sessions)?,
+        sessions,
         lines: Seq::from_vec(lines),
         faults: all_faults(alloc, faults)?,
-        groups: Seq::from_vec(Vec::new(alloc)),
+        groups,
         restarts: Seq::from_vec(Vec::new(alloc)),
     })
 }

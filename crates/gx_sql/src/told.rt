@@ -8,7 +8,7 @@ ghost use Rattle.gx_sql.specs.Held.{named, progress_of, IsHeld, OnFault, Stands,
 ghost use Rattle.gx_sql.specs.Progress as said;
 ghost use Rattle.gx_sql.specs.Script.{the_limits, Follows, Counts, Told, TokensSay, LineSays};
 
-use crate::count::{passes_columns, passes_sessions, passes_tables};
+use crate::count::{passes_columns, passes_groups, passes_sessions, passes_tables};
 use crate::progress::Progress;
 use crate::refusal::{Limit, LineError, LineFault};
 use gx_grammar::Limits;
@@ -35,16 +35,20 @@ fn limits() -> Limits
 fn passed_in_head(
     alloc: Global,
     tables: usize,
+    groups: usize,
     sessions: &IndexMap<Vec<u8>, u32>,
     tokens: &[Token],
 ) -> Mem<Option<Limit>>
-    ensures { IfOk result (Finds (PassesInHead the_limits tables (named sessions.now.entries) tokens.now)) }
+    ensures { IfOk result (Finds (PassesInHead the_limits tables groups (named sessions.now.entries) tokens.now)) }
 {
     if passes_sessions(sessions, tokens) {
         return Ok(Some(Limit::Sessions));
     }
     if passes_tables(tables, tokens) {
         return Ok(Some(Limit::Tables));
+    }
+    if passes_groups(groups, tokens) {
+        return Ok(Some(Limit::Groups));
     }
     if passes_columns(alloc, limits(), tokens)? {
         return Ok(Some(Limit::Columns));
@@ -90,7 +94,7 @@ impl Progress {
         requires held { IsHeld self.old }
         requires some { 1 ≤ segments }
         requires few { segments ≤ 16 }
-        requires none { (l : Limit) → PassesInHead the_limits (length self.old.tables.entries) (named self.old.sessions.entries) tokens.now l → ⊥ }
+        requires none { (l : Limit) → PassesInHead the_limits (length self.old.tables.entries) (length self.old.groups.items) (named self.old.sessions.entries) tokens.now l → ⊥ }
         requires short { vec_len self.old.lines < 2 ^ 32 - 1 }
         ensures said { Stands (Follows (of.head_line segments) (said.with_line_syn (progress_of self.old)) tokens.now) result (progress_of self.new) }
         ensures kept { OnFault result (self.new ≡ self.old) }
@@ -98,7 +102,11 @@ impl Progress {
         ensures lines { vec_len self.new.lines ≤ vec_len self.old.lines + 1 }
     {
         match read_head_line(alloc, segments, limits(), tokens) {
-            Ok(line) => self.add(alloc, &line),
+            Ok(line) => {
+                let added = self.add(alloc, &line);
+                drop(line);
+                added
+            }
             Err(error) => Err(LineError::from(error)),
         }
     }
@@ -108,13 +116,19 @@ impl Progress {
         requires some { 1 ≤ segments }
         requires few { segments ≤ 16 }
         requires short { vec_len self.old.lines < 2 ^ 32 - 1 }
-        ensures said { Stands (Counts (PassesInHead the_limits (length self.old.tables.entries) (named self.old.sessions.entries) tokens.now)
+        ensures said { Stands (Counts (PassesInHead the_limits (length self.old.tables.entries) (length self.old.groups.items) (named self.old.sessions.entries) tokens.now)
             (Follows (of.head_line segments) (said.with_line_syn (progress_of self.old)) tokens.now)) result (progress_of self.new) }
         ensures kept { OnFault result (self.new ≡ self.old) }
         ensures held { OnOk result (IsHeld self.new) }
         ensures lines { vec_len self.new.lines ≤ vec_len self.old.lines + 1 }
     {
-        match passed_in_head(alloc, self.tables.len(), &self.sessions, tokens)? {
+        match passed_in_head(
+            alloc,
+            self.tables.len(),
+            self.groups.len(),
+            &self.sessions,
+            tokens,
+        )? {
             Some(limit) => Err(LineError::Fault(LineFault::TooMany(limit))),
             None => self.add_head(alloc, segments, tokens),
         }
@@ -130,7 +144,11 @@ impl Progress {
         ensures lines { vec_len self.new.lines ≤ vec_len self.old.lines + 1 }
     {
         match read_session_line(alloc, limits(), tokens) {
-            Ok(line) => self.add(alloc, &line),
+            Ok(line) => {
+                let added = self.add(alloc, &line);
+                drop(line);
+                added
+            }
             Err(error) => Err(LineError::from(error)),
         }
     }

@@ -3,8 +3,5 @@ use Rattle.std.specs.List.{prefix_len}
 use Rattle.gx_explain.specs.Places.{may_group}
 use Rattle.gx_explain.proofs.kinds.grouped_items.Given as goal
 
-abbrev pub invariant-loop-item : goal.invariant-loop-item
-invariant-loop-item l = record {
-  counted : l.count ≡ l.item-index;
-  rest : l.count + prefix_len (may_group l.names) (drop l.item-index l.items) ≡ prefix_len (may_group l.names) l.items;
-}
+abbrev pub invariant-loop-count : goal.invariant-loop-count
+invariant-loop-count l = l.count + prefix_len (may_group l.names) (drop l.count l.items) ≡ prefix_len (may_group l.names) l.items

@@ -3,8 +3,5 @@ use Rattle.std.specs.List.{prefix_len}
 use Rattle.gx_lex.specs.Lexing.{is_digit}
 use Rattle.gx_explain.proofs.tails.digits_len.Given as goal
 
-abbrev pub invariant-loop-byte : goal.invariant-loop-byte
-invariant-loop-byte l = record {
-  counted : l.count ≡ l.byte-index;
-  rest : l.count + prefix_len is_digit (drop l.byte-index l.bytes) ≡ prefix_len is_digit l.bytes;
-}
+abbrev pub invariant-loop-count : goal.invariant-loop-count
+invariant-loop-count l = l.count + prefix_len is_digit (drop l.count l.bytes) ≡ prefix_len is_digit l.bytes

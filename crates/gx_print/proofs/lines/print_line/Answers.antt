@@ -1,6 +1,6 @@
 use Rattle.std.proofs.Common.{◌≡◌, ◌++◌, List, IfOk, sym, subst}
 use Rattle.gx_tree.specs.declared.schema.Schema.{Schema}
-use Rattle.gx_print.specs.OneLine.{IsReadAs, line_of, with_one}
+use Rattle.gx_print.specs.OneLine.{IsReadWith, line_of}
 use Rattle.gx_print.specs.Reprinting.{ReadsAs}
 use Rattle.gx_print.specs.Written.{printed}
 use Rattle.gx_print.proofs.LineKept.{line_again, text_ok}
@@ -22,6 +22,6 @@ returns-clause-whole c bytes heads over name h a are same named =
     let text = printed script.tables stmt in
     let read = line_again bytes script c.args.line.now h a c.limit_of-limit.ensures in
     let there : ReadsAs over.tables stmt text = subst (λ (tables : List Schema). ReadsAs tables stmt text) (sym same) read.0 in
-    text_ok (λ t. IsReadAs (heads ++ line_of name t) (with_one over name stmt)) text c.print_stmt.result
+    text_ok (λ t. IsReadWith (heads ++ line_of name t) over name stmt) text c.print_stmt.result
     (subst (λ (tables : List Schema). IfOk c.print_stmt.result (λ v. v.items ≡ printed tables stmt)) c.as_slice.ensures c.print_stmt.ensures.form)
     (line_is_read heads over name stmt text are named there read.1)
