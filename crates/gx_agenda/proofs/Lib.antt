@@ -25,3 +25,5 @@ pub mod Quieter
 pub mod Stamps
 pub mod Asking
 pub mod Slotting
+pub mod Placing
+pub mod LetStarts

@@ -108,9 +108,10 @@ impl Agenda {
 
     /// A step was done, and if it is the coordinator's, what its event received, if it received a message, is told.
     pub fn note(&mut self, script: &Script, step: &StepView<'_>, told: Option<&Message>) -> Mem<()>
-        ensures { OnOk result ((script : OneScript) (steps : List OneStep) → IsAgreed script steps self.old → IsDue script steps step.now.event
+        requires { IsScript script.now }
+        ensures { OnOk result ((steps : List OneStep) → IsAgreed script.now steps self.old → IsDue script.now steps step.now.event
             → AreCounted (steps ++ step.now ∷ []) → IsTold steps step.now (option_copied told.entry)
-            → IsAgreed script (steps ++ step.now ∷ []) self.new) }
+            → IsAgreed script.now (steps ++ step.now ∷ []) self.new) }
     {
         deliver(&mut self.cursors, step);
         note_step(
