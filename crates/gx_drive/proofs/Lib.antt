@@ -8,6 +8,7 @@ pub mod Driving
 pub mod Journals
 pub mod Unfinished
 pub mod Undetected
+pub mod Lone
 pub mod Noting
 pub mod Answers
 pub mod Pushed
