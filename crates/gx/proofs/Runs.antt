@@ -1,7 +1,8 @@
 -- A run that is reached and driven is one of the script.
-use Rattle.std.proofs.Common.{◌≡◌, ◌<◌, ◌≤◌, ℕ, List, [], ◌∷◌, false, subst, sym, length}
+use Rattle.std.proofs.Common.{◌≡◌, ◌<◌, ◌≤◌, ℕ, List, [], ◌∷◌, false, subst, sym, length, Some, None}
 use Rattle.std.proofs.lemmas.List.Elements.{All-from_recursion, recursion_from_All}
 use Rattle.std.specs.List.{AllByRecursion}
+use Rattle.std.specs.declared.option.Option.{Option}
 use Rattle.gx_words.specs.declared.options.Options.{Options}
 use Rattle.gx_script.specs.declared.Script.{Script}
 use Rattle.gx_script.specs.declared.Line.{Line}
@@ -38,13 +39,22 @@ use Rattle.gx_store.specs.Schedule.{is_any_unfinished}
 use Rattle.gx_law_runs.specs.Endings.{IsFinished}
 use Rattle.gx_law_runs.proofs.Finishing.{whole}
 use Rattle.gx_world.specs.Worlds.{WorldState}
+use Rattle.gx_store.specs.Groups.{AreStartsLet, lets}
+use Rattle.gx_law_groups.proofs.Runs.{begin-as-asked, keeps-slots}
+use Rattle.gx_law_lone.proofs.Askers.{grouped-victims}
+use Rattle.gx_law_lone.specs.Victims.{AreLet}
+use Rattle.gx_drive.proofs.Lone.{drawn-let, first-let, starts-let}
 use Rattle.gx.specs.Top.{AreDriven, IsRunOf}
+
+-- whichever order was asked for, the groups let each event
+driven-let : (script : Script) (seed : Option ℕ) (steps : List Step) → AreDriven seed script steps → AreLet script (lets script) [] steps
+driven-let script None steps driven = first-let script steps driven
+driven-let script (Some seed) steps driven = drawn-let script seed steps driven
 
 pub run-of : (script : Script) (options : Options) (run : Run) → IsScript script → AreInsertsWhole script.tables script.lines → IsReached script run.steps → AreDriven options.seed script run.steps → length run.steps ≤ options.turns → IsRunOf script options run
 run-of script options run language inserts is driven within =
     record {
-      legal = by-events script run.steps is (λ ss. IsLegalHistory script (record { steps = ss }))
-          (legal script language.some_segments language.numbers (keyed script inserts) (snapshots-one script language.some_segments) (filled script inserts) (world-cancels script language.some_segments (world-rounds script language.some_segments)));
+      legal = history;
       ordered = by-events script run.steps is (AreOrdered script []) (λ es. (world_well script language.some_segments es).steps);
       system = by-events script run.steps is (λ ss. IsSystemRun script (record { steps = ss })) (world_follows script language.some_segments);
       protocol = by-events script run.steps is (DoStepsFollow script []) (world-follows script language.some_segments);
@@ -53,9 +63,23 @@ run-of script options run language inserts is driven within =
       locks = by-events script run.steps is (AreLocksLegal script) (locks-legal script language.some_segments language.numbers);
       blocked = by-events script run.steps is (λ ss. DoStayBlocked (marks_in ss)) (run-stays-blocked script language.some_segments);
       rounds = by-events script run.steps is (AreRoundsLegal script) (world-legal script language.some_segments (world-rounds script language.some_segments));
+      lone = grouped-victims script language inserts run.steps is let_in;
+      slots = keeps-slots script language run.steps history starts;
+      queued = begin-as-asked script language run.steps history starts;
       driven = driven;
       within = within;
     }
+  where
+    history : IsLegalHistory script run
+    history =
+        by-events script run.steps is (λ ss. IsLegalHistory script (record { steps = ss }))
+        (legal script language.some_segments language.numbers (keyed script inserts) (snapshots-one script language.some_segments) (filled script inserts) (world-cancels script language.some_segments (world-rounds script language.some_segments)))
+
+    let_in : AreLet script (lets script) [] run.steps
+    let_in = driven-let script options.seed run.steps driven
+
+    starts : AreStartsLet script run.steps
+    starts = starts-let script run.steps let_in
 
 -- so is the run of a world that has the script
 pub run-in : (script : Script) (options : Options) (world : WorldState) (run : Run) → world.script ≡ script → run ≡ world.run → IsScript script → AreInsertsWhole script.tables script.lines → IsReached world.script world.run.steps → AreDriven options.seed script world.run.steps → length world.run.steps ≤ options.turns → IsRunOf script options run

@@ -17,6 +17,7 @@ use Rattle.gx_sql.specs.declared.refusal.Refusal.{Refusal}
 use Rattle.gx_sql.specs.Script.{Reads}
 use Rattle.gx_store.specs.declared.run.Run.{Run}
 use Rattle.gx_store.specs.declared.run.Step.{Step}
+use Rattle.gx_store.specs.Groups.{AlwaysKeepsSlots, BeginAsAsked, lets}
 use Rattle.gx_store.specs.Language.{HasFaultsOnce, IsScript}
 use Rattle.gx_store.specs.Ordered.{AreOrdered}
 use Rattle.gx_store.specs.Points.{marks_of}
@@ -30,6 +31,7 @@ use Rattle.gx_law_locks.specs.Blocked.{DoStayBlocked}
 use Rattle.gx_law_writes.specs.Legal.{AreLocksLegal}
 use Rattle.gx_law_runs.specs.Endings.{IsFinished}
 use Rattle.gx_law_locks.specs.Legal.{AreRoundsLegal}
+use Rattle.gx_law_lone.specs.Victims.{DoLoneRoundsFindVictims}
 use Rattle.gx_store.specs.Limits.{HaveTuplesTo}
 use Rattle.gx_law_order.specs.Told.{DoStepsTell}
 use Rattle.gx_drive.specs.Ends.{IsEnd}
@@ -57,7 +59,8 @@ AreDriven (Some seed) script steps = AreDrawn script seed [] steps
 -- numbered, follow what they tell of, and arrive after they were sent, clocks rise, rows stand where it tells of them, its locks are legal, who is blocked stays blocked until
 -- one of them aborts, and each event is the one that the driver takes. Its rounds of the deadlock detector ask, report and decide as they
 -- are defined; where one names somebody the waits that it found stuck still stand, and whoever it names is the youngest of those who
--- can't go on. It has no more steps than turns were asked for.
+-- can't go on; and where a round was all that was left to choose, it comes to victims. No resource group ever has more open transactions
+-- than slots, and its sessions begin theirs in the order in which they asked. The run has no more steps than turns were asked for.
 pub record IsRunOf (script : Script) (options : Options) (run : Run) : Type 0 where
   pub legal : IsLegalHistory script run
   pub ordered : AreOrdered script [] run.steps
@@ -68,6 +71,9 @@ pub record IsRunOf (script : Script) (options : Options) (run : Run) : Type 0 wh
   pub locks : AreLocksLegal script run.steps
   pub blocked : DoStayBlocked (marks_of run)
   pub rounds : AreRoundsLegal script run.steps
+  pub lone : DoLoneRoundsFindVictims script (lets script) [] run.steps
+  pub slots : AlwaysKeepsSlots script (marks_of run)
+  pub queued : BeginAsAsked script run.steps
   pub driven : AreDriven options.seed script run.steps
   pub within : length run.steps ≤ options.turns
 

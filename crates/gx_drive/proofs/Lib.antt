@@ -16,3 +16,4 @@ pub mod Draws
 pub mod Words
 pub mod Endings
 pub mod Running
+pub mod Lone
