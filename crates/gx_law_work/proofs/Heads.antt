@@ -66,7 +66,9 @@ acct_cut = (behind (keyword word.Table (codes "table") refl refl) (also (spaced 
     bigint : Cuts (token.Word word.Bigint ∷ []) (codes "bigint")
     bigint = keyword word.Bigint (codes "bigint") refl refl
 
-    columns : Follows (token.Symbol symbol.Open ∷ token.Name (codes "id") ∷ token.Word word.Bigint ∷ token.Symbol symbol.Comma ∷ token.Name (codes "bal") ∷ token.Word word.Bigint ∷ token.Symbol symbol.Close ∷ []) (codes " (id bigint, bal bigint)")
+    columns : Follows
+        (token.Symbol symbol.Open ∷ token.Name (codes "id") ∷ token.Word word.Bigint ∷ token.Symbol symbol.Comma ∷ token.Name (codes "bal") ∷ token.Word word.Bigint ∷ token.Symbol symbol.Close ∷ [])
+        (codes " (id bigint, bal bigint)")
     columns = spaced (enclosed (behind (name_cuts (codes "id") id_name) (also (spaced bigint) (comma (behind (name_cuts (codes "bal") bal_name) (spaced bigint))))))
 
     spread : Follows (token.Word word.Distributed ∷ token.Word word.By ∷ token.Symbol symbol.Open ∷ token.Name (codes "id") ∷ token.Symbol symbol.Close ∷ []) (codes " distributed by (id)")

@@ -105,8 +105,9 @@ ending_read t l s = record { body = codes "COMMIT"; is = begun t.session (codes 
 regroup : (a w b c : List ℕ) → (a ++ w) ++ (b ++ c) ≡ (a ++ (w ++ b)) ++ c
 regroup a w b c = append_assoc a w (b ++ c) ∙ ap (λ (t : List ℕ). a ++ t) (sym (append_assoc w b c)) ∙ sym (append_assoc a (w ++ b) c)
 
-update_is : (session : ℕ) (sign : List ℕ) (amount account : ℕ) → session < 10 → update_text session sign amount account ≡ session_text session ++ (codes "UPDATE acct SET bal = bal " ++ (sign ++ ((decimal amount ++ (codes " WHERE id = " ++ decimal account)) ++ 10 ∷ [])))
-update_is session sign amount account l =
+update_is : (session : ℕ) (sign : List ℕ) (amount account : ℕ) → update_text session sign amount account
+    ≡ session_text session ++ (codes "UPDATE acct SET bal = bal " ++ (sign ++ ((decimal amount ++ (codes " WHERE id = " ++ decimal account)) ++ 10 ∷ [])))
+update_is session sign amount account =
     append_assoc (session_text session ++ codes "UPDATE acct SET bal = bal " ++ sign) (amount_text amount) (account_text account)
     ∙ append_assoc (session_text session ++ codes "UPDATE acct SET bal = bal ") sign (amount_text amount ++ account_text account)
     ∙ append_assoc (session_text session) (codes "UPDATE acct SET bal = bal ") (sign ++ (amount_text amount ++ account_text account))
@@ -119,7 +120,7 @@ change_plain amount account l m = plain_also (decimal amount) (codes " WHERE id 
 taking_read : (t : Transfer) → t.session < 10 → IsSmall t → IsRead t.session (take_line t) (taking t)
 taking_read t l s = record {
   body = change_text op.Sub t.amount t.from;
-  is = update_is t.session (codes "- ") t.amount t.from l ∙ begun t.session (change_text op.Sub t.amount t.from) _ l refl;
+  is = update_is t.session (codes "- ") t.amount t.from ∙ begun t.session (change_text op.Sub t.amount t.from) _ l refl;
   reads = take_read t.amount t.from (omega (arith, s.amount)) (omega (arith, s.from));
   plain = plain_also (codes "UPDATE acct SET bal = bal - ") _ (plain (codes "UPDATE acct SET bal = bal - ") refl) (change_plain t.amount t.from s.amount s.from);
 }
@@ -127,7 +128,7 @@ taking_read t l s = record {
 giving_read : (t : Transfer) → t.session < 10 → IsSmall t → IsRead t.session (give_line t) (giving t)
 giving_read t l s = record {
   body = change_text op.Add t.amount t.to;
-  is = update_is t.session (codes "+ ") t.amount t.to l ∙ begun t.session (change_text op.Add t.amount t.to) _ l refl;
+  is = update_is t.session (codes "+ ") t.amount t.to ∙ begun t.session (change_text op.Add t.amount t.to) _ l refl;
   reads = give_read t.amount t.to (omega (arith, s.amount)) (omega (arith, s.to));
   plain = plain_also (codes "UPDATE acct SET bal = bal + ") _ (plain (codes "UPDATE acct SET bal = bal + ") refl) (change_plain t.amount t.to s.amount s.to);
 }
@@ -159,7 +160,9 @@ module _ (text : Transfer → List ℕ) (does : Transfer → Stmt) (each : (t : 
 
   pass : (i m : ℕ) (ts : List Transfer) (first : Line) (lines : List Line) → m ≡ i + length ts → m ≤ 8 → AreFrom i ts
       → Leads (length ts) (flat_map text ts) (at (part i k) (first ∷ lines)) (at (part m k) (first ∷ (lines ++ pass_lines (k + 1) does ts)))
-  pass i m [] first lines e l all = leads_as refl refl (ap (λ (n : ℕ). at (part n k) (first ∷ lines)) (omega (arith, e)) ∙ ap (λ (ls : List Line). at (part m k) (first ∷ ls)) (sym (append-nil lines))) (nowhere (at (part i k) (first ∷ lines)))
+  pass i m [] first lines e l all =
+      leads_as refl refl (ap (λ (n : ℕ). at (part n k) (first ∷ lines)) (omega (arith, e)) ∙ ap (λ (ls : List Line). at (part m k) (first ∷ ls)) (sym (append-nil lines)))
+      (nowhere (at (part i k) (first ∷ lines)))
   pass i m (t ∷ ts) first lines e l (same, (small, all)) =
       leads_as (omega arith) refl (ap (λ (ls : List Line). at (part m k) (first ∷ ls)) (append_assoc lines (line_in t.session (k + 1) (does t) ∷ []) (pass_lines (k + 1) does ts)))
       (join (turn i t first lines (omega (arith, e, l)) same small) (pass (i + 1) m ts first (lines ++ line_in t.session (k + 1) (does t) ∷ []) (omega (arith, e)) l all))
