@@ -1,5 +1,5 @@
 -- What the work came to, once bytes were there.
-use Rattle.std.proofs.Common.{◌≡◌, ◌≤◌, inl, inr, ℕ, List, Option, Ok, Err, length, refl}
+use Rattle.std.proofs.Common.{◌≡◌, ◌≤◌, inl, inr, ℕ, List, Option, None, Some, Result, Ok, Err, length, refl, subst}
 use Rattle.std.specs.declared.alloc.Global.{Global}
 use Rattle.std.specs.declared.string.String.{String}
 use Rattle.gx_words.specs.declared.options.Options.{Options}
@@ -10,6 +10,8 @@ use Rattle.gx_sql.specs.declared.refusal.Refusal.{Refusal}
 use Rattle.gx_store.specs.declared.attempt.Attempt.{Attempt}
 use Rattle.gx_store.specs.declared.attempt.Attempt.TheVariants.{Done, Stopped, Stuck, Usage, Refused, ReadFault, TooLarge, OutOfMemory}
 use Rattle.gx_words.specs.Asked.{AreAsked, AreGiven, limit}
+use Rattle.gx_law_work.specs.Work.{work_script}
+use Rattle.gx_law_work.proofs.Whole.{work_read}
 use Rattle.gx.specs.Top.{HasScript, IsAttempt, IsOfBytes, IsRan, IsRefusedFor, IsScriptWith}
 use Rattle.gx.proofs.Refusals.{read_as}
 
@@ -36,6 +38,15 @@ module _ (bytes : List ℕ) (options : Options) where
   refused refusal read ReadFault is = absurd is
   refused refusal read TooLarge is = absurd is
 
+-- generated work is a script, so bytes that are none were read
+no_ok : (refusal : Refusal) (script : Script) → ◌≡◌ {A = Result Script Refusal} (Err refusal) (Ok script) → ⊥
+no_ok refusal script e = cc
+
+pub none_generated : (work : Option ℕ) (left after : Option (List ℕ)) (bytes : List ℕ) (refusal : Refusal) → AreGiven work left after bytes → Reads bytes (Err refusal) → work ≡ None
+none_generated None left after bytes refusal given read = refl
+none_generated (Some number) left after bytes refusal given read =
+    absurd (no_ok refusal (work_script number) ((work_read number).only (Err refusal) (subst (λ (b : List ℕ). Reads b (Err refusal)) given.0 read)))
+
 -- WORDS
 module _ (words : List (String Global)) (left after : Option (List ℕ)) (before now : ℕ) (options : Options) (asked : AreAsked words options) (bytes : List ℕ)
     (given : AreGiven options.work left after bytes) (few : length bytes ≤ limit) (calm : now ≡ before) where
@@ -48,7 +59,15 @@ module _ (words : List (String Global)) (left after : Option (List ℕ)) (before
   attempt (Stuck run text) is = with_script _ is
   attempt (OutOfMemory run) (inl none) = (inl none, calm)
   attempt (OutOfMemory run) (inr is) = (inr (with_script _ is), calm)
-  attempt (Refused text) (refusal, read, told) = record { options = options; asked = asked; refusal = refusal; read = record { bytes = bytes; given = given; few = few; is = read }; empty = refl; told = told }
+  attempt (Refused text) (refusal, read, told) = record {
+    options = options;
+    asked = asked;
+    plain = none_generated options.work left after bytes refusal given read;
+    refusal = refusal;
+    read = record { bytes = bytes; given = given; few = few; is = read };
+    empty = refl;
+    told = told;
+  }
   attempt Usage is = absurd is
   attempt ReadFault is = absurd is
   attempt TooLarge is = absurd is

@@ -202,10 +202,11 @@ pub record IsUsage (words : List (String Global)) (run : Run) (text : List ℕ) 
   pub empty : run ≡ no_run
   pub told : text ≡ usage
 
--- the bytes that were given are no script, nothing was run, and the text says why
+-- the words ask for no generated work, the bytes that were read are no script, nothing was run, and the text says why
 pub record IsRefused (words : List (String Global)) (left after : Option (List ℕ)) (run : Run) (text : List ℕ) : Type 0 where
   pub options : Options
   pub asked : AreAsked words options
+  pub plain : options.work ≡ None
   pub refusal : Refusal
   pub read : IsRead options.work left after (Err refusal)
   pub empty : run ≡ no_run

@@ -33,7 +33,7 @@ pub fn run_gx<S: Source, K: Sink, J: Journal, G: Gate>(
     // The words are not in the language, and the text says what is.
     ensures usage { result.status ≡ 2 → IsWritten (IsUsage words.now result.run) (K.written sink.old) (K.written sink.new) }
 
-    // The bytes are no script, and the text says why.
+    // The words ask for no generated work, the bytes that were read are no script, and the text says why.
     ensures refused { result.status ≡ 3 → IsWritten (IsRefused words.now (S.left source.old) (S.left source.new) result.run) (K.written sink.old) (K.written sink.new) }
 
     ensures read_fault { result.status ≡ 4 → IsWritten (IsReadFault words.now (S.fault_count source.old) (S.fault_count source.new) result.run) (K.written sink.old) (K.written sink.new) }
