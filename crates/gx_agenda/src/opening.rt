@@ -75,7 +75,11 @@ fn place_of_line(standing: &Standing, number: u32) -> Option<usize>
     if number == 0 {
         None
     } else {
-        standing.places.as_slice().get((number - 1) as usize).copied()
+        standing
+            .places
+            .as_slice()
+            .get((number - 1) as usize)
+            .copied()
     }
 }
 
@@ -212,7 +216,13 @@ pub(crate) fn ask_answered(
 }
 
 // A session's line of a number was answered.
-fn note_answer(outside: &mut Vec<bool>, script: &Script, queue: &Queue, session: SessionId, line: u32)
+fn note_answer(
+    outside: &mut Vec<bool>,
+    script: &Script,
+    queue: &Queue,
+    session: SessionId,
+    line: u32,
+)
     ensures { outside.new.items ≡ noted_at script.now.lines outside.old.items session line (slice_get outside.old.items session.0) (slice_get queue.now.standings.items session.0) }
 {
     let number = usize::from(session.0);
@@ -232,7 +242,12 @@ pub(crate) fn note_answers(outside: &mut Vec<bool>, script: &Script, queue: &Que
     ensures { outside.new.items ≡ noted script.now.lines queue.now.standings.items outside.old.items marks.now }
 {
     for mark in marks {
-        if let Mark::Answer { session, number, .. } = mark {
+        if let Mark::Answer {
+            session,
+            number,
+            ..
+        } = mark
+        {
             note_answer(outside, script, queue, *session, *number);
         }
     }

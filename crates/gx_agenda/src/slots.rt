@@ -87,7 +87,13 @@ impl Slots {
     {
         through_marks(&mut self.groups, &mut self.begun, marks)?;
         note_answers(&mut self.outside, script, queue, marks);
-        ask_answered(&mut self.groups, script, queue, self.outside.as_slice(), marks);
+        ask_answered(
+            &mut self.groups,
+            script,
+            queue,
+            self.outside.as_slice(),
+            marks,
+        );
         Ok(())
     }
 }

@@ -19,13 +19,13 @@ returns c = λ steps step same told queued.
     let outside = c.note_answers.new.outside.items in
     let groups = c.through_marks.new.groups in
     let is_outside : AreOutside script (steps ++ step ∷ []) outside =
-        subst (AreOutside script (steps ++ step ∷ [])) (ap (noted script.lines queue.standings.items c.args.self.now.outside.items) same ∙ sym c.note_answers.ensures)
-        (outside-more script steps step queue queued c.args.self.now.outside.items told.outside) in
+    subst (AreOutside script (steps ++ step ∷ [])) (ap (noted script.lines queue.standings.items c.args.self.now.outside.items) same ∙ sym c.note_answers.ensures)
+    (outside-more script steps step queue queued c.args.self.now.outside.items told.outside) in
     let is_through : groups ≡ slots_through (open_in (marks_in steps)) (slots_after script steps) step.marks =
-        c.in_ok-through_marks.ensures.groups
-        ∙ ap (λ (b : List Opened). slots_through b c.args.self.now.groups marks) told.begun
-        ∙ ap (λ (t : Table). slots_through (open_in (marks_in steps)) t marks) told.groups
-        ∙ ap (λ (ms : List Mark). slots_through (open_in (marks_in steps)) (slots_after script steps) ms) (sym same) in
+    c.in_ok-through_marks.ensures.groups
+    ∙ ap (λ (b : List Opened). slots_through b c.args.self.now.groups marks) told.begun
+    ∙ ap (λ (t : Table). slots_through (open_in (marks_in steps)) t marks) told.groups
+    ∙ ap (λ (ms : List Mark). slots_through (open_in (marks_in steps)) (slots_after script steps) ms) (sym same) in
     record {
       groups =
           c.ask_answered.ensures
