@@ -1,5 +1,5 @@
 -- Open transactions behind an answer.
-use Rattle.std.proofs.Common.{◌≡◌, inl, inr, ℕ, ◌+◌, ◌<◌, Bool, true, false, cond, ◌||◌, List, [], ◌∷◌, ◌++◌, Option, Some, None, refl, sym, ap, ◌∙◌, subst, arith}
+use Rattle.std.proofs.Common.{◌≡◌, inl, inr, ℕ, ◌+◌, ◌<◌, Bool, true, false, cond, List, [], ◌∷◌, ◌++◌, Option, Some, None, refl, sym, ap, ◌∙◌, subst, arith}
 use Rattle.std.proofs.lemmas.Bool.Decides.{nat_tests}
 use Rattle.gx_ids.specs.declared.ids.Gxid.{Gxid}
 use Rattle.gx_ids.specs.declared.ids.SessionId.{SessionId}
@@ -12,7 +12,7 @@ use Rattle.gx_store.specs.declared.mark.Mark.TheVariants.{Answer}
 use Rattle.gx_store.specs.declared.opened.Opened.{Opened}
 use Rattle.gx_store.specs.Answers.{IsAnswer}
 use Rattle.gx_store.specs.Groups.{draws_next, open_in, opener}
-use Rattle.gx_store.specs.Lines.{BlockState, Outside, state_after, state_after_line, state_of, stmt_of}
+use Rattle.gx_store.specs.Lines.{Outside, state_after, state_after_line, state_of, stmt_of}
 use Rattle.gx_store.specs.Marks.{answer_count, is_begun, is_ended, is_same_session, session_of, start_count, started_after}
 use Rattle.gx_store.specs.Points.{Point, before}
 use Rattle.gx_store.proofs.Lines.{state_from-append}
@@ -21,7 +21,9 @@ use Rattle.gx_law_groups.proofs.Answering.{Outcome, outcome}
 use Rattle.gx_law_groups.proofs.Marks.{open_from-append, or_else, session_of-append, start_count-append}
 use Rattle.gx_law_groups.proofs.Tidy.{Each, IsOwn, Tidy, each-map, held, opens, own}
 
-module _ (script : Script) (point : Point) (started : SessionId → ℕ) (s : SessionId) (n : ℕ) (reply : StmtAnswer) (line : Stmt) (t : Tidy script (before point) started) (order : n ≡ answer_count s (before point) + 1) (running : stmt_of s n script.lines ≡ Some line) (is : IsAnswer script point s (state_of script s (before point)) line reply) where
+module _ (script : Script) (point : Point) (started : SessionId
+    → ℕ) (s : SessionId) (n : ℕ) (reply : StmtAnswer) (line : Stmt) (t : Tidy script (before point) started) (order : n ≡ answer_count s (before point) + 1) (running : stmt_of s n script.lines ≡ Some line)
+    (is : IsAnswer script point s (state_of script s (before point)) line reply) where
   abbrev marks : List Mark
   marks = before point
 
@@ -87,7 +89,8 @@ module _ (script : Script) (point : Point) (started : SessionId → ℕ) (s : Se
 
   own-own : own script more s ≡ held (state_after (state_of script s marks) line reply) false (started_after s None marks)
   own-own =
-      ap (λ st. held st (is_begun s more) (started_after s None more)) (state-answer s ∙ ap (λ b. cond b (state_after_line (state_of script s marks) (stmt_of s n script.lines) reply) (state_of script s marks)) itself ∙ ap (λ o. state_after_line (state_of script s marks) o reply) running)
+      ap (λ st. held st (is_begun s more) (started_after s None more)) (state-answer s ∙ ap (λ b. cond b (state_after_line (state_of script s marks) (stmt_of s n script.lines) reply) (state_of script s marks)) itself
+      ∙ ap (λ o. state_after_line (state_of script s marks) o reply) running)
       ∙ ap (λ b. held (state_after (state_of script s marks) line reply) b (started_after s None more)) (begun-answer s ∙ ap (λ b. cond b false (is_begun s marks)) itself)
       ∙ ap (held (state_after (state_of script s marks) line reply) false) (started-answer s)
 
@@ -131,5 +134,8 @@ module _ (script : Script) (point : Point) (started : SessionId → ℕ) (s : Se
       others : (k : SessionId) → is_begun k more ≡ true → (b : Bool) → is_same_session s k ≡ b → (opens script more k ≡ true) × (started k ≡ answer_count k more + 1)
       others k b true q = let none : is_begun k more ≡ false = begun-answer k ∙ ap (λ c. cond c false (is_begun k marks)) q in absurd (cc)
       others k b false q =
-          let was = t.begun k (sym (begun-answer k ∙ ap (λ c. cond c false (is_begun k marks)) q) ∙ b) in
-          (ap (λ st. draws_next st (stmt_of k (answer_count k more + 1) script.lines)) (state-other k q) ∙ ap (λ m. draws_next (state_of script k marks) (stmt_of k (m + 1) script.lines)) (answers-other k q) ∙ was.0, was.1 ∙ ap (λ m. m + 1) (sym (answers-other k q)))
+          let was = t.begun k (sym (begun-answer k ∙ ap (λ c. cond c false (is_begun k marks)) q) ∙ b) in (
+            ap (λ st. draws_next st (stmt_of k (answer_count k more + 1) script.lines)) (state-other k q) ∙ ap (λ m. draws_next (state_of script k marks) (stmt_of k (m + 1) script.lines)) (answers-other k q) ∙ was.0,
+            was.1
+                ∙ ap (λ m. m + 1) (sym (answers-other k q)),
+          )

@@ -1,19 +1,17 @@
 -- A line is answered: its session's transaction stays open, or has ended.
-use Rattle.std.proofs.Common.{◌≡◌, ◌⊎◌, inl, inr, ℕ, ◌+◌, ◌<◌, Bool, true, false, cond, ◌||◌, ◌&&◌, List, [], ◌∷◌, ◌++◌, Option, Some, None, refl, sym, ap, ◌∙◌, subst, arith}
-use Rattle.std.proofs.lemmas.Bool.Decides.{nat_tests}
+use Rattle.std.proofs.Common.{◌≡◌, ◌⊎◌, inl, inr, Bool, true, false, cond, ◌||◌, List, Option, Some, None, refl, sym, ap, ◌∙◌, subst}
 use Rattle.gx_ids.specs.declared.ids.Gxid.{Gxid}
 use Rattle.gx_ids.specs.declared.ids.SessionId.{SessionId}
 use Rattle.gx_tree.specs.declared.stmt.Stmt.{Stmt}
 use Rattle.gx_tree.specs.declared.stmt.Stmt.TheVariants as stmt
 use Rattle.gx_script.specs.declared.Script.{Script}
-use Rattle.gx_lemmas.proofs.Tests.{or-false}
 use Rattle.gx_store.specs.declared.answer.Refused.{Refused}
 use Rattle.gx_store.specs.declared.answer.StmtAnswer.{StmtAnswer}
 use Rattle.gx_store.specs.declared.answer.StmtAnswer.TheVariants as answer
 use Rattle.gx_store.specs.declared.mark.Mark.{Mark}
-use Rattle.gx_store.specs.Answers.{HasAborted, HasCommitted, IsAnswer, IsAtItsEnd, IsDone}
+use Rattle.gx_store.specs.Answers.{HasAborted, HasCommitted, IsAnswer, IsDone}
 use Rattle.gx_store.specs.Groups.{draws_next}
-use Rattle.gx_store.specs.Lines.{BlockState, Failed, InBlock, Outside, is_command, state_after, state_after_line, state_from, state_of, stmt_of, transaction_of}
+use Rattle.gx_store.specs.Lines.{BlockState, Failed, InBlock, Outside, state_after, transaction_of}
 use Rattle.gx_store.specs.Marks.{is_aborted, is_begun, is_committed, is_ended, started_after}
 use Rattle.gx_store.specs.Points.{Point, before, marks_in}
 use Rattle.gx_store.specs.Refusals.{IsRefusal}
@@ -41,7 +39,8 @@ module _ (script : Script) (point : Point) (s : SessionId) (g : Option Gxid) whe
       or-true false = refl
 
   aborted-here : (h : Gxid) → is_aborted point.earlier h ≡ true → is_ended marks h ≡ true
-  aborted-here h e = ap (λ b. is_committed marks h || b) (is_aborted-append (marks_in point.steps) point.earlier h ∙ ap (λ b. is_aborted (marks_in point.steps) h || b) e ∙ or-true (is_aborted (marks_in point.steps) h)) ∙ or-true (is_committed marks h)
+  aborted-here h e = ap (λ b. is_committed marks h || b) (is_aborted-append (marks_in point.steps) point.earlier h ∙ ap (λ b. is_aborted (marks_in point.steps) h || b) e ∙ or-true (is_aborted (marks_in point.steps) h))
+      ∙ or-true (is_committed marks h)
     where
       or-true : (b : Bool) → (b || true) ≡ true
       or-true true = refl

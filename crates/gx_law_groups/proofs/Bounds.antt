@@ -1,10 +1,8 @@
 -- Open transactions and slots between steps.
-use Rattle.std.proofs.Common.{◌≡◌, ◌⊎◌, inl, inr, ℕ, zero, suc, ◌+◌, ◌<◌, ◌≤◌, ◌==◌, Bool, true, false, cond, ◌||◌, ◌&&◌, List, [], ◌∷◌, ◌++◌, length, map, Option, Some, None, refl, sym, ap, ◌∙◌, subst, arith, append_assoc, append-nil}
+use Rattle.std.proofs.Common.{◌≡◌, ℕ, zero, suc, ◌+◌, ◌<◌, ◌≤◌, ◌==◌, Bool, true, false, cond, ◌||◌, ◌&&◌, List, [], ◌∷◌, ◌++◌, length, map, Option, Some, None, refl, sym, ap, ◌∙◌, subst, arith, append_assoc, append-nil}
 use Rattle.std.proofs.lemmas.Bool.Decides.{nat_tests}
-use Rattle.std.proofs.lemmas.Grind.{flat_map-append}
-use Rattle.std.specs.Prelude.{IsSome, filter, is_some, not}
+use Rattle.std.specs.Prelude.{IsSome, filter, not}
 use Rattle.std.specs.List.{list_any, range_with_len}
-use Rattle.gx_ids.specs.declared.ids.Gxid.{Gxid}
 use Rattle.gx_ids.specs.declared.ids.SessionId.{SessionId}
 use Rattle.gx_tree.specs.declared.stmt.Stmt.{Stmt}
 use Rattle.gx_script.specs.declared.Line.{Line}
@@ -12,24 +10,20 @@ use Rattle.gx_script.specs.declared.Script.{Script}
 use Rattle.gx_groups.specs.Slots.{has, is}
 use Rattle.gx_groups.specs.Table.{Table, after_ask, asks, holds, may}
 use Rattle.gx_groups.specs.Calls.{only_if}
-use Rattle.gx_lemmas.proofs.Tests.{and-first, and-second, and-true, or-assoc, or-false, true-false}
+use Rattle.gx_lemmas.proofs.Tests.{and-first, and-second, and-true, or-assoc, or-false}
 use Rattle.gx_store.specs.declared.event.Event.{Event}
 use Rattle.gx_store.specs.declared.event.Event.TheVariants as event
 use Rattle.gx_store.specs.declared.mark.Mark.{Mark}
-use Rattle.gx_store.specs.declared.mark.Mark.TheVariants.{Answer, Start}
 use Rattle.gx_store.specs.declared.run.Step.{Step}
-use Rattle.gx_store.specs.Groups.{all_asking, asking, asks_in, draws_next, is_to_open, lets, open_in, slots_after}
-use Rattle.gx_store.specs.Legal.{AreLegalMarks, IsDrawn, IsLegalStep, LegalEvent, draws}
-use Rattle.gx_store.specs.Lines.{BlockState, Failed, InBlock, Outside, next_stmt, state_of, stmt_of}
-use Rattle.gx_store.specs.Marks.{answer_count, is_answered, is_begun, is_same_session, started_after}
+use Rattle.gx_store.specs.Groups.{all_asking, asking, draws_next, is_to_open, lets, open_in, slots_after}
+use Rattle.gx_store.specs.Legal.{LegalEvent}
+use Rattle.gx_store.specs.Lines.{BlockState, Failed, InBlock, Outside, next_stmt, state_of}
+use Rattle.gx_store.specs.Marks.{answer_count, is_begun, is_same_session, started_after}
 use Rattle.gx_store.specs.Points.{marks_in, starts_by, starts_in}
 use Rattle.gx_store.specs.Schedule.{is_idle, sessions_of}
-use Rattle.gx_store.proofs.Lines.{state_from-append}
-use Rattle.gx_store.proofs.Marks.{answer_count-append}
-use Rattle.gx_store.proofs.Points.{starts_in-append}
 use Rattle.gx_law_groups.specs.Openers.{is_of}
 use Rattle.gx_law_groups.proofs.Slots.{Slotted, begun_at, is_at, slotted-ask, slotted-same}
-use Rattle.gx_law_groups.proofs.Through.{Stands, has-line, none-open, same-of, unanswered-state}
+use Rattle.gx_law_groups.proofs.Through.{Stands, has-line, none-open, same-of}
 use Rattle.gx_law_groups.proofs.Tidy.{Each, Tidy, held, none-held, own}
 
 pub record Bound (script : Script) (steps : List Step) (t : Table) (asked : ℕ → List SessionId) : Type 0 where
@@ -75,7 +69,8 @@ some-of : (o : Option Stmt) → IsSome o → (line : Stmt) × (o ≡ Some line)
 some-of None x = absurd (cc)
 some-of (Some line) x = (line, refl)
 
-module _ (script : Script) (lines : Each (λ (l : Line). l.session.0 < length script.sessions) script.lines) (steps : List Step) (t : Table) (asked : ℕ → List SessionId) (b : Bound script steps t asked) (is : t ≡ slots_after script steps) where
+module _ (script : Script) (lines : Each (λ (l : Line). l.session.0 < length script.sessions) script.lines) (steps : List Step) (t : Table) (asked : ℕ
+    → List SessionId) (b : Bound script steps t asked) (is : t ≡ slots_after script steps) where
   itself : (k : SessionId) → is_same_session k k ≡ true
   itself k = grind (arith, nat_tests)
 
@@ -102,7 +97,8 @@ module _ (script : Script) (lines : Each (λ (l : Line). l.session.0 < length sc
 
   pub begins : (e : Event) (marks : List Mark) → LegalEvent script steps e marks → lets script steps e ≡ true → Stands script steps e asked t []
   begins e marks legal let_in = record {
-    tidy = subst (λ ms. Tidy script ms (λ k. starts_in k steps + starts_by k e)) (sym (append-nil (marks_in steps))) (tidy-started script (marks_in steps) (λ k. starts_in k steps) (λ k. starts_in k steps + starts_by k e) b.tidy (not-again e marks legal));
+    tidy = subst (λ ms. Tidy script ms (λ k. starts_in k steps + starts_by k e)) (sym (append-nil (marks_in steps))) (tidy-started script (marks_in steps) (λ k. starts_in k steps)
+        (λ k. starts_in k steps + starts_by k e) b.tidy (not-again e marks legal));
     slotted = slotted-same script t (marks_in steps) (marks_in steps ++ []) asked asked (is_to_open script steps) (λ k. is_to_open script steps k && true)
         (ap open_in (append-nil (marks_in steps))) (λ place. ap (begun_at script place) (append-nil (marks_in steps))) (λ place. refl) (λ k l. and-true (is_to_open script steps k)) b.slotted;
     free = λ k q opening none. free-at e marks legal let_in k q opening;
@@ -161,7 +157,8 @@ distinct-from : (p : SessionId → Bool) (first n : ℕ) → Distinct (filter p 
 distinct-from p first zero = tt
 distinct-from p first (suc n) = by_test (p (numbered first)) (distinct-from p (first + 1) n)
   where
-    by_test : (c : Bool) → Distinct (filter p (map numbered (range_with_len (first + 1) n))) → Distinct (cond c (numbered first ∷ filter p (map numbered (range_with_len (first + 1) n))) (filter p (map numbered (range_with_len (first + 1) n))))
+    by_test : (c : Bool) → Distinct (filter p (map numbered (range_with_len (first + 1) n)))
+        → Distinct (cond c (numbered first ∷ filter p (map numbered (range_with_len (first + 1) n))) (filter p (map numbered (range_with_len (first + 1) n))))
     by_test true e = (each-above p first (first + 1) n (omega arith), e)
     by_test false e = e
 
@@ -169,7 +166,8 @@ each-from : (p : SessionId → Bool) (Q : SessionId → Type 0) (first n all : �
 each-from p Q first zero all e f = tt
 each-from p Q first (suc n) all e f = by_test (p (numbered first)) refl (each-from p Q (first + 1) n all (omega (arith, e)) f)
   where
-    by_test : (c : Bool) → p (numbered first) ≡ c → Each Q (filter p (map numbered (range_with_len (first + 1) n))) → Each Q (cond c (numbered first ∷ filter p (map numbered (range_with_len (first + 1) n))) (filter p (map numbered (range_with_len (first + 1) n))))
+    by_test : (c : Bool) → p (numbered first) ≡ c → Each Q (filter p (map numbered (range_with_len (first + 1) n)))
+        → Each Q (cond c (numbered first ∷ filter p (map numbered (range_with_len (first + 1) n))) (filter p (map numbered (range_with_len (first + 1) n))))
     by_test true q r = (f (numbered first) (omega (arith, e)) q, r)
     by_test false q r = r
 

@@ -1,16 +1,15 @@
 -- A step ends: those of whom a line was answered ask, where their next one begins a transaction.
-use Rattle.std.proofs.Common.{◌≡◌, ◌⊎◌, inl, inr, ℕ, zero, suc, ◌+◌, ◌<◌, ◌≤◌, ◌==◌, Bool, true, false, cond, ◌||◌, ◌&&◌, List, [], ◌∷◌, ◌++◌, length, map, Option, Some, None, refl, sym, ap, ◌∙◌, subst, arith, append_assoc, append-nil}
+use Rattle.std.proofs.Common.{◌≡◌, ◌⊎◌, inl, inr, ℕ, ◌+◌, ◌<◌, ◌≤◌, ◌==◌, Bool, true, false, cond, ◌||◌, ◌&&◌, List, [], ◌∷◌, ◌++◌, length, Option, Some, None, refl, sym, ap, ◌∙◌, subst, arith, append-nil}
 use Rattle.std.proofs.lemmas.Bool.Decides.{nat_tests}
 use Rattle.std.proofs.lemmas.Grind.{flat_map-append}
 use Rattle.std.specs.Prelude.{IsSome, filter, is_some, not}
 use Rattle.std.specs.List.{list_any}
-use Rattle.gx_ids.specs.declared.ids.Gxid.{Gxid}
 use Rattle.gx_ids.specs.declared.ids.SessionId.{SessionId}
 use Rattle.gx_tree.specs.declared.stmt.Stmt.{Stmt}
 use Rattle.gx_script.specs.declared.Script.{Script}
-use Rattle.gx_groups.specs.Slots.{has, is}
+use Rattle.gx_groups.specs.Slots.{has}
 use Rattle.gx_groups.specs.Table.{Table}
-use Rattle.gx_lemmas.proofs.Tests.{and-first, and-second, or-false, true-false}
+use Rattle.gx_lemmas.proofs.Tests.{and-first, and-second, or-false}
 use Rattle.gx_store.specs.declared.event.Event.{Event}
 use Rattle.gx_store.specs.declared.event.Event.TheVariants as event
 use Rattle.gx_store.specs.declared.mark.Mark.{Mark}
@@ -18,7 +17,7 @@ use Rattle.gx_store.specs.declared.mark.Mark.TheVariants.{Answer, Start}
 use Rattle.gx_store.specs.declared.run.Step.{Step}
 use Rattle.gx_store.specs.Groups.{all_asking, asks_in, draws_next, is_to_open, open_in}
 use Rattle.gx_store.specs.Legal.{AreLegalMarks, IsDrawn, IsLegalStep, LegalEvent, draws}
-use Rattle.gx_store.specs.Lines.{BlockState, Failed, InBlock, Outside, next_stmt, state_of, stmt_of}
+use Rattle.gx_store.specs.Lines.{BlockState, Outside, next_stmt, state_of, stmt_of}
 use Rattle.gx_store.specs.Marks.{answer_count, is_answered, is_same_session, started_after}
 use Rattle.gx_store.specs.Points.{marks_in, starts_by, starts_in}
 use Rattle.gx_store.specs.Schedule.{is_idle, sessions_of}
@@ -27,9 +26,9 @@ use Rattle.gx_store.proofs.Marks.{answer_count-append}
 use Rattle.gx_store.proofs.Points.{starts_in-append}
 use Rattle.gx_law_groups.specs.Openers.{is_of}
 use Rattle.gx_law_groups.proofs.Bounds.{Bound, all-ask, distinct-sessions, each-session, has-filter, opens-apart, tidy-started}
-use Rattle.gx_law_groups.proofs.Slots.{Slotted, begun_at, is_at, slotted-same}
+use Rattle.gx_law_groups.proofs.Slots.{Slotted, is_at, slotted-same}
 use Rattle.gx_law_groups.proofs.Through.{Stands, same-of, unanswered-state}
-use Rattle.gx_law_groups.proofs.Tidy.{Each, Tidy}
+use Rattle.gx_law_groups.proofs.Tidy.{Tidy}
 
 -- WHAT A STEP'S MARKS TELL
 unanswered-count : (k : SessionId) (ms : List Mark) → is_answered k ms ≡ false → answer_count k ms ≡ 0
@@ -87,7 +86,8 @@ module _ (script : Script) (steps : List Step) (happens : Event) (k : SessionId)
         by_test : (b : Bool) → is_to_open script steps k ≡ b → (b && not (is_some (started_after k None marks))) ≡ false
         by_test true x =
             let found = draws-some (state_of script k (marks_in steps)) (next_stmt k script (marks_in steps)) (and-second (is_idle steps k) opening x) in
-            off (is_some (started_after k None marks)) (subst (λ y. (line : Stmt) → next_stmt y script (marks_in steps) ≡ Some line → draws (state_of script y (marks_in steps)) line ≡ true → IsSome (started_after y None marks)) (same-of s k same) (subst (λ y. IsDrawn script steps y marks) q d) found.0 found.1 found.2)
+            off (is_some (started_after k None marks)) (subst (λ y. (line : Stmt) → next_stmt y script (marks_in steps) ≡ Some line → draws (state_of script y (marks_in steps)) line ≡ true
+            → IsSome (started_after y None marks)) (same-of s k same) (subst (λ y. IsDrawn script steps y marks) q d) found.0 found.1 found.2)
         by_test false x = refl
 
     busy-off : (a b : ℕ) (c d : Bool) → b + 1 ≤ a → (((a == b) && c) && d) ≡ false
@@ -182,7 +182,8 @@ module _ (script : Script) (steps : List Step) (step : Step) (legal : IsLegalSte
       plus-none a b = omega arith
 
   tidy-after : Tidy script (marks_in after) (λ k. starts_in k after)
-  tidy-after = subst (λ ms. Tidy script ms (λ k. starts_in k after)) (sym all-marks) (tidy-started script (marks_in steps ++ step.marks) (λ k. starts_in k steps + starts_by k step.event) (λ k. starts_in k after) now.tidy (λ k e. starts-all k))
+  tidy-after = subst (λ ms. Tidy script ms (λ k. starts_in k after)) (sym all-marks) (tidy-started script (marks_in steps ++ step.marks) (λ k. starts_in k steps + starts_by k step.event) (λ k. starts_in k after) now.tidy
+      (λ k e. starts-all k))
 
   abbrev asking_mid : SessionId → Bool
   asking_mid k = is_to_open script steps k && not (is_some (started_after k None step.marks))
@@ -210,7 +211,8 @@ module _ (script : Script) (steps : List Step) (step : Step) (legal : IsLegalSte
   pub ends : Bound script after (all_asking t who) (λ place. asked place ++ filter (is_at script place) who)
   ends = record {
     tidy = tidy-after;
-    slotted = slotted-same script (all_asking t who) (marks_in after) (marks_in after) _ (λ place. asked place ++ filter (is_at script place) who) (λ k. asking_mid k || has k who) (is_to_open script after) refl (λ place. refl) (λ place. refl) to-open-after
+    slotted = slotted-same script (all_asking t who) (marks_in after) (marks_in after) _ (λ place. asked place ++ filter (is_at script place) who) (λ k. asking_mid k || has k who) (is_to_open script after) refl
+        (λ place. refl) (λ place. refl) to-open-after
         (all-ask script (marks_in after) who t asked asking_mid (distinct-sessions script (asks_in script steps step)) (each-session script (asks_in script steps step) _ may-ask)
         (subst (λ ms. Slotted script t ms asked asking_mid) (sym all-marks) now.slotted));
   }

@@ -1,5 +1,5 @@
 -- What one mark more changes of what is counted and looked up.
-use Rattle.std.proofs.Common.{◌≡◌, ℕ, ◌+◌, Bool, true, false, cond, ◌||◌, List, [], ◌∷◌, ◌++◌, Option, Some, None, refl, ap, ◌∙◌, arith}
+use Rattle.std.proofs.Common.{◌≡◌, ◌+◌, Bool, true, false, cond, ◌||◌, List, [], ◌∷◌, ◌++◌, Option, Some, None, refl, ap, ◌∙◌, arith}
 use Rattle.gx_ids.specs.declared.ids.Gxid.{Gxid}
 use Rattle.gx_ids.specs.declared.ids.SessionId.{SessionId}
 use Rattle.gx_script.specs.declared.Script.{Script}
@@ -9,7 +9,7 @@ use Rattle.gx_store.specs.declared.mark.Mark.TheVariants.{Start, Commit, Abort, 
 use Rattle.gx_store.specs.declared.opened.Opened.{Opened}
 use Rattle.gx_store.specs.Groups.{open_after, open_from, without}
 use Rattle.gx_store.specs.Lines.{BlockState, state_from}
-use Rattle.gx_store.specs.Marks.{answer_count, is_answered, is_begun_after, is_ended, is_same_gxid, is_same_session, session_of, start_count, started_after}
+use Rattle.gx_store.specs.Marks.{answer_count, is_answered, is_begun_after, is_ended, is_same_gxid, session_of, start_count, started_after}
 
 pub start_count-append : (xs ys : List Mark) → start_count (xs ++ ys) ≡ start_count xs + start_count ys
 start_count-append [] ys = omega arith

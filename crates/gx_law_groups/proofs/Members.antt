@@ -1,18 +1,18 @@
 -- Which group a session is of, by its place and by its sessions.
-use Rattle.std.proofs.Common.{◌≡◌, ◌⊎◌, inl, inr, ℕ, zero, suc, ◌+◌, ◌<◌, ◌≤◌, ◌==◌, Bool, true, false, cond, ◌||◌, ◌&&◌, List, [], ◌∷◌, ◌++◌, length, map, Option, Some, None, slice_get, get_or, refl, sym, ap, ◌∙◌, subst, arith}
+use Rattle.std.proofs.Common.{◌≡◌, ◌⊎◌, inl, inr, ℕ, zero, suc, ◌+◌, ◌<◌, ◌≤◌, ◌==◌, Bool, true, false, cond, ◌||◌, List, [], ◌∷◌, ◌++◌, length, map, Option, Some, None, slice_get, refl, sym, ap, ◌∙◌, subst, arith}
 use Rattle.std.proofs.lemmas.Bool.Decides.{nat_tests}
-use Rattle.std.proofs.lemmas.Option.{slice_get-map, slice_get_past}
-use Rattle.std.specs.Prelude.{All, filter, nat_lt, option_map}
-use Rattle.std.specs.List.{flat_map, list_any, range_with_len}
+use Rattle.std.proofs.lemmas.Option.{slice_get_past}
+use Rattle.std.specs.Prelude.{All, nat_lt, option_map}
+use Rattle.std.specs.List.{flat_map, range_with_len}
 use Rattle.gx_ids.specs.declared.ids.SessionId.{SessionId}
 use Rattle.gx_script.specs.declared.Script.{Script}
 use Rattle.gx_script.specs.declared.group.SlotGroup.{SlotGroup}
 use Rattle.gx_meaning.specs.Statements.{AreDistinct, IsOneOf}
 use Rattle.gx_groups.specs.Slots.{has, is}
-use Rattle.gx_groups.specs.Table.{new_seat, seat_of}
+use Rattle.gx_groups.specs.Table.{new_seat}
 use Rattle.gx_groups.specs.Calls.{is_seated}
-use Rattle.gx_store.specs.Groups.{fresh_slots, group_limit, place_in}
-use Rattle.gx_store.specs.Heads.{AreGroups, IsGroup, group_sessions}
+use Rattle.gx_store.specs.Groups.{fresh_slots, place_in}
+use Rattle.gx_store.specs.Heads.{AreGroups, group_sessions}
 use Rattle.gx_store.specs.Schedule.{sessions_of}
 use Rattle.gx_law_groups.proofs.Slots.{is_at, seat-at}
 
@@ -127,7 +127,8 @@ seats-length script =
     ∙ length-mapped (λ n. let x : SessionId = record { 0 = n } in x) (range_with_len 0 (length script.sessions))
     ∙ length-range 0 (length script.sessions)
 
-pub at-is : (script : Script) (groups : AreGroups (length script.sessions) script.groups) (n : ℕ) (group : SlotGroup) (s : SessionId) → slice_get script.groups n ≡ Some group → All (λ (x : SessionId). x.0 < length script.sessions) group.sessions → is_at script n s ≡ has s group.sessions
+pub at-is : (script : Script) (groups : AreGroups (length script.sessions) script.groups) (n : ℕ) (group : SlotGroup) (s : SessionId) → slice_get script.groups n ≡ Some group
+    → All (λ (x : SessionId). x.0 < length script.sessions) group.sessions → is_at script n s ≡ has s group.sessions
 at-is script groups n group s e members = by_test (nat_lt s.0 (length script.sessions)) refl
   where
     inside : nat_lt s.0 (length script.sessions) ≡ true → s.0 < length script.sessions

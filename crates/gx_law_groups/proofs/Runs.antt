@@ -1,18 +1,16 @@
 -- Slots over a whole run.
-use Rattle.std.proofs.Common.{◌≡◌, ◌⊎◌, inl, inr, ℕ, zero, suc, ◌+◌, ◌<◌, ◌≤◌, Bool, true, false, cond, ◌||◌, ◌&&◌, List, [], ◌∷◌, ◌++◌, length, map, Option, Some, None, slice_get, get_or, refl, sym, ap, ◌∙◌, subst, arith, append_assoc, append-nil}
+use Rattle.std.proofs.Common.{◌≡◌, ◌⊎◌, inl, inr, ℕ, zero, suc, ◌+◌, ◌<◌, ◌≤◌, Bool, true, false, cond, ◌||◌, ◌&&◌, List, [], ◌∷◌, ◌++◌, length, map, Option, get_or, refl, sym, ap, ◌∙◌, subst, arith, append_assoc, append-nil}
 use Rattle.std.proofs.lemmas.Bool.Decides.{nat_tests}
 use Rattle.std.proofs.lemmas.Grind.{flat_map-append}
 use Rattle.std.proofs.lemmas.List.{get_or_past}
-use Rattle.std.proofs.lemmas.List.Elements.{filter-append}
 use Rattle.std.proofs.lemmas.Option.{slice_get-get_or}
 use Rattle.std.specs.Prelude.{All, filter, nat_lt}
-use Rattle.std.specs.List.{list_any}
 use Rattle.gx_ids.specs.declared.ids.SessionId.{SessionId}
 use Rattle.gx_script.specs.declared.Line.{Line}
 use Rattle.gx_script.specs.declared.Script.{Script}
 use Rattle.gx_script.specs.declared.group.SlotGroup.{SlotGroup}
 use Rattle.gx_groups.specs.Slots.{Slots, fresh, has}
-use Rattle.gx_groups.specs.Table.{KeepsLimit, Table, asks, fresh_groups, group_at, holds, members_of}
+use Rattle.gx_groups.specs.Table.{KeepsLimit, Table, fresh_groups, group_at}
 use Rattle.gx_groups.specs.Calls.{Call, IsRun, after, asked_by, only_if}
 use Rattle.gx_groups.proofs.Fresh.{fresh-at, nobody-asks}
 use Rattle.gx_groups.proofs.Runs.{in-order, whole-after}
@@ -20,15 +18,13 @@ use Rattle.gx_groups.proofs.Told.{asks-told, holds-told}
 use Rattle.gx_store.specs.declared.event.Event.{Event}
 use Rattle.gx_store.specs.declared.mark.Mark.{Mark}
 use Rattle.gx_store.specs.declared.mark.Mark.TheVariants.{Start}
-use Rattle.gx_store.specs.declared.opened.Opened.{Opened}
 use Rattle.gx_store.specs.declared.run.Step.{Step}
-use Rattle.gx_store.specs.Groups.{AlwaysKeepsSlots, AreLetBehind, AreStartsLet, BeginAsAsked, KeepsSlots, all_asking, asked_behind, asked_in, asks_in, begun_in, first_slots, fresh_slots, group_limit, is_in_group, is_to_open, open_in, slots_after, slots_behind, slots_from, slots_through}
-use Rattle.gx_store.specs.Heads.{AreGroups, IsGroup}
+use Rattle.gx_store.specs.Groups.{AlwaysKeepsSlots, AreLetBehind, AreStartsLet, BeginAsAsked, KeepsSlots, asked_behind, asks_in, begun_in, first_slots, fresh_slots, group_limit, is_in_group, is_to_open, open_in, slots_after, slots_behind, slots_from, slots_through}
+use Rattle.gx_store.specs.Heads.{AreGroups}
 use Rattle.gx_store.specs.Language.{IsLine, IsScript}
 use Rattle.gx_store.specs.Legal.{AreLegalMarks, AreLegalSteps, LegalMark}
 use Rattle.gx_store.specs.Points.{marks_in, starts_in}
 use Rattle.gx_store.specs.Schedule.{sessions_of}
-use Rattle.gx_law_groups.specs.Openers.{is_of}
 use Rattle.gx_law_groups.proofs.Bounds.{Bound, all-ask, begins, distinct-sessions, each-session, has-filter}
 use Rattle.gx_law_groups.proofs.Ending.{ends}
 use Rattle.gx_law_groups.proofs.Members.{at-is}
@@ -55,13 +51,16 @@ asked_behind_at script place before (s ∷ ss) = filter (is_at script place) (fi
 abbrev pub asked_at : Script → ℕ → List Step → List SessionId
 asked_at script place steps = filter (is_at script place) (filter (is_to_open script []) (sessions_of script)) ++ asked_behind_at script place [] steps
 
-asked-behind-more : (script : Script) (place : ℕ) (b xs : List Step) (s : Step) → asked_behind_at script place b (xs ++ s ∷ []) ≡ asked_behind_at script place b xs ++ filter (is_at script place) (filter (asks_in script (b ++ xs) s) (sessions_of script))
+asked-behind-more : (script : Script) (place : ℕ) (b xs : List Step) (s : Step)
+    → asked_behind_at script place b (xs ++ s ∷ []) ≡ asked_behind_at script place b xs ++ filter (is_at script place) (filter (asks_in script (b ++ xs) s) (sessions_of script))
 asked-behind-more script place b [] s =
     append-nil (filter (is_at script place) (filter (asks_in script b s) (sessions_of script))) ∙ ap (λ z. filter (is_at script place) (filter (asks_in script z s) (sessions_of script))) (sym (append-nil b))
 asked-behind-more script place b (x ∷ xs) s =
     ap (λ r. filter (is_at script place) (filter (asks_in script b x) (sessions_of script)) ++ r) (asked-behind-more script place (b ++ x ∷ []) xs s)
-    ∙ sym (append_assoc (filter (is_at script place) (filter (asks_in script b x) (sessions_of script))) (asked_behind_at script place (b ++ x ∷ []) xs) (filter (is_at script place) (filter (asks_in script ((b ++ x ∷ []) ++ xs) s) (sessions_of script))))
-    ∙ ap (λ z. (filter (is_at script place) (filter (asks_in script b x) (sessions_of script)) ++ asked_behind_at script place (b ++ x ∷ []) xs) ++ filter (is_at script place) (filter (asks_in script z s) (sessions_of script))) (append_assoc b (x ∷ []) xs)
+    ∙ sym (append_assoc (filter (is_at script place) (filter (asks_in script b x) (sessions_of script))) (asked_behind_at script place (b ++ x ∷ []) xs) (filter (is_at script place) (filter (asks_in script
+    ((b ++ x ∷ []) ++ xs) s) (sessions_of script))))
+    ∙ ap (λ z. (filter (is_at script place) (filter (asks_in script b x) (sessions_of script)) ++ asked_behind_at script place (b ++ x ∷ []) xs) ++ filter (is_at script place) (filter (asks_in script z s)
+    (sessions_of script))) (append_assoc b (x ∷ []) xs)
 
 asked-more : (script : Script) (place : ℕ) (steps : List Step) (s : Step) → asked_at script place (steps ++ s ∷ []) ≡ asked_at script place steps ++ filter (is_at script place) (filter (asks_in script steps s) (sessions_of script))
 asked-more script place steps s =
@@ -115,7 +114,8 @@ module _ (script : Script) (lines : Each (λ (l : Line). l.session.0 < length sc
       record {
         tidy = over.tidy;
         slotted = subst (λ t. Slotted script t (marks_in (steps ++ s ∷ [])) (λ place. asked_at script place (steps ++ s ∷ [])) (is_to_open script (steps ++ s ∷ []))) (sym (slots-more script steps s))
-            (slotted-same script (slots_behind script steps (slots_after script steps) s) (marks_in (steps ++ s ∷ [])) (marks_in (steps ++ s ∷ [])) _ (λ place. asked_at script place (steps ++ s ∷ [])) (is_to_open script (steps ++ s ∷ [])) (is_to_open script (steps ++ s ∷ [])) refl (λ place. refl)
+            (slotted-same script (slots_behind script steps (slots_after script steps) s) (marks_in (steps ++ s ∷ [])) (marks_in (steps ++ s ∷ [])) _ (λ place. asked_at script place (steps ++ s ∷ [])) (is_to_open script
+            (steps ++ s ∷ [])) (is_to_open script (steps ++ s ∷ [])) refl (λ place. refl)
             (λ place. asked-more script place steps s) (λ k l. refl) over.slotted);
       }
 
@@ -177,7 +177,8 @@ module _ (script : Script) (lines : Each (λ (l : Line). l.session.0 < length sc
         same : x ≡ y
         same = cc
 
-        by_case : ((rest : List Mark) × (xs ≡ early ++ rest)) ⊎ ((more : List Mark) × (early ≡ xs ++ more) × (ys ≡ more ++ late)) → ((rest : List Mark) × (x ∷ xs ≡ (y ∷ early) ++ rest)) ⊎ ((more : List Mark) × (y ∷ early ≡ (x ∷ xs) ++ more) × (ys ≡ more ++ late))
+        by_case : ((rest : List Mark) × (xs ≡ early ++ rest)) ⊎ ((more : List Mark) × (early ≡ xs ++ more) × (ys ≡ more ++ late))
+            → ((rest : List Mark) × (x ∷ xs ≡ (y ∷ early) ++ rest)) ⊎ ((more : List Mark) × (y ∷ early ≡ (x ∷ xs) ++ more) × (ys ≡ more ++ late))
         by_case (inl c) = inl (c.0, ap (λ z. z ∷ xs) same ∙ ap (λ zs. y ∷ zs) c.1)
         by_case (inr c) = inr (c.0, ap (λ z. z ∷ early) (sym same) ∙ ap (λ zs. x ∷ zs) c.1, c.2)
 
@@ -192,7 +193,8 @@ module _ (script : Script) (lines : Each (λ (l : Line). l.session.0 < length sc
     at-every-point (s ∷ ss) steps b legal let_in early late e =
         by_case (cut-at s.marks (marks_in ss) early late e) (at-every-point ss (steps ++ s ∷ []) (one-step steps s b (legal.0, tt) (let_in.0, tt)) legal.1 let_in.1)
       where
-        by_case : ((rest : List Mark) × (s.marks ≡ early ++ rest)) ⊎ ((more : List Mark) × (early ≡ s.marks ++ more) × (marks_in ss ≡ more ++ late)) → ((x y : List Mark) → marks_in ss ≡ x ++ y → KeepsSlots script (marks_in (steps ++ s ∷ []) ++ x)) → KeepsSlots script (marks_in steps ++ early)
+        by_case : ((rest : List Mark) × (s.marks ≡ early ++ rest)) ⊎ ((more : List Mark) × (early ≡ s.marks ++ more) × (marks_in ss ≡ more ++ late)) → ((x y : List Mark) → marks_in ss ≡ x ++ y
+            → KeepsSlots script (marks_in (steps ++ s ∷ []) ++ x)) → KeepsSlots script (marks_in steps ++ early)
         by_case (inl c) next =
             let begun = begins script lines steps (slots_after script steps) (λ place. asked_at script place steps) b refl s.event s.marks legal.0.event let_in.0 in
             let part = legal-part steps s.event early c.0 [] [] (subst (λ ms. AreLegalMarks script steps s.event [] ms []) c.1 legal.0.marks) in
@@ -220,15 +222,18 @@ module _ (script : Script) (lines : Each (λ (l : Line). l.session.0 < length sc
     filter-both n d l p (x ∷ xs) = by_test (p x) (filter-both n d l p xs)
       where
         by_test : (b : Bool) → filter (is_at script n) (filter p xs) ≡ filter (λ s. has s (get_or script.groups n d).sessions && p s) xs
-            → filter (is_at script n) (cond b (x ∷ filter p xs) (filter p xs)) ≡ cond (has x (get_or script.groups n d).sessions && b) (x ∷ filter (λ s. has s (get_or script.groups n d).sessions && p s) xs) (filter (λ s. has s (get_or script.groups n d).sessions && p s) xs)
+            → filter (is_at script n) (cond b (x ∷ filter p xs) (filter p xs)) ≡ cond (has x (get_or script.groups n d).sessions && b) (x ∷ filter (λ s. has s (get_or script.groups n d).sessions && p s) xs) (filter
+            (λ s. has s (get_or script.groups n d).sessions && p s) xs)
         by_test true r = ap (λ c. cond c (x ∷ filter (is_at script n) (filter p xs)) (filter (is_at script n) (filter p xs))) (at-place n d l x) ∙ here (has x (get_or script.groups n d).sessions)
           where
-            here : (c : Bool) → cond c (x ∷ filter (is_at script n) (filter p xs)) (filter (is_at script n) (filter p xs)) ≡ cond (c && true) (x ∷ filter (λ s. has s (get_or script.groups n d).sessions && p s) xs) (filter (λ s. has s (get_or script.groups n d).sessions && p s) xs)
+            here : (c : Bool) → cond c (x ∷ filter (is_at script n) (filter p xs)) (filter (is_at script n) (filter p xs)) ≡ cond (c && true) (x ∷ filter (λ s. has s (get_or script.groups n d).sessions && p s) xs) (filter
+                (λ s. has s (get_or script.groups n d).sessions && p s) xs)
             here true = ap (λ ys. x ∷ ys) r
             here false = r
         by_test false r = r ∙ here (has x (get_or script.groups n d).sessions)
           where
-            here : (c : Bool) → filter (λ s. has s (get_or script.groups n d).sessions && p s) xs ≡ cond (c && false) (x ∷ filter (λ s. has s (get_or script.groups n d).sessions && p s) xs) (filter (λ s. has s (get_or script.groups n d).sessions && p s) xs)
+            here : (c : Bool) → filter (λ s. has s (get_or script.groups n d).sessions && p s) xs ≡ cond (c && false) (x ∷ filter (λ s. has s (get_or script.groups n d).sessions && p s) xs) (filter (λ s. has s
+                (get_or script.groups n d).sessions && p s) xs)
             here true = refl
             here false = refl
 

@@ -1,7 +1,7 @@
 -- What slots hold while marks come, by the calls that led there.
-use Rattle.std.proofs.Common.{◌≡◌, ℕ, zero, suc, ◌+◌, ◌<◌, ◌≤◌, Bool, true, false, cond, ◌||◌, ◌&&◌, List, [], ◌∷◌, ◌++◌, length, map, Option, Some, None, slice_get, get_or, set, refl, sym, ap, ◌∙◌, subst, arith, append_assoc, append-nil}
+use Rattle.std.proofs.Common.{◌≡◌, ℕ, zero, suc, ◌+◌, ◌<◌, Bool, true, false, cond, ◌||◌, ◌&&◌, List, [], ◌∷◌, ◌++◌, length, map, Option, Some, None, slice_get, get_or, set, refl, sym, ap, ◌∙◌, subst, arith, append_assoc}
 use Rattle.std.proofs.lemmas.Bool.Decides.{nat_tests}
-use Rattle.std.proofs.lemmas.List.Elements.{All-map, filter-append}
+use Rattle.std.proofs.lemmas.List.Elements.{All-map}
 use Rattle.std.proofs.lemmas.Option.{slice_get-map}
 use Rattle.std.specs.Prelude.{All, filter, not, option_map}
 use Rattle.std.specs.List.{list_any, range_with_len}
@@ -16,7 +16,7 @@ use Rattle.gx_groups.specs.declared.seat.Standing.TheVariants.{Idle, Asking, Hol
 use Rattle.gx_groups.specs.Seats.{is_known_at}
 use Rattle.gx_groups.specs.Slots.{Slots, asked, given, has, is, taken, without as without-session}
 use Rattle.gx_groups.specs.Table.{IsWithin, Table, after_ask, after_give, after_take, asks, changed_at, group_at, holds, is_asking, is_holding, is_known, may, new_seat, seat_of}
-use Rattle.gx_groups.specs.Calls.{Ask, Call, Give, IsRun, Take, after, asked_by, fresh_table, is_seated, only_if, standing_after, taken_by}
+use Rattle.gx_groups.specs.Calls.{Ask, Call, Give, IsRun, Take, after, asked_by, is_seated, only_if, standing_after, taken_by}
 use Rattle.gx_groups.proofs.Fresh.{whole-fresh}
 use Rattle.gx_groups.proofs.Runs.{whole-after}
 use Rattle.gx_groups.proofs.Sessions.{same-session}
@@ -94,7 +94,8 @@ module _ (script : Script) where
   places = map (λ s. place_in s script.groups) (sessions_of script)
 
   pub within : All (IsWithin (length limits)) places
-  within = All-map (IsWithin (length limits)) (λ s. place_in s script.groups) (sessions_of script) (λ i d l. let s = get_or (sessions_of script) i d in subst (λ n. IsWithin n (place_in s script.groups)) (sym (length-limits script.groups)) (within-place s script.groups))
+  within = All-map (IsWithin (length limits)) (λ s. place_in s script.groups) (sessions_of script) (λ i d l. let s = get_or (sessions_of script) i d in subst (λ n. IsWithin n (place_in s script.groups)) (sym
+      (length-limits script.groups)) (within-place s script.groups))
 
   pub whole-new : Whole fresh
   whole-new = whole-fresh places limits within
@@ -134,7 +135,8 @@ begun_at script place (_ ∷ ms) = begun_at script place ms
 
 pub begun_at-append : (script : Script) (place : ℕ) (xs ys : List Mark) → begun_at script place (xs ++ ys) ≡ begun_at script place xs ++ begun_at script place ys
 begun_at-append script place [] ys = refl
-begun_at-append script place (Start g s ∷ xs) ys = ap (λ r. only_if (is_at script place s) s ++ r) (begun_at-append script place xs ys) ∙ sym (append_assoc (only_if (is_at script place s) s) (begun_at script place xs) (begun_at script place ys))
+begun_at-append script place (Start g s ∷ xs) ys = ap (λ r. only_if (is_at script place s) s ++ r) (begun_at-append script place xs ys)
+    ∙ sym (append_assoc (only_if (is_at script place s) s) (begun_at script place xs) (begun_at script place ys))
 begun_at-append script place (_ ∷ xs) ys = begun_at-append script place xs ys
 
 pub record Slotted (script : Script) (t : Table) (marks : List Mark) (asked : ℕ → List SessionId) (asking : SessionId → Bool) : Type 0 where
@@ -149,7 +151,8 @@ pub record Slotted (script : Script) (t : Table) (marks : List Mark) (asked : �
   pub asked_so : (place : ℕ) → asked_by (fresh_slots script) place calls ≡ asked place
 
 -- marks that neither begin nor end a transaction
-pub slotted-same : (script : Script) (t : Table) (marks more : List Mark) (asked others : ℕ → List SessionId) (asking also : SessionId → Bool) → open_in more ≡ open_in marks → ((place : ℕ) → begun_at script place more ≡ begun_at script place marks)
+pub slotted-same : (script : Script) (t : Table) (marks more : List Mark) (asked others : ℕ → List SessionId) (asking also : SessionId → Bool) → open_in more ≡ open_in marks → ((place : ℕ)
+    → begun_at script place more ≡ begun_at script place marks)
     → ((place : ℕ) → others place ≡ asked place) → ((k : SessionId) → k.0 < length script.sessions → also k ≡ asking k) → Slotted script t marks asked asking → Slotted script t more others also
 slotted-same script t marks more asked others asking also o b a w s = record {
   calls = s.calls;
@@ -335,8 +338,10 @@ module _ (script : Script) (t : Table) (marks : List Mark) (asked : ℕ → List
     kept-one : (place : ℕ) (o : Opened) (os : List Opened) (a b c : Bool) → is_at script place s ≡ a → is s o.session ≡ b → is_at script place o.session ≡ c
         → map session_in (filter (is_open_at script place) (without g os)) ≡ cond a (without-session s (map session_in (filter (is_open_at script place) os))) (map session_in (filter (is_open_at script place) os))
         → map session_in (filter (is_open_at script place) (cond (not b) (o ∷ without g os) (without g os)))
-        ≡ cond a (without-session s (map session_in (cond c (o ∷ filter (is_open_at script place) os) (filter (is_open_at script place) os)))) (map session_in (cond c (o ∷ filter (is_open_at script place) os) (filter (is_open_at script place) os)))
-    kept-one place o os true true true p q r e = e ∙ sym (ap (λ z. cond (not z) (o.session ∷ without-session s (map session_in (filter (is_open_at script place) os))) (without-session s (map session_in (filter (is_open_at script place) os)))) q)
+        ≡ cond a (without-session s (map session_in (cond c (o ∷ filter (is_open_at script place) os) (filter (is_open_at script place) os)))) (map session_in (cond c (o ∷ filter (is_open_at script place) os) (filter
+        (is_open_at script place) os)))
+    kept-one place o os true true true p q r e = e
+        ∙ sym (ap (λ z. cond (not z) (o.session ∷ without-session s (map session_in (filter (is_open_at script place) os))) (without-session s (map session_in (filter (is_open_at script place) os)))) q)
     kept-one place o os true true false p q r e = e
     kept-one place o os true false true p q r e =
         ap (λ z. map session_in (cond z (o ∷ filter (is_open_at script place) (without g os)) (filter (is_open_at script place) (without g os)))) r

@@ -1,23 +1,24 @@
 -- A transaction begins.
-use Rattle.std.proofs.Common.{◌≡◌, ℕ, ◌+◌, ◌<◌, Bool, true, false, cond, ◌||◌, List, [], ◌∷◌, ◌++◌, Option, Some, None, refl, sym, ap, ◌∙◌, subst, arith}
+use Rattle.std.proofs.Common.{◌≡◌, ℕ, ◌+◌, ◌<◌, Bool, true, false, cond, ◌||◌, List, [], ◌∷◌, ◌++◌, Some, None, refl, sym, ap, ◌∙◌, subst, arith}
 use Rattle.std.proofs.lemmas.Bool.Decides.{nat_tests}
 use Rattle.gx_ids.specs.declared.ids.Gxid.{Gxid}
 use Rattle.gx_ids.specs.declared.ids.SessionId.{SessionId}
 use Rattle.gx_script.specs.declared.Script.{Script}
-use Rattle.gx_groups.proofs.Sessions.{same-session}
 use Rattle.gx_lemmas.proofs.Tests.{or-false}
 use Rattle.gx_store.specs.declared.mark.Mark.{Mark}
 use Rattle.gx_store.specs.declared.mark.Mark.TheVariants.{Start}
 use Rattle.gx_store.specs.declared.opened.Opened.{Opened}
 use Rattle.gx_store.specs.Groups.{draws_next, open_in, opener}
-use Rattle.gx_store.specs.Lines.{BlockState, Failed, InBlock, Outside, state_of, stmt_of}
+use Rattle.gx_store.specs.Lines.{Outside, state_of, stmt_of}
 use Rattle.gx_store.specs.Marks.{answer_count, is_begun, is_ended, is_same_gxid, is_same_session, session_of, start_count, started_after}
 use Rattle.gx_store.proofs.Lines.{state_from-append}
 use Rattle.gx_store.proofs.Marks.{answer_count-append, is_begun_after-append, is_ended-append, started_after-append}
 use Rattle.gx_law_groups.proofs.Marks.{open_from-append, or_else, session_of-append, start_count-append}
 use Rattle.gx_law_groups.proofs.Tidy.{Each, IsOwn, Tidy, each-map, each-push, held, opens, own, own-home}
 
-module _ (script : Script) (marks : List Mark) (started : SessionId → ℕ) (g : Gxid) (s : SessionId) (t : Tidy script marks started) (number : g.0 ≡ start_count marks + 1) (outside : state_of script s marks ≡ Outside) (once : is_begun s marks ≡ false) (opening : opens script marks s ≡ true) (busy : started s ≡ answer_count s marks + 1) where
+module _ (script : Script) (marks : List Mark) (started : SessionId
+    → ℕ) (g : Gxid) (s : SessionId) (t : Tidy script marks started) (number : g.0 ≡ start_count marks + 1) (outside : state_of script s marks ≡ Outside) (once : is_begun s marks ≡ false)
+    (opening : opens script marks s ≡ true) (busy : started s ≡ answer_count s marks + 1) where
   abbrev more : List Mark
   more = marks ++ Start g s ∷ []
 
@@ -122,7 +123,8 @@ module _ (script : Script) (marks : List Mark) (started : SessionId → ℕ) (g 
     unended = λ h l. ended-start h ∙ t.unended h (below h l);
     unbegun = λ h l. home-start h ∙ ap (λ o. or_else o (cond (is_same_gxid g h) (Some s) None)) (t.unbegun h (below h l)) ∙ ap (λ b. cond b (Some s) None) (apart h l);
     home = home-of;
-    each = subst (Each (IsOwn script more)) (sym open-start) (each-push (IsOwn script more) (open_in marks) opened (each-map (IsOwn script marks) (IsOwn script more) still-own (open_in marks) t.each) (own-new, ended-start g ∙ t.unended g new));
+    each = subst (Each (IsOwn script more)) (sym open-start) (each-push (IsOwn script more) (open_in marks) opened (each-map (IsOwn script marks) (IsOwn script more) still-own (open_in marks) t.each)
+        (own-new, ended-start g ∙ t.unended g new));
     found = found-of;
     begun = begun-of;
   }
@@ -151,7 +153,8 @@ module _ (script : Script) (marks : List Mark) (started : SessionId → ℕ) (g 
               let now : Some g ≡ Some h = sym (subst (λ x. own script more x ≡ Some g) (same k q) own-new) ∙ e in
               let is : g ≡ h = cc in
               subst (λ (x : Gxid). opener (open_in more) x ≡ Some k) is
-              (ap (λ o. opener o g) open-start ∙ opener-more (open_in marks) g ∙ ap (λ o. or_else o (cond (is_same_gxid g g) (Some s) None)) (opener-none (open_in marks) t.each) ∙ ap (λ b. cond b (Some s) None) own-gxid ∙ ap Some (same k q))
+              (ap (λ o. opener o g) open-start ∙ opener-more (open_in marks) g ∙ ap (λ o. or_else o (cond (is_same_gxid g g) (Some s) None)) (opener-none (open_in marks) t.each) ∙ ap (λ b. cond b (Some s) None) own-gxid
+              ∙ ap Some (same k q))
           by_test false q =
               ap (λ o. opener o h) open-start ∙ opener-more (open_in marks) h
               ∙ ap (λ o. or_else o (cond (is_same_gxid g h) (Some s) None)) (t.found k h (sym (own-other k q) ∙ e) (sym (ended-start h) ∙ u))

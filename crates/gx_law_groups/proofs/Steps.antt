@@ -1,41 +1,26 @@
 -- Open transactions and slots, step by step.
-use Rattle.std.proofs.Common.{◌≡◌, ◌⊎◌, inl, inr, ℕ, zero, suc, ◌+◌, ◌<◌, ◌≤◌, ◌==◌, Bool, true, false, cond, ◌||◌, ◌&&◌, List, [], ◌∷◌, ◌++◌, length, map, Option, Some, None, refl, sym, ap, ◌∙◌, subst, arith, append_assoc, append-nil}
-use Rattle.std.proofs.lemmas.Bool.Decides.{nat_tests}
-use Rattle.std.proofs.lemmas.Grind.{flat_map-append}
-use Rattle.std.specs.Prelude.{All, filter, is_some, not}
-use Rattle.std.specs.List.{list_any, range_with_len}
+use Rattle.std.proofs.Common.{◌≡◌, ◌⊎◌, inl, inr, ℕ, ◌<◌, true, List, [], ◌∷◌, ◌++◌, length, refl, sym, ap, ◌∙◌, subst, append_assoc, append-nil}
 use Rattle.gx_ids.specs.declared.ids.Gxid.{Gxid}
 use Rattle.gx_ids.specs.declared.ids.SessionId.{SessionId}
-use Rattle.gx_tree.specs.declared.stmt.Stmt.{Stmt}
 use Rattle.gx_script.specs.declared.Line.{Line}
 use Rattle.gx_script.specs.declared.Script.{Script}
-use Rattle.gx_groups.specs.Slots.{has, is}
-use Rattle.gx_groups.specs.Table.{Table, after_ask, after_give, asks, holds, may}
-use Rattle.gx_groups.specs.Calls.{only_if}
-use Rattle.gx_lemmas.proofs.Tests.{and-first, and-second, and-true, true-false}
+use Rattle.gx_groups.specs.Table.{Table, after_give, holds, may}
 use Rattle.gx_store.specs.declared.event.Event.{Event}
-use Rattle.gx_store.specs.declared.event.Event.TheVariants as event
 use Rattle.gx_store.specs.declared.mark.Mark.{Mark}
 use Rattle.gx_store.specs.declared.mark.Mark.TheVariants.{Abort, Answer, Commit, Start}
 use Rattle.gx_store.specs.declared.run.Step.{Step}
-use Rattle.gx_store.specs.Groups.{all_asking, asking, asks_in, draws_next, is_to_open, lets, open_after, open_in, slots_after, slots_behind, slots_by, slots_from, slots_through}
-use Rattle.gx_store.specs.Legal.{AbortsAtEnd, AbortsWithLine, AreLegalMarks, IsDrawn, IsLegalStep, LegalAbort, LegalEvent, LegalMark, draws}
-use Rattle.gx_store.specs.Lines.{BlockState, Failed, InBlock, Outside, next_stmt, state_of, stmt_of}
-use Rattle.gx_store.specs.Marks.{answer_count, is_answered, is_begun, is_same_session, started_after}
-use Rattle.gx_store.specs.Points.{marks_in, starts_by, starts_in}
-use Rattle.gx_store.specs.Schedule.{is_idle, sessions_of}
-use Rattle.gx_store.proofs.Lines.{state_from-append}
-use Rattle.gx_store.proofs.Marks.{answer_count-append}
-use Rattle.gx_store.proofs.Points.{starts_in-append}
-use Rattle.gx_law_groups.specs.Openers.{is_of}
+use Rattle.gx_store.specs.Groups.{open_after, open_in, slots_by, slots_through}
+use Rattle.gx_store.specs.Legal.{AbortsAtEnd, AbortsWithLine, AreLegalMarks, LegalAbort, LegalEvent, LegalMark}
+use Rattle.gx_store.specs.Points.{marks_in}
 use Rattle.gx_law_groups.proofs.Giving.{may-give}
 use Rattle.gx_law_groups.proofs.Marks.{abort-ends, commit-ends, open_from-append}
-use Rattle.gx_law_groups.proofs.Slots.{Slotted, is_at, session-at, slotted-ask, slotted-same, whole}
-use Rattle.gx_law_groups.proofs.Through.{Stands, answer-mark, end-mark, has-line, start-mark, still-mark, unanswered-state}
-use Rattle.gx_law_groups.proofs.Tidy.{Each, Tidy, none-held, own}
+use Rattle.gx_law_groups.proofs.Slots.{whole}
+use Rattle.gx_law_groups.proofs.Through.{Stands, answer-mark, end-mark, start-mark, still-mark}
+use Rattle.gx_law_groups.proofs.Tidy.{Each}
 
 -- THE MARKS OF A STEP
-module _ (script : Script) (lines : Each (λ (l : Line). l.session.0 < length script.sessions) script.lines) (steps : List Step) (happens : Event) (marks : List Mark) (legal : LegalEvent script steps happens marks) (asked : ℕ → List SessionId) where
+module _ (script : Script) (lines : Each (λ (l : Line). l.session.0 < length script.sessions) script.lines) (steps : List Step) (happens : Event) (marks : List Mark) (legal : LegalEvent script steps happens marks)
+    (asked : ℕ → List SessionId) where
   abbrev Now : Table → List Mark → Type 0
   Now t earlier = Stands script steps happens asked t earlier
 
@@ -46,11 +31,13 @@ module _ (script : Script) (lines : Each (λ (l : Line). l.session.0 < length sc
       stays : (s k : SessionId) → may t k ≡ true → holds t s ≡ true → may (after_give t s) k ≡ true
       stays s k m h = may-give t k s (whole script t (marks_in steps ++ earlier) asked _ now.slotted) m h
 
-      by_cause : AbortsWithLine script (record { steps = steps; event = happens; earlier = earlier; later = later }) g ⊎ AbortsAtEnd script (record { steps = steps; event = happens; earlier = earlier; later = later }) g → Now (slots_by (open_in (marks_in steps ++ earlier)) t (Abort g)) (earlier ++ Abort g ∷ [])
+      by_cause : AbortsWithLine script (record { steps = steps; event = happens; earlier = earlier; later = later }) g ⊎ AbortsAtEnd script (record { steps = steps; event = happens; earlier = earlier; later = later }) g
+          → Now (slots_by (open_in (marks_in steps ++ earlier)) t (Abort g)) (earlier ++ Abort g ∷ [])
       by_cause (inl a) = end-mark script lines steps happens marks legal asked t earlier later now g a.session (Abort g) (abort-ends g) a.transaction l.running (stays a.session) (λ place. refl)
       by_cause (inr a) = end-mark script lines steps happens marks legal asked t earlier later now g a.session (Abort g) (abort-ends g) a.transaction l.running (stays a.session) (λ place. refl)
 
-  one-mark : (t : Table) (earlier later : List Mark) (m : Mark) → Now t earlier → LegalMark script (record { steps = steps; event = happens; earlier = earlier; later = later }) m → Now (slots_by (open_in (marks_in steps ++ earlier)) t m) (earlier ++ m ∷ [])
+  one-mark : (t : Table) (earlier later : List Mark) (m : Mark) → Now t earlier → LegalMark script (record { steps = steps; event = happens; earlier = earlier; later = later }) m
+      → Now (slots_by (open_in (marks_in steps ++ earlier)) t m) (earlier ++ m ∷ [])
   one-mark t earlier later (Start g s) now l = start-mark script lines steps happens marks legal asked t earlier later now g s l
   one-mark t earlier later (Commit g) now l =
       end-mark script lines steps happens marks legal asked t earlier later now g l.session (Commit g) (commit-ends g) l.transaction l.running

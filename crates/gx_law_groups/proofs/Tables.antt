@@ -1,5 +1,5 @@
 -- What calls change of a group's holders, and what they leave.
-use Rattle.std.proofs.Common.{◌≡◌, ◌≢◌, ℕ, zero, suc, ◌+◌, ◌<◌, ◌≤◌, Bool, true, false, cond, List, [], ◌∷◌, ◌++◌, length, arith, eqb, refl, get_or, set, sym, ◌∙◌, ap, ⊎_elim, append-nil}
+use Rattle.std.proofs.Common.{◌≡◌, ◌≢◌, ℕ, zero, suc, true, false, cond, List, [], ◌∷◌, ◌++◌, arith, eqb, refl, set, sym, ◌∙◌, ap, ⊎_elim, append-nil}
 use Rattle.std.proofs.lemmas.Bool.{cases_eq}
 use Rattle.std.proofs.lemmas.Bool.Decides.{nat_tests}
 use Rattle.std.specs.Prelude.{Option, None, Some, slice_get}
@@ -8,8 +8,8 @@ use Rattle.gx_groups.specs.declared.seat.Seat.{Seat}
 use Rattle.gx_groups.specs.declared.seat.Seat.TheVariants.{Grouped, Alone}
 use Rattle.gx_groups.specs.declared.seat.Standing.{Standing}
 use Rattle.gx_groups.specs.declared.seat.Standing.TheVariants.{Idle, Asking, Holding}
-use Rattle.gx_groups.specs.Slots.{Slots, fresh, has, is, lets, asked, taken, given, without}
-use Rattle.gx_groups.specs.Table.{Table, IsWhole, after_ask, after_give, after_take, changed_at, group_at, may_at, seat_of}
+use Rattle.gx_groups.specs.Slots.{Slots, asked, taken, given, without}
+use Rattle.gx_groups.specs.Table.{Table, IsWhole, after_ask, after_give, after_take, changed_at, group_at, seat_of}
 use Rattle.gx_groups.specs.Calls.{Call, Ask, Take, Give, after, is_seated, on, only_if}
 use Rattle.gx_groups.proofs.Runs.{at-other, at-same}
 

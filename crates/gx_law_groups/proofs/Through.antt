@@ -1,12 +1,11 @@
 -- Open transactions and slots, mark by mark.
-use Rattle.std.proofs.Common.{◌≡◌, ◌⊎◌, inl, inr, ℕ, zero, suc, ◌+◌, ◌<◌, ◌≤◌, ◌==◌, Bool, true, false, cond, ◌||◌, ◌&&◌, List, [], ◌∷◌, ◌++◌, length, map, Option, Some, None, refl, sym, ap, ◌∙◌, subst, arith, append_assoc, append-nil}
+use Rattle.std.proofs.Common.{◌≡◌, ℕ, ◌+◌, ◌<◌, ◌==◌, Bool, true, false, cond, ◌||◌, ◌&&◌, List, [], ◌∷◌, ◌++◌, length, Option, Some, None, refl, sym, ap, ◌∙◌, subst, arith, append_assoc, append-nil}
 use Rattle.std.proofs.lemmas.Bool.Decides.{nat_tests}
-use Rattle.std.specs.Prelude.{All, is_some, not}
+use Rattle.std.specs.Prelude.{is_some, not}
 use Rattle.std.specs.List.{list_any}
 use Rattle.gx_ids.specs.declared.ids.Gxid.{Gxid}
 use Rattle.gx_ids.specs.declared.ids.SessionId.{SessionId}
 use Rattle.gx_tree.specs.declared.stmt.Stmt.{Stmt}
-use Rattle.gx_tree.specs.declared.stmt.Stmt.TheVariants as stmt
 use Rattle.gx_script.specs.declared.Line.{Line}
 use Rattle.gx_script.specs.declared.Script.{Script}
 use Rattle.gx_groups.specs.Slots.{is}
@@ -16,19 +15,19 @@ use Rattle.gx_lemmas.proofs.Tests.{true-false}
 use Rattle.gx_store.specs.declared.event.Event.{Event}
 use Rattle.gx_store.specs.declared.event.Event.TheVariants as event
 use Rattle.gx_store.specs.declared.mark.Mark.{Mark}
-use Rattle.gx_store.specs.declared.mark.Mark.TheVariants.{Abort, Answer, Commit, Start}
+use Rattle.gx_store.specs.declared.mark.Mark.TheVariants.{Answer, Start}
 use Rattle.gx_store.specs.declared.opened.Opened.{Opened}
 use Rattle.gx_store.specs.declared.run.Step.{Step}
-use Rattle.gx_store.specs.Groups.{draws_next, giving, is_to_open, open_after, open_in, opener, slots_by, slots_through, taking, without}
-use Rattle.gx_store.specs.Legal.{AbortsAtEnd, AbortsWithLine, AreLegalMarks, LegalAbort, LegalAnswer, LegalCommit, LegalEvent, LegalMark, LegalStart, draws}
+use Rattle.gx_store.specs.Groups.{draws_next, giving, is_to_open, open_in, opener, taking, without}
+use Rattle.gx_store.specs.Legal.{LegalAnswer, LegalEvent, LegalStart, draws}
 use Rattle.gx_store.specs.Lines.{BlockState, Failed, InBlock, Outside, next_stmt, state_after_line, state_from, state_of, stmt_of, transaction_of}
 use Rattle.gx_store.specs.Marks.{answer_count, is_begun, is_begun_after, is_ended, is_same_gxid, is_same_session, session_of, started_after}
-use Rattle.gx_store.specs.Points.{Point, before, marks_in, starts_by, starts_in}
+use Rattle.gx_store.specs.Points.{Point, marks_in, starts_by, starts_in}
 use Rattle.gx_store.proofs.Lines.{state_from-append}
 use Rattle.gx_store.proofs.Marks.{answer_count-append, is_begun_after-append, started_after-append}
 use Rattle.gx_law_groups.specs.Openers.{is_of}
 use Rattle.gx_law_groups.proofs.Answered.{open-answer, tidy-answer}
-use Rattle.gx_law_groups.proofs.Marks.{IsEndOf, IsStill, abort-ends, commit-ends, is_key, open_from-append, still}
+use Rattle.gx_law_groups.proofs.Marks.{IsEndOf, IsStill, is_key, still}
 use Rattle.gx_law_groups.proofs.Slots.{Slotted, any-left, any-push, begun_at, begun_at-append, is_at, slotted-give, slotted-same, slotted-take}
 use Rattle.gx_law_groups.proofs.Starting.{open-start, tidy-start}
 use Rattle.gx_law_groups.proofs.Tidy.{Each, IsOwn, Tidy, each-map, end-open, open-still, opens, own, own-home, own-is, tidy-end, tidy-still}
@@ -134,7 +133,8 @@ pub record Stands (script : Script) (steps : List Step) (happens : Event) (asked
   pub apart : (k : SessionId) → (is_to_open script steps k && not (is_some (started_after k None earlier))) ≡ true → list_any (is_of k) (open_in (marks_in steps ++ earlier)) ≡ false
 
 -- the state of everything behind the marks of a step so far; what the step's event asks of the steps before it
-module _ (script : Script) (lines : Each (λ (l : Line). l.session.0 < length script.sessions) script.lines) (steps : List Step) (happens : Event) (whole : List Mark) (legal : LegalEvent script steps happens whole) (asked : ℕ → List SessionId) where
+module _ (script : Script) (lines : Each (λ (l : Line). l.session.0 < length script.sessions) script.lines) (steps : List Step) (happens : Event) (whole : List Mark) (legal : LegalEvent script steps happens whole)
+    (asked : ℕ → List SessionId) where
   abbrev starts : SessionId → ℕ
   starts k = starts_in k steps + starts_by k happens
 
@@ -158,7 +158,8 @@ module _ (script : Script) (lines : Each (λ (l : Line). l.session.0 < length sc
     started-more k = started_after-append k None earlier (m ∷ [])
 
     -- a mark that changes no slot, begins nothing and ends nothing
-    aside : Tidy script (marks ++ m ∷ []) starts → open_in (marks ++ m ∷ []) ≡ open_in marks → ((place : ℕ) → begun_at script place (m ∷ []) ≡ []) → ((k : SessionId) (o : Option Gxid) → started_after k o (m ∷ []) ≡ o) → Now t (earlier ++ m ∷ [])
+    aside : Tidy script (marks ++ m ∷ []) starts → open_in (marks ++ m ∷ []) ≡ open_in marks → ((place : ℕ) → begun_at script place (m ∷ []) ≡ []) → ((k : SessionId) (o : Option Gxid) → started_after k o (m ∷ []) ≡ o)
+        → Now t (earlier ++ m ∷ [])
     aside tidy still_open begins started = record {
       tidy = subst (λ ms. Tidy script ms starts) (sym more) tidy;
       slotted = slotted-same script t marks (marks_in steps ++ (earlier ++ m ∷ [])) asked asked (asking earlier) (asking (earlier ++ m ∷ []))
@@ -190,7 +191,8 @@ module _ (script : Script) (lines : Each (λ (l : Line). l.session.0 < length sc
     pub answer-mark : (s : SessionId) (n : ℕ) (a : _) → LegalAnswer script (point earlier later) s n a → Now t (earlier ++ Answer s n a ∷ [])
     answer-mark s n a l =
         let running : stmt_of s n script.lines ≡ Some l.line = ap (λ i. stmt_of s i script.lines) l.order ∙ l.runs.line in
-        aside t earlier (Answer s n a) now (tidy-answer script (point earlier later) starts s n a l.line now.tidy l.order running l.is) (open-answer script (point earlier later) starts s n a l.line now.tidy l.order running l.is) (λ place. refl) (λ k o. refl)
+        aside t earlier (Answer s n a) now (tidy-answer script (point earlier later) starts s n a l.line now.tidy l.order running l.is) (open-answer script
+        (point earlier later) starts s n a l.line now.tidy l.order running l.is) (λ place. refl) (λ k o. refl)
 
     -- A TRANSACTION ENDS
     module _ (g : Gxid) (s : SessionId) (m : Mark) (ends : IsEndOf g m) (whose : transaction_of (state_of script s here) s here ≡ Some g) (running : is_ended here g ≡ false) where
@@ -353,7 +355,8 @@ module _ (script : Script) (lines : Each (λ (l : Line). l.session.0 < length sc
             (ap open_in (more t earlier (Start g s) now)) (λ place. ap (begun_at script place) (more t earlier (Start g s) now)) (λ place. refl) (λ k r. asking-now k)
             (slotted-take script t here asked (asking earlier) now.slotted g s known-start free (here ++ Start g s ∷ []) open-more
             (λ place. begun_at-append script place here (Start g s ∷ []) ∙ ap (λ xs. begun_at script place here ++ xs) (append-nil (only_if (is_at script place s) s))));
-        free = λ k e f u. absurd (let off = sym (started-now k) ∙ u in let on : is_same_session s k ≡ true = ap (λ x. is_same_session s x) (only-one k e) ∙ itself in let x : true ≡ false = sym (ap (λ b. cond b true (is_some (started_after k None earlier))) on) ∙ off in cc);
+        free = λ k e f u. absurd (let off = sym (started-now k) ∙ u in let on : is_same_session s k ≡ true = ap (λ x. is_same_session s x) (only-one k e)
+            ∙ itself in let x : true ≡ false = sym (ap (λ b. cond b true (is_some (started_after k None earlier))) on) ∙ off in cc);
         apart = λ k e. ap (list_any (is_of k)) (ap open_in (more t earlier (Start g s) now) ∙ open-more) ∙ any-push script t here asked (asking earlier) now.slotted g s known-start free k (open_in here) ∙ off k (sym (asking-now k) ∙ e);
       })
         where

@@ -1,18 +1,16 @@
 -- What the marks of a legal history say of the transactions that are open.
-use Rattle.std.proofs.Common.{◌≡◌, ℕ, ◌+◌, ◌<◌, ◌==◌, Bool, true, false, cond, ◌||◌, List, [], ◌∷◌, ◌++◌, Option, Some, None, refl, sym, ap, ◌∙◌, subst, arith}
+use Rattle.std.proofs.Common.{◌≡◌, ℕ, ◌+◌, ◌<◌, Bool, true, false, cond, ◌||◌, List, [], ◌∷◌, ◌++◌, Option, Some, None, refl, sym, ap, ◌∙◌, subst, arith}
 use Rattle.std.proofs.lemmas.Bool.Decides.{nat_tests}
-use Rattle.std.specs.Prelude.{filter, not, if◌then◌else◌}
+use Rattle.std.specs.Prelude.{not, if◌then◌else◌}
 use Rattle.gx_ids.specs.declared.ids.Gxid.{Gxid}
 use Rattle.gx_ids.specs.declared.ids.SessionId.{SessionId}
 use Rattle.gx_script.specs.declared.Script.{Script}
-use Rattle.gx_groups.proofs.Sessions.{same-session}
-use Rattle.gx_lemmas.proofs.Tests.{or-false, true-false}
+use Rattle.gx_lemmas.proofs.Tests.{or-false}
 use Rattle.gx_store.specs.declared.mark.Mark.{Mark}
-use Rattle.gx_store.specs.declared.mark.Mark.TheVariants.{Start}
 use Rattle.gx_store.specs.declared.opened.Opened.{Opened}
 use Rattle.gx_store.specs.Groups.{draws_next, open_in, opener, without}
 use Rattle.gx_store.specs.Lines.{BlockState, Failed, InBlock, Outside, state_of, stmt_of, transaction_of}
-use Rattle.gx_store.specs.Marks.{answer_count, is_begun, is_ended, is_same_gxid, is_same_session, session_of, start_count, started_after}
+use Rattle.gx_store.specs.Marks.{answer_count, is_begun, is_ended, is_same_gxid, session_of, start_count, started_after}
 use Rattle.gx_store.proofs.Lines.{state_from-append}
 use Rattle.gx_store.proofs.Marks.{answer_count-append, is_begun_after-append, is_ended-append, started_after-append}
 use Rattle.gx_law_groups.proofs.Marks.{IsEndOf, IsStill, open_from-append, or_else, session_of-append, start_count-append}

@@ -1,12 +1,15 @@
-use Rattle.gx_agenda.proofs.Oks.{on_ok-three}
+use Rattle.gx_agenda.proofs.Oks.{on_ok}
 use Rattle.gx_drive.proofs.agenda.Agenda.note.Goals as goal
 
-pub returns : goal.returns
-returns c =
-    on_ok-three c.note_step.result _ _ _ _ c.note_step.ensures.quiet c.note_step.ensures.queue c.note_step.ensures.asked
-    (λ quiet queue asked script steps agreed due counted told. record {
-      cursors = c.deliver.ensures script steps agreed.cursors due;
-      queue = queue script steps agreed.queue counted;
-      asked = asked steps agreed.asked told;
-      quiet = quiet script steps agreed.quiet;
+pub returns-in_ok-note_step : goal.returns-in_ok-note_step
+returns-in_ok-note_step c =
+    on_ok c.note_slots.result _ _ c.note_slots.ensures
+    (λ slots steps agreed due counted told.
+    let queue = c.in_ok-note_step.ensures.queue c.args.script.now steps agreed.queue counted in
+    record {
+      cursors = c.deliver.ensures c.args.script.now steps agreed.cursors due;
+      queue = queue;
+      asked = c.in_ok-note_step.ensures.asked steps agreed.asked told;
+      quiet = c.in_ok-note_step.ensures.quiet c.args.script.now steps agreed.quiet;
+      slots = slots steps agreed.slots queue;
     })
