@@ -1,5 +1,5 @@
--- Whatever is enabled is due and admitted, so whatever is first of it, or drawn.
-use Rattle.std.proofs.Common.{◌≡◌, ◌≤◌, ◌<◌, ℕ, zero, suc, ◌+◌, List, [], ◌∷◌, ◌++◌, Bool, true, false, ◌&&◌, if◌then◌else◌, not, inl, inr, Option, None, Some, refl, sym, ap, subst, arith, slice_get}
+-- Whatever is enabled is due and admitted, so whatever is first, or drawn, of what the groups let of it.
+use Rattle.std.proofs.Common.{◌≡◌, ◌≤◌, ◌<◌, ℕ, zero, suc, ◌+◌, List, [], ◌∷◌, ◌++◌, Bool, true, false, ◌&&◌, if◌then◌else◌, cond, not, inl, inr, Option, None, Some, refl, sym, ap, subst, arith, slice_get}
 use Rattle.std.proofs.lemmas.Option.{same_Some}
 use Rattle.std.specs.List.{AllByRecursion, flat_map, list_all, list_any, range_with_len}
 use Rattle.std.specs.Option.{option_to_list}
@@ -11,6 +11,7 @@ use Rattle.gx_script.specs.declared.Script.{Script}
 use Rattle.gx_store.specs.declared.event.Event.{Event}
 use Rattle.gx_store.specs.declared.event.Event.TheVariants.{Receive, End, Resend, Resume, Round, Start}
 use Rattle.gx_store.specs.declared.run.Step.{Step}
+use Rattle.gx_store.specs.Groups.{enabled_in, lets}
 use Rattle.gx_store.specs.Ordered.{IsLink, IsSegment, sent_in}
 use Rattle.gx_store.specs.Points.{marks_in}
 use Rattle.gx_store.specs.Refusals.{the_coordinator}
@@ -25,19 +26,19 @@ use Rattle.gx_drive.specs.Ordered.{IsFirst}
 use Rattle.gx_drive.proofs.Firsts.{first-none}
 
 module _ (P : Event → Type 0) where
-  all-append : (xs ys : List Event) → AllByRecursion P xs → AllByRecursion P ys → AllByRecursion P (xs ++ ys)
+  pub all-append : (xs ys : List Event) → AllByRecursion P xs → AllByRecursion P ys → AllByRecursion P (xs ++ ys)
   all-append [] ys h k = k
   all-append (x ∷ xs) ys h k = (h.0, all-append xs ys h.1 k)
 
-  all-map : {X : Type 0} (f : X → Event) → ((x : X) → P (f x)) → (xs : List X) → AllByRecursion P (map f xs)
+  pub all-map : {X : Type 0} (f : X → Event) → ((x : X) → P (f x)) → (xs : List X) → AllByRecursion P (map f xs)
   all-map f each [] = tt
   all-map f each (x ∷ xs) = (each x, all-map f each xs)
 
-  all-first : (xs : List Event) → AllByRecursion P xs → AllByRecursion P (first_of xs)
+  pub all-first : (xs : List Event) → AllByRecursion P xs → AllByRecursion P (first_of xs)
   all-first [] h = tt
   all-first (x ∷ xs) h = (h.0, tt)
 
-  all-nodes : (f : Node → List Event) (k n : ℕ) → ((i : Node) → k ≤ i.0 → i.0 < k + n → AllByRecursion P (f i)) → AllByRecursion P (flat_map f (nodes_from k n))
+  pub all-nodes : (f : Node → List Event) (k n : ℕ) → ((i : Node) → k ≤ i.0 → i.0 < k + n → AllByRecursion P (f i)) → AllByRecursion P (flat_map f (nodes_from k n))
   all-nodes f k zero each = tt
   all-nodes f k (suc n) each =
       all-append (f (record { 0 = k })) (flat_map f (nodes_from (k + 1) n)) (each (record { 0 = k }) (at k) (below k n))
@@ -64,6 +65,19 @@ passes-at : (p : Event → Bool) (xs : List Event) (k : ℕ) (x : Event) → lis
 passes-at p [] k x all there = absurd (cc)
 passes-at p (y ∷ ys) zero x all there = subst (λ z. p z ≡ true) (same_Some y x there) (and-first (p y) (list_all p ys) all)
 passes-at p (y ∷ ys) (suc k) x all there = passes-at p ys k x (and-second (p y) (list_all p ys) all) there
+
+-- what stands at a place among those that pass a test stands at some place among all
+at-filtered : (q : Event → Bool) (xs : List Event) (k : ℕ) (x : Event) → slice_get (filter q xs) k ≡ Some x → (j : ℕ) × (slice_get xs j ≡ Some x)
+at-filtered q [] k x there = absurd (cc)
+at-filtered q (y ∷ ys) k x there = by_test (q y) k there (λ k there. at-filtered q ys k x there)
+  where
+    later : (j : ℕ) × (slice_get ys j ≡ Some x) → (j : ℕ) × (slice_get (y ∷ ys) j ≡ Some x)
+    later (j, at) = (suc j, at)
+
+    by_test : (b : Bool) (k : ℕ) → slice_get (cond b (y ∷ filter q ys) (filter q ys)) k ≡ Some x → ((k : ℕ) → slice_get (filter q ys) k ≡ Some x → (j : ℕ) × (slice_get ys j ≡ Some x)) → (j : ℕ) × (slice_get (y ∷ ys) j ≡ Some x)
+    by_test true zero there f = (0, there)
+    by_test true (suc k) there f = later (f k there)
+    by_test false k there f = later (f k there)
 
 module _ (script : Script) (steps : List Step) where
   abbrev AreDue : List Event → Type 0
@@ -145,31 +159,36 @@ module _ (script : Script) (steps : List Step) where
       within : (a n : ℕ) → a < 1 + n → a ≤ n
       within a n h = omega (arith, h)
 
-  pub drawn-due : (k : ℕ) (e : Event) → slice_get (enabled script steps) k ≡ Some e → IsDue script steps e
-  drawn-due k e there = at-place (IsDue script steps) (enabled script steps) k e all-due there
+  -- what the groups let is enabled
+  place-of : (k : ℕ) (e : Event) → slice_get (enabled_in script steps) k ≡ Some e → (j : ℕ) × (slice_get (enabled script steps) j ≡ Some e)
+  place-of k e there = at-filtered (lets script steps) (enabled script steps) k e there
 
-  pub drawn-is : (o : Option Event) (k : ℕ) → o ≡ slice_get (enabled script steps) k → IfSome o (λ e. slice_get (enabled script steps) k ≡ Some e)
+  pub drawn-due : (k : ℕ) (e : Event) → slice_get (enabled_in script steps) k ≡ Some e → IsDue script steps e
+  drawn-due k e there = let found = place-of k e there in at-place (IsDue script steps) (enabled script steps) found.0 e all-due found.1
+
+  pub drawn-is : (o : Option Event) (k : ℕ) → o ≡ slice_get (enabled_in script steps) k → IfSome o (λ e. slice_get (enabled_in script steps) k ≡ Some e)
   drawn-is None k is = tt
   drawn-is (Some e) k is = sym is
 
   -- WHAT IS FIRST
-  pub first-is : (o : Option Event) → is_any_unfinished script steps ≡ true → option_to_list o ≡ first_of (enabled script steps) → IfSome o (IsFirst script steps)
+  pub first-is : (o : Option Event) → is_any_unfinished script steps ≡ true → option_to_list o ≡ first_of (enabled_in script steps) → IfSome o (IsFirst script steps)
   first-is None unfinished first = tt
   first-is (Some e) unfinished first = record { unfinished = unfinished; first = sym first }
 
-  pub first-nothing : (o : Option Event) → option_to_list o ≡ first_of (enabled script steps) → IfNone o (enabled script steps ≡ [])
-  first-nothing None first = first-none (enabled script steps) (sym first)
+  pub first-nothing : (o : Option Event) → option_to_list o ≡ first_of (enabled_in script steps) → IfNone o (enabled_in script steps ≡ [])
+  first-nothing None first = first-none (enabled_in script steps) (sym first)
   first-nothing (Some e) first = tt
 
   module _ (some : 1 ≤ script.segments) (is : IsReached script steps) where
-    pub drawn-admitted : (k : ℕ) (e : Event) → slice_get (enabled script steps) k ≡ Some e → is_admitted script steps e ≡ true
+    pub drawn-admitted : (k : ℕ) (e : Event) → slice_get (enabled_in script steps) k ≡ Some e → is_admitted script steps e ≡ true
     drawn-admitted k e there =
-        passes-at (is_admitted script steps) (enabled script steps) k e
-        (by-events script steps is (λ ss. list_all (is_admitted script ss) (enabled script ss) ≡ true) (all-are-admitted script some)) there
+        let found = place-of k e there in
+        passes-at (is_admitted script steps) (enabled script steps) found.0 e
+        (by-events script steps is (λ ss. list_all (is_admitted script ss) (enabled script ss) ≡ true) (all-are-admitted script some)) found.1
 
-    pub first-admitted : (o : Option Event) → option_to_list o ≡ first_of (enabled script steps) → IfSome o (λ e. is_admitted script steps e ≡ true)
+    pub first-admitted : (o : Option Event) → option_to_list o ≡ first_of (enabled_in script steps) → IfSome o (λ e. is_admitted script steps e ≡ true)
     first-admitted None first = tt
-    first-admitted (Some e) first = drawn-admitted 0 e (place (enabled script steps) (sym first))
+    first-admitted (Some e) first = drawn-admitted 0 e (place (enabled_in script steps) (sym first))
       where
         place : (xs : List Event) → first_of xs ≡ e ∷ [] → slice_get xs 0 ≡ Some e
         place [] h = absurd (cc)

@@ -14,7 +14,8 @@ use Rattle.gx_script.specs.declared.Script.{Script}
 use Rattle.gx_store.specs.Cancelled.{wait_graph, waits_in}
 use Rattle.gx_store.specs.Points.{marks_in}
 use Rattle.gx_store.specs.Refusals.{the_coordinator}
-use Rattle.gx_store.specs.Schedule.{enabled, is_any_unfinished, segments_of}
+use Rattle.gx_store.specs.Groups.{enabled_in}
+use Rattle.gx_store.specs.Schedule.{is_any_unfinished, segments_of}
 use Rattle.gx_store.specs.declared.run.Step.{Step}
 use Rattle.gx_drive.specs.Ends.{AreStuckAt, AreStuckWaits, AreThose, IsEnd}
 use Rattle.gx_drive.specs.declared.end.End.TheVariants.{Done, Stuck, Turns}
@@ -38,7 +39,7 @@ below : (m n : ℕ) → m < n → m ≤ n
 below m n h = omega (arith, h)
 
 module _ (script : Script) (steps : List Step) (turns : ℕ) where
-  pub stuck-ends : (graphs : List LocalGraph) → length steps < turns → is_any_unfinished script steps ≡ true → enabled script steps ≡ [] → AreStuckWaits script steps graphs → IsEnd script steps turns (Stuck graphs)
+  pub stuck-ends : (graphs : List LocalGraph) → length steps < turns → is_any_unfinished script steps ≡ true → enabled_in script steps ≡ [] → AreStuckWaits script steps graphs → IsEnd script steps turns (Stuck graphs)
   stuck-ends graphs left some nothing waits = record {
     within = below (length steps) turns left;
     done = (λ e. stuck-done graphs e, λ e. never (is_any_unfinished script steps) some e);

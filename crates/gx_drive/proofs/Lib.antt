@@ -8,11 +8,11 @@ pub mod Driving
 pub mod Journals
 pub mod Unfinished
 pub mod Undetected
-pub mod Lone
 pub mod Noting
 pub mod Answers
 pub mod Pushed
 pub mod Draws
+pub mod Let
 pub mod Words
 pub mod Endings
 pub mod Running

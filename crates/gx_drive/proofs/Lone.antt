@@ -45,15 +45,15 @@ drawn-let script seed steps a = let-chosen script (IsDrawn script seed) (λ befo
 -- whoever passes a filter passes its test
 has-passed : (p : Event → Bool) (xs : List Event) (e : Event) → Has e (filter p xs) → p e ≡ true
 has-passed p [] e h = absurd h
-has-passed p (x ∷ xs) e h = by_test (p x) refl h
+has-passed p (x ∷ xs) e h = by_test (p x) refl h (has-passed p xs e)
   where
     by_first : (b : Bool) → p x ≡ b → b ≡ true → (x ≡ e) → p e ≡ true
     by_first b is t same = subst (λ (y : Event). p y ≡ true) same (is ∙ t)
 
-    by_test : (b : Bool) → p x ≡ b → Has e (cond b (x ∷ filter p xs) (filter p xs)) → p e ≡ true
-    by_test true is (inl same) = by_first true is refl same
-    by_test true is (inr later) = has-passed p xs e later
-    by_test false is later = has-passed p xs e later
+    by_test : (b : Bool) → p x ≡ b → Has e (cond b (x ∷ filter p xs) (filter p xs)) → (Has e (filter p xs) → p e ≡ true) → p e ≡ true
+    by_test true is (inl same) f = by_first true is refl same
+    by_test true is (inr later) f = f later
+    by_test false is later f = f later
 
 -- so each line was started where the groups let it
 starts-behind : (script : Script) (before steps : List Step) → AreLet script (lets script) before steps → AreLetBehind script before steps

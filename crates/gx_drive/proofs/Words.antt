@@ -5,7 +5,8 @@ use Rattle.rand_xoshiro.specs.Xoshiro256.{plus_plus}
 use Rattle.gx_script.specs.declared.Script.{Script}
 use Rattle.gx_store.specs.declared.event.Event.{Event}
 use Rattle.gx_store.specs.declared.run.Step.{Step}
-use Rattle.gx_store.specs.Schedule.{enabled, is_any_unfinished}
+use Rattle.gx_store.specs.Groups.{enabled_in}
+use Rattle.gx_store.specs.Schedule.{is_any_unfinished}
 use Rattle.gx_drive.specs.Seeded.{IsDrawn, behind, seeded}
 
 behind-suc : (n : ℕ) (generator : List ℕ) → behind (suc n) generator ≡ (plus_plus (behind n generator)).1
@@ -23,11 +24,11 @@ behind-next n word start old new drawn is = ap (λ (p : ℕ × List ℕ). p.1) d
 -- what a word draws is what the seed draws
 pub word-draws : (script : Script) (seed n word : ℕ) (steps : List Step) (event : Event) (picked : Option Event) (old new : List ℕ) → length steps ≡ n → (word, new) ≡ plus_plus old
     → old ≡ behind n (seeded seed) → is_any_unfinished script steps ≡ true → picked ≡ Some event
-    → IfSome picked (λ e. slice_get (enabled script steps) (word % length (enabled script steps)) ≡ Some e) → IsDrawn script seed steps event
+    → IfSome picked (λ e. slice_get (enabled_in script steps) (word % length (enabled_in script steps)) ≡ Some e) → IsDrawn script seed steps event
 word-draws script seed n word steps event picked old new count drawn is unfinished same there =
     record {
       unfinished = unfinished;
-      drawn = subst (λ w. slice_get (enabled script steps) (w % length (enabled script steps)) ≡ Some event)
+      drawn = subst (λ w. slice_get (enabled_in script steps) (w % length (enabled_in script steps)) ≡ Some event)
           (ap (λ (p : ℕ × List ℕ). p.0) drawn ∙ ap (λ g. (plus_plus g).0) (is ∙ ap (λ k. behind k (seeded seed)) (sym count)))
-          (subst (λ o. IfSome o (λ e. slice_get (enabled script steps) (word % length (enabled script steps)) ≡ Some e)) same there);
+          (subst (λ o. IfSome o (λ e. slice_get (enabled_in script steps) (word % length (enabled_in script steps)) ≡ Some e)) same there);
     }

@@ -1,7 +1,8 @@
 // How a run ends that can't go on.
 ghost use Rattle.std.specs.Prelude.{◌≡◌, ◌<◌, [], true, IfOk, length};
 ghost use Rattle.gx_law_runs.specs.Reached.{IsReached};
-ghost use Rattle.gx_store.specs.Groups.{enabled_in};
+ghost use Rattle.gx_law_lone.specs.Victims.{AreLet};
+ghost use Rattle.gx_store.specs.Groups.{enabled_in, lets};
 ghost use Rattle.gx_store.specs.Language.{IsScript};
 ghost use Rattle.gx_store.specs.Schedule.{is_any_unfinished};
 ghost use Rattle.gx_drive.specs.Ends.{AreStuckWaits, IsEnd, IsStuckWithout};
@@ -17,6 +18,7 @@ use std::alloc::Global;
 pub(crate) fn stuck(alloc: Global, world: &World, _turns: u64) -> Mem<End>
     requires language { IsScript world.now.script }
     requires reached { IsReached world.now.script world.now.run.steps }
+    requires let_in { AreLet world.now.script (lets world.now.script) [] world.now.run.steps }
     requires left { length world.now.run.steps < _turns }
     requires unfinished { is_any_unfinished world.now.script world.now.run.steps ≡ true }
     requires nothing { enabled_in world.now.script world.now.run.steps ≡ [] }

@@ -1,10 +1,13 @@
-use Rattle.std.proofs.Common.{◌≡◌, arith, rules, subst, sym}
+use Rattle.std.proofs.Common.{◌≡◌, [], arith, rules, subst, sym}
 use Rattle.std.specs.Prelude.{map}
 use Rattle.gx_script.specs.declared.Script.{Script}
+use Rattle.gx_store.specs.Groups.{lets}
 use Rattle.gx_store.specs.Language.{IsScript}
+use Rattle.gx_law_lone.specs.Victims.{AreLet}
 use Rattle.gx_drive.specs.Seeded.{IsDrawn, behind, seeded}
 use Rattle.gx_drive.proofs.Driving.{no-more, no-more-within, none-done, under-way}
 use Rattle.gx_drive.proofs.Journals.{as-many}
+use Rattle.gx_drive.proofs.Lone.{drawn-let}
 use Rattle.gx_drive.proofs.Words.{behind-next, behind-none, word-draws}
 use Rattle.gx_drive.proofs.seeded.run_drawn.Goals as goal
 
@@ -42,6 +45,11 @@ drawn_event-requires-clause-language g c = subst (λ (s : Script). IsScript s) (
 
 pub stuck-requires-clause-language : goal.stuck-requires-clause-language
 stuck-requires-clause-language g c = subst (λ (s : Script). IsScript s) (sym c.loop-turn.invariant.0.same) c.requires.language
+
+pub stuck-requires-clause-let_in : goal.stuck-requires-clause-let_in
+stuck-requires-clause-let_in g c =
+    subst (λ (s : Script). AreLet s (lets s) [] c.loop-turn.world.run.steps) (sym c.loop-turn.invariant.0.same)
+    (drawn-let c.args.world.now.script c.args.seed c.loop-turn.world.run.steps c.loop-turn.invariant.0.driven)
 
 pub turn-requires-clause-language : goal.turn-requires-clause-language
 turn-requires-clause-language g c = subst (λ (s : Script). IsScript s) (sym c.loop-turn.invariant.0.same) c.requires.language

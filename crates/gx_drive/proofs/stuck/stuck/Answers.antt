@@ -12,4 +12,4 @@ returns-clause-end c =
     (stuck-ends c.args.world.now.script c.args.world.now.run.steps c.args._turns _ c.requires.left c.requires.unfinished c.requires.nothing c.in_ok-graphs.ensures)
 
 pub returns-clause-off : goal.returns-clause-off
-returns-clause-off c = λ graphs is inserts. no-detector c.args.world.now.script c.args.world.now.run.steps c.requires.language inserts c.requires.reached c.requires.unfinished c.requires.nothing
+returns-clause-off c = λ graphs is inserts. no-detector c.args.world.now.script c.args.world.now.run.steps c.requires.language inserts c.requires.reached c.requires.let_in c.requires.unfinished c.requires.nothing

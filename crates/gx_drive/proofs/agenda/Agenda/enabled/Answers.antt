@@ -1,4 +1,5 @@
-use Rattle.std.proofs.Common.{◌++◌, ◌∙◌, ap, rules}
+use Rattle.std.proofs.Common.{◌++◌, ◌∙◌, ap, rules, sym}
+use Rattle.gx_drive.proofs.Let.{let-parts}
 use Rattle.gx_drive.proofs.Pushed.{pieces}
 use Rattle.gx_drive.proofs.agenda.Agenda.enabled.Goals as goal
 
@@ -8,3 +9,4 @@ returns c =
     (c.in_ok-push_option.ensures ∙ ap (λ xs. c.push_segment_moves.new.events.items ++ xs) c.resumption.ensures.first) c.in_ok-push_resends.ensures
     (c.in_ok-push_starts.ensures c.args.world.now.script c.args.world.now.run.steps c.requires.agreed.queue c.requires.agreed.slots) c.in_ok-push_ends.ensures
     (c.in_ok-push_option-2.ensures ∙ ap (λ xs. c.push_ends.new.events.items ++ xs) c.next_round.ensures.first)
+    ∙ sym (let-parts c.args.world.now.script c.args.world.now.run.steps)
