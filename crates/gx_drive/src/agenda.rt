@@ -17,7 +17,9 @@ ghost use Rattle.gx_drive.specs.Agrees.{IsAgreed, IsDue, moves_of};
 use crate::detecting::{first_graph, next_round};
 use crate::ends::first_end;
 use crate::moves::first_move;
-use gx_agenda::{Asked, Cursors, Queue, Quiet, Slots, first_start, note_slots, note_step, slots_of};
+use gx_agenda::{
+    Asked, Cursors, Queue, Quiet, Slots, first_start, note_slots, note_step, slots_of,
+};
 use gx_ids::{Mem, Node};
 use gx_msg::Message;
 use gx_script::Script;

@@ -70,7 +70,11 @@ fn note(world: &World, agenda: &mut Agenda) -> Mem<()>
         → IsReached world.now.script steps → IsAgreed world.now.script world.now.run.steps agenda.new) }
 {
     match world.run().steps.last() {
-        Some(step) => agenda.note(world.script(), &step, told(world, step.stamp().node, step.event())),
+        Some(step) => agenda.note(
+            world.script(),
+            &step,
+            told(world, step.stamp().node, step.event()),
+        ),
         None => Ok(()),
     }
 }

@@ -25,9 +25,9 @@ returns-in-Some c =
     let is = last-is c.args.world.now.run.steps steps step c.in-Some.step same (sym c.in-Some.is ∙ c.last.ensures ∙ ap (λ (r : Run). slice_get r.steps (length r.steps - 1)) c.run.ensures.value) in
     let whole = last-all script some c.args.world.now.run.steps steps step c.in-Some.step same is in
     let noted_in : IsAgreed script (steps ++ c.in-Some.step ∷ []) c.note.new.self =
-        subst (λ (s : Script). IsAgreed s (steps ++ c.in-Some.step ∷ []) c.note.new.self) c.script.ensures.value
-        (noted steps (subst (λ (s : Script). IsAgreed s steps c.args.agenda.now) (sym c.script.ensures.value) agreed)
-        (subst (λ (s : Script). IsDue s steps c.in-Some.step.event) (sym c.script.ensures.value) (last-due script some c.args.world.now.run.steps steps step c.in-Some.step same is due))
-        (subst AreCounted (sym whole) (counted script some c.args.world.now.run.steps c.requires.reached c.requires.room))
-        (λ here. c.told.ensures (ap (λ (s : Stamp). is_same_node s.node the_coordinator) c.stamp.ensures ∙ here) ∙ ap (told_in c.args.world.now.run.steps) c.event.ensures ∙ last-told script some c.args.world.now.run.steps steps step c.in-Some.step same is reached admitted)) in
+    subst (λ (s : Script). IsAgreed s (steps ++ c.in-Some.step ∷ []) c.note.new.self) c.script.ensures.value
+    (noted steps (subst (λ (s : Script). IsAgreed s steps c.args.agenda.now) (sym c.script.ensures.value) agreed)
+    (subst (λ (s : Script). IsDue s steps c.in-Some.step.event) (sym c.script.ensures.value) (last-due script some c.args.world.now.run.steps steps step c.in-Some.step same is due))
+    (subst AreCounted (sym whole) (counted script some c.args.world.now.run.steps c.requires.reached c.requires.room))
+    (λ here. c.told.ensures (ap (λ (s : Stamp). is_same_node s.node the_coordinator) c.stamp.ensures ∙ here) ∙ ap (told_in c.args.world.now.run.steps) c.event.ensures ∙ last-told script some c.args.world.now.run.steps steps step c.in-Some.step same is reached admitted)) in
     subst (λ ss. IsAgreed script ss c.note.new.self) whole noted_in)
