@@ -45,7 +45,7 @@ use Rattle.gx_law_runs.proofs.Enabled.{all-segments, each-other, enabled-there, 
 use Rattle.gx_law_runs.proofs.Neat.{clash}
 use Rattle.gx_law_runs.proofs.RoundsEnabled.{AreRoundsTold, world-told}
 use Rattle.gx_law_runs.proofs.Sessions.{block-alike, next-alike, start-alike}
-use Rattle.gx_law_runs.specs.Openings.{is_round_or_opening}
+use Rattle.gx_law_runs.specs.Openings.{is_opening, is_round_or_opening}
 use Rattle.gx_law_runs.specs.Awaiting.{IsAwaiting, IsBlocked, locks_at}
 use Rattle.gx_law_runs.proofs.Busy.{busy-awaits}
 use Rattle.gx_law_runs.proofs.Nothing.{any-none, in-nodes, in-range, nil-filter, nil-first, nil-flat, nil-left, nil-map, nil-right, none-any, or-neither}
@@ -336,7 +336,7 @@ module _ (script : Script) (some : 1 ≤ script.segments) (inserts : AreInsertsW
           (inside (is_idle (session_of (world_of script es).coord k)) (is_left (next_line script (world_of script es).coord k)) (is_in_block (session_of (world_of script es).coord k).state.block) e (none-starts k) u)
       by_test false e = all-blocked script some inserts es but-openings k e
 
--- NOTHING AT ALL IS ENABLED
+-- WHO WAITS
 -- who waits has a wait among those of a node
 waits-there : (l : Locks) (g : Gxid) → is_some (wait_of l g) ≡ true → not (length l.waits == 0) ≡ true
 waits-there l g e = by_waits l.waits e
@@ -348,49 +348,63 @@ waits-there l g e = by_waits l.waits e
     by_waits [] e = absurd (cc)
     by_waits (x ∷ ws) e = more (length ws)
 
-module _ (script : Script) (some : 1 ≤ script.segments) (inserts : AreInsertsWhole script.tables script.lines) (es : List (Event × Bool)) (nothing : enabled script (world_of script es).steps ≡ []) where
+-- whoever waits waits at a node
+pub anybody-waits : (script : Script) (w : World) (node : Node) (g : Gxid) → node.0 ≤ script.segments → is_some (wait_of (locks_at w node) g) ≡ true → is_anybody_waiting script w ≡ true
+anybody-waits script w node g within waits = by_test (is_anybody_waiting script w) refl
+  where
+    one : (i : ℕ) → (i == 0) ≡ false → 1 ≤ i
+    one i e = grind (arith, nat_tests)
+
+    below : (a n : ℕ) → a ≤ n → a < 1 + n
+    below a n l = omega arith
+
+    by_node : (here : Bool) → (node.0 == 0) ≡ here → is_some (wait_of (if here then w.coord.locks else (w.segs node.0).locks) g) ≡ true → is_anybody_waiting script w ≡ false → ⊥
+    by_node true e waits off = true-false _ (waits-there w.coord.locks g waits) (or-neither _ _ off).0
+    by_node false e waits off =
+        true-false _ (waits-there (w.segs node.0).locks g waits)
+        (in-nodes (λ i. not (length (w.segs i.0).locks.waits == 0) ≡ false) 1 script.segments node (any-none (λ segment. not (length (w.segs segment.0).locks.waits == 0)) (segments_of script) (or-neither _ _ off).1) (one node.0 e) (below node.0 script.segments within))
+
+    by_test : (a : Bool) → is_anybody_waiting script w ≡ a → is_anybody_waiting script w ≡ true
+    by_test true e = e
+    by_test false e = absurd (by_node (node.0 == 0) refl waits e)
+
+-- an opening line is a round, or an opening line
+opening-passes : (script : Script) (steps : List Step) (xs : List Event) → list_all (is_opening script steps) xs ≡ true → list_all (is_round_or_opening script steps) xs ≡ true
+opening-passes script steps [] e = refl
+opening-passes script steps (x ∷ xs) e =
+    let a = and_parts (is_opening script steps x) (list_all (is_opening script steps) xs) e in
+    and_from (is_round_or_opening script steps x) (list_all (is_round_or_opening script steps) xs) (one x a.0) (opening-passes script steps xs a.1)
+  where
+    one : (e : Event) → is_opening script steps e ≡ true → is_round_or_opening script steps e ≡ true
+    one (event.Start s) p = p
+    one event.Round p = refl
+    one (event.Receive from to number) p = absurd (cc)
+    one (event.Resume n g) p = absurd (cc)
+    one (event.End s) p = absurd (cc)
+    one (event.Resend segment g) p = absurd (cc)
+
+-- NOTHING BUT OPENING LINES IS ENABLED
+module _ (script : Script) (some : 1 ≤ script.segments) (inserts : AreInsertsWhole script.tables script.lines) (es : List (Event × Bool)) (openings : list_all (is_opening script (world_of script es).steps) (enabled script (world_of script es).steps) ≡ true) where
   abbrev v : World
   v = world_of script es
 
-  but-rounds : list_all is_round (enabled script (world_of script es).steps) ≡ true
-  but-rounds = ap (list_all is_round) nothing
+  abbrev opens : Event → Bool
+  opens = is_opening script (world_of script es).steps
 
-  but-openings-none : list_all (is_round_or_opening script (world_of script es).steps) (enabled script (world_of script es).steps) ≡ true
-  but-openings-none = round-passes script (world_of script es).steps (enabled script (world_of script es).steps) but-rounds
+  pub openings-pass : list_all (is_round_or_opening script (world_of script es).steps) (enabled script (world_of script es).steps) ≡ true
+  openings-pass = opening-passes script (world_of script es).steps (enabled script (world_of script es).steps) openings
 
-  no-rounds : rounds_by script (world_of script es) ≡ []
-  no-rounds = nil-right _ (rounds_by script v) (sym (enabled-there script some es) ∙ nothing)
+  rounds-open : list_all opens (rounds_by script (world_of script es)) ≡ true
+  rounds-open = all-right opens (six script some inserts es openings-pass) (rounds_by script v) (sym (ap (list_all opens) (enabled-there script some es)) ∙ openings)
 
-  -- whoever is blocked waits at a node
-  anybody-waits : (k : SessionId) → IsBlocked script (world_of script es) k → is_anybody_waiting script (world_of script es) ≡ true
-  anybody-waits k b = by_test (is_anybody_waiting script v) refl
-    where
-      one : (i : ℕ) → (i == 0) ≡ false → 1 ≤ i
-      one i e = grind (arith, nat_tests)
-
-      below : (a n : ℕ) → a ≤ n → a < 1 + n
-      below a n l = omega arith
-
-      g : Gxid
-      g = (session_of v.coord k).transaction
-
-      by_node : (here : Bool) → (b.at.0 == 0) ≡ here → is_some (wait_of (if here then v.coord.locks else (v.segs b.at.0).locks) g) ≡ true → is_anybody_waiting script v ≡ false → ⊥
-      by_node true e waits off = true-false _ (waits-there v.coord.locks g waits) (or-neither _ _ off).0
-      by_node false e waits off =
-          true-false _ (waits-there (v.segs b.at.0).locks g waits)
-          (in-nodes (λ i. not (length (v.segs i.0).locks.waits == 0) ≡ false) 1 script.segments b.at (any-none (λ segment. not (length (v.segs segment.0).locks.waits == 0)) (segments_of script) (or-neither _ _ off).1) (one b.at.0 e) (below b.at.0 script.segments b.node))
-
-      by_test : (a : Bool) → is_anybody_waiting script (world_of script es) ≡ a → is_anybody_waiting script (world_of script es) ≡ true
-      by_test true e = e
-      by_test false e = absurd (by_node (b.at.0 == 0) refl b.waits e)
-
-  pub stuck-without : (k : SessionId) → IsBlocked script (world_of script es) k → script.detector ≡ false
-  stuck-without k b = plain script.detector v.coord.reports (is_anybody_waiting script v) (anybody-waits k b) (sym told.runs ∙ no-round-runs script some inserts es but-openings-none) no-rounds
+  -- while anybody waits, a detector would begin a round
+  pub stuck-without : is_anybody_waiting script (world_of script es) ≡ true → script.detector ≡ false
+  stuck-without waiting = plain script.detector v.coord.reports (is_anybody_waiting script v) waiting (sym told.runs ∙ no-round-runs script some inserts es openings-pass) rounds-open
     where
       told : AreRoundsTold script (world_of script es)
       told = world-told script some es
 
-      plain : {A : Type 0} (d : Bool) (o : Option A) (a : Bool) → a ≡ true → is_some o ≡ false → (if (d && is_none o) && a then event.Round ∷ [] else []) ≡ [] → d ≡ false
+      plain : {A : Type 0} (d : Bool) (o : Option A) (a : Bool) → a ≡ true → is_some o ≡ false → list_all (is_opening script (world_of script es).steps) (if (d && is_none o) && a then event.Round ∷ [] else []) ≡ true → d ≡ false
       plain true None true e f h = absurd (cc)
       plain true None false e f h = absurd (cc)
       plain true (Some x) a e f h = absurd (cc)
@@ -426,8 +440,10 @@ goes-on-or-blocked script steps session some inserts is l unfinished nothing =
 
 pub stuck-without-detector : (script : Script) (steps : List Step) (session : SessionId) → 1 ≤ script.segments → AreInsertsWhole script.tables script.lines → (is : IsReached script steps) → session.0 < length script.sessions → is_unfinished_there script (coordinator_after script steps) session ≡ true → enabled script steps ≡ [] → script.detector ≡ false
 stuck-without-detector script steps session some inserts is l unfinished nothing =
-    stuck-without script some inserts is.events now session
-    (unfinished-blocked script some inserts is.events (ap (list_all is_round) now) session l (subst (λ (c : Coord). is_unfinished_there script c session ≡ true) (sym (replayed script steps is).coordinator) unfinished))
+    stuck-without script some inserts is.events (ap (list_all (is_opening script (world_of script is.events).steps)) now) (anybody-waits script (world_of script is.events) b.at _ b.node b.waits)
   where
     now : enabled script (world_of script is.events).steps ≡ []
     now = ap (enabled script) is.is ∙ nothing
+
+    b : IsBlocked script (world_of script is.events) session
+    b = unfinished-blocked script some inserts is.events (ap (list_all is_round) now) session l (subst (λ (c : Coord). is_unfinished_there script c session ≡ true) (sym (replayed script steps is).coordinator) unfinished)
