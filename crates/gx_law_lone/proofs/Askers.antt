@@ -24,19 +24,20 @@ use Rattle.gx_law_lone.specs.Victims.{AreLet, DoLoneRoundsFindVictims, HoldsUpOp
 use Rattle.gx_law_lone.proofs.FindsVictims.{find-victims}
 use Rattle.gx_law_lone.proofs.Grouped.{groups-hold}
 
+-- a run that is reached is a legal history
+pub legal-steps : (script : Script) → IsScript script → AreInsertsWhole script.tables script.lines → (steps : List Step) → IsReached script steps → AreLegalSteps script [] steps
+legal-steps script language inserts steps is =
+    by-events script steps is (AreLegalSteps script [])
+    (legal script language.some_segments language.numbers (keyed script inserts) (snapshots-one script language.some_segments) (filled script inserts) (world-cancels script language.some_segments (world-rounds script language.some_segments)))
+
 pub askers-open : (script : Script) → IsScript script → AreInsertsWhole script.tables script.lines → DoAskersOpen script
-askers-open script language inserts steps session is starts there a = sym ((bound-after script language steps history starts).slotted.who_asks session there) ∙ a
-  where
-    history : AreLegalSteps script [] steps
-    history =
-        by-events script steps is (AreLegalSteps script [])
-        (legal script language.some_segments language.numbers (keyed script inserts) (snapshots-one script language.some_segments) (filled script inserts) (world-cancels script language.some_segments (world-rounds script language.some_segments)))
+askers-open script language inserts steps session is starts there a = sym ((bound-after script language steps (legal-steps script language inserts steps is) starts).slotted.who_asks session there) ∙ a
 
 sessions-there : (tables : List Schema) (n : ℕ) (ls : List Line) → AllByRecursion (IsLine tables n) ls → AllByRecursion (λ line. line.session.0 < n) ls
 sessions-there tables n [] all = tt
 sessions-there tables n (l ∷ ls) all = (all.0.0, sessions-there tables n ls all.1)
 
-lines-inside : (script : Script) → IsScript script → All (λ line. line.session.0 < length script.sessions) script.lines
+pub lines-inside : (script : Script) → IsScript script → All (λ line. line.session.0 < length script.sessions) script.lines
 lines-inside script language =
     All-from_recursion (λ line. line.session.0 < length script.sessions) script.lines
     (sessions-there script.tables (length script.sessions) script.lines (recursion_from_All (IsLine script.tables (length script.sessions)) script.lines language.lines))

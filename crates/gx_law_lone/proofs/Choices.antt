@@ -54,11 +54,11 @@ all-has p [] e x h = absurd h
 all-has p (y ∷ xs) e x (inl s) = ap p (sym s) ∙ (and_parts (p y) (list_all p xs) e).0
 all-has p (y ∷ xs) e x (inr h) = all-has p xs (and_parts (p y) (list_all p xs) e).1 x h
 
-has-all : {A : Type 0} (p : A → Bool) (xs : List A) → ((x : A) → Has x xs → p x ≡ true) → list_all p xs ≡ true
+pub has-all : {A : Type 0} (p : A → Bool) (xs : List A) → ((x : A) → Has x xs → p x ≡ true) → list_all p xs ≡ true
 has-all p [] f = refl
 has-all p (x ∷ xs) f = and_from (p x) (list_all p xs) (f x (inl refl)) (has-all p xs (λ y h. f y (inr h)))
 
-has-filter : {A : Type 0} (t : A → Bool) (xs : List A) (x : A) → Has x xs → t x ≡ true → Has x (filter t xs)
+pub has-filter : {A : Type 0} (t : A → Bool) (xs : List A) (x : A) → Has x xs → t x ≡ true → Has x (filter t xs)
 has-filter t [] x h e = absurd h
 has-filter t (y ∷ xs) x h e = by_test (t y) refl h (λ k. has-filter t xs x k e)
   where
@@ -86,11 +86,11 @@ has-each : {A : Type 0} (P : A → Type 0) (xs : List A) → ((x : A) → Has x 
 has-each P [] f = tt
 has-each P (x ∷ xs) f = (f x (inl refl), has-each P xs (λ y h. f y (inr h)))
 
-has-behind : {A : Type 0} (x : A) (xs ys : List A) → Has x ys → Has x (xs ++ ys)
+pub has-behind : {A : Type 0} (x : A) (xs ys : List A) → Has x ys → Has x (xs ++ ys)
 has-behind x [] ys h = h
 has-behind x (y ∷ xs) ys h = inr (has-behind x xs ys h)
 
-has-before : {A : Type 0} (x : A) (xs ys : List A) → Has x xs → Has x (xs ++ ys)
+pub has-before : {A : Type 0} (x : A) (xs ys : List A) → Has x xs → Has x (xs ++ ys)
 has-before x [] ys h = absurd h
 has-before x (y ∷ xs) ys (inl e) = inl e
 has-before x (y ∷ xs) ys (inr h) = inr (has-before x xs ys h)

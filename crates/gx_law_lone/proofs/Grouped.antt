@@ -141,7 +141,7 @@ opens-outside (InBlock level commands) (Some line) e = absurd (cc)
 opens-outside Failed None e = absurd (cc)
 opens-outside Failed (Some line) e = absurd (cc)
 
-starts-let : (script : Script) (before steps : List Step) → AreLet script (lets script) before steps → AreLetBehind script before steps
+pub starts-let : (script : Script) (before steps : List Step) → AreLet script (lets script) before steps → AreLetBehind script before steps
 starts-let script before [] a = tt
 starts-let script before (s ∷ ss) a = ((filter-has (lets script before) (enabled script before) s.event (has_from_contains s.event (let_in script (lets script) before) a.0)).1, starts-let script (before ++ s ∷ []) ss a.1)
 

@@ -15,3 +15,4 @@ pub mod Choices
 pub mod FindsVictims
 pub mod Grouped
 pub mod Askers
+pub mod NeverStuck

@@ -1,7 +1,8 @@
-//! Where a round of the detector is all that was enabled, it finds victims: what of it is proved.
+//! Where a round of the detector is all that was enabled, it finds victims; and where nothing is, there is no detector: what of it is proved.
 #![tactic(auto)]
 
 pub mod frame;
 pub mod lone;
 pub mod rows;
+pub mod stuck;
 pub mod victims;
