@@ -1,8 +1,8 @@
 use Rattle.gx_agenda.proofs.Oks.{on_ok}
 use Rattle.gx_drive.proofs.agenda.Agenda.note.Goals as goal
 
-pub returns-in_ok-note_step : goal.returns-in_ok-note_step
-returns-in_ok-note_step c =
+pub returns : goal.returns
+returns c =
     on_ok c.note_slots.result _ _ c.note_slots.ensures
     (λ slots steps agreed due counted told.
     let queue = c.in_ok-note_step.ensures.queue c.args.script.now steps agreed.queue counted in
