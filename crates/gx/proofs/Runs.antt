@@ -47,7 +47,7 @@ use Rattle.gx_drive.proofs.Lone.{drawn-let, first-let, starts-let}
 use Rattle.gx.specs.Top.{AreDriven, IsRunOf}
 
 -- whichever order was asked for, the groups let each event
-driven-let : (script : Script) (seed : Option ℕ) (steps : List Step) → AreDriven seed script steps → AreLet script (lets script) [] steps
+pub driven-let : (script : Script) (seed : Option ℕ) (steps : List Step) → AreDriven seed script steps → AreLet script (lets script) [] steps
 driven-let script None steps driven = first-let script steps driven
 driven-let script (Some seed) steps driven = drawn-let script seed steps driven
 
