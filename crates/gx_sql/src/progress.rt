@@ -10,7 +10,7 @@ ghost use Rattle.gx_sql.specs.declared.refusal.LineError.TheVariants as error;
 
 use crate::groups::{GroupHead, add_members, is_group};
 use crate::refusal::{LineError, LineFault, fault_of};
-use gx_ids::{Mem, Node, SessionId, Table};
+use gx_ids::{Mem, Node, OutOfMemory, SessionId, Table};
 use gx_lines::{Fate, GroupSyn, LineSyn, LinkSyn, StmtSyn, Switch, TableSyn, Way};
 use gx_resolve::{ResolveError, named_table, resolve_stmt, resolve_table};
 use gx_script::{Line, LinkFault};
@@ -128,9 +128,16 @@ fn insert_table(
     ensures named { OnOk result (AreTables tables.new.entries) }
     ensures more { OnOk result (length tables.new.entries ≡ length tables.old.entries + 1) }
 {
-    let key = key_of(alloc, schema.name.as_slice())?;
-    tables.insert(key, schema)?;
-    Ok(())
+    match key_of(alloc, schema.name.as_slice()) {
+        Ok(key) => {
+            tables.insert(key, schema)?;
+            Ok(())
+        }
+        Err(OutOfMemory) => {
+            drop(schema);
+            Err(LineError::OutOfMemory)
+        }
+    }
 }
 
 /// Adds a table, or says what is wrong with it.
@@ -230,13 +237,20 @@ fn push_line(
     let (place, count) = find_session(sessions, name);
     let session = SessionId(place as u8);
     let number = count + 1;
-    note_count(alloc, sessions, name, place, number)?;
-    lines.push(Line {
-        session,
-        number,
-        stmt,
-    })?;
-    Ok(())
+    match note_count(alloc, sessions, name, place, number) {
+        Ok(()) => {
+            lines.push(Line {
+                session,
+                number,
+                stmt,
+            })?;
+            Ok(())
+        }
+        Err(error) => {
+            drop(stmt);
+            Err(error)
+        }
+    }
 }
 
 impl Progress {

@@ -19,19 +19,19 @@ overflow_add-number c =
     let short = c.requires.short in
     omega arith
 
-pub returns-clause-sessions : goal.returns-clause-sessions
-returns-clause-sessions c =
-    c.in_ok-note_count.ensures.counted
+pub returns-in_ok-push-in-Ok-clause-sessions : goal.returns-in_ok-push-in-Ok-clause-sessions
+returns-in_ok-push-in-Ok-clause-sessions c =
+    c.in-Ok.ensures.counted
     ∙ ap (λ (n : ℕ). counted c.args.name.now (n + 1) (named c.args.sessions.now.entries)) c.find_session-place.ensures.count
 
-pub returns-clause-counts : goal.returns-clause-counts
-returns-clause-counts c =
+pub returns-in_ok-push-in-Ok-clause-counts : goal.returns-in_ok-push-in-Ok-clause-counts
+returns-in_ok-push-in-Ok-clause-counts c =
     let to = counts_to (vec_len c.args.lines.now) c.args.name.now c.args.sessions.now.entries c.requires.counts in
     let count = c.find_session-place.ensures.count in
-    let len = c.in_ok-push.ensures.len in
+    let len = c.in_ok-push-in-Ok.ensures.len in
     counts_counted (vec_len c.args.lines.now) (vec_len c.push.new.self) (c.find_session-place.result.1 + 1) c.args.name.now c.args.sessions.now.entries c.note_count.new.sessions.entries
-    c.requires.counts (omega arith) (omega arith) c.in_ok-note_count.ensures.counted
+    c.requires.counts (omega arith) (omega arith) c.in-Ok.ensures.counted
 
-pub returns-clause-few : goal.returns-clause-few
-returns-clause-few c =
-    few_counted c.args.name.now (c.find_session-place.result.1 + 1) c.args.sessions.now.entries c.note_count.new.sessions.entries c.requires.sessions c.requires.few c.in_ok-note_count.ensures.counted
+pub returns-in_ok-push-in-Ok-clause-few : goal.returns-in_ok-push-in-Ok-clause-few
+returns-in_ok-push-in-Ok-clause-few c =
+    few_counted c.args.name.now (c.find_session-place.result.1 + 1) c.args.sessions.now.entries c.note_count.new.sessions.entries c.requires.sessions c.requires.few c.in-Ok.ensures.counted
