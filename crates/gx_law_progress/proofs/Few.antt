@@ -41,7 +41,8 @@ one-cancelled script steps s verdict legal known is names =
     wide : (a b c : ℕ) → c ≡ a + b → a ≤ c
     wide a b c e = omega arith
 
-    new : (ms : List Mark) (g : Gxid) → (is_aborted s.marks g ≡ true → is_aborted ms g ≡ false) → is_victim s.marks g ≡ true → is_aborted s.marks g ≡ true → 1 ≤ g.0 → g.0 ≤ start_count (ms ++ s.marks) → length (cancelled ms) + 1 ≤ length (cancelled (ms ++ s.marks))
+    new : (ms : List Mark) (g : Gxid) → (is_aborted s.marks g ≡ true → is_aborted ms g ≡ false) → is_victim s.marks g ≡ true → is_aborted s.marks g ≡ true → 1 ≤ g.0 → g.0 ≤ start_count (ms ++ s.marks)
+        → length (cancelled ms) + 1 ≤ length (cancelled (ms ++ s.marks))
     new ms g old named aborted one last =
         passing-new (is_cancelled ms) (is_cancelled (ms ++ s.marks)) (cancelled-front ms s.marks) g.0 (not-cancelled ms g (old aborted)) (cancelled-back ms s.marks g named aborted)
         1 (start_count ms) (start_count (ms ++ s.marks)) one (below g.0 _ last) (wide (start_count ms) (start_count s.marks) _ (start_count-append ms s.marks))

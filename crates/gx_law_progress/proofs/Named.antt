@@ -103,7 +103,9 @@ module _ (script : Script) (steps : List Step) (e : Event) where
       of_two g session None p q = inr q
 
       quiet : (x : Mark) → ((g : Gxid) (session : SessionId) → session_of (x ∷ []) g ≡ Some session → (1 ≤ g.0) × (g.0 ≤ start_count (told earlier) + start_count (x ∷ []))) → AreNumbered (told earlier ++ x ∷ [])
-      quiet x new g session q = subst (λ n. (1 ≤ g.0) × (g.0 ≤ n)) (sym (start_count-append (told earlier) (x ∷ []))) (by_side (of_two g session (session_of (told earlier) g) (session_of (x ∷ []) g) (sym (session_of-append (told earlier) (x ∷ []) g) ∙ q)))
+      quiet x new g session q =
+          subst (λ n. (1 ≤ g.0) × (g.0 ≤ n)) (sym (start_count-append (told earlier) (x ∷ [])))
+          (by_side (of_two g session (session_of (told earlier) g) (session_of (x ∷ []) g) (sym (session_of-append (told earlier) (x ∷ []) g) ∙ q)))
         where
           by_side : (session_of (told earlier) g ≡ Some session) ⊎ (session_of (x ∷ []) g ≡ Some session) → (1 ≤ g.0) × (g.0 ≤ start_count (told earlier) + start_count (x ∷ []))
           by_side (inl o) = wider g (start_count (told earlier)) (start_count (x ∷ [])) (known g session o)
@@ -156,7 +158,8 @@ module _ (script : Script) (steps : List Step) (e : Event) where
       → Names ms later (start_count (told ((earlier ++ m ∷ []) ++ ms))) → Names (m ∷ ms) later (start_count (told (earlier ++ m ∷ ms)))
   names-next earlier ms later m v a n = record { who = n.who; named = v n.who n.named; aborted = a n.who n.aborted; first = n.first; last = subst (λ x. n.who.0 ≤ start_count (told x)) (append_assoc earlier (m ∷ []) ms) n.last }
 
-  pub names-somebody : (earlier ms later : List Mark) (verdict : Verdict) → AreLegalMarks script steps e earlier ms later → AreNumbered (told earlier) → verdict_in ms ≡ Some verdict → NamesSomebody verdict → Names ms later (start_count (told (earlier ++ ms)))
+  pub names-somebody : (earlier ms later : List Mark) (verdict : Verdict) → AreLegalMarks script steps e earlier ms later → AreNumbered (told earlier) → verdict_in ms ≡ Some verdict → NamesSomebody verdict
+      → Names ms later (start_count (told (earlier ++ ms)))
   names-somebody earlier [] later verdict legal known q n = absurd (cc)
   names-somebody earlier (Recheck round own decided ∷ ms) later verdict legal known q n = by_verdict decided legal.0 (subst NamesSomebody (sym (same decided verdict q)) n)
     where
