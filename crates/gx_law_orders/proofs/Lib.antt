@@ -1,0 +1,4 @@
+pub mod Ranks
+pub mod Weights
+pub mod Lowering
+pub mod Paid

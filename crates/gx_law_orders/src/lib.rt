@@ -1,0 +1,4 @@
+//! What the coordinator sends is bounded by the lines that were started.
+#![tactic(auto)]
+
+pub mod orders;
