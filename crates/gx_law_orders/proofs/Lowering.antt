@@ -45,7 +45,9 @@ use Rattle.gx_store.specs.declared.mark.Mark.{Mark}
 use Rattle.gx_store.specs.Writes.{dist_of}
 use Rattle.gx_locks.specs.Locks.{wait_of}
 use Rattle.gx_waits.specs.declared.claim.Claim.{Claim}
-use Rattle.gx_rules.specs.AtCoordinator.{Reading, answer_mark, answers, begins, cancels, commits, completes, dispatches, ends_in, enlisted_all, follows, goes, goes_on, goes_on_locked, is_awaited, is_refused, kept_at, next_cid, nodes_in, orders_of, on_answer, on_done, on_failed, on_line, on_message, on_status, reads_by, reads_for, reason_of, refusal_of, fault_mark, resumes, rolls_back, starts, starts_line, table_of, takes_done, unless_kept, waits_for, with_done, writers_with}
+use Rattle.gx_rules.specs.AtCoordinator.{Reading, answer_mark, answers, begins, cancels, commits, completes, dispatches, ends_in, enlisted_all, follows, goes, goes_on, goes_on_locked}
+use Rattle.gx_rules.specs.AtCoordinator.{is_awaited, is_refused, kept_at, next_cid, nodes_in, orders_of, on_answer, on_done, on_failed, on_line, on_message, on_status, reads_by, reads_for}
+use Rattle.gx_rules.specs.AtCoordinator.{reason_of, refusal_of, fault_mark, resumes, rolls_back, starts, starts_line, table_of, takes_done, unless_kept, waits_for, with_done, writers_with}
 use Rattle.gx_rules.specs.Coordinators.{Command, Coord, CoordTurn, Work, new_work, no_work, rests, session_of, with_work, work_of}
 use Rattle.gx_rules.specs.Fits.{fits_part}
 use Rattle.gx_rules.specs.Locks.{with_hold}
