@@ -1,0 +1,4 @@
+pub mod ShownText
+pub mod Shown
+pub mod Lawful
+pub mod Worked
