@@ -79,7 +79,7 @@ IsTable script table = IsNamed (names_of script.tables) table.0
 -- ROWS
 -- a text stands on one line
 abbrev pub IsLine : List ℕ → Type 0
-IsLine text = All (λ byte. (byte < 2 ^ 8) × (byte ≢ 10)) text
+IsLine text = All (λ byte. byte ≢ 10) text
 
 -- of so many bits
 abbrev pub IsSigned : ℕ → ℤ → Type 0

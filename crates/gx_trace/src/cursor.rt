@@ -1,0 +1,53 @@
+// The bytes of a line that are still to be read.
+ghost use Rattle.std.specs.Prelude.{◌≡◌};
+ghost use Rattle.gx_trace.specs.Readers as of;
+
+use std::marker::Model;
+
+/// The bytes of a line that are still to be read.
+#[derive(Drop)]
+pub struct Cursor<'a> {
+    left: &'a [u8],
+}
+
+impl<'a> Model for Cursor<'a> {
+    ghost use Rattle.std.specs.Prelude.{List, ℕ};
+
+    ghost Value = { List ℕ };
+
+    ghost view = { λ c. c.left.now };
+}
+
+impl<'a> Cursor<'a> {
+    pub fn new(left: &'a [u8]) -> Cursor<'a>
+        ensures { result ≡ left.now }
+    {
+        Cursor { left }
+    }
+
+    pub fn left(&self) -> &'a [u8]
+        ensures { result.now ≡ self.now }
+    {
+        self.left
+    }
+
+    /// Goes on with these bytes.
+    pub fn go_to(&mut self, left: &'a [u8])
+        ensures { self.new ≡ left.now }
+    {
+        self.left = left;
+    }
+
+    /// Goes behind a word that stands here.
+    pub fn skip(&mut self, word: &[u8]) -> Option<()>
+        ensures { of.IsRead result self.new (of.word word.now self.old) }
+    {
+        match self.left.strip_prefix(word) {
+            Some(left) => {
+                self.left = left;
+                Some(())
+            }
+            None => None,
+        }
+    }
+}
