@@ -1,5 +1,5 @@
 -- The fields of a line are read as they are printed.
-use Rattle.std.proofs.Common.{◌≡◌, ℕ, ◌^◌, ◌<◌, List, [], ◌∷◌, ◌++◌, codes, refl, ◌∙◌, ap, arith, append_assoc}
+use Rattle.std.proofs.Common.{◌≡◌, ℕ, ◌^◌, ◌<◌, List, [], ◌∷◌, ◌++◌, length, codes, refl, ◌∙◌, ap, arith, append_assoc}
 use Rattle.std.specs.Fmt.{decimal}
 use Rattle.gx_ids.specs.declared.ids.Cid.{Cid}
 use Rattle.gx_ids.specs.declared.ids.Gxid.{Gxid}
@@ -8,7 +8,11 @@ use Rattle.gx_ids.specs.declared.rid.Rid.{Rid}
 use Rattle.gx_report.specs.Words.{gxid_text, number_text}
 use Rattle.gx_trace.specs.Fields.{count, dotted, gxid, gxid_of, cid, cid_of, node, node_of, rid, rid_of}
 use Rattle.gx_trace.specs.Lawful.{IsGxid, IsCid, IsNode, IsRid}
-use Rattle.gx_trace.specs.Readers.{both, behind, number_below, EndsNumber, IsReaderOf}
+use Rattle.std.specs.Prelude.{All}
+use Rattle.std.specs.List.{flat_map}
+use Rattle.std.proofs.lemmas.List.{length-append}
+use Rattle.gx_trace.proofs.Many.{AreApart, ends-read}
+use Rattle.gx_trace.specs.Readers.{both, behind, number_below, to_end, EndsNumber, IsEnd, IsReaderOf}
 use Rattle.gx_trace.specs.Texts.{rid_word}
 use Rattle.gx_trace.proofs.Readers.{numbers-below, behind-word, one-behind-other, made-into}
 
@@ -35,3 +39,12 @@ rids =
     made-into rid_word IsRid rid_of rid-parts
     (λ b is. ((b.gxid.0, (b.cid.0, b.ordinal)), refl, (is.gxid, (is.cid, is.ordinal))))
     (λ a is. (record { gxid = is.0; cid = is.1.0; ordinal = is.1.1 }, simp append_assoc))
+
+one-blank : (n : ℕ) → 0 < length (number_text n)
+one-blank n = omega (arith, length-append (codes " ") (decimal n))
+
+pub gxids-apart : AreApart gxid_text IsGxid EndsNumber
+gxids-apart = record { begins = λ g is. one-blank g.0; follows = λ g rest is. refl; last = tt }
+
+pub gxid-lists : IsReaderOf (flat_map gxid_text) (All IsGxid) IsEnd (to_end gxid)
+gxid-lists = ends-read gxids gxids-apart

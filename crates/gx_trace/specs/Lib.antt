@@ -5,3 +5,7 @@ pub mod Worked
 pub mod Readers
 pub mod Fields
 pub mod Texts
+pub mod Names
+pub mod Values
+pub mod Lists
+pub mod Objects

@@ -1,5 +1,5 @@
 // The bytes of a line that are still to be read.
-ghost use Rattle.std.specs.Prelude.{◌≡◌};
+ghost use Rattle.std.specs.Prelude.{◌≡◌, ◌==◌, length};
 ghost use Rattle.gx_trace.specs.Readers as of;
 
 use std::marker::Model;
@@ -29,6 +29,12 @@ impl<'a> Cursor<'a> {
         ensures { result.now ≡ self.now }
     {
         self.left
+    }
+
+    pub fn is_at_end(&self) -> bool
+        ensures { result ≡ (length self.now == 0) }
+    {
+        self.left.is_empty()
     }
 
     /// Goes on with these bytes.

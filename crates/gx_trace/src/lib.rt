@@ -3,11 +3,17 @@
 
 mod cursor;
 mod fields;
+mod lists;
+mod naming;
 mod numbers;
+mod objects;
 mod seen;
 mod worked;
 
 pub use cursor::Cursor;
 pub use fields::rids_are_read;
+pub use lists::{edges_are_read, gxids_are_read};
+pub use naming::{sessions_are_read, tables_are_read};
+pub use objects::{modes_are_read, objects_are_read};
 pub use seen::{Seen, SeenAnswer, SeenMark, SeenStep};
 pub use worked::{a_small_run_is_shown, marks_of_all_kinds_are_shown};
