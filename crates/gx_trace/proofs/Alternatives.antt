@@ -1,11 +1,13 @@
 -- Readers of one thing or another.
-use Rattle.std.proofs.Common.{◌≡◌, ℕ, ◌==◌, ◌<◌, ◌^◌, Bool, true, false, if◌then◌else◌, List, [], ◌∷◌, ◌++◌, length, codes, Option, Some, None, refl, sym, ◌∙◌, ap, subst, inl, inr, arith, append_assoc}
+use Rattle.std.proofs.Common.{◌≡◌, ℕ, ◌==◌, ◌<◌, ◌^◌, Bool, true, false, if◌then◌else◌, List, [], ◌∷◌, ◌++◌, length, codes, Option, Some, None, refl, sym, ◌∙◌, ap, subst, inl, inr, arith, append_assoc, append-nil}
 use Rattle.std.specs.Prelude.{option_and_then, All, ◌⊎◌}
 use Rattle.std.specs.List.{flat_map}
 use Rattle.std.specs.Fmt.{decimal}
 use Rattle.std.proofs.lemmas.List.{length-append}
 use Rattle.std.proofs.lemmas.Option.{none-some, same_Some, some_pair_parts, option_and_then_some}
 use Rattle.gx_ids.specs.declared.ids.Gxid.{Gxid}
+use Rattle.gx_ids.specs.declared.ids.Table.{Table}
+use Rattle.gx_ids.specs.declared.rid.Rid.{Rid}
 use Rattle.gx_lex.specs.Lexing.{is_digit}
 use Rattle.gx_modes.specs.Table.{number_of}
 use Rattle.gx_modes.specs.declared.modes.Mode.{Mode}
@@ -18,7 +20,7 @@ use Rattle.gx_waits.specs.declared.edge.Edge.{Edge}
 use Rattle.gx_waits.specs.declared.object.Object.{Object}
 use Rattle.gx_waits.specs.declared.object.Object.TheVariants as object
 use Rattle.gx_trace.specs.Fields.{gxid, gxid_of, rid}
-use Rattle.gx_trace.specs.Lawful.{IsEdge, IsGxid, IsObject}
+use Rattle.gx_trace.specs.Lawful.{IsEdge, IsGxid, IsObject, IsRid, IsTable}
 use Rattle.gx_trace.specs.Lists.{dotting, edge, edge_of, edges, is_dotted}
 use Rattle.gx_trace.specs.Names.{table}
 use Rattle.gx_trace.specs.Objects.{all_modes, mode, mode_among, object as read_object, with_mode}
@@ -76,22 +78,29 @@ edge-lists = ends-read edges-one (record { begins = λ e is. edge-some e; follow
 
 -- ONE OR THE OTHER
 -- Two readers of parts of a type, where what the second reads the first doesn't.
-module _ {A : Type 0} {text : A → List ℕ} {IsA IsB : A → Type 0} {Ends : List ℕ → Type 0} {ra rb : List ℕ → Front A} where
-  either-sound : (o p : Front A) (bytes rest : List ℕ) (a : A) → (o ≡ Some (a, rest) → IsA a × (bytes ≡ text a ++ rest)) → (p ≡ Some (a, rest) → IsB a × (bytes ≡ text a ++ rest))
-    → either o p ≡ Some (a, rest) → (IsA a ⊎ IsB a) × (bytes ≡ text a ++ rest)
-  either-sound None p bytes rest a f g e = let (is, t) = g e in (inr is, t)
-  either-sound (Some x) p bytes rest a f g e = let (is, t) = f e in (inl is, t)
+either-sound : {A : Type 0} (text : A → List ℕ) (IsA IsB : A → Type 0) (o p : Front A) (bytes rest : List ℕ) (a : A)
+  → (o ≡ Some (a, rest) → IsA a × (bytes ≡ text a ++ rest)) → (p ≡ Some (a, rest) → IsB a × (bytes ≡ text a ++ rest))
+  → either o p ≡ Some (a, rest) → (IsA a ⊎ IsB a) × (bytes ≡ text a ++ rest)
+either-sound text IsA IsB None p bytes rest a f g e = let (is, t) = g e in (inr is, t)
+either-sound text IsA IsB (Some x) p bytes rest a f g e = let (is, t) = f e in (inl is, t)
 
-  pub one-or-other : IsReaderOf text IsA Ends ra → IsReaderOf text IsB Ends rb → ((a : A) (rest : List ℕ) → IsB a → ra (text a ++ rest) ≡ None)
-    → IsReaderOf text (λ a. IsA a ⊎ IsB a) Ends (λ bytes. either (ra bytes) (rb bytes))
-  one-or-other a b apart = record {
-    again = λ x rest is ends. by x rest ends is;
-    sound = λ bytes rest x e. either-sound (ra bytes) (rb bytes) bytes rest x (a.sound bytes rest x) (b.sound bytes rest x) e;
-  }
-    where
-      by : (x : A) (rest : List ℕ) → Ends rest → IsA x ⊎ IsB x → either (ra (text x ++ rest)) (rb (text x ++ rest)) ≡ Some (x, rest)
-      by x rest ends (inl is) = ap (λ o. either o (rb (text x ++ rest))) (a.again x rest is ends)
-      by x rest ends (inr is) = ap (λ o. either o (rb (text x ++ rest))) (apart x rest is) ∙ b.again x rest is ends
+pub one-or-other : {A : Type 0} (text : A → List ℕ) (IsA IsB : A → Type 0) {Ends : List ℕ → Type 0} {ra rb : List ℕ → Front A}
+  → IsReaderOf text IsA Ends ra → IsReaderOf text IsB Ends rb → ((a : A) (rest : List ℕ) → IsB a → ra (text a ++ rest) ≡ None)
+  → IsReaderOf text (λ a. IsA a ⊎ IsB a) Ends (λ bytes. either (ra bytes) (rb bytes))
+one-or-other text IsA IsB {ra = ra} {rb = rb} a b apart = record {
+  again = λ x rest is ends.
+      elim is as (λ _. either (ra (text x ++ rest)) (rb (text x ++ rest)) ≡ Some (x, rest))
+      [ inl h ↦ ap (λ o. either o (rb (text x ++ rest))) (a.again x rest h ends) | inr h ↦ ap (λ o. either o (rb (text x ++ rest))) (apart x rest h) ∙ b.again x rest h ends ];
+  sound = λ bytes rest x e. either-sound text IsA IsB (ra bytes) (rb bytes) bytes rest x (a.sound bytes rest x) (b.sound bytes rest x) e;
+}
+
+-- the same values and endings, said otherwise
+pub said-as : {A : Type 0} {text : A → List ℕ} {Is : A → Type 0} {Ends : List ℕ → Type 0} {read : List ℕ → Front A} (Other : A → Type 0) (Stops : List ℕ → Type 0)
+  → IsReaderOf text Is Ends read → ((a : A) → Other a → Is a) → ((a : A) → Is a → Other a) → ((rest : List ℕ) → Stops rest → Ends rest) → IsReaderOf text Other Stops read
+said-as Other Stops r to from ends = record {
+  again = λ a rest is stops. r.again a rest (to a is) (ends rest stops);
+  sound = λ bytes rest a e. let (is, t) = r.sound bytes rest a e in (from a is, t);
+}
 
 -- MODES
 mode-of : (m : Mode) (rest : List ℕ) → with_mode (number_of m, rest) ≡ Some (m, rest)
@@ -136,5 +145,77 @@ modes = record {
 }
 
 -- OBJECTS
-pub objects : (script : Script) → IsReaderOf (object_text script) (IsObject script) EndsName (read_object script)
-objects script = ?
+module _ (script : Script) where
+  abbrev IsOfTable : Object → Type 0
+  IsOfTable (object.Relation t) = IsTable script t
+  IsOfTable _ = ⊥
+
+  abbrev IsOfRow : Object → Type 0
+  IsOfRow (object.Tuple r) = IsRid r
+  IsOfRow _ = ⊥
+
+  abbrev IsOfTransaction : Object → Type 0
+  IsOfTransaction (object.Transaction g) = IsGxid g
+  IsOfTransaction _ = ⊥
+
+  relation-parts : (o : Object) → IsOfTable o → (t : Table) × (object.Relation t ≡ o) × IsTable script t
+  relation-parts (object.Relation t) is = (t, refl, is)
+  relation-parts (object.Tuple r) is = absurd is
+  relation-parts (object.Transaction g) is = absurd is
+
+  tuple-parts : (o : Object) → IsOfRow o → (r : Rid) × (object.Tuple r ≡ o) × IsRid r
+  tuple-parts (object.Relation t) is = absurd is
+  tuple-parts (object.Tuple r) is = (r, refl, is)
+  tuple-parts (object.Transaction g) is = absurd is
+
+  transaction-parts : (o : Object) → IsOfTransaction o → (g : Gxid) × (object.Transaction g ≡ o) × IsGxid g
+  transaction-parts (object.Relation t) is = absurd is
+  transaction-parts (object.Tuple r) is = absurd is
+  transaction-parts (object.Transaction g) is = (g, refl, is)
+
+  not-transaction : (o : Object) (rest : List ℕ) → IsOfTransaction o → made (λ r. object.Tuple r) (behind (codes " tuple") rid (object_text script o ++ rest)) ≡ None
+  not-transaction (object.Relation t) rest is = absurd is
+  not-transaction (object.Tuple r) rest is = absurd is
+  not-transaction (object.Transaction g) rest is = refl
+
+  not-others : (o : Object) (rest : List ℕ) → IsOfRow o ⊎ IsOfTransaction o → made (λ t. object.Relation t) (behind (codes " relation") (table script) (object_text script o ++ rest)) ≡ None
+  not-others (object.Relation t) rest is = elim is [ inl h ↦ absurd h | inr h ↦ absurd h ]
+  not-others (object.Tuple r) rest is = refl
+  not-others (object.Transaction g) rest is = refl
+
+  is-object : (o : Object) → IsOfTable o ⊎ (IsOfRow o ⊎ IsOfTransaction o) → IsObject script o
+  is-object (object.Relation t) is = elim is [ inl h ↦ h | inr h ↦ elim h [ inl k ↦ absurd k | inr k ↦ absurd k ] ]
+  is-object (object.Tuple r) is = elim is [ inl h ↦ absurd h | inr h ↦ elim h [ inl k ↦ k | inr k ↦ absurd k ] ]
+  is-object (object.Transaction g) is = elim is [ inl h ↦ absurd h | inr h ↦ elim h [ inl k ↦ absurd k | inr k ↦ k ] ]
+
+  object-is : (o : Object) → IsObject script o → IsOfTable o ⊎ (IsOfRow o ⊎ IsOfTransaction o)
+  object-is (object.Relation t) is = inl is
+  object-is (object.Tuple r) is = inr (inl is)
+  object-is (object.Transaction g) is = inr (inr is)
+
+  no-digit : (b : ℕ) → is_name_byte b ≡ false → is_digit b ≡ false
+  no-digit b e = none (is_digit b) refl
+    where
+      none : (c : Bool) → is_digit b ≡ c → c ≡ false
+      none true d = absurd (grind (arith, d, e))
+      none false d = refl
+
+  ends-number : (rest : List ℕ) → EndsName rest → EndsNumber rest
+  ends-number [] ends = tt
+  ends-number (b ∷ bs) ends = no-digit b ends
+
+  relations : IsReaderOf (object_text script) IsOfTable EndsName (λ bytes. made (λ t. object.Relation t) (behind (codes " relation") (table script) bytes))
+  relations = made-into (object_text script) IsOfTable (λ t. object.Relation t) (behind-word (codes " relation") (tables script)) relation-parts (λ t is. (is, refl))
+
+  tuples : IsReaderOf (object_text script) IsOfRow EndsNumber (λ bytes. made (λ r. object.Tuple r) (behind (codes " tuple") rid bytes))
+  tuples = made-into (object_text script) IsOfRow (λ r. object.Tuple r) (behind-word (codes " tuple") rids) tuple-parts (λ r is. (is, refl))
+
+  transactions : IsReaderOf (object_text script) IsOfTransaction EndsNumber (λ bytes. made (λ g. object.Transaction g) (behind (codes " transaction") gxid bytes))
+  transactions = made-into (object_text script) IsOfTransaction (λ g. object.Transaction g) (behind-word (codes " transaction") gxids) transaction-parts (λ g is. (is, ap (λ x. codes " transaction" ++ x) (append-nil (gxid_text g))))
+
+  pub objects : IsReaderOf (object_text script) (IsObject script) EndsName (read_object script)
+  objects =
+      said-as (IsObject script) EndsName
+      (one-or-other (object_text script) IsOfTable (λ o. IsOfRow o ⊎ IsOfTransaction o) relations
+      (said-as (λ o. IsOfRow o ⊎ IsOfTransaction o) EndsName (one-or-other (object_text script) IsOfRow IsOfTransaction tuples transactions not-transaction) (λ o is. is) (λ o is. is) ends-number) not-others)
+      object-is is-object (λ rest ends. ends)

@@ -6,7 +6,7 @@ use Rattle.std.specs.List.{flat_map}
 use Rattle.std.proofs.lemmas.List.{length-append}
 use Rattle.std.proofs.lemmas.List.Elements.{All-nil, All-cons, All-head, All-tail}
 use Rattle.std.proofs.lemmas.Option.{none-some, same_Some, some_pair_parts, option_and_then_some}
-use Rattle.gx_trace.specs.Readers.{Front, many, to_end, IsEnd, IsReaderOf}
+use Rattle.gx_trace.specs.Readers.{Front, made, many, to_end, IsEnd, IsReaderOf}
 
 module _ {A : Type 0} (read : List ℕ → Front A) where
   -- what is read goes behind what was read
@@ -49,6 +49,35 @@ module _ {A : Type 0} (read : List ℕ → Front A) where
   pub many-left : (n : ℕ) (done : List A) (left : List ℕ) → n ≡ 0 → (length left == 0) ≡ false → onto done (many n read left) ≡ None
   many-left n done [] none some = absurd (grind (arith, some))
   many-left n done (b ∷ bs) none some = ap (λ k. onto done (many k read (b ∷ bs))) none
+
+-- A loop that goes on behind what it was given, as its returns have it.
+module _ {A : Type 0} (read : List ℕ → Front A) (start : List A) (bytes counted : List ℕ) (same : counted ≡ bytes) where
+  made-done : (done : List A) (o : Option (List A)) → onto read start o ≡ Some done → made (λ (others : List A). start ++ others) (option_map (λ (xs : List A). let x : List A × List ℕ = (xs, []) in x) o) ≡ Some (done, [])
+  made-done done None e = absurd (none-some done e)
+  made-done done (Some xs) e = ap (λ z. Some (z, [])) (same_Some (start ++ xs) done e)
+
+  made-none : (o : Option (List A)) → onto read start o ≡ None → made (λ (others : List A). start ++ others) (option_map (λ (xs : List A). let x : List A × List ℕ = (xs, []) in x) o) ≡ None
+  made-none None e = refl
+  made-none (Some xs) e = absurd (none-some (start ++ xs) (sym e))
+
+  nothing-left : (left : List ℕ) → (length left == 0) ≡ true → [] ≡ left
+  nothing-left [] none = refl
+  nothing-left (b ∷ bs) none = absurd (grind (arith, none))
+
+  from-here : {o : Option (List A)} → o ≡ onto read start (many (length counted) read bytes) → onto read start (many (length bytes) read bytes) ≡ o
+  from-here e = ap (λ b. onto read start (many (length b) read bytes)) (sym same) ∙ sym e
+
+  pub all-read : (n : ℕ) (done : List A) (left : List ℕ) → onto read done (many n read left) ≡ onto read start (many (length counted) read bytes) → (length left == 0) ≡ true
+    → made (λ (others : List A). start ++ others) (to_end read bytes) ≡ Some (done, left)
+  all-read n done left kept none = made-done done (many (length bytes) read bytes) (from-here kept ∙ many-done read n done left none) ∙ ap (λ z. Some (done, z)) (nothing-left left none)
+
+  pub none-read : (at : ℕ) (done : List A) (left : List ℕ) → onto read done (many (length counted - at) read left) ≡ onto read start (many (length counted) read bytes) → at < length counted → (length left == 0) ≡ false
+    → read left ≡ None → made (λ (others : List A). start ++ others) (to_end read bytes) ≡ None
+  none-read at done left kept below some fails = made-none (many (length bytes) read bytes) (from-here kept ∙ many-fails read (length counted) at done left below some fails)
+
+  pub rest-left : (n : ℕ) (done : List A) (left : List ℕ) → onto read done (many n read left) ≡ onto read start (many (length counted) read bytes) → n ≡ 0 → (length left == 0) ≡ false
+    → made (λ (others : List A). start ++ others) (to_end read bytes) ≡ None
+  rest-left n done left kept none some = made-none (many (length bytes) read bytes) (from-here kept ∙ many-left read n done left none some)
 
 -- each has a first byte, and what comes next ends it
 pub record AreApart {A : Type 0} (text : A → List ℕ) (Is : A → Type 0) (Ends : List ℕ → Type 0) : Type 0 where

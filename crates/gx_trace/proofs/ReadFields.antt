@@ -40,7 +40,7 @@ rids =
     (λ b is. ((b.gxid.0, (b.cid.0, b.ordinal)), refl, (is.gxid, (is.cid, is.ordinal))))
     (λ a is. (record { gxid = is.0; cid = is.1.0; ordinal = is.1.1 }, simp append_assoc))
 
-one-blank : (n : ℕ) → 0 < length (number_text n)
+pub one-blank : (n : ℕ) → 0 < length (number_text n)
 one-blank n = omega (arith, length-append (codes " ") (decimal n))
 
 pub gxids-apart : AreApart gxid_text IsGxid EndsNumber
