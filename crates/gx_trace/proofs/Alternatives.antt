@@ -63,7 +63,7 @@ sign-behind false [] is ends = tt
 sign-behind false (b ∷ bs) is ends = ends.0
 
 edge-parts : IsReaderOf (λ x. gxid_text x.0 ++ ((codes ">" ++ decimal x.1.0) ++ sign_of x.1.1)) (λ x. IsGxid x.0 × ((x.1.0 < 2 ^ 64) × Unit {0})) EndsEdge
-  (both gxid (both (behind (codes ">") (number_below (2 ^ 64))) dotting))
+    (both gxid (both (behind (codes ">") (number_below (2 ^ 64))) dotting))
 edge-parts = one-behind-other gxids (one-behind-other (behind-word (codes ">") (numbers-below (2 ^ 64) (omega arith))) signs sign-behind) (λ b rest is ends. refl)
 
 edges-one : IsReaderOf edge_text IsEdge EndsEdge edge
@@ -79,14 +79,14 @@ edge-lists = ends-read edges-one (record { begins = λ e is. edge-some e; follow
 -- ONE OR THE OTHER
 -- Two readers of parts of a type, where what the second reads the first doesn't.
 either-sound : {A : Type 0} (text : A → List ℕ) (IsA IsB : A → Type 0) (o p : Front A) (bytes rest : List ℕ) (a : A)
-  → (o ≡ Some (a, rest) → IsA a × (bytes ≡ text a ++ rest)) → (p ≡ Some (a, rest) → IsB a × (bytes ≡ text a ++ rest))
-  → either o p ≡ Some (a, rest) → (IsA a ⊎ IsB a) × (bytes ≡ text a ++ rest)
+    → (o ≡ Some (a, rest) → IsA a × (bytes ≡ text a ++ rest)) → (p ≡ Some (a, rest) → IsB a × (bytes ≡ text a ++ rest))
+    → either o p ≡ Some (a, rest) → (IsA a ⊎ IsB a) × (bytes ≡ text a ++ rest)
 either-sound text IsA IsB None p bytes rest a f g e = let (is, t) = g e in (inr is, t)
 either-sound text IsA IsB (Some x) p bytes rest a f g e = let (is, t) = f e in (inl is, t)
 
 pub one-or-other : {A : Type 0} (text : A → List ℕ) (IsA IsB : A → Type 0) {Ends : List ℕ → Type 0} {ra rb : List ℕ → Front A}
-  → IsReaderOf text IsA Ends ra → IsReaderOf text IsB Ends rb → ((a : A) (rest : List ℕ) → IsB a → ra (text a ++ rest) ≡ None)
-  → IsReaderOf text (λ a. IsA a ⊎ IsB a) Ends (λ bytes. either (ra bytes) (rb bytes))
+    → IsReaderOf text IsA Ends ra → IsReaderOf text IsB Ends rb → ((a : A) (rest : List ℕ) → IsB a → ra (text a ++ rest) ≡ None)
+    → IsReaderOf text (λ a. IsA a ⊎ IsB a) Ends (λ bytes. either (ra bytes) (rb bytes))
 one-or-other text IsA IsB {ra = ra} {rb = rb} a b apart = record {
   again = λ x rest is ends.
       elim is as (λ _. either (ra (text x ++ rest)) (rb (text x ++ rest)) ≡ Some (x, rest))
@@ -96,7 +96,7 @@ one-or-other text IsA IsB {ra = ra} {rb = rb} a b apart = record {
 
 -- the same values and endings, said otherwise
 pub said-as : {A : Type 0} {text : A → List ℕ} {Is : A → Type 0} {Ends : List ℕ → Type 0} {read : List ℕ → Front A} (Other : A → Type 0) (Stops : List ℕ → Type 0)
-  → IsReaderOf text Is Ends read → ((a : A) → Other a → Is a) → ((a : A) → Is a → Other a) → ((rest : List ℕ) → Stops rest → Ends rest) → IsReaderOf text Other Stops read
+    → IsReaderOf text Is Ends read → ((a : A) → Other a → Is a) → ((a : A) → Is a → Other a) → ((rest : List ℕ) → Stops rest → Ends rest) → IsReaderOf text Other Stops read
 said-as Other Stops r to from ends = record {
   again = λ a rest is stops. r.again a rest (to a is) (ends rest stops);
   sound = λ bytes rest a e. let (is, t) = r.sound bytes rest a e in (from a is, t);

@@ -66,8 +66,8 @@ here : (m n : ℕ) (bs rest : List ℕ) → m < 2 ^ 64 → ◌≡◌ {A = Front 
 here m n bs rest small e = let (a, b) = some_pair_parts m n bs rest e in (omega (arith, a), (λ i. decimal (a i) ++ b i))
 
 behind-digit : (m b n : ℕ) (bs rest : List ℕ) → is_digit b ≡ true → ((k : ℕ) → k < 2 ^ 64 → number_on k bs ≡ Some (n, rest) → IsFrom k bs n rest)
-  → (z : Bool) → (m == 0) ≡ z → (s : Bool) → nat_lt (m * 10 + (b - 48)) (2 ^ 64) ≡ s
-  → option_and_then (λ k. number_on k bs) (if z then None else (if s then Some (m * 10 + (b - 48)) else None)) ≡ Some (n, rest) → IsFrom m (b ∷ bs) n rest
+    → (z : Bool) → (m == 0) ≡ z → (s : Bool) → nat_lt (m * 10 + (b - 48)) (2 ^ 64) ≡ s
+    → option_and_then (λ k. number_on k bs) (if z then None else (if s then Some (m * 10 + (b - 48)) else None)) ≡ Some (n, rest) → IsFrom m (b ∷ bs) n rest
 behind-digit m b n bs rest digit ih true ez s es e = absurd (none-some _ e)
 behind-digit m b n bs rest digit ih false ez false es e = absurd (none-some _ e)
 behind-digit m b n bs rest digit ih false ez true es e =
@@ -80,7 +80,7 @@ behind-digit m b n bs rest digit ih false ez true es e =
     (fits, sym (append_assoc (decimal m) (b ∷ []) bs) ∙ ap (λ x. (decimal m ++ x ∷ []) ++ bs) (sym back) ∙ ap (λ x. x ++ bs) (sym more) ∙ is)
 
 from-by : (m b n : ℕ) (bs rest : List ℕ) (c : Bool) → is_digit b ≡ c → m < 2 ^ 64 → ((k : ℕ) → k < 2 ^ 64 → number_on k bs ≡ Some (n, rest) → IsFrom k bs n rest)
-  → (if c then option_and_then (λ k. number_on k bs) (grown m (b - 48)) else Some (m, b ∷ bs)) ≡ Some (n, rest) → IsFrom m (b ∷ bs) n rest
+    → (if c then option_and_then (λ k. number_on k bs) (grown m (b - 48)) else Some (m, b ∷ bs)) ≡ Some (n, rest) → IsFrom m (b ∷ bs) n rest
 from-by m b n bs rest true c small ih e = behind-digit m b n bs rest c ih (m == 0) refl (nat_lt (m * 10 + (b - 48)) (2 ^ 64)) refl e
 from-by m b n bs rest false c small ih e = here m n (b ∷ bs) rest small e
 

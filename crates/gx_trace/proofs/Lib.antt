@@ -5,3 +5,4 @@ pub mod ReadFields
 pub mod Names
 pub mod Many
 pub mod Alternatives
+pub mod Rows

@@ -32,7 +32,7 @@ module _ {A : Type 0} (read : List ℕ → Front A) where
 
   -- one step of a loop that counts up to the most
   pub many-more : (most at : ℕ) (done : List A) (left behind : List ℕ) (x : A) → at < most → (length left == 0) ≡ false → read left ≡ Some (x, behind)
-    → onto done (many (most - at) read left) ≡ onto (done ++ x ∷ []) (many (most - (at + 1)) read behind)
+      → onto done (many (most - at) read left) ≡ onto (done ++ x ∷ []) (many (most - (at + 1)) read behind)
   many-more most at done left behind x below some e =
       let n : most - at ≡ suc (most - (at + 1)) = omega arith in
       ap (λ k. onto done (many k read left)) n ∙ step (most - (at + 1)) done left behind x some e
@@ -68,15 +68,15 @@ module _ {A : Type 0} (read : List ℕ → Front A) (start : List A) (bytes coun
   from-here e = ap (λ b. onto read start (many (length b) read bytes)) (sym same) ∙ sym e
 
   pub all-read : (n : ℕ) (done : List A) (left : List ℕ) → onto read done (many n read left) ≡ onto read start (many (length counted) read bytes) → (length left == 0) ≡ true
-    → made (λ (others : List A). start ++ others) (to_end read bytes) ≡ Some (done, left)
+      → made (λ (others : List A). start ++ others) (to_end read bytes) ≡ Some (done, left)
   all-read n done left kept none = made-done done (many (length bytes) read bytes) (from-here kept ∙ many-done read n done left none) ∙ ap (λ z. Some (done, z)) (nothing-left left none)
 
   pub none-read : (at : ℕ) (done : List A) (left : List ℕ) → onto read done (many (length counted - at) read left) ≡ onto read start (many (length counted) read bytes) → at < length counted → (length left == 0) ≡ false
-    → read left ≡ None → made (λ (others : List A). start ++ others) (to_end read bytes) ≡ None
+      → read left ≡ None → made (λ (others : List A). start ++ others) (to_end read bytes) ≡ None
   none-read at done left kept below some fails = made-none (many (length bytes) read bytes) (from-here kept ∙ many-fails read (length counted) at done left below some fails)
 
   pub rest-left : (n : ℕ) (done : List A) (left : List ℕ) → onto read done (many n read left) ≡ onto read start (many (length counted) read bytes) → n ≡ 0 → (length left == 0) ≡ false
-    → made (λ (others : List A). start ++ others) (to_end read bytes) ≡ None
+      → made (λ (others : List A). start ++ others) (to_end read bytes) ≡ None
   rest-left n done left kept none some = made-none (many (length bytes) read bytes) (from-here kept ∙ many-left read n done left none some)
 
 -- each has a first byte, and what comes next ends it

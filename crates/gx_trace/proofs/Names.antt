@@ -69,7 +69,7 @@ found-sound start [] name at e = absurd (none-some at e)
 found-sound start (n ∷ ns) name at e = by (λ f. found-sound (start + 1) ns name at f) (pointwise nat_eq n name) refl e
   where
     by : (found (start + 1) ns name ≡ Some at → IsFound (start + 1) ns name at) → (c : Bool) → pointwise nat_eq n name ≡ c
-      → ◌≡◌ {A = Option ℕ} (if c then Some start else found (start + 1) ns name) (Some at) → IsFound start (n ∷ ns) name at
+        → ◌≡◌ {A = Option ℕ} (if c then Some start else found (start + 1) ns name) (Some at) → IsFound start (n ∷ ns) name at
     by ih true c e = record { place = zero; is = omega (arith, same_Some start at e); here = ap Some (same-of n name c); first = λ k l. absurd (omega arith) }
     by ih false c e = found-first start n ns name at (λ same. absurd (grind (arith, c, subst (λ x. pointwise nat_eq n x ≡ true) same (same-self n)))) (ih e)
 
@@ -118,22 +118,23 @@ names-read names = record {
 }
   where
     stands : (bytes rest : List ℕ) (place at : ℕ) → found 0 names (take (prefix_len is_name_byte bytes) bytes) ≡ Some at → (c : Bool) → nat_lt at (2 ^ 8) ≡ c
-      → ◌≡◌ {A = Front ℕ} (if c then Some (at, drop (prefix_len is_name_byte bytes) bytes) else None) (Some (place, rest)) → IsNamed names place × (bytes ≡ name_at names place ++ rest)
+        → ◌≡◌ {A = Front ℕ} (if c then Some (at, drop (prefix_len is_name_byte bytes) bytes) else None) (Some (place, rest)) → IsNamed names place × (bytes ≡ name_at names place ++ rest)
     stands bytes rest place at is false c e = absurd (none-some _ e)
     stands bytes rest place at is true c e =
         let front = take (prefix_len is_name_byte bytes) bytes in
         let (p, q) = some_pair_parts at place (drop (prefix_len is_name_byte bytes) bytes) rest e in
         let f = found-sound 0 names front at is in
         let same : f.place ≡ place = omega (arith, f.is, p) in
-        let here : slice_get names place ≡ Some front = subst (λ k. slice_get names k ≡ Some front) same f.here in
-        (record {
-          name = front;
-          here = here;
-          letters = every-first bytes;
-          first = subst (λ k. (earlier : ℕ) → earlier < k → slice_get names earlier ≢ Some front) same f.first;
-          small = grind (arith, c, p);
-        },
-        sym (take-append-drop (prefix_len is_name_byte bytes) bytes) ∙ (λ i. sym (name-here names place front here) i ++ q i))
+        let here : slice_get names place ≡ Some front = subst (λ k. slice_get names k ≡ Some front) same f.here in (
+          record {
+            name = front;
+            here = here;
+            letters = every-first bytes;
+            first = subst (λ k. (earlier : ℕ) → earlier < k → slice_get names earlier ≢ Some front) same f.first;
+            small = grind (arith, c, p);
+          },
+          sym (take-append-drop (prefix_len is_name_byte bytes) bytes) ∙ (λ i. sym (name-here names place front here) i ++ q i),
+        )
 
 pub sessions : (script : Script) → IsReaderOf (λ (s : SessionId). word_text (session_name script s)) (IsSession script) EndsName (session script)
 sessions script = made-into (λ (s : SessionId). word_text (session_name script s)) (IsSession script) session_of (behind-word (codes " ") (names-read script.sessions)) (λ b is. (b.0, refl, is)) (λ a is. (is, refl))

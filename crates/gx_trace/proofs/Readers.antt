@@ -27,7 +27,7 @@ numbers-below limit small = record {
 }
 
 pub behind-word : {A : Type 0} {text : A → List ℕ} {Is : A → Type 0} {Ends : List ℕ → Type 0} {read : List ℕ → Front A} (w : List ℕ)
-  → IsReaderOf text Is Ends read → IsReaderOf (λ a. w ++ text a) Is Ends (behind w read)
+    → IsReaderOf text Is Ends read → IsReaderOf (λ a. w ++ text a) Is Ends (behind w read)
 behind-word {text = text} {read = read} w r = record {
   again = λ a rest is ends. ap (λ x. behind w read x) (append_assoc w (text a) rest) ∙ ap (option_and_then (λ x. read x.1)) (word-again w (text a ++ rest)) ∙ r.again a rest is ends;
   sound = λ bytes rest a e. option_and_then_some (λ x. read x.1) (word w bytes) (a, rest) e (λ x stands is.
@@ -36,9 +36,9 @@ behind-word {text = text} {read = read} w r = record {
 }
 
 pub one-behind-other : {A B : Type 0} {ta : A → List ℕ} {IsA : A → Type 0} {EndsA : List ℕ → Type 0} {ra : List ℕ → Front A}
-  {tb : B → List ℕ} {IsB : B → Type 0} {EndsB : List ℕ → Type 0} {rb : List ℕ → Front B}
-  → IsReaderOf ta IsA EndsA ra → IsReaderOf tb IsB EndsB rb → ((b : B) (rest : List ℕ) → IsB b → EndsB rest → EndsA (tb b ++ rest))
-  → IsReaderOf (λ x. ta x.0 ++ tb x.1) (λ x. IsA x.0 × IsB x.1) EndsB (both ra rb)
+    {tb : B → List ℕ} {IsB : B → Type 0} {EndsB : List ℕ → Type 0} {rb : List ℕ → Front B}
+    → IsReaderOf ta IsA EndsA ra → IsReaderOf tb IsB EndsB rb → ((b : B) (rest : List ℕ) → IsB b → EndsB rest → EndsA (tb b ++ rest))
+    → IsReaderOf (λ x. ta x.0 ++ tb x.1) (λ x. IsA x.0 × IsB x.1) EndsB (both ra rb)
 one-behind-other {ta = ta} {IsA = IsA} {ra = ra} {tb = tb} {IsB = IsB} {rb = rb} a b joins = record {
   again = λ x rest is ends.
       ap (both ra rb) (append_assoc (ta x.0) (tb x.1) rest)
@@ -54,9 +54,9 @@ one-behind-other {ta = ta} {IsA = IsA} {ra = ra} {tb = tb} {IsB = IsB} {rb = rb}
 
 -- what is read as one thing and made into another
 pub made-into : {A B : Type 0} {ta : A → List ℕ} {IsA : A → Type 0} {Ends : List ℕ → Type 0} {ra : List ℕ → Front A}
-  (tb : B → List ℕ) (IsB : B → Type 0) (f : A → B)
-  → IsReaderOf ta IsA Ends ra → ((b : B) → IsB b → (a : A) × (f a ≡ b) × IsA a) → ((a : A) → IsA a → IsB (f a) × (tb (f a) ≡ ta a))
-  → IsReaderOf tb IsB Ends (λ bytes. made f (ra bytes))
+    (tb : B → List ℕ) (IsB : B → Type 0) (f : A → B)
+    → IsReaderOf ta IsA Ends ra → ((b : B) → IsB b → (a : A) × (f a ≡ b) × IsA a) → ((a : A) → IsA a → IsB (f a) × (tb (f a) ≡ ta a))
+    → IsReaderOf tb IsB Ends (λ bytes. made f (ra bytes))
 made-into {A = A} {B = B} {ta = ta} {IsA = IsA} {ra = ra} tb IsB f a parts whole = record {
   again = λ b rest is ends.
       let (x, same, lawful) = parts b is in
@@ -72,4 +72,3 @@ made-into {A = A} {B = B} {ta = ta} {IsA = IsA} {ra = ra} tb IsB f a parts whole
         let (lawful, text) = a.sound bytes x.1 x.0 is in
         let (good, same) = whole x.0 lawful in
         (subst IsB p good, text ∙ ap (λ y. y ++ x.1) (sym same) ∙ (λ i. tb (p i) ++ q i))
-

@@ -16,16 +16,9 @@ pub enum SeenMark {
     /// All of a mark that is neither an answer nor a message.
     Whole(Mark),
     /// A message that was sent: its name and its numbers, as printed. What else it carries isn't printed.
-    Sent {
-        to: Node,
-        number: u64,
-        message: Txt,
-    },
+    Sent { to: Node, number: u64, message: Txt },
     /// That a line was answered. What it was answered stands among the answers.
-    Answer {
-        session: SessionId,
-        number: u32,
-    },
+    Answer { session: SessionId, number: u32 },
 }
 
 /// An event with its marks, in order.
