@@ -1,5 +1,5 @@
 -- Readers of one thing or another.
-use Rattle.std.proofs.Common.{◌≡◌, ℕ, ◌==◌, ◌<◌, ◌^◌, Bool, true, false, if◌then◌else◌, List, [], ◌∷◌, ◌++◌, length, codes, Option, Some, None, refl, sym, ◌∙◌, ap, subst, inl, inr, arith, append_assoc, append-nil}
+use Rattle.std.proofs.Common.{◌≡◌, ℕ, ◌==◌, ◌<◌, ◌^◌, Bool, true, false, if◌then◌else◌, List, [], ◌∷◌, ◌++◌, length, codes, Option, Some, None, refl, ◌∙◌, ap, inl, inr, arith, append_assoc, append-nil}
 use Rattle.std.specs.Prelude.{option_and_then, All, ◌⊎◌}
 use Rattle.std.specs.List.{flat_map}
 use Rattle.std.specs.Fmt.{decimal}
@@ -13,23 +13,23 @@ use Rattle.gx_modes.specs.Table.{number_of}
 use Rattle.gx_modes.specs.declared.modes.Mode.{Mode}
 use Rattle.gx_modes.specs.declared.modes.Mode.TheVariants.{AccessShare, RowShare, RowExclusive, ShareUpdateExclusive, Share, ShareRowExclusive, Exclusive, AccessExclusive}
 use Rattle.gx_report.specs.LockText.{edge_text, object_text}
-use Rattle.gx_report.specs.Words.{gxid_text, number_text, word_text}
+use Rattle.gx_report.specs.Words.{gxid_text, number_text}
 use Rattle.gx_script.specs.declared.Script.{Script}
 use Rattle.gx_store.specs.Limits.{is_name_byte}
 use Rattle.gx_waits.specs.declared.edge.Edge.{Edge}
 use Rattle.gx_waits.specs.declared.object.Object.{Object}
 use Rattle.gx_waits.specs.declared.object.Object.TheVariants as object
-use Rattle.gx_trace.specs.Fields.{gxid, gxid_of, rid}
+use Rattle.gx_trace.specs.Fields.{gxid, rid}
 use Rattle.gx_trace.specs.Lawful.{IsEdge, IsGxid, IsObject, IsRid, IsTable}
 use Rattle.gx_trace.specs.Lists.{dotting, edge, edge_of, edges, is_dotted}
 use Rattle.gx_trace.specs.Names.{table}
 use Rattle.gx_trace.specs.Objects.{all_modes, mode, mode_among, object as read_object, with_mode}
 use Rattle.gx_trace.specs.Readers.{Front, behind, both, either, made, number_below, word, EndsName, EndsNumber, IsEnd, IsReaderOf}
-use Rattle.gx_trace.proofs.Many.{AreApart, ends-read}
+use Rattle.gx_trace.proofs.Many.{ends-read}
 use Rattle.gx_trace.proofs.Names.{tables}
 use Rattle.gx_trace.proofs.ReadFields.{gxids, one-blank, rids}
 use Rattle.gx_trace.proofs.Readers.{behind-word, made-into, numbers-below, one-behind-other}
-use Rattle.gx_trace.proofs.Words.{if-true, if-false, word-again, word-sound}
+use Rattle.gx_trace.proofs.Words.{if-false, word-again, word-sound}
 
 -- EDGES
 -- what is neither a digit nor the sign of a dotted edge
@@ -71,7 +71,10 @@ edges-one =
     made-into edge_text IsEdge edge_of edge-parts (λ e is. ((e.waiter, (e.holder.0, e.dotted)), refl, (is.0, (is.1, tt)))) (λ x is. ((is.0, is.1.0), simp append_assoc))
 
 edge-some : (e : Edge) → 0 < length (edge_text e)
-edge-some e = omega (arith, one-blank e.waiter.0, length-append (gxid_text e.waiter ++ codes ">" ++ decimal e.holder.0) (sign_of e.dotted), length-append (gxid_text e.waiter ++ codes ">") (decimal e.holder.0), length-append (gxid_text e.waiter) (codes ">"))
+edge-some e =
+    let waiter = gxid_text e.waiter in
+    let holder = decimal e.holder.0 in
+    omega (arith, one-blank e.waiter.0, length-append (waiter ++ codes ">" ++ holder) (sign_of e.dotted), length-append (waiter ++ codes ">") holder, length-append waiter (codes ">"))
 
 pub edge-lists : IsReaderOf (flat_map edge_text) (All IsEdge) IsEnd edges
 edge-lists = ends-read edges-one (record { begins = λ e is. edge-some e; follows = λ e rest is. (refl, refl); last = tt })

@@ -1,5 +1,5 @@
 -- Names are read as they are printed.
-use Rattle.std.proofs.Common.{◌≡◌, ◌≢◌, ℕ, zero, suc, ◌+◌, ◌^◌, ◌<◌, ◌≤◌, nat_eq, nat_lt, Bool, true, false, if◌then◌else◌, List, [], ◌∷◌, ◌++◌, length, take, drop, codes, Option, Some, None, refl, sym, ◌∙◌, ap, subst, arith}
+use Rattle.std.proofs.Common.{◌≡◌, ◌≢◌, ℕ, zero, suc, ◌+◌, ◌^◌, ◌<◌, nat_eq, nat_lt, Bool, true, false, if◌then◌else◌, List, [], ◌∷◌, ◌++◌, length, take, drop, codes, Option, Some, None, refl, sym, ◌∙◌, ap, subst, arith}
 use Rattle.std.specs.Prelude.{option_and_then, slice_get, unwrap_or}
 use Rattle.std.specs.List.{prefix_len}
 use Rattle.std.specs.Cmp.Lexicographic.{pointwise}
@@ -17,7 +17,7 @@ use Rattle.gx_store.specs.Limits.{is_name_byte}
 use Rattle.gx_tree.specs.declared.schema.Schema.{Schema}
 use Rattle.gx_trace.specs.Lawful.{IsNamed, IsSession, IsTable, names_of}
 use Rattle.gx_trace.specs.Names.{found, kept_small, named, name_at, session, session_of, table, table_of}
-use Rattle.gx_trace.specs.Readers.{Front, EndsName, IsReaderOf, behind}
+use Rattle.gx_trace.specs.Readers.{Front, EndsName, IsReaderOf}
 use Rattle.gx_trace.proofs.Words.{if-true, if-false}
 use Rattle.gx_trace.proofs.Readers.{behind-word, made-into}
 

@@ -1,10 +1,8 @@
 -- The fields of a line are read as they are printed.
-use Rattle.std.proofs.Common.{◌≡◌, ℕ, ◌^◌, ◌<◌, List, [], ◌∷◌, ◌++◌, length, codes, refl, ◌∙◌, ap, arith, append_assoc}
+use Rattle.std.proofs.Common.{ℕ, ◌^◌, ◌<◌, ◌++◌, length, codes, refl, arith, append_assoc}
 use Rattle.std.specs.Fmt.{decimal}
 use Rattle.gx_ids.specs.declared.ids.Cid.{Cid}
-use Rattle.gx_ids.specs.declared.ids.Gxid.{Gxid}
 use Rattle.gx_ids.specs.declared.ids.Node.{Node}
-use Rattle.gx_ids.specs.declared.rid.Rid.{Rid}
 use Rattle.gx_report.specs.Words.{gxid_text, number_text}
 use Rattle.gx_trace.specs.Fields.{count, dotted, gxid, gxid_of, cid, cid_of, node, node_of, rid, rid_of}
 use Rattle.gx_trace.specs.Lawful.{IsGxid, IsCid, IsNode, IsRid}
@@ -12,7 +10,7 @@ use Rattle.std.specs.Prelude.{All}
 use Rattle.std.specs.List.{flat_map}
 use Rattle.std.proofs.lemmas.List.{length-append}
 use Rattle.gx_trace.proofs.Many.{AreApart, ends-read}
-use Rattle.gx_trace.specs.Readers.{both, behind, number_below, to_end, EndsNumber, IsEnd, IsReaderOf}
+use Rattle.gx_trace.specs.Readers.{both, to_end, EndsNumber, IsEnd, IsReaderOf}
 use Rattle.gx_trace.specs.Texts.{rid_word}
 use Rattle.gx_trace.proofs.Readers.{numbers-below, behind-word, one-behind-other, made-into}
 

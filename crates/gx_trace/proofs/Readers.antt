@@ -1,10 +1,10 @@
 -- Readers made of readers.
-use Rattle.std.proofs.Common.{◌≡◌, ℕ, ◌+◌, ◌^◌, ◌<◌, nat_lt, Bool, true, false, if◌then◌else◌, List, [], ◌∷◌, ◌++◌, codes, Option, Some, None, refl, sym, ◌∙◌, ap, subst, arith, append_assoc}
+use Rattle.std.proofs.Common.{◌≡◌, ℕ, ◌+◌, ◌^◌, ◌<◌, nat_lt, Bool, true, false, if◌then◌else◌, List, ◌++◌, Some, None, refl, sym, ◌∙◌, ap, subst, arith, append_assoc}
 use Rattle.std.specs.Prelude.{option_and_then}
 use Rattle.std.specs.Fmt.{decimal}
 use Rattle.std.proofs.lemmas.Option.{none-some, some_pair_parts, option_and_then_some}
 use Rattle.gx_trace.specs.Readers.{Front, number, word, both, with_first, made, behind, kept_below, number_below, EndsNumber, IsReaderOf}
-use Rattle.gx_trace.proofs.Words.{if-true, if-false, word-again, word-sound}
+use Rattle.gx_trace.proofs.Words.{if-true, word-again, word-sound}
 use Rattle.gx_trace.proofs.Digits.{number-again, number-sound}
 
 lt-of : (a b : ℕ) → nat_lt a b ≡ true → a < b

@@ -1,5 +1,6 @@
 -- Values, rows and images are read as they are printed.
-use Rattle.std.proofs.Common.{◌≡◌, ◌≢◌, ℕ, zero, suc, ◌+◌, ◌-◌, ◌/◌, ◌%◌, ◌^◌, ◌<◌, ◌≤◌, ◌==◌, nat_lt, Bool, true, false, if◌then◌else◌, ℤ, pos, negsuc, List, [], ◌∷◌, ◌++◌, length, codes, Option, Some, None, refl, sym, ◌∙◌, ap, subst, inl, inr, arith, append_assoc, append-nil}
+use Rattle.std.proofs.Common.{◌≡◌, ◌≢◌, ℕ, zero, suc, ◌+◌, ◌%◌, ◌^◌, ◌<◌, ◌==◌, nat_lt, Bool, true, false, if◌then◌else◌, ℤ, pos, negsuc}
+use Rattle.std.proofs.Common.{List, [], ◌∷◌, ◌++◌, codes, Option, Some, None, refl, sym, ◌∙◌, ap, subst, inl, inr, arith, append_assoc, append-nil}
 use Rattle.std.specs.Prelude.{option_and_then, All, ◌⊎◌}
 use Rattle.std.specs.Option.{option_map}
 use Rattle.std.specs.List.{flat_map}
@@ -7,7 +8,7 @@ use Rattle.std.specs.Fmt.{decimal, signed_decimal}
 use Rattle.std.proofs.lemmas.Fmt.{decimal_by_steps}
 use Rattle.std.proofs.lemmas.List.{length-append}
 use Rattle.std.proofs.lemmas.List.Elements.{All-nil, All-cons, All-head, All-tail}
-use Rattle.std.proofs.lemmas.Option.{none-some, same_Some, some_pair_parts, option_and_then_some}
+use Rattle.std.proofs.lemmas.Option.{none-some, some_pair_parts, option_and_then_some}
 use Rattle.gx_lex.specs.Lexing.{is_digit}
 use Rattle.gx_msg.specs.ItemBytes.{behind_bar, bytes_of_image, bytes_of_row, bytes_of_value}
 use Rattle.gx_report.specs.Words.{word_text}
@@ -74,7 +75,9 @@ longer b acc bs t rest ne x front bytes e =
       more = b ∷ x.more;
       all = x.all ∙ append_assoc acc (b ∷ []) x.more;
       line = All-cons P b x.more ne x.line;
-      stands = e ∙ ap (λ y. quoted_byte b ++ y) x.stands ∙ sym (append_assoc (quoted_byte b) (flat_map quoted_byte x.more ++ codes "'") rest) ∙ ap (λ y. y ++ rest) (sym (append_assoc (quoted_byte b) (flat_map quoted_byte x.more) (codes "'")));
+      stands =
+          e
+          ∙ ap (λ y. quoted_byte b ++ y) x.stands ∙ sym (append_assoc (quoted_byte b) (flat_map quoted_byte x.more ++ codes "'") rest) ∙ ap (λ y. y ++ rest) (sym (append_assoc (quoted_byte b) (flat_map quoted_byte x.more) (codes "'")));
     }
 
 ended-here : (acc t bytes rest : List ℕ) → ◌≡◌ {A = Front (List ℕ)} (Some (acc, bytes)) (Some (t, rest)) → IsText (codes "'") acc bytes t rest
@@ -150,11 +153,13 @@ not-word w ws n rest small other =
     let (d, more, is, digit) = first-digit n small in
     ap (λ x. word (w ∷ ws) (x ++ rest)) is ∙ if-false (48 + d == w) (word ws (more ++ rest)) None (other d digit)
 
-plus-by : (n : ℕ) (z : ℤ) (left rest : List ℕ) (c : Bool) → nat_lt n (2 ^ 63) ≡ c → option_map (λ (y : ℤ). let p : ℤ × List ℕ = (y, left) in p) (if c then Some (pos n) else None) ≡ Some (z, rest) → (n < 2 ^ 63) × (pos n ≡ z) × (left ≡ rest)
+plus-by : (n : ℕ) (z : ℤ) (left rest : List ℕ) (c : Bool) → nat_lt n (2 ^ 63) ≡ c
+    → option_map (λ (y : ℤ). let p : ℤ × List ℕ = (y, left) in p) (if c then Some (pos n) else None) ≡ Some (z, rest) → (n < 2 ^ 63) × (pos n ≡ z) × (left ≡ rest)
 plus-by n z left rest false c e = absurd (none-some _ e)
 plus-by n z left rest true c e = let (p, q) = some_pair_parts (pos n) z left rest e in (grind (arith, c), p, q)
 
-minus-by : (n : ℕ) (z : ℤ) (left rest : List ℕ) (c : Bool) → nat_lt n (2 ^ 63) ≡ c → option_map (λ (y : ℤ). let p : ℤ × List ℕ = (y, left) in p) (if c then Some (negsuc n) else None) ≡ Some (z, rest) → (n < 2 ^ 63) × (negsuc n ≡ z) × (left ≡ rest)
+minus-by : (n : ℕ) (z : ℤ) (left rest : List ℕ) (c : Bool) → nat_lt n (2 ^ 63) ≡ c
+    → option_map (λ (y : ℤ). let p : ℤ × List ℕ = (y, left) in p) (if c then Some (negsuc n) else None) ≡ Some (z, rest) → (n < 2 ^ 63) × (negsuc n ≡ z) × (left ≡ rest)
 minus-by n z left rest false c e = absurd (none-some _ e)
 minus-by n z left rest true c e = let (p, q) = some_pair_parts (negsuc n) z left rest e in (grind (arith, c), p, q)
 

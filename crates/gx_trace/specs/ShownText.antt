@@ -2,6 +2,7 @@
 use Rattle.std.specs.Prelude.{ℕ, List, [], ◌∷◌, ◌++◌, length, map, codes}
 use Rattle.std.specs.List.{flat_map}
 use Rattle.std.specs.Fmt.{decimal}
+use Rattle.gx_tree.specs.declared.row.KeyedRow.{KeyedRow}
 use Rattle.gx_tree.specs.declared.schema.Schema.{Schema}
 use Rattle.gx_tree.specs.declared.value.Value.{Value}
 use Rattle.gx_meaning.specs.Aggregates.{cell_of}
@@ -18,6 +19,9 @@ use Rattle.gx_trace.specs.declared.seen.SeenStep.{SeenStep}
 
 abbrev pub answer_line : Script → SeenAnswer → List ℕ
 answer_line script seen = line_text (session_name script seen.session) seen.number seen.answer
+
+abbrev pub row_of : KeyedRow → List Value
+row_of row = row.row
 
 -- a row of a table, without its identity
 abbrev pub value_line : List Value → List ℕ

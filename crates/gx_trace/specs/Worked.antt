@@ -3,7 +3,11 @@ use Rattle.std.specs.Prelude.{ℕ, pos, negsuc, List, [], ◌∷◌, ◌++◌, c
 use Rattle.gx_tree.specs.declared.cell.Cell.TheVariants as cell
 use Rattle.gx_tree.specs.declared.value.Value.TheVariants as value
 use Rattle.gx_ids.specs.declared.ids.Node.{Node}
+use Rattle.gx_script.specs.declared.Line.{Line}
 use Rattle.gx_script.specs.declared.Script.{Script}
+use Rattle.gx_tree.specs.declared.stmt.Level.TheVariants.{ReadCommitted}
+use Rattle.gx_tree.specs.declared.stmt.Stmt.{Stmt}
+use Rattle.gx_tree.specs.declared.stmt.Stmt.TheVariants as stmt
 use Rattle.gx_store.specs.Refusals.{the_coordinator}
 use Rattle.gx_store.specs.declared.answer.Refused.TheVariants as refused
 use Rattle.gx_store.specs.declared.answer.StmtAnswer.{StmtAnswer}
@@ -11,7 +15,6 @@ use Rattle.gx_store.specs.declared.answer.StmtAnswer.TheVariants as answer
 use Rattle.gx_store.specs.declared.event.Event.{Event}
 use Rattle.gx_store.specs.declared.event.Event.TheVariants as event
 use Rattle.gx_store.specs.declared.mark.Mark.TheVariants as mark
-use Rattle.gx_msg.specs.declared.message.Message.TheVariants as message
 use Rattle.gx_report.specs.Worked.{a_script, edge_of, dotted, first_cid, first_session, first_table, graph_of, node_at, row_at, txn}
 use Rattle.gx_waits.specs.declared.object.Object.TheVariants.{Relation, Tuple, Transaction}
 use Rattle.gx_waits.specs.declared.verdict.Verdict.TheVariants.{Victims}
@@ -28,22 +31,25 @@ answer_of number said = record { session = first_session; number = number; answe
 abbrev pub step_of : ℕ → Node → Event → List SeenMark → SeenStep
 step_of clock node what marks = record { stamp = record { clock = clock; node = node }; event = what; marks = marks }
 
+abbrev pub first_step : SeenStep
+first_step = step_of 1 the_coordinator (event.Start first_session) (seen.Whole (mark.Start (txn 1) first_session) ∷ seen.Answer first_session 1 ∷ [])
+
+abbrev pub second_step : SeenStep
+second_step = step_of 2 the_coordinator (event.Start first_session) (seen.Whole (mark.Abort (txn 1)) ∷ seen.Answer first_session 2 ∷ [])
+
 -- a session begins a block and rolls it back
 abbrev pub small_seen : Seen
-small_seen = record {
-  answers = answer_of 1 answer.Begin ∷ answer_of 2 answer.Rollback ∷ [];
-  tables = [] ∷ [];
-  steps =
-      step_of 1 the_coordinator (event.Start first_session) (seen.Whole (mark.Start (txn 1) first_session) ∷ seen.Answer first_session 1 ∷ [])
-      ∷ step_of 2 the_coordinator (event.Start first_session) (seen.Whole (mark.Abort (txn 1)) ∷ seen.Answer first_session 2 ∷ [])
-      ∷ [];
-}
+small_seen = record { answers = answer_of 1 answer.Begin ∷ answer_of 2 answer.Rollback ∷ []; tables = [] ∷ []; steps = first_step ∷ second_step ∷ [] }
+
+abbrev pub line_of : ℕ → Stmt → Line
+line_of number stmt = record { session = first_session; number = number; stmt = stmt }
+
+-- BEGIN and ROLLBACK of one session, beside a table without columns
+abbrev pub small_script : Script
+small_script = record a_script { lines = line_of 1 (stmt.Begin ReadCommitted) ∷ line_of 2 stmt.Rollback ∷ [] }
 
 abbrev pub small_text : List ℕ
 small_text = codes "s1.1 BEGIN\ns1.2 ROLLBACK\ntable t 0\n"
-
-abbrev pub many_marks_script : Script
-many_marks_script = a_script
 
 abbrev pub many_marks : List SeenMark
 many_marks =
@@ -65,7 +71,11 @@ many_marks_seen = record {
       ∷ answer_of 3 (answer.Refused (refused.Serialization (row_at 1) (txn 2)))
       ∷ [];
   tables = ((value.Int (pos 1) ∷ value.Text (codes "o'k") ∷ []) ∷ []) ∷ [];
-  steps = step_of 7 (node_at 2) (event.Receive the_coordinator (node_at 2) 4) many_marks ∷ step_of 11 the_coordinator (event.Resend (node_at 1) None) [] ∷ step_of 12 the_coordinator event.Round [] ∷ [];
+  steps =
+      step_of 7 (node_at 2) (event.Receive the_coordinator (node_at 2) 4) many_marks
+      ∷ step_of 11 the_coordinator (event.Resend (node_at 1) None) []
+      ∷ step_of 12 the_coordinator event.Round []
+      ∷ [];
 }
 
 abbrev pub many_marks_lines : List ℕ

@@ -8,6 +8,7 @@ mod naming;
 mod numbers;
 mod objects;
 mod seen;
+mod tables;
 mod values;
 mod worked;
 
@@ -17,5 +18,6 @@ pub use lists::{edges_are_read, gxids_are_read};
 pub use naming::{sessions_are_read, tables_are_read};
 pub use objects::{modes_are_read, objects_are_read};
 pub use seen::{Seen, SeenAnswer, SeenMark, SeenStep};
+pub use tables::tables_are_shown_by_their_rows;
 pub use values::images_are_read;
-pub use worked::{a_small_run_is_shown, marks_of_all_kinds_are_shown};
+pub use worked::{a_small_run_is_shown, a_small_run_may_be_shown, marks_of_all_kinds_are_shown};

@@ -1,4 +1,4 @@
-use Rattle.std.proofs.Common.{◌≡◌, ◌-◌, ◌+◌, length, refl, sym, ◌∙◌, ap, subst, arith}
+use Rattle.std.proofs.Common.{◌-◌, ◌+◌, length, sym, ◌∙◌, ap, subst, arith}
 use Rattle.gx_trace.specs.Readers.{IsRead, many}
 use Rattle.gx_trace.specs.Values.{other_value}
 use Rattle.gx_trace.proofs.Many.{onto, many-more, all-read, none-read, rest-left}

@@ -1,4 +1,4 @@
-use Rattle.std.proofs.Common.{◌≡◌, Some, sym, ◌∙◌, ap}
+use Rattle.std.proofs.Common.{Some, sym, ◌∙◌, ap}
 use Rattle.gx_trace.specs.Readers.{word}
 use Rattle.gx_trace.proofs.Words.{word-stands, word-fails}
 use Rattle.gx_trace.proofs.cursor.Cursor.skip.Goals as goal
