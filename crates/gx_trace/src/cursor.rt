@@ -4,7 +4,8 @@ ghost use Rattle.gx_trace.specs.Readers as of;
 
 use std::marker::Model;
 
-/// The bytes of a line that are still to be read.
+/// The bytes of a line that are still to be read. A method that reads goes behind what it has read; where it reads nothing, what is left
+/// says nothing more, and who wants to try something else goes back by `go_to`.
 #[derive(Drop)]
 pub struct Cursor<'a> {
     left: &'a [u8],
@@ -19,18 +20,21 @@ impl<'a> Model for Cursor<'a> {
 }
 
 impl<'a> Cursor<'a> {
+    /// At the front of these bytes.
     pub fn new(left: &'a [u8]) -> Cursor<'a>
         ensures { result ≡ left.now }
     {
         Cursor { left }
     }
 
+    /// The bytes that are left.
     pub fn left(&self) -> &'a [u8]
         ensures { result.now ≡ self.now }
     {
         self.left
     }
 
+    /// Whether nothing is left.
     pub fn is_at_end(&self) -> bool
         ensures { result ≡ (length self.now == 0) }
     {

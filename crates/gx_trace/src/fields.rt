@@ -9,6 +9,7 @@ use crate::cursor::Cursor;
 use gx_ids::{Cid, Gxid, Node, Rid};
 
 impl<'a> Cursor<'a> {
+    /// Reads a transaction.
     pub fn gxid(&mut self) -> Option<Gxid>
         ensures { IsRead result self.new (of.gxid self.old) }
     {
@@ -16,6 +17,7 @@ impl<'a> Cursor<'a> {
         Some(Gxid(number))
     }
 
+    /// Reads a command's number.
     pub fn cid(&mut self) -> Option<Cid>
         ensures { IsRead result self.new (of.cid self.old) }
     {
@@ -24,6 +26,7 @@ impl<'a> Cursor<'a> {
         Some(Cid(number))
     }
 
+    /// Reads a node's number. Whether the script has such a node isn't asked.
     pub fn node(&mut self) -> Option<Node>
         ensures { IsRead result self.new (of.node self.old) }
     {
@@ -32,6 +35,7 @@ impl<'a> Cursor<'a> {
         Some(Node(number))
     }
 
+    /// Reads a row's identity.
     pub fn rid(&mut self) -> Option<Rid>
         ensures { IsRead result self.new (of.rid self.old) }
     {
@@ -46,6 +50,7 @@ impl<'a> Cursor<'a> {
     }
 }
 
+/// Rows' identities are read as they are printed.
 pub fn rids_are_read()
     ensures { IsReaderOf rid_word IsRid EndsNumber of.rid }
 {}

@@ -1,4 +1,5 @@
-//! What the printed text and trace of a whole run show, and how they are read back.
+//! What the printed text and trace of a whole run show and may show, and the words of their lines, read back: numbers, names, rows'
+//! identities, locks, edges and images. Each is read exactly where it stands as it is printed.
 #![tactic(auto)]
 
 mod cursor;

@@ -13,6 +13,7 @@ use gx_waits::Edge;
 use std::alloc::Global;
 
 impl<'a> Cursor<'a> {
+    /// Reads all transactions that stand here, to the end of the line.
     pub fn gxids(&mut self, alloc: Global) -> Mem<Option<Seq<Gxid>>>
         ensures { IfOk result (λ read. IsRead read self.new (of.gxids self.old)) }
     {
@@ -34,6 +35,7 @@ impl<'a> Cursor<'a> {
         }
     }
 
+    /// Reads all edges that stand here, to the end of the line. Their order isn't asked.
     pub fn edges(&mut self, alloc: Global) -> Mem<Option<Seq<Edge>>>
         ensures { IfOk result (λ read. IsRead read self.new (of.edges self.old)) }
     {
@@ -83,10 +85,12 @@ impl<'a> Cursor<'a> {
     }
 }
 
+/// Lists of transactions are read as they are printed.
 pub fn gxids_are_read()
     ensures { IsReaderOf (flat_map gxid_text) (All IsGxid) IsEnd of.gxids }
 {}
 
+/// Lists of edges are read as they are printed.
 pub fn edges_are_read()
     ensures { IsReaderOf (flat_map edge_text) (All IsEdge) IsEnd of.edges }
 {}

@@ -74,6 +74,7 @@ impl<'a> Cursor<'a> {
         u8::try_from(place).ok()
     }
 
+    /// Reads a session, by the first of the script's with that name.
     pub fn session(&mut self, script: &Script) -> Option<SessionId>
         ensures { IsRead result self.new (of.session script.now self.old) }
     {
@@ -82,6 +83,7 @@ impl<'a> Cursor<'a> {
         Some(SessionId(place))
     }
 
+    /// Reads a table, by the first of the script's with that name.
     pub fn table(&mut self, script: &Script) -> Option<Table>
         ensures { IsRead result self.new (of.table script.now self.old) }
     {
@@ -91,10 +93,12 @@ impl<'a> Cursor<'a> {
     }
 }
 
+/// Sessions are read by their names.
 pub fn sessions_are_read()
     ensures { (script : AnyScript) → IsReaderOf (λ session. word_text (session_name script session)) (IsSession script) EndsName (of.session script) }
 {}
 
+/// Tables are read by their names.
 pub fn tables_are_read()
     ensures { (script : AnyScript) → IsReaderOf (λ table. word_text (table_name script table)) (IsTable script) EndsName (of.table script) }
 {}

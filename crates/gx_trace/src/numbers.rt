@@ -51,12 +51,14 @@ impl<'a> Cursor<'a> {
         }
     }
 
+    /// The same, as the fields of 64 bits have it.
     pub fn wide(&mut self) -> Option<u64>
         ensures { of.IsRead result self.new (of.number_below (2 ^ 64) self.old) }
     {
         self.number()
     }
 
+    /// Reads a number of 32 bits.
     pub fn medium(&mut self) -> Option<u32>
         ensures { of.IsRead result self.new (of.number_below (2 ^ 32) self.old) }
     {
@@ -64,6 +66,7 @@ impl<'a> Cursor<'a> {
         u32::try_from(number).ok()
     }
 
+    /// Reads a number of 8 bits.
     pub fn small(&mut self) -> Option<u8>
         ensures { of.IsRead result self.new (of.number_below (2 ^ 8) self.old) }
     {

@@ -57,6 +57,7 @@ impl<'a> Cursor<'a> {
         Some(Object::Transaction(gxid))
     }
 
+    /// Reads what a lock is taken on.
     pub fn object(&mut self, script: &Script) -> Option<Object>
         ensures { IsRead result self.new (of.object script.now self.old) }
     {
@@ -72,6 +73,7 @@ impl<'a> Cursor<'a> {
         self.transaction()
     }
 
+    /// Reads a lock's mode, by its number.
     pub fn mode(&mut self) -> Option<Mode>
         ensures { IsRead result self.new (of.mode self.old) }
     {
@@ -81,10 +83,12 @@ impl<'a> Cursor<'a> {
     }
 }
 
+/// What locks are taken on is read as it is printed.
 pub fn objects_are_read()
     ensures { (script : AnyScript) → IsReaderOf (object_text script) (IsObject script) EndsName (of.object script) }
 {}
 
+/// Modes are read as they are printed.
 pub fn modes_are_read()
     ensures { IsReaderOf (λ mode. number_text (number_of mode)) (λ _. Unit {0}) EndsNumber of.mode }
 {}

@@ -192,6 +192,7 @@ impl<'a> Cursor<'a> {
     }
 }
 
+/// Images are read as they are printed, but where a text holds a line feed.
 pub fn images_are_read()
     ensures { IsReaderOf (λ image. word_text (bytes_of_image image)) IsImage IsEnd of.image }
 {}
