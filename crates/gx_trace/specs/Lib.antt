@@ -1,0 +1,11 @@
+pub mod ShownText
+pub mod Shown
+pub mod Lawful
+pub mod Worked
+pub mod Readers
+pub mod Fields
+pub mod Texts
+pub mod Names
+pub mod Values
+pub mod Lists
+pub mod Objects
