@@ -21,4 +21,4 @@ pub use objects::{modes_are_read, objects_are_read};
 pub use seen::{Seen, SeenAnswer, SeenMark, SeenStep};
 pub use tables::tables_are_shown_by_their_rows;
 pub use values::images_are_read;
-pub use worked::{a_small_run_is_shown, a_small_run_may_be_shown, marks_of_all_kinds_are_shown};
+pub use worked::{a_small_run_is_shown, a_small_run_may_be_shown, many_marks_are_shown};

@@ -15,7 +15,7 @@ pub fn a_small_run_may_be_shown()
     ensures { IsShown small_script small_seen }
 {}
 
-/// Answers with rows, a table with a row, and marks and events of all kinds.
-pub fn marks_of_all_kinds_are_shown()
+/// Answers with rows, a table with a row, and marks and events of several kinds.
+pub fn many_marks_are_shown()
     ensures { shown_text a_script many_marks_seen ≡ many_marks_text }
 {}

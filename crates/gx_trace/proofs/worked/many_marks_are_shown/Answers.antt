@@ -1,6 +1,6 @@
 use Rattle.std.proofs.Common.{refl}
 use Rattle.std.specs.Fmt.{digits}
-use Rattle.gx_trace.proofs.worked.marks_of_all_kinds_are_shown.Goals as goal
+use Rattle.gx_trace.proofs.worked.many_marks_are_shown.Goals as goal
 
 pub returns : goal.returns
 unfolding digits
