@@ -137,11 +137,28 @@ min-parts : (a b : ℕ) → (Prim.Native.Nat.min a b ≤ b) × ((s : ℕ) → Pr
 min-parts a b = (grind (arith, common_steps), λ s l m. grind (arith, common_steps))
 
 -- those ask whom marks answer, if those between the least and the greatest do
-pub answered-between : (p : SessionId → Bool) (t : Table) (ms : List Mark) (low past n most : ℕ) → most ≡ beyond_from 0 ms → low ≡ lowest_from past ms → past ≡ Prim.Native.Nat.min most n
+pub answered-between : (p : SessionId → Bool) (t : Table) (ms : List Mark) (low past n most : ℕ) → most ≡ beyond_from 0 ms → low ≡ lowest_from 256 ms → past ≡ Prim.Native.Nat.min most n
     → asking_if (λ s. is_answered s ms && p s) t (map numbered (range_with_len low (past - low))) ≡ asking_if (λ s. is_answered s ms && p s) t (map numbered (range_with_len 0 n))
-answered-between p t ms low past n most beyond lowest least =
-    between-some (λ s. is_answered s ms && p s) t low past n
-    (let h = lowest-within past ms in omega (arith, lowest, h))
-    (let h = (min-parts most n).0 in omega (arith, least, h))
-    (λ s l. ap (λ b. b && p s) (lowest-below s past ms (let e = lowest in omega (arith, l, e))))
-    (λ s l inside. ap (λ b. b && p s) (beyond-above s 0 ms (let h = (min-parts most n).1 s.0 (let e = least in omega (arith, l, e)) inside in let b = beyond in omega (arith, h, b))))
+answered-between p t ms low past n most beyond lowest least = by_test (nat_lt past low) refl
+  where
+    within : (a b : ℕ) → nat_lt a b ≡ false → b ≤ a
+    within a b q = grind (arith, nat_tests)
+
+    beside : (a b : ℕ) → nat_lt a b ≡ true → a ≤ b
+    beside a b q = grind (arith, nat_tests)
+
+    below : (s : SessionId) → s.0 < low → (is_answered s ms && p s) ≡ false
+    below s l = ap (λ b. b && p s) (lowest-below s 256 ms (let e = lowest in omega (arith, l, e)))
+
+    above : (s : SessionId) → past ≤ s.0 → s.0 < n → (is_answered s ms && p s) ≡ false
+    above s l inside = ap (λ b. b && p s) (beyond-above s 0 ms (let h = (min-parts most n).1 s.0 (let e = least in omega (arith, l, e)) inside in let b = beyond in omega (arith, h, b)))
+
+    either : (s : SessionId) → past ≤ low → s.0 < n → (b : Bool) → nat_lt s.0 low ≡ b → (is_answered s ms && p s) ≡ false
+    either s h inside true q = below s (let l : s.0 < low = grind (arith, nat_tests) in l)
+    either s h inside false q = above s (let k = within s.0 low q in omega (arith, h, k)) inside
+
+    by_test : (b : Bool) → nat_lt past low ≡ b → asking_if (λ s. is_answered s ms && p s) t (map numbered (range_with_len low (past - low))) ≡ asking_if (λ s. is_answered s ms && p s) t (map numbered (range_with_len 0 n))
+    by_test true q =
+        ap (λ ns. asking_if (λ s. is_answered s ms && p s) t (map numbered ns)) (range-none low past (beside past low q))
+        ∙ sym (if-none (λ s. is_answered s ms && p s) t 0 n (λ s h l. either s (beside past low q) (omega (arith, l)) (nat_lt s.0 low) refl))
+    by_test false q = between-some (λ s. is_answered s ms && p s) t low past n (within past low q) (let h = (min-parts most n).0 in omega (arith, least, h)) below above

@@ -17,6 +17,7 @@ use Rattle.gx_store.specs.Marks.{is_same_session}
 use Rattle.gx_store.specs.Points.{marks_in}
 use Rattle.gx_agenda.specs.Moves.{next_place}
 use Rattle.gx_agenda.specs.declared.slots.Slots.{Slots}
+use Rattle.gx_agenda.specs.declared.span.Span.{Span}
 use Rattle.gx_agenda.specs.declared.standing.Standing.{Standing}
 
 -- OUTSIDE A BLOCK
@@ -92,6 +93,11 @@ abbrev pub beyond_from : ℕ → List Mark → ℕ
 beyond_from past [] = past
 beyond_from past (Answer s n reply ∷ ms) = beyond_from (if nat_lt s.0 past then past else s.0 + 1) ms
 beyond_from past (_ ∷ ms) = beyond_from past ms
+
+-- the sessions of whom these marks answer lines are those from the least of them to the greatest, or some of these
+pub record IsSpan (marks : List Mark) (span : Span) : Type 0 where
+  pub from : span.from ≡ lowest_from 256 marks
+  pub past : span.past ≡ beyond_from 0 marks
 
 -- WHAT IS KEPT
 -- which sessions stand outside a block

@@ -19,6 +19,7 @@ mod repeating;
 pub mod request;
 mod resends;
 pub mod slots;
+pub mod span;
 pub mod standing;
 mod taking;
 pub mod vec_map;

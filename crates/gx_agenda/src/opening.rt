@@ -6,9 +6,10 @@ ghost use Rattle.gx_store.specs.Legal.{draws as draws_in};
 ghost use Rattle.gx_store.specs.Lines.{Outside};
 ghost use Rattle.gx_store.specs.Marks.{is_answered as is_answered_in};
 ghost use Rattle.gx_store.specs.Schedule.{sessions_of};
-ghost use Rattle.gx_agenda.specs.Slotted.{asking_if, beyond_from, is_due, line_in, lowest_from, noted, noted_at, opens_line, outside_behind, outside_line, place_of};
+ghost use Rattle.gx_agenda.specs.Slotted.{IsSpan, asking_if, is_due, line_in, noted_at, opens_line, outside_behind, outside_line, place_of};
 
 use crate::queue::Queue;
+use crate::span::Span;
 use crate::standing::Standing;
 use crate::taking::ask;
 use gx_groups::Groups;
@@ -161,36 +162,6 @@ fn is_answered(marks: &[Mark], session: SessionId) -> bool
     false
 }
 
-// The least number of a session with an answer among the marks, or the one given where that is less.
-fn lowest(marks: &[Mark], most: usize) -> usize
-    ensures { result ≡ lowest_from most marks.now }
-{
-    let mut least = most;
-    for mark in marks {
-        if let Mark::Answer { session, .. } = mark {
-            if usize::from(session.0) < least {
-                least = usize::from(session.0);
-            }
-        }
-    }
-    least
-}
-
-// One more than the greatest such number, or 0.
-fn beyond(marks: &[Mark]) -> usize
-    ensures { result ≡ beyond_from 0 marks.now }
-{
-    let mut past = 0;
-    for mark in marks {
-        if let Mark::Answer { session, .. } = mark {
-            if usize::from(session.0) >= past {
-                past = usize::from(session.0) + 1;
-            }
-        }
-    }
-    past
-}
-
 // Those ask of whom a line was answered, and whose next one begins a transaction.
 pub(crate) fn ask_answered(
     groups: &mut Groups,
@@ -198,12 +169,14 @@ pub(crate) fn ask_answered(
     queue: &Queue,
     outside: &[bool],
     marks: &[Mark],
+    answered: Span,
 )
-    requires { IsScript script.now }
+    requires language { IsScript script.now }
+    requires span { IsSpan marks.now answered }
     ensures { groups.new ≡ asking_if (λ s. is_answered_in s marks.now && is_due script.now.lines queue.now.standings.items outside.now s) groups.old (sessions_of script.now) }
 {
-    let past = beyond(marks).min(script.sessions.len());
-    for number in lowest(marks, past)..past {
+    let past = answered.past.min(script.sessions.len());
+    for number in answered.from..past {
         ask_where_answered(
             groups,
             script,
@@ -215,8 +188,8 @@ pub(crate) fn ask_answered(
     }
 }
 
-// A session's line of a number was answered.
-fn note_answer(
+// A session's line of a number was answered: it may have left its block, or stand in one.
+pub(crate) fn note_answer(
     outside: &mut Vec<bool>,
     script: &Script,
     queue: &Queue,
@@ -233,22 +206,6 @@ fn note_answer(
                 place_of_line(standing, line),
                 was,
             );
-        }
-    }
-}
-
-// Lines were answered: their sessions may have left their blocks, or stand in some.
-pub(crate) fn note_answers(outside: &mut Vec<bool>, script: &Script, queue: &Queue, marks: &[Mark])
-    ensures { outside.new.items ≡ noted script.now.lines queue.now.standings.items outside.old.items marks.now }
-{
-    for mark in marks {
-        if let Mark::Answer {
-            session,
-            number,
-            ..
-        } = mark
-        {
-            note_answer(outside, script, queue, *session, *number);
         }
     }
 }

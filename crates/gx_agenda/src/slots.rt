@@ -4,11 +4,12 @@ ghost use Rattle.gx_store.specs.Groups.{open_from, slots_through};
 ghost use Rattle.gx_store.specs.Language.{IsScript};
 ghost use Rattle.gx_store.specs.declared.run.Step.{Step};
 ghost use Rattle.gx_agenda.specs.Queued.{AreQueued};
-ghost use Rattle.gx_agenda.specs.Slotted.{AreAsTold, AreSlots};
+ghost use Rattle.gx_agenda.specs.Slotted.{AreAsTold, AreSlots, IsSpan, noted};
 
 use crate::grouping::fresh_groups;
-use crate::opening::{all_outside, ask_all, ask_answered, note_answers};
+use crate::opening::{all_outside, ask_all, ask_answered, note_answer};
 use crate::queue::Queue;
+use crate::span::Span;
 use crate::taking::through_mark;
 use gx_groups::Groups;
 use gx_ids::{Mem, SessionId};
@@ -76,7 +77,7 @@ impl Slots {
     pub fn is_held_up(&self, session: SessionId) -> bool
         ensures { result ≡ is_held_up self.now.groups session }
     {
-        self.groups.asks(session) && !self.groups.may(session)
+        !self.groups.may(session) && self.groups.asks(session)
     }
 
     // These are the marks of a step.
@@ -85,26 +86,54 @@ impl Slots {
         ensures { OnOk result ((steps : List Step) (step : Step) → step.marks ≡ marks.now → AreAsTold script.now steps self.old
             → AreQueued script.now (steps ++ step ∷ []) queue.now → AreAsTold script.now (steps ++ step ∷ []) self.new) }
     {
-        through_marks(&mut self.groups, &mut self.begun, marks)?;
-        note_answers(&mut self.outside, script, queue, marks);
+        let answered = through_marks(
+            &mut self.groups,
+            &mut self.begun,
+            &mut self.outside,
+            script,
+            queue,
+            marks,
+        )?;
         ask_answered(
             &mut self.groups,
             script,
             queue,
             self.outside.as_slice(),
             marks,
+            answered,
         );
         Ok(())
     }
 }
 
-// Slots are taken and given back, as marks say.
-fn through_marks(groups: &mut Groups, begun: &mut Vec<Opened>, marks: &[Mark]) -> Mem<()>
+// Slots are taken and given back as marks say, and sessions leave their blocks or stand in some. The sessions of whom lines were answered
+// are told.
+fn through_marks(
+    groups: &mut Groups,
+    begun: &mut Vec<Opened>,
+    outside: &mut Vec<bool>,
+    script: &Script,
+    queue: &Queue,
+    marks: &[Mark],
+) -> Mem<Span>
     ensures groups { OnOk result (groups.new ≡ slots_through begun.old.items groups.old marks.now) }
     ensures begun { OnOk result (begun.new.items ≡ open_from begun.old.items marks.now) }
+    ensures outside { OnOk result (outside.new.items ≡ noted script.now.lines queue.now.standings.items outside.old.items marks.now) }
+    ensures span { IfOk result (λ span. IsSpan marks.now span) }
 {
+    let mut answered = Span::none();
     for mark in marks {
-        through_mark(groups, begun, mark)?;
+        match mark {
+            Mark::Answer {
+                session,
+                number,
+                ..
+            } => {
+                note_answer(outside, script, queue, *session, *number);
+                answered.add(*session);
+            }
+            _ => through_mark(groups, begun, mark)?,
+        }
     }
-    Ok(())
+    Ok(answered)
 }

@@ -8,8 +8,8 @@ use Rattle.gx_agenda.proofs.opening.ask_answered.Goals as goal
 
 pub loop-number-init : goal.loop-number-init
 loop-number-init c =
-    answered-between (is_due c.args.script.now.lines c.args.queue.now.standings.items c.args.outside.now) c.args.groups.now c.args.marks.now c.lowest-number.result c.min-past.result (length c.args.script.now.sessions)
-    c.beyond.result c.beyond.ensures c.lowest-number.ensures (c.min-past.ensures ∙ ap (Prim.Native.Nat.min c.beyond.result) c.len.ensures)
+    answered-between (is_due c.args.script.now.lines c.args.queue.now.standings.items c.args.outside.now) c.args.groups.now c.args.marks.now c.args.answered.from c.min-past.result (length c.args.script.now.sessions)
+    c.args.answered.past c.requires.span.past c.requires.span.from (c.min-past.ensures ∙ ap (Prim.Native.Nat.min c.args.answered.past) c.len.ensures)
 
 pub loop-number-preserved : goal.loop-number-preserved
 loop-number-preserved c =
