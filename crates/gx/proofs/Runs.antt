@@ -43,6 +43,7 @@ use Rattle.gx_store.specs.Groups.{AreStartsLet, lets}
 use Rattle.gx_law_groups.proofs.Runs.{begin-as-asked, keeps-slots}
 use Rattle.gx_law_lone.proofs.Askers.{grouped-victims}
 use Rattle.gx_law_lone.specs.Victims.{AreLet}
+use Rattle.gx_law_progress.proofs.Runs.{grouped-few}
 use Rattle.gx_drive.proofs.Lone.{drawn-let, first-let, starts-let}
 use Rattle.gx.specs.Top.{AreDriven, IsRunOf}
 
@@ -64,6 +65,7 @@ run-of script options run language inserts is driven within =
       blocked = by-events script run.steps is (λ ss. DoStayBlocked (marks_in ss)) (run-stays-blocked script language.some_segments);
       rounds = by-events script run.steps is (AreRoundsLegal script) (world-legal script language.some_segments (world-rounds script language.some_segments));
       lone = grouped-victims script language inserts run.steps is let_in;
+      few = grouped-few script language inserts run.steps is let_in;
       slots = keeps-slots script language run.steps history starts;
       queued = begin-as-asked script language run.steps history starts;
       driven = driven;

@@ -32,6 +32,7 @@ use Rattle.gx_law_writes.specs.Legal.{AreLocksLegal}
 use Rattle.gx_law_runs.specs.Endings.{IsFinished}
 use Rattle.gx_law_locks.specs.Legal.{AreRoundsLegal}
 use Rattle.gx_law_lone.specs.Victims.{DoLoneRoundsFindVictims}
+use Rattle.gx_law_progress.specs.LoneRounds.{AreLoneRoundsFew}
 use Rattle.gx_store.specs.Limits.{HaveTuplesTo}
 use Rattle.gx_law_order.specs.Told.{DoStepsTell}
 use Rattle.gx_drive.specs.Ends.{IsEnd}
@@ -56,11 +57,12 @@ AreDriven None script steps = AreFirst script [] steps
 AreDriven (Some seed) script steps = AreDrawn script seed [] steps
 
 -- The run is a legal history of one store without segments. Its nodes follow their rules and the commit protocol, its messages are
--- numbered, follow what they tell of, and arrive after they were sent, clocks rise, rows stand where it tells of them, its locks are legal, who is blocked stays blocked until
--- one of them aborts, and each event is the one that the driver takes. Its rounds of the deadlock detector ask, report and decide as they
--- are defined; where one names somebody the waits that it found stuck still stand, and whoever it names is the youngest of those who
--- can't go on; and where a round was all that was left to choose, it comes to victims. No resource group ever has more open transactions
--- than slots, and its sessions begin theirs in the order in which they asked. The run has no more steps than turns were asked for.
+-- numbered, follow what they tell of, and arrive after they were sent, clocks rise, rows stand where it tells of them, its locks are legal,
+-- who is blocked stays blocked until one of them aborts, and each event is the one that the driver takes. Its rounds of the deadlock
+-- detector ask, report and decide as they are defined; where one names somebody the waits that it found stuck still stand, and whoever it
+-- names is the youngest of those who can't go on; and where a round was all that was left to choose, it comes to victims, so that there
+-- are no more such rounds, of those that came to their recheck, than transactions. No resource group ever has more open transactions than
+-- slots, and its sessions begin theirs in the order in which they asked. The run has no more steps than turns were asked for.
 pub record IsRunOf (script : Script) (options : Options) (run : Run) : Type 0 where
   pub legal : IsLegalHistory script run
   pub ordered : AreOrdered script [] run.steps
@@ -72,6 +74,7 @@ pub record IsRunOf (script : Script) (options : Options) (run : Run) : Type 0 wh
   pub blocked : DoStayBlocked (marks_of run)
   pub rounds : AreRoundsLegal script run.steps
   pub lone : DoLoneRoundsFindVictims script (lets script) [] run.steps
+  pub few : AreLoneRoundsFew script (lets script) run.steps
   pub slots : AlwaysKeepsSlots script (marks_of run)
   pub queued : BeginAsAsked script run.steps
   pub driven : AreDriven options.seed script run.steps

@@ -1,5 +1,5 @@
 -- A run of a driver does what the groups let; so where a round is all that is left to choose, it finds victims.
-use Rattle.std.proofs.Common.{◌≡◌, ℕ, zero, suc, Bool, true, false, cond, List, [], ◌∷◌, ◌++◌, filter, Some, inl, inr, Contains, refl, subst, ◌∙◌}
+use Rattle.std.proofs.Common.{◌≡◌, ℕ, zero, suc, Bool, true, false, cond, List, [], ◌∷◌, ◌++◌, filter, Some, inl, inr, Contains, refl, subst, ◌∙◌, arith}
 use Rattle.std.specs.Prelude.{slice_get}
 use Rattle.gx_script.specs.declared.Script.{Script}
 use Rattle.gx_store.specs.Groups.{AreLetBehind, AreStartsLet, enabled_in, lets}
@@ -11,6 +11,8 @@ use Rattle.gx_store.specs.declared.run.Step.{Step}
 use Rattle.gx_waits.proofs.Members.{Has, contains_from_has, has_from_contains}
 use Rattle.gx_law_lone.proofs.Askers.{grouped-victims}
 use Rattle.gx_law_lone.specs.Victims.{AreLet, DoLoneRoundsFindVictims}
+use Rattle.gx_law_progress.proofs.Runs.{grouped-few}
+use Rattle.gx_law_progress.specs.LoneRounds.{AreLoneRoundsFew}
 use Rattle.gx_law_runs.specs.Reached.{IsReached}
 use Rattle.gx_drive.specs.Chosen.{AreChosen, Choice}
 use Rattle.gx_drive.specs.Ordered.{AreFirst, IsFirst}
@@ -70,3 +72,13 @@ module _ (script : Script) (language : IsScript script) (inserts : AreInsertsWho
 
   pub drawn-lone : (seed : ℕ) → AreDrawn script seed [] steps → DoLoneRoundsFindVictims script (lets script) [] steps
   drawn-lone seed a = grouped-victims script language inserts steps is (drawn-let script seed steps a)
+
+  pub first-few : AreFirst script [] steps → AreLoneRoundsFew script (lets script) steps
+  first-few a = grouped-few script language inserts steps is (first-let script steps a)
+
+  pub drawn-few : (seed : ℕ) → AreDrawn script seed [] steps → AreLoneRoundsFew script (lets script) steps
+  drawn-few seed a = grouped-few script language inserts steps is (drawn-let script seed steps a)
+
+-- and none began where nothing was done
+pub none-few : (script : Script) → AreLoneRoundsFew script (lets script) []
+none-few script = record { cancelling = omega (arith); begun = omega (arith); lines = omega (arith) }

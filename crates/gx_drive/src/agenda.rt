@@ -83,7 +83,8 @@ impl Agenda {
         requires agreed { IsAgreed world.now.script world.now.run.steps self.now }
         requires none { first_of (moves_of world.now.script world.now.run.steps) ≡ [] }
         ensures first { option_to_list result ≡ first_of (flat_map (resends world.now.script world.now.run.steps) (segments_of world.now.script)
-            ++ filter (lets world.now.script world.now.run.steps) (starts world.now.script world.now.run.steps) ++ ends world.now.script world.now.run.steps ++ rounds world.now.script world.now.run.steps) }
+            ++ filter (lets world.now.script world.now.run.steps) (starts world.now.script world.now.run.steps) ++ ends world.now.script world.now.run.steps
+            ++ rounds world.now.script world.now.run.steps) }
         ensures due { IfSome result (IsDue world.now.script world.now.run.steps) }
     {
         match self.asked.first(first_graph(world)) {

@@ -1,6 +1,10 @@
 ghost use Rattle.std.specs.Prelude.{◌≡◌, ◌≤◌, [], false, IfOk, OnOk, length, map};
 ghost use Rattle.gx_outside.specs.Shelves.{AreEmpty};
+ghost use Rattle.gx_law_lone.specs.Victims.{DoLoneRoundsFindVictims};
+ghost use Rattle.gx_law_progress.specs.LoneRounds.{AreLoneRoundsFew};
+ghost use Rattle.gx_store.specs.Groups.{lets};
 ghost use Rattle.gx_store.specs.Language.{IsScript};
+ghost use Rattle.gx_store.specs.Whole.{AreInsertsWhole};
 ghost use Rattle.gx_drive.specs.Agrees.{IsAgreed};
 ghost use Rattle.gx_drive.specs.Ends.{IsEnd, IsStuckWithout};
 ghost use Rattle.gx_drive.specs.Ordered.{AreFailuresFew, AreHeld, AreHeldSoFar};
@@ -42,6 +46,8 @@ pub fn run_seeded<J: Journal, G: Gate>(
     ensures failures { AreFailuresFew world.new.run.steps (map J.shelf journals.old) (map J.shelf journals.new) }
     ensures so_far { AreHeldSoFar world.new.run.steps (map J.shelf journals.new) }
     ensures end { IfOk result (IsEnd world.old.script world.new.run.steps turns) }
+    ensures lone { AreInsertsWhole world.old.script.tables world.old.script.lines → DoLoneRoundsFindVictims world.old.script (lets world.old.script) [] world.new.run.steps }
+    ensures few { AreInsertsWhole world.old.script.tables world.old.script.lines → AreLoneRoundsFew world.old.script (lets world.old.script) world.new.run.steps }
     ensures off { IfOk result (IsStuckWithout world.old.script) }
     ensures held { OnOk result (AreHeld world.new.run.steps (map J.shelf journals.new)) }
     ensures unspent { OnOk result (world.new.spent ≡ false) }
@@ -49,6 +55,7 @@ pub fn run_seeded<J: Journal, G: Gate>(
     let mut agenda = Agenda::new(alloc, world.script())?;
     let end = run_drawn(alloc, world, &mut agenda, journals, gate, turns, seed);
     drop(agenda);
+    let _run = world.run();
     end
 }
 
