@@ -1,6 +1,6 @@
 -- A coordinator apart, one step further.
-use Rattle.std.proofs.Common.{◌≡◌, ◌≤◌, ◌<◌, ℕ, zero, suc, ◌+◌, ◌∙◌, List, [], ◌∷◌, ◌++◌, Option, Some, None, Bool, true, false, if◌then◌else◌, cond, ◌^◌, All, refl, sym, subst, ap, arith, append-nil, length}
-use Rattle.std.specs.Prelude.{map, nat_lt, slice_get}
+use Rattle.std.proofs.Common.{◌≡◌, ◌≤◌, ◌<◌, ℕ, zero, suc, ◌+◌, ◌∙◌, List, [], ◌∷◌, ◌++◌, Some, Bool, true, cond, ◌^◌, All, refl, sym, subst, ap, arith, append-nil, length}
+use Rattle.std.specs.Prelude.{nat_lt, slice_get}
 use Rattle.std.specs.List.{list_all}
 use Rattle.std.proofs.lemmas.List.{length-map}
 use Rattle.gx_lemmas.proofs.Numbers.{lt-of}
@@ -14,7 +14,6 @@ use Rattle.gx_coord.specs.Room.{has_room}
 use Rattle.gx_coord.specs.Steps.{HasStepped, IsCoord}
 use Rattle.gx_coord.specs.declared.coord.Coord.{Coord as CoordNode}
 use Rattle.gx_links.specs.Ends.{OutEnd}
-use Rattle.gx_msg.specs.declared.message.Envelope.{Envelope}
 use Rattle.gx_node.specs.Orders.{Took}
 use Rattle.gx_outside.specs.Shelves.{Shelf}
 use Rattle.gx_script.specs.declared.Script.{Script}
@@ -176,6 +175,13 @@ numbers-left coord c is early room =
 
     between : (a b : ℕ) → a ≤ b + 1 → b + 1 < 2 ^ 62 → a < 2 ^ 62
     between a b l h = omega (arith, l, h)
+
+-- it has few links
+pub few-links : (history : CoordHistory) (inboxes : List Inbox) (coord : CoordNode) (shelf : Shelf) → IsCoordApart history inboxes coord shelf → length history.outs.items < 256
+few-links history inboxes coord shelf apart = few (length history.outs.items) history.script.value.segments coord.script.value.segments apart.outs (ap (λ (x : Script). x.segments) apart.of) apart.holds.language.few_segments
+  where
+    few : (n a b : ℕ) → n ≡ a → b ≡ a → b ≤ 16 → n < 256
+    few n a b same as-many low = omega (arith, same, as-many, low)
 
 -- WHAT IT DOES BY ITSELF
 pub own-here : (inboxes : List Inbox) (here : NodeEvent) → is_own here ≡ true → event_in (post_at_coordinator inboxes) (event_of here) ≡ Some here

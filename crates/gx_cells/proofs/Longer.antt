@@ -1,12 +1,11 @@
 -- A history with one step more, and one to which more has come.
-use Rattle.std.proofs.Common.{◌≡◌, ◌≤◌, ◌<◌, ℕ, ◌+◌, List, [], ◌∷◌, ◌++◌, Option, Some, None, Bool, true, false, if◌then◌else◌, cond, ◌&&◌, refl, sym, subst, ap, ◌∙◌, arith, append-nil}
+use Rattle.std.proofs.Common.{◌≡◌, ◌≤◌, ◌<◌, ℕ, ◌+◌, List, [], ◌∷◌, ◌++◌, Some, Bool, true, false, if◌then◌else◌, cond, refl, sym, ap, ◌∙◌, arith, append-nil}
 use Rattle.std.specs.Prelude.{map}
 use Rattle.std.proofs.lemmas.List.{append_assoc, map-append}
-use Rattle.std.proofs.lemmas.Bool.Decides.{nat_tests}
 use Rattle.gx_ids.specs.declared.ids.Node.{Node}
 use Rattle.gx_msg.specs.ItemBytes.{bytes_of_item}
 use Rattle.gx_msg.specs.declared.item.JournalItem.{JournalItem}
-use Rattle.gx_outside.specs.Shelves.{HasAdded, Shelf}
+use Rattle.gx_outside.specs.Shelves.{Shelf}
 use Rattle.gx_node.specs.Orders.{Took}
 use Rattle.gx_store.specs.declared.mark.Mark.{Mark}
 use Rattle.gx_store.specs.declared.mark.Mark.TheVariants.{JournalFailed}
@@ -18,7 +17,7 @@ use Rattle.gx_store.proofs.Runs.{marks_in-push}
 use Rattle.gx_rules.specs.Machine.{kept_item}
 use Rattle.gx_law_runs.specs.Failures.{failures_in}
 use Rattle.gx_law_runs.specs.Replays.{has_failed}
-use Rattle.gx_law_merge.specs.Apart.{DoesFollow, HasMore, IsSameBy, IsTurn, Post, Rule, here_in, holds_after, holds_by, takes_by, takes_in}
+use Rattle.gx_law_merge.specs.Apart.{DoesFollow, HasMore, IsTurn, Post, Rule, here_in, holds_after, holds_by, takes_by, takes_in}
 use Rattle.gx_law_merge.proofs.Longer.{same-by}
 use Rattle.gx_cells.specs.Kept.{IsHistory}
 

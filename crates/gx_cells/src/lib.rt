@@ -5,9 +5,11 @@
 mod acting;
 pub mod coord_cell;
 pub mod coord_history;
+mod hearing;
 pub mod history;
 pub mod inbox;
 pub mod looked;
+mod receipts;
 mod receiving;
 mod resuming;
 pub mod segment_cell;

@@ -1,5 +1,8 @@
 ghost use Rattle.std.specs.Prelude.{◌≡◌, [], true, false, None, IfOk, IsErr, OnErr, OnOk};
+ghost use Rattle.gx_locks.specs.Locks.{next_ready};
+ghost use Rattle.gx_segment.specs.Room.{has_room};
 ghost use Rattle.gx_store.specs.Ordered.{IsSegment as IsPlace};
+ghost use Rattle.gx_store.specs.Refusals.{the_coordinator};
 ghost use Rattle.gx_cells.specs.Receipts.{HasReceived, HasResumed};
 ghost use Rattle.gx_cells.specs.Views.{IsSameCell, data_of, sight_of};
 
@@ -115,7 +118,7 @@ impl<J: Journal> SegmentCell<J> {
     /// Receives the next envelope: the one that is to come once more, or else the link's next.
     pub fn receive<R: Wait, G: Gate>(&mut self, rt: &R, gate: &G) -> Mem<Looked>
         ensures same { IsSameCell self.old self.new }
-        ensures received { IfOk result (HasReceived self.old.script self.old.node (data_of self.old) (sight_of self.old) (sight_of self.new)) }
+        ensures received { IfOk result (HasReceived self.old.script the_coordinator self.old.node (has_room (data_of self.old)) (sight_of self.old) (sight_of self.new)) }
         ensures unspent { OnOk result (self.new.spent ≡ false) }
         ensures err { OnErr result (self.new.spent ≡ true) }
         ensures again { self.old.spent ≡ true → IsErr result }
@@ -139,7 +142,9 @@ impl<J: Journal> SegmentCell<J> {
     /// Resumes the least transaction whose wait is ready.
     pub fn resume<R: Wait, G: Gate>(&mut self, rt: &R, gate: &G) -> Mem<Looked>
         ensures same { IsSameCell self.old self.new }
-        ensures resumed { IfOk result (HasResumed self.old.node (data_of self.old) (sight_of self.old) (sight_of self.new)) }
+        ensures resumed { IfOk result (HasResumed self.old.node (next_ready (data_of self.old).locks) (has_room (data_of self.old)) self.old.steps self.new.steps) }
+        ensures source { self.new.source ≡ self.old.source }
+        ensures to_come { self.new.again ≡ self.old.again }
         ensures unspent { OnOk result (self.new.spent ≡ false) }
         ensures err { OnErr result (self.new.spent ≡ true) }
         ensures again { self.old.spent ≡ true → IsErr result }

@@ -1,8 +1,6 @@
-use Rattle.std.proofs.Common.{rules, ◌≡◌, ◌<◌, ◌≤◌, ◌∙◌, ap, length, refl}
+use Rattle.std.proofs.Common.{rules, ◌<◌, ◌≤◌, ◌∙◌, ap, length, refl}
 use Rattle.std.proofs.Math.Seq.{map-set_same}
-use Rattle.std.specs.Prelude.{slice_set}
 use Rattle.gx_links.specs.Ends.{OutEnd}
-use Rattle.gx_cells.specs.CoordActs.{links_of}
 use Rattle.gx_cells.proofs.Links.{all-spread, link-read, spread-next}
 use Rattle.gx_cells.proofs.spreading.spread.Goals as goal
 
