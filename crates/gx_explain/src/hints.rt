@@ -25,27 +25,17 @@ fn begins(spelling: &[u8], bytes: &[u8]) -> bool {
     if spelling.first() == Some(&b'$') {
         return bytes.is_empty();
     }
-    let mut rest = bytes;
-    for letter in spelling {
-        match rest.split_first() {
-            None => return false,
-            Some((byte, others)) => {
-                if *letter != small(*byte) {
-                    return false;
-                }
-                rest = others;
-            }
+    for place in 0..spelling.len() {
+        if bytes.len() <= place || small(bytes[place]) != spelling[place] {
+            return false;
         }
     }
-    !goes_on(spelling, rest)
+    !is_within_word(bytes, spelling.len())
 }
 
-// Whether a word isn't at its end before these bytes.
-fn goes_on(spelling: &[u8], rest: &[u8]) -> bool {
-    match (spelling.first(), rest.first()) {
-        (Some(letter), Some(byte)) => is_word_byte(*letter) && is_word_byte(*byte),
-        _ => false,
-    }
+// Whether a word goes on at a place of bytes.
+fn is_within_word(bytes: &[u8], place: usize) -> bool {
+    0 < place && place < bytes.len() && is_word_byte(bytes[place - 1]) && is_word_byte(bytes[place])
 }
 
 fn is_any(wanted: &[u8], found: &[u8]) -> bool {
@@ -91,48 +81,36 @@ fn last_of<'a>(tokens: &'a [Token]) -> &'a [u8] {
     }
 }
 
-fn is_clause(word: Word) -> bool {
+// The clause that begins with this word, or else the one before it.
+fn clause_at(word: Word, clause: &'static [u8]) -> &'static [u8] {
     match word {
-        Word::Select | Word::From | Word::Where | Word::Group | Word::Order | Word::Limit => true,
+        Word::Select | Word::From | Word::Where | Word::Group | Word::Order | Word::Limit =>
+            word.text(),
         Word::Into | Word::Values | Word::Set | Word::Lock | Word::Count | Word::Distributed =>
-            true,
-        _ => false,
-    }
-}
-
-// With one of these a head of a link begins, which has no other clause.
-fn is_link(word: Word) -> bool {
-    match word {
-        Word::Lose | Word::Repeat => true,
-        _ => false,
-    }
-}
-
-// Whether tokens begin a head of a group, whose words are those of other clauses elsewhere.
-fn is_group(tokens: &[Token]) -> bool {
-    match tokens.first() {
-        Some(Token::Word(Word::Group)) => true,
-        _ => false,
+            word.text(),
+        _ => clause,
     }
 }
 
 // The clause of a line behind these tokens, or this one.
-fn clause_of(tokens: &[Token], front: &'static [u8]) -> &'static [u8] {
-    if is_group(tokens) {
-        return b"groups";
-    }
+fn clause_behind(tokens: &[Token], front: &'static [u8]) -> &'static [u8] {
     let mut clause = front;
     for token in tokens {
         if let Token::Word(word) = token {
-            if is_link(*word) {
-                return word.text();
-            }
-            if is_clause(*word) {
-                clause = word.text();
-            }
+            clause = clause_at(*word, clause);
         }
     }
     clause
+}
+
+// The same. The head of a link and that of a group have no other clause.
+fn clause_of(tokens: &[Token], front: &'static [u8]) -> &'static [u8] {
+    match tokens.first() {
+        Some(Token::Word(Word::Group)) => b"groups",
+        Some(Token::Word(Word::Lose)) => b"lose",
+        Some(Token::Word(Word::Repeat)) => b"repeat",
+        _ => clause_behind(tokens, front),
+    }
 }
 
 fn hint_on_bad(first: Option<&u8>) -> Option<&'static [u8]> {
@@ -155,13 +133,9 @@ fn hint_on_stray(stray: Stray, tail: &[u8]) -> Option<&'static [u8]> {
 }
 
 fn hint_on_syntax(stray: Stray, clause: &[u8], last: &[u8], tail: &[u8]) -> Option<&'static [u8]> {
-    if let Some(hint) = hint_by(WORDS, clause, last, tail) {
-        return Some(hint);
-    }
-    if let Some(hint) = hint_on_stray(stray, tail) {
-        return Some(hint);
-    }
-    hint_by(PLACES, clause, last, tail)
+    hint_by(WORDS, clause, last, tail)
+        .or(hint_on_stray(stray, tail))
+        .or(hint_by(PLACES, clause, last, tail))
 }
 
 fn hint_on_limit(limit: Limit) -> &'static [u8] {

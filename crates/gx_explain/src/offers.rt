@@ -17,9 +17,10 @@ use std::alloc::Global;
 const NEAR: usize = 20_000;
 
 // What stands before offers.
-const OFFERED: &[u8] = b"  could stand there:  ";
+const OFFERED: &[u8] = b"  could stand there:";
 
-const BEFORE: usize = 22;
+// The same, and behind it that a name could stand there, which is offered first.
+const NAMED: &[u8] = b"  could stand there:  a name";
 
 // The most bytes of a line of offers, but for its end.
 const ROOM: usize = 98;
@@ -43,6 +44,10 @@ const SIGNS: [Symbol; 16] = [
     Symbol::Slash,
     Symbol::Percent,
 ];
+
+// How many of them there are, and all together with the kinds of tokens that have no spelling of their own.
+const KEYWORDS: usize = WORDS.len();
+const CANDIDATES: usize = 3 + WORDS.len() + SIGNS.len();
 
 fn signs() -> &'static [Symbol] {
     &SIGNS
@@ -94,28 +99,55 @@ pub fn front_of(progress: &Progress) -> Front {
     }
 }
 
-// How far the tokens are a head's line, or a session's first.
-fn read_head(alloc: Global, segments: u64, tokens: &[Token]) -> Mem<Going> {
-    if segments == 0 {
-        return Ok(Going::Not);
-    }
-    going_of(read_head_line(alloc, segments, limits(), tokens))
-}
-
 // How far the tokens are a line there.
 fn read_on(alloc: Global, front: Front, tokens: &[Token]) -> Mem<Going> {
     match front {
         Front::Segments => going_of(read_segments_line(alloc, limits(), tokens)),
-        Front::Heads(segments) => read_head(alloc, segments, tokens),
+        Front::Heads(0) => Ok(Going::Not),
+        Front::Heads(segments) => going_of(read_head_line(alloc, segments, limits(), tokens)),
         Front::Lines => going_of(read_session_line(alloc, limits(), tokens)),
     }
 }
 
-fn goes(going: Going) -> bool {
-    match going {
-        Going::Whole => true,
-        Going::On => true,
-        Going::Not => false,
+// Whether a line there begins with the tokens.
+fn goes(alloc: Global, front: Front, tokens: &[Token]) -> Mem<bool> {
+    match read_on(alloc, front, tokens) {
+        Ok(Going::Not) => Ok(false),
+        Ok(_) => Ok(true),
+        Err(OutOfMemory) => Err(OutOfMemory),
+    }
+}
+
+// The keyword or the sign of this number among those that may be offered, keywords first.
+fn word_or_sign<'t>(number: usize) -> Token<'t> {
+    match keywords().get(number) {
+        Some(word) => Token::Word(*word),
+        None => match signs().get(number.saturating_sub(KEYWORDS)) {
+            Some(sign) => Token::Symbol(*sign),
+            None => Token::Bad,
+        },
+    }
+}
+
+// The token of this number among those that may be offered: first those that stand for all of their kind.
+fn candidate<'t>(alloc: Global, number: usize) -> Token<'t> {
+    match number {
+        0 => Token::Name(Name::new(b"a")),
+        1 => Token::Number(Some(1)),
+        2 => Token::Text(Txt::from_vec(Vec::new(alloc))),
+        _ => word_or_sign(number.saturating_sub(3)),
+    }
+}
+
+// How a token is offered.
+fn offered_as(token: &Token) -> &'static [u8] {
+    match token {
+        Token::Word(word) => word.text(),
+        Token::Symbol(sign) => sign_text(*sign),
+        Token::Name(_) => b"a name",
+        Token::Number(_) => b"a number",
+        Token::Text(_) => b"a text",
+        Token::Bad => b"",
     }
 }
 
@@ -123,9 +155,7 @@ fn push_offer(words: &mut Vec<u8>, spelling: &[u8]) -> Mem<()> {
     if words.len().saturating_add(spelling.len()) > ROOM {
         return Ok(());
     }
-    if BEFORE < words.len() {
-        push_bytes(words, b"  ")?;
-    }
+    push_bytes(words, b"  ")?;
     push_bytes(words, spelling)
 }
 
@@ -135,77 +165,25 @@ fn offer<'t>(
     front: Front,
     tokens: &mut Vec<Token<'t>>,
     token: Token<'t>,
-    spelling: &[u8],
     words: &mut Vec<u8>,
-) -> Mem<bool> {
+) -> Mem<()> {
+    let spelling = offered_as(&token);
     tokens.push(token)?;
-    let on = goes(read_on(alloc, front, tokens.as_slice())?);
+    let on = goes(alloc, front, tokens.as_slice());
     drop(tokens.pop());
-    if on {
-        push_offer(words, spelling)?;
-    }
-    Ok(on)
-}
-
-fn offer_words(
-    alloc: Global,
-    front: Front,
-    tokens: &mut Vec<Token>,
-    all: &[Word],
-    words: &mut Vec<u8>,
-) -> Mem<()> {
-    for word in all {
-        offer(alloc, front, tokens, Token::Word(*word), word.text(), words)?;
-    }
-    Ok(())
-}
-
-fn offer_signs(
-    alloc: Global,
-    front: Front,
-    tokens: &mut Vec<Token>,
-    signs: &[Symbol],
-    words: &mut Vec<u8>,
-) -> Mem<()> {
-    for sign in signs {
-        offer(
-            alloc,
-            front,
-            tokens,
-            Token::Symbol(*sign),
-            sign_text(*sign),
-            words,
-        )?;
-    }
-    Ok(())
-}
-
-// Offers what has no spelling of its own, and says whether a name could stand there.
-fn offer_kinds(
-    alloc: Global,
-    front: Front,
-    tokens: &mut Vec<Token>,
-    words: &mut Vec<u8>,
-) -> Mem<bool> {
-    let name = Token::Name(Name::new(b"a"));
-    let named = offer(alloc, front, tokens, name, b"a name", words)?;
-    let number = Token::Number(Some(1));
-    offer(alloc, front, tokens, number, b"a number", words)?;
-    let content = Token::Text(Txt::from_vec(Vec::new(alloc)));
-    offer(alloc, front, tokens, content, b"a text", words)?;
-    Ok(named)
-}
-
-fn offer_end(alloc: Global, front: Front, tokens: &[Token], words: &mut Vec<u8>) -> Mem<()> {
-    match read_on(alloc, front, tokens)? {
-        Going::Whole => push_offer(words, b"the end"),
-        _ => Ok(()),
+    match on {
+        Ok(true) => push_offer(words, spelling),
+        Ok(false) => Ok(()),
+        Err(OutOfMemory) => Err(OutOfMemory),
     }
 }
 
-// Ends a line of offers, or takes it away where nothing is offered.
-fn end_offers(words: &mut Vec<u8>) -> Mem<()> {
-    if BEFORE < words.len() {
+// Offers the end, and ends the line of offers, or takes it away where nothing is offered.
+fn end_offers(going: Going, words: &mut Vec<u8>) -> Mem<()> {
+    if let Going::Whole = going {
+        push_offer(words, b"the end")?;
+    }
+    if OFFERED.len() < words.len() {
         push_bytes(words, b"\n")
     } else {
         words.clear();
@@ -213,20 +191,29 @@ fn end_offers(words: &mut Vec<u8>) -> Mem<()> {
     }
 }
 
-// Gives a line of what could stand behind these tokens, and says whether a name could.
+// Gives a line of what could stand behind these tokens, but for its end.
+fn offer_tokens(
+    alloc: Global,
+    front: Front,
+    tokens: &mut Vec<Token>,
+    words: &mut Vec<u8>,
+) -> Mem<()> {
+    for number in 0..CANDIDATES {
+        offer(alloc, front, tokens, candidate(alloc, number), words)?;
+    }
+    Ok(())
+}
+
+// Gives a line of what could stand behind these tokens.
 fn push_offers(
     alloc: Global,
     words: &mut Vec<u8>,
     front: Front,
     tokens: &mut Vec<Token>,
-) -> Mem<bool> {
+) -> Mem<()> {
     push_bytes(words, OFFERED)?;
-    let named = offer_kinds(alloc, front, tokens, words)?;
-    offer_words(alloc, front, tokens, keywords(), words)?;
-    offer_signs(alloc, front, tokens, signs(), words)?;
-    offer_end(alloc, front, tokens.as_slice(), words)?;
-    end_offers(words)?;
-    Ok(named)
+    offer_tokens(alloc, front, tokens, words)?;
+    end_offers(read_on(alloc, front, tokens.as_slice())?, words)
 }
 
 // Whether a fault may be one of the grammar.
@@ -241,11 +228,11 @@ fn is_of_tokens(fault: LineFault) -> bool {
     }
 }
 
-// What the token at the place of a fault is by itself.
-fn stray_of(token: Option<&Token>) -> Stray {
+// What a token is by itself that can't stand at its place.
+fn stray_of(token: &Token) -> Stray {
     match token {
-        Some(Token::Word(_)) => Stray::Keyword,
-        Some(Token::Bad) => Stray::Bad,
+        Token::Word(_) => Stray::Keyword,
+        Token::Bad => Stray::Bad,
         _ => Stray::Other,
     }
 }
@@ -258,12 +245,33 @@ fn stray_where(named: bool, stray: Stray) -> Stray {
     }
 }
 
-// Whether the grammar stops at the token behind so many of these, of which no more are left then.
-fn stops(alloc: Global, front: Front, tokens: &mut Vec<Token>, place: usize) -> Mem<bool> {
-    tokens.truncate(place.saturating_add(1));
-    let stops = tokens.len() <= place || !goes(read_on(alloc, front, tokens.as_slice())?);
-    tokens.truncate(place);
-    Ok(stops)
+// How the token behind so many of these came to be there.
+fn stray_at(alloc: Global, front: Front, tokens: &[Token], place: usize) -> Mem<Stray> {
+    if tokens.len() <= place {
+        return Ok(Stray::Other);
+    }
+    match goes(alloc, front, &tokens[..place + 1]) {
+        Ok(true) => Ok(Stray::Fitting),
+        Ok(false) => Ok(stray_of(&tokens[place])),
+        Err(OutOfMemory) => Err(OutOfMemory),
+    }
+}
+
+// Gives what could stand behind these tokens, where it isn't what stands there, and says how that came to be there which does.
+fn push_offers_for(
+    alloc: Global,
+    words: &mut Vec<u8>,
+    front: Front,
+    tokens: &mut Vec<Token>,
+    stray: Stray,
+) -> Mem<Stray> {
+    if let Stray::Fitting = stray {
+        return Ok(stray);
+    }
+    match push_offers(alloc, words, front, tokens) {
+        Ok(()) => Ok(stray_where(words.starts_with(NAMED) && !tokens.is_empty(), stray)),
+        Err(OutOfMemory) => Err(OutOfMemory),
+    }
 }
 
 // Gives what could stand behind so many of these tokens, of which no more are left then, and says how that came to be there
@@ -275,13 +283,9 @@ fn push_offers_at(
     tokens: &mut Vec<Token>,
     place: usize,
 ) -> Mem<Stray> {
-    let stray = stray_of(tokens.get(place));
-    if stops(alloc, front, tokens, place)? {
-        let named = push_offers(alloc, words, front, tokens)?;
-        Ok(stray_where(named && !tokens.is_empty(), stray))
-    } else {
-        Ok(Stray::Fitting)
-    }
+    let stray = stray_at(alloc, front, tokens.as_slice(), place)?;
+    tokens.truncate(place);
+    push_offers_for(alloc, words, front, tokens, stray)
 }
 
 fn front_name(front: Front) -> &'static [u8] {
