@@ -47,6 +47,7 @@ const SIGNS: [Symbol; 16] = [
 
 // How many of them there are, and all together with the kinds of tokens that have no spelling of their own.
 const KEYWORDS: usize = WORDS.len();
+
 const CANDIDATES: usize = 3 + WORDS.len() + SIGNS.len();
 
 fn signs() -> &'static [Symbol] {
