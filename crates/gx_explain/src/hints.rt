@@ -1,12 +1,11 @@
 // Hints for the usual mistakes. Nothing is proved of them.
 use crate::rules::{KINDS, NAMES, PLACES, WORDS};
 use crate::spelled::spelled;
-use gx_ids::Mem;
+use crate::words::Words;
 use gx_lex::byte::{is_capital, is_word_byte, small};
 use gx_lex::{Token, Word};
 use gx_sql::Limit;
 use gx_sql::refusal::LineFault;
-use gx_text::push_bytes;
 
 /// How a token comes to be where it can't stand.
 #[derive(Clone, Copy)]
@@ -177,11 +176,10 @@ pub fn hint(
 }
 
 /// Adds a hint, where there is one.
-pub fn push_hint(words: &mut Vec<u8>, hint: Option<&'static [u8]>) -> Mem<()> {
+pub fn push_hint(words: &mut Words, hint: Option<&'static [u8]>) {
     if let Some(hint) = hint {
-        push_bytes(words, b"  hint: ")?;
-        push_bytes(words, hint)?;
-        push_bytes(words, b"\n")?;
+        words.push(b"  hint: ");
+        words.push(hint);
+        words.push(b"\n");
     }
-    Ok(())
 }

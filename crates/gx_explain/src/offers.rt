@@ -2,6 +2,7 @@
 use crate::hints::{Stray, hint, push_hint};
 use crate::places::limits;
 use crate::spelled::sign_text;
+use crate::words::Words;
 use gx_grammar::ReadError;
 use gx_ids::{Mem, OutOfMemory};
 use gx_lex::{Name, Symbol, Token, WORDS, Word};
@@ -9,7 +10,6 @@ use gx_lines::{read_head_line, read_segments_line, read_session_line};
 use gx_sql::Limit;
 use gx_sql::progress::Progress;
 use gx_sql::refusal::LineFault;
-use gx_text::push_bytes;
 use gx_tree::Txt;
 use std::alloc::Global;
 
@@ -111,11 +111,14 @@ fn read_on(alloc: Global, front: Front, tokens: &[Token]) -> Mem<Going> {
 }
 
 // Whether a line there begins with the tokens.
-fn goes(alloc: Global, front: Front, tokens: &[Token]) -> Mem<bool> {
+fn goes(alloc: Global, front: Front, tokens: &[Token], words: &mut Words) -> bool {
     match read_on(alloc, front, tokens) {
-        Ok(Going::Not) => Ok(false),
-        Ok(_) => Ok(true),
-        Err(OutOfMemory) => Err(OutOfMemory),
+        Ok(Going::Not) => false,
+        Ok(_) => true,
+        Err(OutOfMemory) => {
+            words.cut_short();
+            false
+        }
     }
 }
 
@@ -152,12 +155,11 @@ fn offered_as(token: &Token) -> &'static [u8] {
     }
 }
 
-fn push_offer(words: &mut Vec<u8>, spelling: &[u8]) -> Mem<()> {
-    if words.len().saturating_add(spelling.len()) > ROOM {
-        return Ok(());
+fn push_offer(words: &mut Words, spelling: &[u8]) {
+    if words.as_slice().len().saturating_add(spelling.len()) <= ROOM {
+        words.push(b"  ");
+        words.push(spelling);
     }
-    push_bytes(words, b"  ")?;
-    push_bytes(words, spelling)
 }
 
 // Adds a token to what is offered where it lets the reading go on behind these tokens, which are the same afterwards.
@@ -166,55 +168,51 @@ fn offer<'t>(
     front: Front,
     tokens: &mut Vec<Token<'t>>,
     token: Token<'t>,
-    words: &mut Vec<u8>,
-) -> Mem<()> {
+    words: &mut Words,
+) {
     let spelling = offered_as(&token);
-    tokens.push(token)?;
-    let on = goes(alloc, front, tokens.as_slice());
-    drop(tokens.pop());
-    match on {
-        Ok(true) => push_offer(words, spelling),
-        Ok(false) => Ok(()),
-        Err(OutOfMemory) => Err(OutOfMemory),
+    match tokens.push(token) {
+        Ok(()) => {
+            if goes(alloc, front, tokens.as_slice(), words) {
+                push_offer(words, spelling);
+            }
+            drop(tokens.pop());
+        }
+        Err(_) => words.cut_short(),
     }
 }
 
-// Offers the end, and ends the line of offers, or takes it away where nothing is offered.
-fn end_offers(going: Going, words: &mut Vec<u8>) -> Mem<()> {
-    if let Going::Whole = going {
-        push_offer(words, b"the end")?;
+// Offers all tokens that could stand behind these.
+fn offer_tokens(alloc: Global, front: Front, tokens: &mut Vec<Token>, words: &mut Words) {
+    for number in 0..CANDIDATES {
+        offer(alloc, front, tokens, candidate(alloc, number), words);
     }
-    if OFFERED.len() < words.len() {
-        push_bytes(words, b"\n")
+}
+
+// Offers the end where the tokens are a line.
+fn offer_end(alloc: Global, front: Front, tokens: &[Token], words: &mut Words) {
+    match read_on(alloc, front, tokens) {
+        Ok(Going::Whole) => push_offer(words, b"the end"),
+        Ok(_) => {}
+        Err(OutOfMemory) => words.cut_short(),
+    }
+}
+
+// Ends a line of offers, or takes it away where nothing is offered.
+fn end_offers(words: &mut Words) {
+    if OFFERED.len() < words.as_slice().len() {
+        words.push(b"\n");
     } else {
         words.clear();
-        Ok(())
     }
-}
-
-// Gives a line of what could stand behind these tokens, but for its end.
-fn offer_tokens(
-    alloc: Global,
-    front: Front,
-    tokens: &mut Vec<Token>,
-    words: &mut Vec<u8>,
-) -> Mem<()> {
-    for number in 0..CANDIDATES {
-        offer(alloc, front, tokens, candidate(alloc, number), words)?;
-    }
-    Ok(())
 }
 
 // Gives a line of what could stand behind these tokens.
-fn push_offers(
-    alloc: Global,
-    words: &mut Vec<u8>,
-    front: Front,
-    tokens: &mut Vec<Token>,
-) -> Mem<()> {
-    push_bytes(words, OFFERED)?;
-    offer_tokens(alloc, front, tokens, words)?;
-    end_offers(read_on(alloc, front, tokens.as_slice())?, words)
+fn push_offers(alloc: Global, words: &mut Words, front: Front, tokens: &mut Vec<Token>) {
+    words.push(OFFERED);
+    offer_tokens(alloc, front, tokens, words);
+    offer_end(alloc, front, tokens.as_slice(), words);
+    end_offers(words);
 }
 
 // Whether a fault may be one of the grammar.
@@ -247,46 +245,43 @@ fn stray_where(named: bool, stray: Stray) -> Stray {
 }
 
 // How the token behind so many of these came to be there.
-fn stray_at(alloc: Global, front: Front, tokens: &[Token], place: usize) -> Mem<Stray> {
-    if tokens.len() <= place {
-        return Ok(Stray::Other);
-    }
-    match goes(alloc, front, &tokens[..place + 1]) {
-        Ok(true) => Ok(Stray::Fitting),
-        Ok(false) => Ok(stray_of(&tokens[place])),
-        Err(OutOfMemory) => Err(OutOfMemory),
-    }
-}
-
-// Gives what could stand behind these tokens, where it isn't what stands there, and says how that came to be there which does.
-fn push_offers_for(
+fn stray_at(
     alloc: Global,
-    words: &mut Vec<u8>,
     front: Front,
-    tokens: &mut Vec<Token>,
-    stray: Stray,
-) -> Mem<Stray> {
-    if let Stray::Fitting = stray {
-        return Ok(stray);
-    }
-    match push_offers(alloc, words, front, tokens) {
-        Ok(()) => Ok(stray_where(words.starts_with(NAMED) && !tokens.is_empty(), stray)),
-        Err(OutOfMemory) => Err(OutOfMemory),
+    tokens: &[Token],
+    place: usize,
+    words: &mut Words,
+) -> Stray {
+    if tokens.len() <= place {
+        Stray::Other
+    } else if goes(alloc, front, &tokens[..place + 1], words) {
+        Stray::Fitting
+    } else {
+        stray_of(&tokens[place])
     }
 }
 
-// Gives what could stand behind so many of these tokens, of which no more are left then, and says how that came to be there
-// which does.
+// Gives what could stand behind so many of these tokens, where it isn't what stands there, and says how that came to be there
+// which does. No more of them are left then.
 fn push_offers_at(
     alloc: Global,
-    words: &mut Vec<u8>,
+    words: &mut Words,
     front: Front,
     tokens: &mut Vec<Token>,
     place: usize,
-) -> Mem<Stray> {
-    let stray = stray_at(alloc, front, tokens.as_slice(), place)?;
+) -> Stray {
+    let stray = stray_at(alloc, front, tokens.as_slice(), place, words);
     tokens.truncate(place);
-    push_offers_for(alloc, words, front, tokens, stray)
+    match stray {
+        Stray::Fitting => stray,
+        _ => {
+            push_offers(alloc, words, front, tokens);
+            stray_where(
+                words.as_slice().starts_with(NAMED) && !tokens.is_empty(),
+                stray,
+            )
+        }
+    }
 }
 
 fn front_name(front: Front) -> &'static [u8] {
@@ -297,26 +292,22 @@ fn front_name(front: Front) -> &'static [u8] {
     }
 }
 
-// Adds what could stand at the place of a fault, and a hint.
-fn push_words(
+// How the token at the place of a fault came to be there, as far as the grammar says, behind the tokens that are left then; and
+// adds what could stand there.
+fn stray_behind(
     alloc: Global,
-    words: &mut Vec<u8>,
+    words: &mut Words,
     front: Front,
     fault: LineFault,
     tokens: &mut Vec<Token>,
     place: usize,
-    tail: &[u8],
-) -> Mem<()> {
-    let mut stray = Stray::Other;
+) -> Stray {
     if is_of_tokens(fault) && place <= NEAR {
-        stray = push_offers_at(alloc, words, front, tokens, place)?;
+        push_offers_at(alloc, words, front, tokens, place)
     } else {
         tokens.truncate(place);
+        Stray::Other
     }
-    push_hint(
-        words,
-        hint(fault, stray, front_name(front), tokens.as_slice(), tail),
-    )
 }
 
 /// What could stand at the place of a fault, before which so many of these tokens stand, and a hint.
@@ -328,12 +319,11 @@ pub fn words_on(
     place: usize,
     tail: &[u8],
 ) -> Mem<Vec<u8>> {
-    let mut words = Vec::new(alloc);
-    match push_words(alloc, &mut words, front, fault, tokens, place, tail) {
-        Ok(()) => Ok(words),
-        Err(OutOfMemory) => {
-            drop(words);
-            Err(OutOfMemory)
-        }
-    }
+    let mut words = Words::new(alloc);
+    let stray = stray_behind(alloc, &mut words, front, fault, tokens, place);
+    push_hint(
+        &mut words,
+        hint(fault, stray, front_name(front), tokens.as_slice(), tail),
+    );
+    words.finish()
 }
