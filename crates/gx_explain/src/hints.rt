@@ -1,6 +1,6 @@
 // Hints for the usual mistakes. Nothing is proved of them.
 use crate::rules::{KINDS, NAMES, PLACES, WORDS};
-use crate::spelled::spelled;
+use crate::spelled::sign_text;
 use crate::words::Words;
 use gx_lex::byte::{is_capital, is_word_byte, small};
 use gx_lex::{Token, Word};
@@ -17,6 +17,14 @@ pub enum Stray {
     /// It could stand there by the grammar.
     Fitting,
     Other,
+}
+
+// What stands at the place of a fault: the clause, how the token before is written, and the bytes from the place on.
+#[derive(Clone, Copy)]
+struct Spot<'a> {
+    clause: &'static [u8],
+    last: &'a [u8],
+    tail: &'a [u8],
 }
 
 // Whether bytes begin with this word, in letters of either case, or with this sign. The end of a line is a $.
@@ -52,20 +60,20 @@ fn cut(bytes: &'static [u8]) -> (&'static [u8], &'static [u8]) {
 }
 
 // The hint of a rule where it is one for these.
-fn hint_of(rule: &'static [u8], clause: &[u8], last: &[u8], tail: &[u8]) -> Option<&'static [u8]> {
+fn hint_of(rule: &'static [u8], spot: &Spot) -> Option<&'static [u8]> {
     let (of_clause, rest) = cut(rule);
     let (behind, rest) = cut(rest);
     let (here, hint) = cut(rest);
-    if is_any(of_clause, clause) && is_any(behind, last) && begins(here, tail) {
+    if is_any(of_clause, spot.clause) && is_any(behind, spot.last) && begins(here, spot.tail) {
         Some(hint)
     } else {
         None
     }
 }
 
-fn hint_by(rules: &'static str, clause: &[u8], last: &[u8], tail: &[u8]) -> Option<&'static [u8]> {
+fn hint_by(rules: &'static str, spot: &Spot) -> Option<&'static [u8]> {
     for rule in rules.split('\n') {
-        let hint = hint_of(rule.as_bytes(), clause, last, tail);
+        let hint = hint_of(rule.as_bytes(), spot);
         if hint.is_some() {
             return hint;
         }
@@ -73,9 +81,13 @@ fn hint_by(rules: &'static str, clause: &[u8], last: &[u8], tail: &[u8]) -> Opti
     None
 }
 
+// How the last of tokens is written, in small letters, and nothing of a number or of a text.
 fn last_of<'a>(tokens: &'a [Token]) -> &'a [u8] {
     match tokens.last() {
-        Some(token) => spelled(token),
+        Some(Token::Word(word)) => word.text(),
+        Some(Token::Name(name)) => name.as_slice(),
+        Some(Token::Symbol(sign)) => sign_text(*sign),
+        Some(_) => b"",
         None => b"$",
     }
 }
@@ -131,10 +143,10 @@ fn hint_on_stray(stray: Stray, tail: &[u8]) -> Option<&'static [u8]> {
     }
 }
 
-fn hint_on_syntax(stray: Stray, clause: &[u8], last: &[u8], tail: &[u8]) -> Option<&'static [u8]> {
-    hint_by(WORDS, clause, last, tail)
-        .or(hint_on_stray(stray, tail))
-        .or(hint_by(PLACES, clause, last, tail))
+fn hint_on_syntax(stray: Stray, spot: &Spot) -> Option<&'static [u8]> {
+    hint_by(WORDS, spot)
+        .or(hint_on_stray(stray, spot.tail))
+        .or(hint_by(PLACES, spot))
 }
 
 fn hint_on_limit(limit: Limit) -> &'static [u8] {
@@ -160,14 +172,17 @@ pub fn hint(
     tokens: &[Token],
     tail: &[u8],
 ) -> Option<&'static [u8]> {
-    let clause = clause_of(tokens, front);
-    let last = last_of(tokens);
+    let spot = Spot {
+        clause: clause_of(tokens, front),
+        last: last_of(tokens),
+        tail,
+    };
     match fault {
-        LineFault::Syntax => hint_on_syntax(stray, clause, last, tail),
+        LineFault::Syntax => hint_on_syntax(stray, &spot),
         LineFault::UnknownTable => Some(b"no table line has this name"),
-        LineFault::UnknownColumn => hint_by(NAMES, clause, last, tail),
+        LineFault::UnknownColumn => hint_by(NAMES, &spot),
         LineFault::TableExists => Some(b"a table line above has this name"),
-        LineFault::TypeMismatch => hint_by(KINDS, clause, last, tail),
+        LineFault::TypeMismatch => hint_by(KINDS, &spot),
         LineFault::KeyUpdate => Some(
             b"a row keeps its key: DELETE it and INSERT another, in a block",
         ),

@@ -4,7 +4,7 @@ use crate::places::limits;
 use crate::spelled::sign_text;
 use crate::words::Words;
 use gx_grammar::ReadError;
-use gx_ids::{Mem, OutOfMemory};
+use gx_ids::Mem;
 use gx_lex::{Name, Symbol, Token, WORDS, Word};
 use gx_lines::{read_head_line, read_segments_line, read_session_line};
 use gx_sql::Limit;
@@ -58,23 +58,24 @@ fn keywords() -> &'static [Word] {
     &WORDS
 }
 
-// What a reading says of tokens: they are a line, they go on, or they don't.
+// What a reading says of tokens: they are a line, they go on, or they don't; or memory ran out.
 #[derive(Clone, Copy)]
-pub enum Going {
+enum Going {
     Whole,
     On,
     Not,
+    CutShort,
 }
 
-fn going_of<T: Drop>(read: Result<T, ReadError>) -> Mem<Going> {
+fn going_of<T: Drop>(read: Result<T, ReadError>) -> Going {
     match read {
         Ok(value) => {
             drop(value);
-            Ok(Going::Whole)
+            Going::Whole
         }
-        Err(ReadError::Fault(_, 0)) => Ok(Going::On),
-        Err(ReadError::Fault(_, _)) => Ok(Going::Not),
-        Err(ReadError::OutOfMemory) => Err(OutOfMemory),
+        Err(ReadError::Fault(_, 0)) => Going::On,
+        Err(ReadError::Fault(_, _)) => Going::Not,
+        Err(ReadError::OutOfMemory) => Going::CutShort,
     }
 }
 
@@ -101,10 +102,10 @@ pub fn front_of(progress: &Progress) -> Front {
 }
 
 // How far the tokens are a line there.
-fn read_on(alloc: Global, front: Front, tokens: &[Token]) -> Mem<Going> {
+fn read_on(alloc: Global, front: Front, tokens: &[Token]) -> Going {
     match front {
         Front::Segments => going_of(read_segments_line(alloc, limits(), tokens)),
-        Front::Heads(0) => Ok(Going::Not),
+        Front::Heads(0) => Going::Not,
         Front::Heads(segments) => going_of(read_head_line(alloc, segments, limits(), tokens)),
         Front::Lines => going_of(read_session_line(alloc, limits(), tokens)),
     }
@@ -113,9 +114,10 @@ fn read_on(alloc: Global, front: Front, tokens: &[Token]) -> Mem<Going> {
 // Whether a line there begins with the tokens.
 fn goes(alloc: Global, front: Front, tokens: &[Token], words: &mut Words) -> bool {
     match read_on(alloc, front, tokens) {
-        Ok(Going::Not) => false,
-        Ok(_) => true,
-        Err(OutOfMemory) => {
+        Going::Whole => true,
+        Going::On => true,
+        Going::Not => false,
+        Going::CutShort => {
             words.cut_short();
             false
         }
@@ -143,15 +145,15 @@ fn candidate<'t>(alloc: Global, number: usize) -> Token<'t> {
     }
 }
 
-// How a token is offered.
-fn offered_as(token: &Token) -> &'static [u8] {
-    match token {
-        Token::Word(word) => word.text(),
-        Token::Symbol(sign) => sign_text(*sign),
-        Token::Name(_) => b"a name",
-        Token::Number(_) => b"a number",
-        Token::Text(_) => b"a text",
-        Token::Bad => b"",
+// How the last of tokens is offered.
+fn last_as_offered(tokens: &[Token]) -> &'static [u8] {
+    match tokens.last() {
+        Some(Token::Word(word)) => word.text(),
+        Some(Token::Symbol(sign)) => sign_text(*sign),
+        Some(Token::Name(_)) => b"a name",
+        Some(Token::Number(_)) => b"a number",
+        Some(Token::Text(_)) => b"a text",
+        _ => b"",
     }
 }
 
@@ -162,19 +164,13 @@ fn push_offer(words: &mut Words, spelling: &[u8]) {
     }
 }
 
-// Adds a token to what is offered where it lets the reading go on behind these tokens, which are the same afterwards.
-fn offer<'t>(
-    alloc: Global,
-    front: Front,
-    tokens: &mut Vec<Token<'t>>,
-    token: Token<'t>,
-    words: &mut Words,
-) {
-    let spelling = offered_as(&token);
-    match tokens.push(token) {
+// Adds the token of this number to what is offered where it lets the reading go on behind these tokens, which are the same
+// afterwards.
+fn offer(alloc: Global, front: Front, tokens: &mut Vec<Token>, number: usize, words: &mut Words) {
+    match tokens.push(candidate(alloc, number)) {
         Ok(()) => {
             if goes(alloc, front, tokens.as_slice(), words) {
-                push_offer(words, spelling);
+                push_offer(words, last_as_offered(tokens.as_slice()));
             }
             drop(tokens.pop());
         }
@@ -185,16 +181,16 @@ fn offer<'t>(
 // Offers all tokens that could stand behind these.
 fn offer_tokens(alloc: Global, front: Front, tokens: &mut Vec<Token>, words: &mut Words) {
     for number in 0..CANDIDATES {
-        offer(alloc, front, tokens, candidate(alloc, number), words);
+        offer(alloc, front, tokens, number, words);
     }
 }
 
 // Offers the end where the tokens are a line.
 fn offer_end(alloc: Global, front: Front, tokens: &[Token], words: &mut Words) {
     match read_on(alloc, front, tokens) {
-        Ok(Going::Whole) => push_offer(words, b"the end"),
-        Ok(_) => {}
-        Err(OutOfMemory) => words.cut_short(),
+        Going::Whole => push_offer(words, b"the end"),
+        Going::CutShort => words.cut_short(),
+        _ => {}
     }
 }
 
