@@ -3,19 +3,13 @@ ghost use Rattle.std.specs.Prelude.{◌≡◌, IfOk};
 ghost use Rattle.gx_sql.specs.Held.{IsHeld, named};
 ghost use Rattle.gx_explain.specs.Places as of;
 
-use crate::parts::{before_part, behind};
+use crate::parts::before_listed;
 use gx_ids::Mem;
 use gx_lex::Token;
 use gx_lines::GroupSyn;
 use gx_sql::groups::{before_standing, is_group};
 use gx_sql::progress::Progress;
 use std::alloc::Global;
-
-fn before_member(count: usize, tokens: &[Token]) -> usize
-    ensures { result ≡ of.before_member count tokens.now }
-{
-    5 + before_part(count, behind(5, tokens))
-}
 
 /// How many tokens stand before the name of a group or of a session that was told already.
 pub fn told_place(
@@ -32,5 +26,5 @@ pub fn told_place(
     }
     let place = progress.groups.len() as u32;
     let before = before_standing(alloc, &progress.members, group.sessions.as_slice(), place)?;
-    Ok(before_member(before, tokens))
+    Ok(before_listed(5, before, tokens))
 }

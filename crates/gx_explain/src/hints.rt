@@ -1,12 +1,11 @@
 // Hints for the usual mistakes. Nothing is proved of them.
 use crate::rules::{KINDS, NAMES, PLACES, WORDS};
-use crate::spelled::spelled;
-use gx_ids::Mem;
+use crate::spelled::sign_text;
+use crate::words::Words;
 use gx_lex::byte::{is_capital, is_word_byte, small};
 use gx_lex::{Token, Word};
 use gx_sql::Limit;
 use gx_sql::refusal::LineFault;
-use gx_text::push_bytes;
 
 /// How a token comes to be where it can't stand.
 #[derive(Clone, Copy)]
@@ -20,32 +19,30 @@ pub enum Stray {
     Other,
 }
 
+// What stands at the place of a fault: the clause, how the token before is written, and the bytes from the place on.
+#[derive(Clone, Copy)]
+struct Spot<'a> {
+    clause: &'static [u8],
+    last: &'a [u8],
+    tail: &'a [u8],
+}
+
 // Whether bytes begin with this word, in letters of either case, or with this sign. The end of a line is a $.
 fn begins(spelling: &[u8], bytes: &[u8]) -> bool {
     if spelling.first() == Some(&b'$') {
         return bytes.is_empty();
     }
-    let mut rest = bytes;
-    for letter in spelling {
-        match rest.split_first() {
-            None => return false,
-            Some((byte, others)) => {
-                if *letter != small(*byte) {
-                    return false;
-                }
-                rest = others;
-            }
+    for place in 0..spelling.len() {
+        if bytes.len() <= place || small(bytes[place]) != spelling[place] {
+            return false;
         }
     }
-    !goes_on(spelling, rest)
+    !is_within_word(bytes, spelling.len())
 }
 
-// Whether a word isn't at its end before these bytes.
-fn goes_on(spelling: &[u8], rest: &[u8]) -> bool {
-    match (spelling.first(), rest.first()) {
-        (Some(letter), Some(byte)) => is_word_byte(*letter) && is_word_byte(*byte),
-        _ => false,
-    }
+// Whether a word goes on at a place of bytes.
+fn is_within_word(bytes: &[u8], place: usize) -> bool {
+    0 < place && place < bytes.len() && is_word_byte(bytes[place - 1]) && is_word_byte(bytes[place])
 }
 
 fn is_any(wanted: &[u8], found: &[u8]) -> bool {
@@ -63,20 +60,20 @@ fn cut(bytes: &'static [u8]) -> (&'static [u8], &'static [u8]) {
 }
 
 // The hint of a rule where it is one for these.
-fn hint_of(rule: &'static [u8], clause: &[u8], last: &[u8], tail: &[u8]) -> Option<&'static [u8]> {
+fn hint_of(rule: &'static [u8], spot: &Spot) -> Option<&'static [u8]> {
     let (of_clause, rest) = cut(rule);
     let (behind, rest) = cut(rest);
     let (here, hint) = cut(rest);
-    if is_any(of_clause, clause) && is_any(behind, last) && begins(here, tail) {
+    if is_any(of_clause, spot.clause) && is_any(behind, spot.last) && begins(here, spot.tail) {
         Some(hint)
     } else {
         None
     }
 }
 
-fn hint_by(rules: &'static str, clause: &[u8], last: &[u8], tail: &[u8]) -> Option<&'static [u8]> {
+fn hint_by(rules: &'static str, spot: &Spot) -> Option<&'static [u8]> {
     for rule in rules.split('\n') {
-        let hint = hint_of(rule.as_bytes(), clause, last, tail);
+        let hint = hint_of(rule.as_bytes(), spot);
         if hint.is_some() {
             return hint;
         }
@@ -84,55 +81,47 @@ fn hint_by(rules: &'static str, clause: &[u8], last: &[u8], tail: &[u8]) -> Opti
     None
 }
 
+// How the last of tokens is written, in small letters, and nothing of a number or of a text.
 fn last_of<'a>(tokens: &'a [Token]) -> &'a [u8] {
     match tokens.last() {
-        Some(token) => spelled(token),
+        Some(Token::Word(word)) => word.text(),
+        Some(Token::Name(name)) => name.as_slice(),
+        Some(Token::Symbol(sign)) => sign_text(*sign),
+        Some(_) => b"",
         None => b"$",
     }
 }
 
-fn is_clause(word: Word) -> bool {
+// The clause that begins with this word, or else the one before it.
+fn clause_at(word: Word, clause: &'static [u8]) -> &'static [u8] {
     match word {
-        Word::Select | Word::From | Word::Where | Word::Group | Word::Order | Word::Limit => true,
+        Word::Select | Word::From | Word::Where | Word::Group | Word::Order | Word::Limit =>
+            word.text(),
         Word::Into | Word::Values | Word::Set | Word::Lock | Word::Count | Word::Distributed =>
-            true,
-        _ => false,
-    }
-}
-
-// With one of these a head of a link begins, which has no other clause.
-fn is_link(word: Word) -> bool {
-    match word {
-        Word::Lose | Word::Repeat => true,
-        _ => false,
-    }
-}
-
-// Whether tokens begin a head of a group, whose words are those of other clauses elsewhere.
-fn is_group(tokens: &[Token]) -> bool {
-    match tokens.first() {
-        Some(Token::Word(Word::Group)) => true,
-        _ => false,
+            word.text(),
+        _ => clause,
     }
 }
 
 // The clause of a line behind these tokens, or this one.
-fn clause_of(tokens: &[Token], front: &'static [u8]) -> &'static [u8] {
-    if is_group(tokens) {
-        return b"groups";
-    }
+fn clause_behind(tokens: &[Token], front: &'static [u8]) -> &'static [u8] {
     let mut clause = front;
     for token in tokens {
         if let Token::Word(word) = token {
-            if is_link(*word) {
-                return word.text();
-            }
-            if is_clause(*word) {
-                clause = word.text();
-            }
+            clause = clause_at(*word, clause);
         }
     }
     clause
+}
+
+// The same. The head of a link and that of a group have no other clause.
+fn clause_of(tokens: &[Token], front: &'static [u8]) -> &'static [u8] {
+    match tokens.first() {
+        Some(Token::Word(Word::Group)) => b"groups",
+        Some(Token::Word(Word::Lose)) => b"lose",
+        Some(Token::Word(Word::Repeat)) => b"repeat",
+        _ => clause_behind(tokens, front),
+    }
 }
 
 fn hint_on_bad(first: Option<&u8>) -> Option<&'static [u8]> {
@@ -154,14 +143,10 @@ fn hint_on_stray(stray: Stray, tail: &[u8]) -> Option<&'static [u8]> {
     }
 }
 
-fn hint_on_syntax(stray: Stray, clause: &[u8], last: &[u8], tail: &[u8]) -> Option<&'static [u8]> {
-    if let Some(hint) = hint_by(WORDS, clause, last, tail) {
-        return Some(hint);
-    }
-    if let Some(hint) = hint_on_stray(stray, tail) {
-        return Some(hint);
-    }
-    hint_by(PLACES, clause, last, tail)
+fn hint_on_syntax(stray: Stray, spot: &Spot) -> Option<&'static [u8]> {
+    hint_by(WORDS, spot)
+        .or(hint_on_stray(stray, spot.tail))
+        .or(hint_by(PLACES, spot))
 }
 
 fn hint_on_limit(limit: Limit) -> &'static [u8] {
@@ -187,14 +172,17 @@ pub fn hint(
     tokens: &[Token],
     tail: &[u8],
 ) -> Option<&'static [u8]> {
-    let clause = clause_of(tokens, front);
-    let last = last_of(tokens);
+    let spot = Spot {
+        clause: clause_of(tokens, front),
+        last: last_of(tokens),
+        tail,
+    };
     match fault {
-        LineFault::Syntax => hint_on_syntax(stray, clause, last, tail),
+        LineFault::Syntax => hint_on_syntax(stray, &spot),
         LineFault::UnknownTable => Some(b"no table line has this name"),
-        LineFault::UnknownColumn => hint_by(NAMES, clause, last, tail),
+        LineFault::UnknownColumn => hint_by(NAMES, &spot),
         LineFault::TableExists => Some(b"a table line above has this name"),
-        LineFault::TypeMismatch => hint_by(KINDS, clause, last, tail),
+        LineFault::TypeMismatch => hint_by(KINDS, &spot),
         LineFault::KeyUpdate => Some(
             b"a row keeps its key: DELETE it and INSERT another, in a block",
         ),
@@ -203,11 +191,10 @@ pub fn hint(
 }
 
 /// Adds a hint, where there is one.
-pub fn push_hint(words: &mut Vec<u8>, hint: Option<&'static [u8]>) -> Mem<()> {
+pub fn push_hint(words: &mut Words, hint: Option<&'static [u8]>) {
     if let Some(hint) = hint {
-        push_bytes(words, b"  hint: ")?;
-        push_bytes(words, hint)?;
-        push_bytes(words, b"\n")?;
+        words.push(b"  hint: ");
+        words.push(hint);
+        words.push(b"\n");
     }
-    Ok(())
 }

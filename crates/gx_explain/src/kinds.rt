@@ -6,7 +6,7 @@ ghost use Rattle.gx_resolve.specs.Naming.{is_among, group_names};
 ghost use Rattle.gx_resolve.specs.Selecting as selecting;
 ghost use Rattle.gx_explain.specs.Places as of;
 
-use crate::parts::{before_part, before_word, behind};
+use crate::parts::{before_listed, before_word};
 use gx_ids::{Mem, OutOfMemory, Seq};
 use gx_lex::{Token, Word};
 use gx_lines::{AssignSyn, ItemSyn, ItemsSyn, KeySyn, SelectSyn, Size, StmtSyn, TupleSyn};
@@ -20,29 +20,10 @@ fn before_where(tokens: &[Token]) -> usize
     before_word(Word::Where, tokens) + 1
 }
 
-fn before_item(count: usize, tokens: &[Token]) -> usize
-    ensures { result ≡ of.before_item count tokens.now }
-{
-    3 + before_part(count, behind(3, tokens))
-}
-
-fn before_tuple(count: usize, tokens: &[Token]) -> usize
-    ensures { result ≡ of.before_tuple count tokens.now }
-{
-    6 + before_part(count, behind(6, tokens))
-}
-
-fn before_assignment(count: usize, tokens: &[Token]) -> usize
-    ensures { result ≡ of.before_assignment count tokens.now }
-{
-    5 + before_part(count, behind(5, tokens))
-}
-
 fn before_key(count: usize, tokens: &[Token]) -> usize
     ensures { result ≡ of.before_key count tokens.now }
 {
-    let first = before_word(Word::Order, tokens) + 2;
-    first + before_part(count, behind(first, tokens))
+    before_listed(before_word(Word::Order, tokens) + 2, count, tokens)
 }
 
 // Whether a part is right over the columns.
@@ -196,7 +177,7 @@ fn group_place(select: &SelectSyn, tokens: &[Token]) -> usize
 {
     let names = group_names_of(&select.group);
     match plain_item(names, &select.items) {
-        Some(count) => before_item(count, tokens),
+        Some(count) => before_listed(3, count, tokens),
         None => key_place(plain_key(names, &select.order), tokens),
     }
 }
@@ -241,7 +222,7 @@ fn select_place(select: &SelectSyn, item: Option<usize>, tokens: &[Token]) -> us
     ensures { result ≡ of.select_place select.now item tokens.now }
 {
     if let Some(count) = item {
-        return before_item(count, tokens);
+        return before_listed(3, count, tokens);
     }
     if is_too_large(select.limit) {
         before_word(Word::Limit, tokens) + 1
@@ -256,7 +237,7 @@ fn update_place(assign: Option<usize>, tokens: &[Token]) -> usize
     ensures { result ≡ of.update_place assign tokens.now }
 {
     match assign {
-        Some(count) => before_assignment(count, tokens),
+        Some(count) => before_listed(5, count, tokens),
         None => before_where(tokens),
     }
 }
@@ -284,7 +265,7 @@ fn insert_mismatch(
     ensures { IfOk result (λ place. place ≡ of.before_tuple (of.good_tuples columns.now tuples.now) tokens.now) }
 {
     let count = right_parts(alloc, columns, tuples)?;
-    Ok(before_tuple(count, tokens))
+    Ok(before_listed(6, count, tokens))
 }
 
 fn update_mismatch(
@@ -365,7 +346,7 @@ fn key_set_place(
     match stmt {
         StmtSyn::Update(_, assigns, _) => {
             let count = other_assigns(alloc, columns, key, assigns.as_slice())?;
-            Ok(before_assignment(count, tokens))
+            Ok(before_listed(5, count, tokens))
         }
         _ => Ok(0),
     }

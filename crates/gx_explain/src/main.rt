@@ -17,6 +17,7 @@ mod tails;
 mod telling;
 mod top;
 mod windows;
+mod words;
 
 use gx_outside::{StdinSource, StdoutSink};
 use std::io;

@@ -2,14 +2,14 @@
 use crate::hints::{Stray, hint, push_hint};
 use crate::places::limits;
 use crate::spelled::sign_text;
+use crate::words::Words;
 use gx_grammar::ReadError;
-use gx_ids::{Mem, OutOfMemory};
+use gx_ids::Mem;
 use gx_lex::{Name, Symbol, Token, WORDS, Word};
 use gx_lines::{read_head_line, read_segments_line, read_session_line};
 use gx_sql::Limit;
 use gx_sql::progress::Progress;
 use gx_sql::refusal::LineFault;
-use gx_text::push_bytes;
 use gx_tree::Txt;
 use std::alloc::Global;
 
@@ -17,9 +17,10 @@ use std::alloc::Global;
 const NEAR: usize = 20_000;
 
 // What stands before offers.
-const OFFERED: &[u8] = b"  could stand there:  ";
+const OFFERED: &[u8] = b"  could stand there:";
 
-const BEFORE: usize = 22;
+// The same, and behind it that a name could stand there, which is offered first.
+const NAMED: &[u8] = b"  could stand there:  a name";
 
 // The most bytes of a line of offers, but for its end.
 const ROOM: usize = 98;
@@ -44,6 +45,11 @@ const SIGNS: [Symbol; 16] = [
     Symbol::Percent,
 ];
 
+// How many of them there are, and all together with the kinds of tokens that have no spelling of their own.
+const KEYWORDS: usize = WORDS.len();
+
+const CANDIDATES: usize = 3 + WORDS.len() + SIGNS.len();
+
 fn signs() -> &'static [Symbol] {
     &SIGNS
 }
@@ -52,23 +58,24 @@ fn keywords() -> &'static [Word] {
     &WORDS
 }
 
-// What a reading says of tokens: they are a line, they go on, or they don't.
+// What a reading says of tokens: they are a line, they go on, or they don't; or memory ran out.
 #[derive(Clone, Copy)]
-pub enum Going {
+enum Going {
     Whole,
     On,
     Not,
+    CutShort,
 }
 
-fn going_of<T: Drop>(read: Result<T, ReadError>) -> Mem<Going> {
+fn going_of<T: Drop>(read: Result<T, ReadError>) -> Going {
     match read {
         Ok(value) => {
             drop(value);
-            Ok(Going::Whole)
+            Going::Whole
         }
-        Err(ReadError::Fault(_, 0)) => Ok(Going::On),
-        Err(ReadError::Fault(_, _)) => Ok(Going::Not),
-        Err(ReadError::OutOfMemory) => Err(OutOfMemory),
+        Err(ReadError::Fault(_, 0)) => Going::On,
+        Err(ReadError::Fault(_, _)) => Going::Not,
+        Err(ReadError::OutOfMemory) => Going::CutShort,
     }
 }
 
@@ -94,139 +101,114 @@ pub fn front_of(progress: &Progress) -> Front {
     }
 }
 
-// How far the tokens are a head's line, or a session's first.
-fn read_head(alloc: Global, segments: u64, tokens: &[Token]) -> Mem<Going> {
-    if segments == 0 {
-        return Ok(Going::Not);
-    }
-    going_of(read_head_line(alloc, segments, limits(), tokens))
-}
-
 // How far the tokens are a line there.
-fn read_on(alloc: Global, front: Front, tokens: &[Token]) -> Mem<Going> {
+fn read_on(alloc: Global, front: Front, tokens: &[Token]) -> Going {
     match front {
         Front::Segments => going_of(read_segments_line(alloc, limits(), tokens)),
-        Front::Heads(segments) => read_head(alloc, segments, tokens),
+        Front::Heads(0) => Going::Not,
+        Front::Heads(segments) => going_of(read_head_line(alloc, segments, limits(), tokens)),
         Front::Lines => going_of(read_session_line(alloc, limits(), tokens)),
     }
 }
 
-fn goes(going: Going) -> bool {
-    match going {
+// Whether a line there begins with the tokens.
+fn goes(alloc: Global, front: Front, tokens: &[Token], words: &mut Words) -> bool {
+    match read_on(alloc, front, tokens) {
         Going::Whole => true,
         Going::On => true,
         Going::Not => false,
+        Going::CutShort => {
+            words.cut_short();
+            false
+        }
     }
 }
 
-fn push_offer(words: &mut Vec<u8>, spelling: &[u8]) -> Mem<()> {
-    if words.len().saturating_add(spelling.len()) > ROOM {
-        return Ok(());
+// The keyword or the sign of this number among those that may be offered, keywords first.
+fn word_or_sign<'t>(number: usize) -> Token<'t> {
+    match keywords().get(number) {
+        Some(word) => Token::Word(*word),
+        None => match signs().get(number.saturating_sub(KEYWORDS)) {
+            Some(sign) => Token::Symbol(*sign),
+            None => Token::Bad,
+        },
     }
-    if BEFORE < words.len() {
-        push_bytes(words, b"  ")?;
-    }
-    push_bytes(words, spelling)
 }
 
-// Adds a token to what is offered where it lets the reading go on behind these tokens, which are the same afterwards.
-fn offer<'t>(
-    alloc: Global,
-    front: Front,
-    tokens: &mut Vec<Token<'t>>,
-    token: Token<'t>,
-    spelling: &[u8],
-    words: &mut Vec<u8>,
-) -> Mem<bool> {
-    tokens.push(token)?;
-    let on = goes(read_on(alloc, front, tokens.as_slice())?);
-    drop(tokens.pop());
-    if on {
-        push_offer(words, spelling)?;
+// The token of this number among those that may be offered: first those that stand for all of their kind.
+fn candidate<'t>(alloc: Global, number: usize) -> Token<'t> {
+    match number {
+        0 => Token::Name(Name::new(b"a")),
+        1 => Token::Number(Some(1)),
+        2 => Token::Text(Txt::from_vec(Vec::new(alloc))),
+        _ => word_or_sign(number.saturating_sub(3)),
     }
-    Ok(on)
 }
 
-fn offer_words(
-    alloc: Global,
-    front: Front,
-    tokens: &mut Vec<Token>,
-    all: &[Word],
-    words: &mut Vec<u8>,
-) -> Mem<()> {
-    for word in all {
-        offer(alloc, front, tokens, Token::Word(*word), word.text(), words)?;
+// How the last of tokens is offered.
+fn last_as_offered(tokens: &[Token]) -> &'static [u8] {
+    match tokens.last() {
+        Some(Token::Word(word)) => word.text(),
+        Some(Token::Symbol(sign)) => sign_text(*sign),
+        Some(Token::Name(_)) => b"a name",
+        Some(Token::Number(_)) => b"a number",
+        Some(Token::Text(_)) => b"a text",
+        _ => b"",
     }
-    Ok(())
 }
 
-fn offer_signs(
-    alloc: Global,
-    front: Front,
-    tokens: &mut Vec<Token>,
-    signs: &[Symbol],
-    words: &mut Vec<u8>,
-) -> Mem<()> {
-    for sign in signs {
-        offer(
-            alloc,
-            front,
-            tokens,
-            Token::Symbol(*sign),
-            sign_text(*sign),
-            words,
-        )?;
+fn push_offer(words: &mut Words, spelling: &[u8]) {
+    if words.as_slice().len().saturating_add(spelling.len()) <= ROOM {
+        words.push(b"  ");
+        words.push(spelling);
     }
-    Ok(())
 }
 
-// Offers what has no spelling of its own, and says whether a name could stand there.
-fn offer_kinds(
-    alloc: Global,
-    front: Front,
-    tokens: &mut Vec<Token>,
-    words: &mut Vec<u8>,
-) -> Mem<bool> {
-    let name = Token::Name(Name::new(b"a"));
-    let named = offer(alloc, front, tokens, name, b"a name", words)?;
-    let number = Token::Number(Some(1));
-    offer(alloc, front, tokens, number, b"a number", words)?;
-    let content = Token::Text(Txt::from_vec(Vec::new(alloc)));
-    offer(alloc, front, tokens, content, b"a text", words)?;
-    Ok(named)
+// Adds the token of this number to what is offered where it lets the reading go on behind these tokens, which are the same
+// afterwards.
+fn offer(alloc: Global, front: Front, tokens: &mut Vec<Token>, number: usize, words: &mut Words) {
+    match tokens.push(candidate(alloc, number)) {
+        Ok(()) => {
+            if goes(alloc, front, tokens.as_slice(), words) {
+                push_offer(words, last_as_offered(tokens.as_slice()));
+            }
+            drop(tokens.pop());
+        }
+        Err(_) => words.cut_short(),
+    }
 }
 
-fn offer_end(alloc: Global, front: Front, tokens: &[Token], words: &mut Vec<u8>) -> Mem<()> {
-    match read_on(alloc, front, tokens)? {
+// Offers all tokens that could stand behind these.
+fn offer_tokens(alloc: Global, front: Front, tokens: &mut Vec<Token>, words: &mut Words) {
+    for number in 0..CANDIDATES {
+        offer(alloc, front, tokens, number, words);
+    }
+}
+
+// Offers the end where the tokens are a line.
+fn offer_end(alloc: Global, front: Front, tokens: &[Token], words: &mut Words) {
+    match read_on(alloc, front, tokens) {
         Going::Whole => push_offer(words, b"the end"),
-        _ => Ok(()),
+        Going::CutShort => words.cut_short(),
+        _ => {}
     }
 }
 
 // Ends a line of offers, or takes it away where nothing is offered.
-fn end_offers(words: &mut Vec<u8>) -> Mem<()> {
-    if BEFORE < words.len() {
-        push_bytes(words, b"\n")
+fn end_offers(words: &mut Words) {
+    if OFFERED.len() < words.as_slice().len() {
+        words.push(b"\n");
     } else {
         words.clear();
-        Ok(())
     }
 }
 
-// Gives a line of what could stand behind these tokens, and says whether a name could.
-fn push_offers(
-    alloc: Global,
-    words: &mut Vec<u8>,
-    front: Front,
-    tokens: &mut Vec<Token>,
-) -> Mem<bool> {
-    push_bytes(words, OFFERED)?;
-    let named = offer_kinds(alloc, front, tokens, words)?;
-    offer_words(alloc, front, tokens, keywords(), words)?;
-    offer_signs(alloc, front, tokens, signs(), words)?;
-    offer_end(alloc, front, tokens.as_slice(), words)?;
-    end_offers(words)?;
-    Ok(named)
+// Gives a line of what could stand behind these tokens.
+fn push_offers(alloc: Global, words: &mut Words, front: Front, tokens: &mut Vec<Token>) {
+    words.push(OFFERED);
+    offer_tokens(alloc, front, tokens, words);
+    offer_end(alloc, front, tokens.as_slice(), words);
+    end_offers(words);
 }
 
 // Whether a fault may be one of the grammar.
@@ -241,11 +223,11 @@ fn is_of_tokens(fault: LineFault) -> bool {
     }
 }
 
-// What the token at the place of a fault is by itself.
-fn stray_of(token: Option<&Token>) -> Stray {
+// What a token is by itself that can't stand at its place.
+fn stray_of(token: &Token) -> Stray {
     match token {
-        Some(Token::Word(_)) => Stray::Keyword,
-        Some(Token::Bad) => Stray::Bad,
+        Token::Word(_) => Stray::Keyword,
+        Token::Bad => Stray::Bad,
         _ => Stray::Other,
     }
 }
@@ -258,29 +240,43 @@ fn stray_where(named: bool, stray: Stray) -> Stray {
     }
 }
 
-// Whether the grammar stops at the token behind so many of these, of which no more are left then.
-fn stops(alloc: Global, front: Front, tokens: &mut Vec<Token>, place: usize) -> Mem<bool> {
-    tokens.truncate(place.saturating_add(1));
-    let stops = tokens.len() <= place || !goes(read_on(alloc, front, tokens.as_slice())?);
-    tokens.truncate(place);
-    Ok(stops)
+// How the token behind so many of these came to be there.
+fn stray_at(
+    alloc: Global,
+    front: Front,
+    tokens: &[Token],
+    place: usize,
+    words: &mut Words,
+) -> Stray {
+    if tokens.len() <= place {
+        Stray::Other
+    } else if goes(alloc, front, &tokens[..place + 1], words) {
+        Stray::Fitting
+    } else {
+        stray_of(&tokens[place])
+    }
 }
 
-// Gives what could stand behind so many of these tokens, of which no more are left then, and says how that came to be there
-// which does.
+// Gives what could stand behind so many of these tokens, where it isn't what stands there, and says how that came to be there
+// which does. No more of them are left then.
 fn push_offers_at(
     alloc: Global,
-    words: &mut Vec<u8>,
+    words: &mut Words,
     front: Front,
     tokens: &mut Vec<Token>,
     place: usize,
-) -> Mem<Stray> {
-    let stray = stray_of(tokens.get(place));
-    if stops(alloc, front, tokens, place)? {
-        let named = push_offers(alloc, words, front, tokens)?;
-        Ok(stray_where(named && !tokens.is_empty(), stray))
-    } else {
-        Ok(Stray::Fitting)
+) -> Stray {
+    let stray = stray_at(alloc, front, tokens.as_slice(), place, words);
+    tokens.truncate(place);
+    match stray {
+        Stray::Fitting => stray,
+        _ => {
+            push_offers(alloc, words, front, tokens);
+            stray_where(
+                words.as_slice().starts_with(NAMED) && !tokens.is_empty(),
+                stray,
+            )
+        }
     }
 }
 
@@ -292,26 +288,22 @@ fn front_name(front: Front) -> &'static [u8] {
     }
 }
 
-// Adds what could stand at the place of a fault, and a hint.
-fn push_words(
+// How the token at the place of a fault came to be there, as far as the grammar says, behind the tokens that are left then; and
+// adds what could stand there.
+fn stray_behind(
     alloc: Global,
-    words: &mut Vec<u8>,
+    words: &mut Words,
     front: Front,
     fault: LineFault,
     tokens: &mut Vec<Token>,
     place: usize,
-    tail: &[u8],
-) -> Mem<()> {
-    let mut stray = Stray::Other;
+) -> Stray {
     if is_of_tokens(fault) && place <= NEAR {
-        stray = push_offers_at(alloc, words, front, tokens, place)?;
+        push_offers_at(alloc, words, front, tokens, place)
     } else {
         tokens.truncate(place);
+        Stray::Other
     }
-    push_hint(
-        words,
-        hint(fault, stray, front_name(front), tokens.as_slice(), tail),
-    )
 }
 
 /// What could stand at the place of a fault, before which so many of these tokens stand, and a hint.
@@ -323,12 +315,11 @@ pub fn words_on(
     place: usize,
     tail: &[u8],
 ) -> Mem<Vec<u8>> {
-    let mut words = Vec::new(alloc);
-    match push_words(alloc, &mut words, front, fault, tokens, place, tail) {
-        Ok(()) => Ok(words),
-        Err(OutOfMemory) => {
-            drop(words);
-            Err(OutOfMemory)
-        }
-    }
+    let mut words = Words::new(alloc);
+    let stray = stray_behind(alloc, &mut words, front, fault, tokens, place);
+    push_hint(
+        &mut words,
+        hint(fault, stray, front_name(front), tokens.as_slice(), tail),
+    );
+    words.finish()
 }

@@ -107,3 +107,11 @@ pub fn before_part(count: usize, tokens: &[Token]) -> usize
     }
     place
 }
+
+/// The same of a list that begins behind so many tokens.
+pub fn before_listed(first: usize, count: usize, tokens: &[Token]) -> usize
+    requires { first ≤ 9223372036854775807 }
+    ensures { result ≡ first + of.before_part count 0 (drop first tokens.now) }
+{
+    first + before_part(count, behind(first, tokens))
+}
