@@ -7,3 +7,7 @@ pub mod Links
 pub mod AtCoordinators
 pub mod Inboxes
 pub mod MoreHeard
+pub mod MadeCells
+pub mod LinkPairs
+pub mod Staying
+pub mod Fitting
