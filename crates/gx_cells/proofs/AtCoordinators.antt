@@ -177,6 +177,13 @@ numbers-left coord c is early room =
     between : (a b : ℕ) → a ≤ b + 1 → b + 1 < 2 ^ 62 → a < 2 ^ 62
     between a b l h = omega (arith, l, h)
 
+-- it has few links
+pub few-links : (history : CoordHistory) (inboxes : List Inbox) (coord : CoordNode) (shelf : Shelf) → IsCoordApart history inboxes coord shelf → length history.outs.items < 256
+few-links history inboxes coord shelf apart = few (length history.outs.items) history.script.value.segments coord.script.value.segments apart.outs (ap (λ (x : Script). x.segments) apart.of) apart.holds.language.few_segments
+  where
+    few : (n a b : ℕ) → n ≡ a → b ≡ a → b ≤ 16 → n < 256
+    few n a b same as-many low = omega (arith, same, as-many, low)
+
 -- WHAT IT DOES BY ITSELF
 pub own-here : (inboxes : List Inbox) (here : NodeEvent) → is_own here ≡ true → event_in (post_at_coordinator inboxes) (event_of here) ≡ Some here
 own-here inboxes (node.Deliver from envelope) own = absurd (cc)

@@ -1,11 +1,9 @@
 -- A segment apart, one step further.
 use Rattle.std.proofs.Common.{◌≡◌, ◌≤◌, ◌<◌, ℕ, ◌+◌, ◌==◌, ◌&&◌, ◌^◌, List, [], ◌∷◌, ◌++◌, Option, Some, None, Bool, true, false, if◌then◌else◌, cond, refl, sym, subst, ap, ◌∙◌, arith, append-nil, length}
-use Rattle.std.specs.Prelude.{is_none, is_some, nat_le}
-use Rattle.std.specs.Option.{option_or, option_to_list}
+use Rattle.std.specs.Prelude.{nat_le}
+use Rattle.std.specs.Option.{option_to_list}
 use Rattle.std.proofs.lemmas.Bool.Decides.{nat_tests}
-use Rattle.gx_lemmas.proofs.Lists.{length-push}
 use Rattle.gx_lemmas.proofs.Numbers.{eqb-of, eqb-self}
-use Rattle.gx_lemmas.proofs.Options.{some-same}
 use Rattle.gx_ids.specs.declared.ids.Gxid.{Gxid}
 use Rattle.gx_ids.specs.declared.ids.Node.{Node}
 use Rattle.gx_msg.specs.declared.message.Envelope.{Envelope}
@@ -34,16 +32,13 @@ use Rattle.gx_law_runs.proofs.Failing.{segment-tells}
 use Rattle.gx_law_runs.proofs.Marks.{MayFail, count-may}
 use Rattle.gx_law_runs.specs.Failures.{failures_in}
 use Rattle.gx_law_runs.specs.Replays.{has_failed}
-use Rattle.gx_law_merge.proofs.Places.{place-kept, place-last, sent-append}
+use Rattle.gx_law_merge.proofs.Places.{place-kept, sent-append}
 use Rattle.gx_law_merge.proofs.Taking.{segment-takes}
 use Rattle.gx_law_merge.specs.Apart.{HasMore, IsTurn, Post, Rule, at_place, event_in, here_in, holds_by, segments_rule, sent_in_step, sent_to}
 use Rattle.gx_links.specs.Ends.{InEnd, OutEnd}
 use Rattle.gx_locks.specs.Locks.{may_take}
 use Rattle.gx_cells.specs.Acts.{HasGoneOn, HasTaken}
 use Rattle.gx_cells.specs.Kept.{IsHistory, IsSegmentApart, IsToCome, from_coordinator, heard_at, post_at_segment, segment_apart, segment_by}
-use Rattle.gx_cells.specs.Receipts.{HasReceived, IsLongerIf, kept_if, receipt_answer, sight, times, to_come, unless_worn}
-use Rattle.gx_cells.specs.declared.looked.Looked.{Looked}
-use Rattle.gx_cells.specs.declared.looked.Looked.TheVariants.{Stepped, Empty, Lost, NotNow, Worn}
 use Rattle.gx_cells.specs.declared.history.History.{History}
 use Rattle.gx_cells.specs.declared.inbox.Inbox.{Inbox}
 use Rattle.gx_cells.proofs.Longer.{IsNext, history-more, history-next, holds-next}
@@ -158,20 +153,6 @@ apart-more history old new held shelf given taken a = (
     same = ap (segment_apart history) taken.received ∙ more.1
 
 -- WHAT IS GIVEN
--- it is the last that came
-pub given-stands : (old new : Inbox) (e : Envelope) → HasTaken old new (Some e) → IsToCome old.source.received old.again → at_place new.source.received (length new.source.received) ≡ Some e
-given-stands old new e taken last =
-    subst (λ es. at_place es (length es) ≡ Some e) (sym taken.received) (by old.again taken.came old.source.received taken.is taken.once last)
-  where
-    at-end : (es : List Envelope) (x : Envelope) → at_place (es ++ x ∷ []) (length (es ++ x ∷ [])) ≡ Some x
-    at-end es x = place-last es x (length (es ++ x ∷ [])) (length (es ++ x ∷ [])) (length-push es x) ∙ ap (λ (b : Bool). if b then Some x else at_place es (length (es ++ x ∷ []))) (eqb-self (length (es ++ x ∷ [])))
-
-    by : (again came : Option Envelope) (es : List Envelope) → Some e ≡ option_or again came → (is_some again ≡ true → came ≡ None) → IsToCome es again → at_place (es ++ option_to_list came) (length (es ++ option_to_list came)) ≡ Some e
-    by None None es is once last = absurd (cc)
-    by None (Some x) es is once last = at-end es x ∙ sym is
-    by (Some x) None es is once last = subst (λ xs. at_place xs (length xs) ≡ Some e) (sym (append-nil es)) (last ∙ sym is)
-    by (Some x) (Some y) es is once last = absurd (let none : Some y ≡ None = once refl in cc)
-
 -- what an event then is
 pub takes-last : (node : Node) (heard : List Envelope) (place : ℕ) (e : Envelope) → place ≡ length heard → at_place heard (length heard) ≡ Some e
     → event_in (post_at_segment node heard) (Receive the_coordinator node place) ≡ Some (Deliver the_coordinator e)
@@ -192,90 +173,6 @@ pub apart-kept : (history : History) (inbox inbox' : Inbox) (held : Segment) (sh
 apart-kept history inbox inbox' held shelf same last a =
     subst (λ (x : InEnd). IsSegmentApart history (record { source = x; again = inbox'.again }) held shelf) (sym same)
     (record { place = a.place; of = a.of; usable = a.usable; named = a.named; holds = a.holds; steps = a.steps; sent = a.sent; again = last })
-
--- it is to come once more exactly where it was received and the script repeats it
-pub kept-comes : (script : Script) (node : Node) (count : ℕ) (e : Envelope) (looked : Looked) (again : Option Envelope) → again ≡ None → count ≡ times script node e → kept_if looked count e again ≡ to_come script node None (Some e) looked
-kept-comes script node count e Stepped again none same = ap (λ (b : Bool). if b then Some e else again) (ap (λ n. n == 2) same) ∙ ap (λ (o : Option Envelope). if times script node e == 2 then Some e else o) none
-kept-comes script node count e Empty again none same = none
-kept-comes script node count e Lost again none same = none
-kept-comes script node count e NotNow again none same = none
-kept-comes script node count e Worn again none same = none
-
-pub kept-last : (heard : List Envelope) (count : ℕ) (e : Envelope) (looked : Looked) (again : Option Envelope) → again ≡ None → at_place heard (length heard) ≡ Some e → IsToCome heard (kept_if looked count e again)
-kept-last heard count e Stepped again none last = by (count == 2)
-  where
-    by : (b : Bool) → IsToCome heard (if b then Some e else again)
-    by true = last
-    by false = subst (IsToCome heard) (sym none) tt
-kept-last heard count e Empty again none last = subst (IsToCome heard) (sym none) tt
-kept-last heard count e Lost again none last = subst (IsToCome heard) (sym none) tt
-kept-last heard count e NotNow again none last = subst (IsToCome heard) (sym none) tt
-kept-last heard count e Worn again none last = subst (IsToCome heard) (sym none) tt
-
-pub not-lost : (script : Script) (node : Node) (s : Seg) (count : ℕ) (e : Envelope) (looked : Looked) → count ≡ times script node e → (count == 0) ≡ false → looked ≡ unless_worn s e → looked ≡ receipt_answer script node s None (Some e)
-not-lost script node s count e looked same some is = is ∙ sym (ap (λ n. if n == 0 then Lost else unless_worn s e) (sym same) ∙ ap (λ (b : Bool). if b then Lost else unless_worn s e) some)
-
--- HOW IT ANSWERS
-pub none-of : (o : Option Envelope) → is_none o ≡ true → o ≡ None
-none-of None is = refl
-none-of (Some x) is = absurd (cc)
-
-module _ (script : Script) (node : Node) (s : Seg) (history history' : History) (old mid new : Inbox) (looked : Looked) where
-  pub received-new : (e : Envelope) → HasTaken old mid (Some e) → old.again ≡ None → new.source ≡ mid.source → looked ≡ receipt_answer script node s None (Some e) → new.again ≡ to_come script node None (Some e) looked
-      → IsLongerIf looked (Receive the_coordinator node (length mid.source.received)) history.steps history'.steps → HasReceived script node s (sight history old) (sight history' new) looked
-  received-new e taken none same answer again longer =
-      record {
-        came = taken.came;
-        heard = ap (λ (x : InEnd). x.received) same ∙ taken.received;
-        once = taken.once;
-        answer = answer ∙ ap (receipt_answer script node s None) (sym came) ∙ ap (λ o. receipt_answer script node s o taken.came) (sym none);
-        again = again ∙ ap (λ o. to_come script node None o looked) (sym came) ∙ ap (λ o. to_come script node o taken.came looked) (sym none);
-        steps = subst (λ (x : InEnd). IsLongerIf looked (Receive the_coordinator node (length x.received)) history.steps history'.steps) (sym same) longer;
-      }
-    where
-      came : taken.came ≡ Some e
-      came = sym (taken.is ∙ ap (λ o. option_or o taken.came) none)
-
-  pub received-again : (e : Envelope) → HasTaken old new (Some e) → is_none old.again ≡ false → looked ≡ unless_worn s e
-      → IsLongerIf looked (Receive the_coordinator node (length new.source.received)) history.steps history'.steps → HasReceived script node s (sight history old) (sight history' new) looked
-  received-again e taken some answer longer =
-      record {
-        came = taken.came;
-        heard = taken.received;
-        once = taken.once;
-        answer = answers old.again taken.came taken.is some;
-        again = taken.again ∙ none-comes old.again some;
-        steps = longer;
-      }
-    where
-      answers : (again came : Option Envelope) → Some e ≡ option_or again came → is_none again ≡ false → looked ≡ receipt_answer script node s again came
-      answers None came is some = absurd (cc)
-      answers (Some x) came is some = answer ∙ ap (unless_worn s) (some-same e x is)
-
-      none-comes : (again : Option Envelope) → is_none again ≡ false → None ≡ to_come script node again taken.came looked
-      none-comes None some = absurd (cc)
-      none-comes (Some x) some = refl
-
-pub received-nothing : (script : Script) (node : Node) (s : Seg) (history history' : History) (old new : Inbox) → HasTaken old new None → history'.steps ≡ history.steps → HasReceived script node s (sight history old) (sight history' new) Empty
-received-nothing script node s history history' old new taken same =
-    record {
-      came = taken.came;
-      heard = taken.received;
-      once = taken.once;
-      answer = answers old.again taken.came taken.is;
-      again = taken.again ∙ none-comes old.again taken.came taken.is;
-      steps = same;
-    }
-  where
-    answers : (again came : Option Envelope) → None ≡ option_or again came → Empty ≡ receipt_answer script node s again came
-    answers None None is = refl
-    answers None (Some x) is = absurd (cc)
-    answers (Some x) came is = absurd (cc)
-
-    none-comes : (again came : Option Envelope) → None ≡ option_or again came → None ≡ to_come script node again came Empty
-    none-comes None None is = refl
-    none-comes None (Some x) is = absurd (cc)
-    none-comes (Some x) came is = absurd (cc)
 
 -- AT THE BEGINNING
 pub new-apart : (history : History) (inbox : Inbox) (held : Segment) (shelf : Shelf) → IsSegment history.script.value history.node → held.script ≡ history.script → held.spent ≡ false → segment.IsSegment held (new_segment history.node)

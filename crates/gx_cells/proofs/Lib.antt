@@ -1,6 +1,13 @@
 pub mod Answers
 pub mod Longer
 pub mod Marks
+pub mod Takings
 pub mod AtSegments
 pub mod Links
 pub mod AtCoordinators
+pub mod Inboxes
+pub mod MoreHeard
+pub mod MadeCells
+pub mod LinkPairs
+pub mod Staying
+pub mod Fitting

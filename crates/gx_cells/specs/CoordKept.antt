@@ -22,10 +22,14 @@ abbrev pub heard_in : Option Inbox → List Envelope
 heard_in None = []
 heard_in (Some inbox) = inbox.source.received
 
--- to the coordinator from each segment, by its number, from 1
+-- the inbox of each segment, by its number, from 1
+abbrev pub inbox_from : List Inbox → ℕ → Option Inbox
+inbox_from inboxes zero = None
+inbox_from inboxes (suc k) = slice_get inboxes k
+
+-- what has come from it to the coordinator
 abbrev pub from_segment : List Inbox → ℕ → List Envelope
-from_segment inboxes zero = []
-from_segment inboxes (suc k) = heard_in (slice_get inboxes k)
+from_segment inboxes number = heard_in (inbox_from inboxes number)
 
 abbrev pub post_at_coordinator : List Inbox → Post
 post_at_coordinator inboxes = heard_at the_coordinator (λ from. from_segment inboxes from.0)

@@ -5,4 +5,7 @@ pub mod Views
 pub mod CoordKept
 pub mod CoordActs
 pub mod CoordAnswers
+pub mod CoordReceipts
 pub mod CoordViews
+pub mod Closed
+pub mod Done

@@ -1,19 +1,22 @@
 // What the coordinator apart does by itself.
-ghost use Rattle.std.specs.Prelude.{◌≡◌, true, IfOk, OnOk};
+ghost use Rattle.std.specs.Prelude.{◌≡◌, true, IfOk, IfSome, OnOk};
+ghost use Rattle.gx_locks.specs.Locks.{may_take, next_ready};
 ghost use Rattle.gx_rules.specs.AtCoordinator.{coord_can};
 ghost use Rattle.gx_rules.specs.Coordinators.{Coord as RuleCoord};
 ghost use Rattle.gx_coord.specs.Room.{has_room};
+ghost use Rattle.gx_coord.specs.Steps.{IsCoord};
+ghost use Rattle.gx_store.specs.Refusals.{the_coordinator};
 ghost use Rattle.gx_cells.specs.CoordActs.{HasCoordGoneOn};
 ghost use Rattle.gx_cells.specs.CoordAnswers.{HasActed, event_of as event_for, is_own};
 ghost use Rattle.gx_cells.specs.CoordKept.{IsCoordApart, coordinator_apart};
-ghost use Rattle.gx_cells.specs.Receipts.{IsLonger};
+ghost use Rattle.gx_cells.specs.Receipts.{HasResumed, IsLonger};
 
 use crate::coord_history::CoordHistory;
 use crate::inbox::Inbox;
 use crate::looked::Looked;
 use crate::spreading::tell_all;
 use gx_coord::Coord;
-use gx_ids::{Mem, Node};
+use gx_ids::{Gxid, Mem, Node};
 use gx_outside::Journal;
 use gx_store::{Event, NodeEvent};
 use std::sync::Wait;
@@ -87,5 +90,47 @@ pub(crate) fn act_own<R: Wait, J: Journal>(
         return Ok(Looked::Worn);
     }
     do_own(rt, history, inboxes, coord, here, journal)?;
+    Ok(Looked::Stepped)
+}
+
+// The least transaction whose wait at the coordinator is ready.
+fn ready(coord: &Coord) -> Option<Gxid>
+    ghost c: { RuleCoord }
+    requires { IsCoord coord.now c }
+    ensures value { result ≡ next_ready c.locks }
+    ensures ready { IfSome result (λ gxid. may_take c.locks gxid ≡ true) }
+{
+    coord.locks.ready()
+}
+
+// The least transaction whose wait is ready resumes.
+pub(crate) fn resume_own<R: Wait, J: Journal>(
+    rt: &R,
+    history: &mut CoordHistory,
+    inboxes: &[Inbox],
+    coord: &mut Coord,
+    journal: &mut J,
+) -> Mem<Looked>
+    ghost c: { RuleCoord }
+    requires apart { IsCoordApart history.old inboxes.now coord.old (J.shelf journal.old) }
+    requires is { c ≡ coordinator_apart history.old inboxes.now }
+    ensures apart { OnOk result (IsCoordApart history.new inboxes.now coord.new (J.shelf journal.new)) }
+    ensures gone { HasCoordGoneOn history.old history.new }
+    ensures resumed { IfOk result (HasResumed the_coordinator (next_ready c.locks) (has_room history.old.script.value c) history.old.steps history.new.steps) }
+{
+    let Some(gxid) = ready(coord) else {
+        return Ok(Looked::NotNow);
+    };
+    if !coord.has_room() {
+        return Ok(Looked::Worn);
+    }
+    do_own(
+        rt,
+        history,
+        inboxes,
+        coord,
+        NodeEvent::Resume(gxid),
+        journal,
+    )?;
     Ok(Looked::Stepped)
 }

@@ -1,7 +1,6 @@
 // A segment apart receives.
 ghost use Rattle.std.specs.Prelude.{◌≡◌, ◌<◌, ◌^◌, ◌&&◌, nat_lt, true, None, Some, IfOk, OnOk, length};
-ghost use Rattle.gx_agenda.specs.Faults.{AreFaultsOf, times as times_known};
-ghost use Rattle.gx_agenda.specs.Links.{link_of};
+ghost use Rattle.gx_agenda.specs.Faults.{AreFaultsOf};
 ghost use Rattle.gx_law_merge.specs.Apart.{at_place};
 ghost use Rattle.gx_rules.specs.Segments.{Seg};
 ghost use Rattle.gx_segment.specs.Room.{has_room};
@@ -10,14 +9,14 @@ ghost use Rattle.gx_store.specs.Refusals.{the_coordinator};
 ghost use Rattle.gx_store.specs.declared.event.Event.TheVariants.{Receive};
 ghost use Rattle.gx_cells.specs.Acts.{HasGoneOn};
 ghost use Rattle.gx_cells.specs.Kept.{IsSegmentApart, segment_apart};
-ghost use Rattle.gx_cells.specs.Receipts.{HasReceived, IsLonger, IsLongerIf, kept_if, receipt_answer, sight, to_come, unless_worn};
+ghost use Rattle.gx_cells.specs.Receipts.{HasReceived, IsLonger, IsLongerIf, receipt_answer, sight, to_come, unless_worn};
 
 use crate::history::History;
 use crate::inbox::{Inbox, take};
 use crate::looked::Looked;
+use crate::receipts::{keep, times_of};
 use crate::sending::tell;
 use gx_agenda::Faults;
-use gx_agenda::link::link_between;
 use gx_ids::{Mem, Node};
 use gx_msg::Envelope;
 use gx_outside::{Gate, Journal};
@@ -81,7 +80,7 @@ fn deliver_unless_worn<R: Wait, J: Journal, G: Gate>(
     requires came { at_place inbox.now.source.received (length inbox.now.source.received) ≡ Some envelope.now }
     ensures apart { OnOk result (IsSegmentApart history.new inbox.now segment.new (J.shelf journal.new)) }
     ensures gone { HasGoneOn history.old history.new }
-    ensures looked { IfOk result (λ looked. looked ≡ unless_worn s envelope.now) }
+    ensures looked { IfOk result (λ looked. looked ≡ unless_worn (has_room s) envelope.now) }
     ensures steps { IfOk result (λ looked. IsLongerIf looked (Receive the_coordinator history.old.node (length inbox.now.source.received)) history.old.steps history.new.steps) }
 {
     if may_receive(segment, envelope.clock) {
@@ -99,31 +98,6 @@ fn may_receive(segment: &Segment, clock: u64) -> bool
     ensures { result ≡ (has_room s && nat_lt clock (2 ^ 62)) }
 {
     segment.has_room() && clock < LIMIT
-}
-
-// How often the script delivers a message from the coordinator.
-fn times_of(faults: &Faults, node: Node, number: u64) -> u8
-    ensures { result ≡ times_known faults.now (link_of the_coordinator node) number }
-{
-    let link = link_between(Node(0), node);
-    if faults.is_lost(link, number) {
-        0
-    } else if faults.is_repeated(link, number) {
-        2
-    } else {
-        1
-    }
-}
-
-// An envelope that has come for the first time is kept where it is to come once more.
-fn keep(inbox: &mut Inbox, looked: Looked, times: u8, envelope: Envelope)
-    ensures source { inbox.new.source ≡ inbox.old.source }
-    ensures again { inbox.new.again ≡ kept_if looked times envelope inbox.old.again }
-{
-    match looked {
-        Looked::Stepped if times == 2 => inbox.again = Some(envelope),
-        _ => drop(envelope),
-    }
 }
 
 // An envelope that has come for the first time.
@@ -146,11 +120,11 @@ fn receive_new<R: Wait, J: Journal, G: Gate>(
     ensures apart { OnOk result (IsSegmentApart history.new inbox.new segment.new (J.shelf journal.new)) }
     ensures gone { HasGoneOn history.old history.new }
     ensures source { inbox.new.source ≡ inbox.old.source }
-    ensures looked { IfOk result (λ looked. looked ≡ receipt_answer history.old.script.value history.old.node s None (Some envelope)) }
-    ensures again { IfOk result (λ looked. inbox.new.again ≡ to_come history.old.script.value history.old.node None (Some envelope) looked) }
+    ensures looked { IfOk result (λ looked. looked ≡ receipt_answer history.old.script.value the_coordinator history.old.node (has_room s) None (Some envelope)) }
+    ensures again { IfOk result (λ looked. inbox.new.again ≡ to_come history.old.script.value the_coordinator history.old.node None (Some envelope) looked) }
     ensures steps { IfOk result (λ looked. IsLongerIf looked (Receive the_coordinator history.old.node (length inbox.old.source.received)) history.old.steps history.new.steps) }
 {
-    let times = times_of(faults, history.node, envelope.number);
+    let times = times_of(faults, Node(0), history.node, envelope.number);
     if times == 0 {
         drop(envelope);
         return Ok(Looked::Lost);
@@ -177,7 +151,7 @@ pub(crate) fn receive_next<R: Wait, J: Journal, G: Gate>(
     ensures apart { OnOk result (IsSegmentApart history.new inbox.new segment.new (J.shelf journal.new)) }
     ensures gone { HasGoneOn history.old history.new }
     ensures link { inbox.new.source.link ≡ inbox.old.source.link }
-    ensures received { IfOk result (HasReceived history.old.script.value history.old.node s (sight history.old inbox.old) (sight history.new inbox.new)) }
+    ensures received { IfOk result (HasReceived history.old.script.value the_coordinator history.old.node (has_room s) (sight history.old.steps inbox.old) (sight history.new.steps inbox.new)) }
 {
     let is_new = inbox.again.is_none();
     let Some(envelope) = take(rt, inbox) else {

@@ -6,7 +6,7 @@ ghost use Rattle.gx_segment.specs.Room.{has_room};
 ghost use Rattle.gx_store.specs.declared.event.Event.TheVariants.{Resume};
 ghost use Rattle.gx_cells.specs.Acts.{HasGoneOn};
 ghost use Rattle.gx_cells.specs.Kept.{IsSegmentApart, segment_apart};
-ghost use Rattle.gx_cells.specs.Receipts.{HasResumed, IsLonger, sight};
+ghost use Rattle.gx_cells.specs.Receipts.{HasResumed, IsLonger};
 
 use crate::history::History;
 use crate::inbox::Inbox;
@@ -60,7 +60,7 @@ pub(crate) fn resume_next<R: Wait, J: Journal, G: Gate>(
     requires is { s ≡ segment_apart history.old inbox.now.source.received }
     ensures apart { OnOk result (IsSegmentApart history.new inbox.now segment.new (J.shelf journal.new)) }
     ensures gone { HasGoneOn history.old history.new }
-    ensures resumed { IfOk result (HasResumed history.old.node s (sight history.old inbox.now) (sight history.new inbox.now)) }
+    ensures resumed { IfOk result (HasResumed history.old.node (next_ready s.locks) (has_room s) history.old.steps history.new.steps) }
 {
     let Some(gxid) = segment.ready() else {
         return Ok(Looked::NotNow);

@@ -1,5 +1,9 @@
 ghost use Rattle.std.specs.Prelude.{◌≡◌, [], true, false, None, IfOk, IsErr, OnErr, OnOk};
+ghost use Rattle.gx_locks.specs.Locks.{next_ready};
+ghost use Rattle.gx_segment.specs.Room.{has_room};
 ghost use Rattle.gx_store.specs.Ordered.{IsSegment as IsPlace};
+ghost use Rattle.gx_store.specs.Refusals.{the_coordinator};
+ghost use Rattle.gx_cells.specs.Closed.{IsSegmentKept, inbox_of};
 ghost use Rattle.gx_cells.specs.Receipts.{HasReceived, HasResumed};
 ghost use Rattle.gx_cells.specs.Views.{IsSameCell, data_of, sight_of};
 
@@ -24,12 +28,22 @@ use std::sync::{Arc, Wait};
 /// it is spent, and answers the same from then on.
 #[derive(Drop)]
 pub struct SegmentCell<J: Journal> {
-    history: History,
-    inbox: Inbox,
-    segment: Segment,
-    faults: Faults,
-    journal: J,
-    spent: bool,
+    pub(crate) history: History,
+    pub(crate) inbox: Inbox,
+    pub(crate) segment: Segment,
+    pub(crate) faults: Faults,
+    pub(crate) journal: J,
+    pub(crate) spent: bool,
+}
+
+// What a cell has.
+#[derive(Drop)]
+pub(crate) struct SegmentParts<J: Journal> {
+    pub node: Node,
+    pub steps: Steps,
+    pub out: LinkOut,
+    pub inbox: Inbox,
+    pub journal: J,
 }
 
 impl<J: Journal> Model for SegmentCell<J> {
@@ -115,7 +129,7 @@ impl<J: Journal> SegmentCell<J> {
     /// Receives the next envelope: the one that is to come once more, or else the link's next.
     pub fn receive<R: Wait, G: Gate>(&mut self, rt: &R, gate: &G) -> Mem<Looked>
         ensures same { IsSameCell self.old self.new }
-        ensures received { IfOk result (HasReceived self.old.script self.old.node (data_of self.old) (sight_of self.old) (sight_of self.new)) }
+        ensures received { IfOk result (HasReceived self.old.script the_coordinator self.old.node (has_room (data_of self.old)) (sight_of self.old) (sight_of self.new)) }
         ensures unspent { OnOk result (self.new.spent ≡ false) }
         ensures err { OnErr result (self.new.spent ≡ true) }
         ensures again { self.old.spent ≡ true → IsErr result }
@@ -139,7 +153,9 @@ impl<J: Journal> SegmentCell<J> {
     /// Resumes the least transaction whose wait is ready.
     pub fn resume<R: Wait, G: Gate>(&mut self, rt: &R, gate: &G) -> Mem<Looked>
         ensures same { IsSameCell self.old self.new }
-        ensures resumed { IfOk result (HasResumed self.old.node (data_of self.old) (sight_of self.old) (sight_of self.new)) }
+        ensures resumed { IfOk result (HasResumed self.old.node (next_ready (data_of self.old).locks) (has_room (data_of self.old)) self.old.steps self.new.steps) }
+        ensures source { self.new.source ≡ self.old.source }
+        ensures to_come { self.new.again ≡ self.old.again }
         ensures unspent { OnOk result (self.new.spent ≡ false) }
         ensures err { OnErr result (self.new.spent ≡ true) }
         ensures again { self.old.spent ≡ true → IsErr result }
@@ -158,5 +174,34 @@ impl<J: Journal> SegmentCell<J> {
         let looked = resume_next(rt, history, inbox, segment, journal, gate);
         *spent = looked.is_err();
         looked
+    }
+
+    // What it has, unless it is spent.
+    pub(crate) fn into_parts(self) -> Mem<SegmentParts<J>>
+        ensures kept { OnOk result (IsSegmentKept self) }
+        ensures node { IfOk result (λ parts. parts.node ≡ self.node) }
+        ensures steps { IfOk result (λ parts. parts.steps ≡ self.steps) }
+        ensures out { IfOk result (λ parts. parts.out ≡ self.out) }
+        ensures inbox { IfOk result (λ parts. parts.inbox ≡ inbox_of self) }
+        ensures shelf { IfOk result (λ parts. J.shelf parts.journal ≡ self.shelf) }
+    {
+        if self.spent {
+            return Err(OutOfMemory);
+        }
+        let SegmentCell {
+            history,
+            inbox,
+            segment: _,
+            faults: _,
+            journal,
+            spent: _,
+        } = self;
+        Ok(SegmentParts {
+            node: history.node,
+            steps: history.steps,
+            out: history.out,
+            inbox,
+            journal,
+        })
     }
 }

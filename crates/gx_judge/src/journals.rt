@@ -9,7 +9,8 @@ use gx_ids::Mem;
 use gx_outside::JournalMem;
 use std::alloc::Global;
 
-fn journal_at(alloc: Global, refused: Option<Append>, node: u8) -> Mem<JournalMem>
+/// A node's empty journal, of which the append that is asked for fails.
+pub fn journal_at(alloc: Global, refused: Option<Append>, node: u8) -> Mem<JournalMem>
     ensures { IfOk result (λ journal. journal ≡ of.journal_at refused node) }
 {
     let mut fail = Vec::new(alloc);
@@ -30,6 +31,18 @@ pub fn journals_for(alloc: Global, refused: Option<Append>) -> Mem<Vec<JournalMe
     let mut journals = Vec::new(alloc);
     for node in 0..17u8 {
         journals.push(journal_at(alloc, refused, node)?)?;
+    }
+    Ok(journals)
+}
+
+/// Empty journals for so many segments, which never fail.
+pub fn new_journals(alloc: Global, segments: u8) -> Mem<Vec<JournalMem>>
+    ensures count { IfOk result (λ journals. length journals.items ≡ segments) }
+    ensures empty { IfOk result (λ journals. AreEmpty (map shelf_of journals.items)) }
+{
+    let mut journals = Vec::new(alloc);
+    for _before in 0..segments {
+        journals.push(journal_at(alloc, None, 0)?)?;
     }
     Ok(journals)
 }

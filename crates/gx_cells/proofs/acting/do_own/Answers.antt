@@ -1,4 +1,4 @@
-use Rattle.std.proofs.Common.{◌≡◌, ◌≤◌, ◌<◌, ℕ, ◌+◌, arith, length, ◌∙◌, ◌++◌, ◌∷◌, [], List, ap, subst, sym, true}
+use Rattle.std.proofs.Common.{◌≡◌, ◌≤◌, ◌+◌, ◌∙◌, ◌++◌, ◌∷◌, [], List, ap, subst, sym, true}
 use Rattle.gx_coord.specs.Room.{has_room}
 use Rattle.gx_coord.specs.Steps.{HasStepped, IsCoord}
 use Rattle.gx_rules.specs.AtCoordinator.{coord_can}
@@ -10,7 +10,7 @@ use Rattle.gx_store.specs.declared.run.Step.{Step}
 use Rattle.gx_law_merge.specs.Apart.{event_in}
 use Rattle.gx_cells.specs.CoordKept.{post_at_coordinator}
 use Rattle.gx_cells.proofs.Answers.{both_ok, on_ok}
-use Rattle.gx_cells.proofs.AtCoordinators.{coord-next, numbers-left, own-heard, own-here, own-place}
+use Rattle.gx_cells.proofs.AtCoordinators.{coord-next, few-links, numbers-left, own-heard, own-here, own-place}
 use Rattle.gx_cells.proofs.AtSegments.{told}
 use Rattle.gx_cells.proofs.acting.do_own.Goals as goal
 
@@ -35,14 +35,8 @@ step-requires g c κs within =
       ),
     )
 
-few : (n a b : ℕ) → n ≡ a → b ≡ a → b ≤ 16 → n < 256
-few n a b same as-many low = omega (arith, same, as-many, low)
-
 pub tell_all-requires : goal.tell_all-requires
-tell_all-requires g c =
-    let apart = c.requires.1.1.0 in
-    let history = c.args.history.now in
-    few (length history.outs.items) history.script.value.segments c.args.coord.now.script.value.segments apart.outs (ap (λ (x : Script). x.segments) apart.of) apart.holds.language.few_segments
+tell_all-requires g c = few-links c.args.history.now c.args.inboxes.now c.args.coord.now (g.J.Journal.shelf c.args.journal.now) c.requires.1.1.0
 
 pub returns-clause-apart : goal.returns-clause-apart
 returns-clause-apart g c =

@@ -1,6 +1,9 @@
 use Rattle.std.proofs.Common.{◌≡◌, ◌∙◌, None, ap, not, sym}
 use Rattle.gx_cells.proofs.Answers.{three_ok}
-use Rattle.gx_cells.proofs.AtSegments.{apart-more, given-stands, none-of, received-new}
+use Rattle.gx_segment.specs.Room.{has_room}
+use Rattle.gx_store.specs.Refusals.{the_coordinator}
+use Rattle.gx_cells.proofs.AtSegments.{apart-more}
+use Rattle.gx_cells.proofs.Takings.{given-stands, none-of, received-new}
 use Rattle.gx_cells.proofs.receiving.receive_next.Goals as goal
 
 pub receive_new-requires : goal.receive_new-requires
@@ -16,4 +19,4 @@ returns-then-is_new-clause-received g c =
     let old = c.args.inbox.now in
     let none : old.again ≡ None = none-of old.again (ap not c.if-is_new.ensures) in
     three_ok c.receive_new.result _ _ _ _ c.receive_new.ensures.looked c.receive_new.ensures.again c.receive_new.ensures.steps
-    (λ looked a b d. received-new history.script.value history.node g.s history c.receive_new.new.history old c.take.new.inbox c.receive_new.new.inbox looked c.in-Some.envelope c.in-Some.ensures none c.receive_new.ensures.source a b d)
+    (λ looked a b d. received-new history.script.value the_coordinator history.node (has_room g.s) history.steps c.receive_new.new.history.steps old c.take.new.inbox c.receive_new.new.inbox looked c.in-Some.envelope c.in-Some.ensures none c.receive_new.ensures.source a b d)

@@ -1,0 +1,65 @@
+-- Cells as they are made, one segment after the other.
+use Rattle.std.proofs.Common.{◌≡◌, ◌≤◌, ◌<◌, ℕ, zero, suc, ◌+◌, List, [], ◌∷◌, ◌++◌, Option, Some, None, false, refl, sym, subst, ap, ◌∙◌, arith, length}
+use Rattle.std.specs.Prelude.{map, slice_get}
+use Rattle.std.proofs.lemmas.List.{length-map, map-append}
+use Rattle.gx_lemmas.proofs.Lists.{length-push}
+use Rattle.gx_lemmas.proofs.Options.{some-same}
+use Rattle.atomic_blocks.specs.Laid.{WebId}
+use Rattle.gx_links.specs.Ends.{OutEnd}
+use Rattle.gx_outside.specs.Shelves.{Shelf}
+use Rattle.gx_script.specs.declared.Script.{Script}
+use Rattle.gx_cells.specs.Closed.{AreClosed, AreNew, IsNewSegment, inbox_of, out_of}
+use Rattle.gx_cells.specs.CoordActs.{links_of}
+use Rattle.gx_cells.specs.CoordReceipts.{AreBlank, links_in}
+use Rattle.gx_cells.specs.CoordViews.{CoordView}
+use Rattle.gx_cells.specs.Views.{SegmentView}
+use Rattle.gx_cells.specs.declared.inbox.Inbox.{Inbox}
+
+get-pushed : {A : Type 0} (P : ℕ → A → Type 0) (xs : List A) (y : A) → ((k : ℕ) (x : A) → slice_get xs k ≡ Some x → P k x) → P (length xs) y → (k : ℕ) (x : A) → slice_get (xs ++ y ∷ []) k ≡ Some x → P k x
+get-pushed P [] y all is zero x at = subst (P 0) (some-same y x at) is
+get-pushed P [] y all is (suc k) x at = absurd (cc)
+get-pushed P (z ∷ zs) y all is zero x at = all zero x at
+get-pushed P (z ∷ zs) y all is (suc k) x at = get-pushed (λ j. P (suc j)) zs y (λ j w e. all (suc j) w e) is k x at
+
+-- nothing was sent
+abbrev pub AreUnsent : List OutEnd → Type 0
+AreUnsent outs = (k : ℕ) (out : OutEnd) → slice_get outs k ≡ Some out → out.sent ≡ []
+
+pub record AreMade (script : Script) (shelves : List Shelf) (outs : List OutEnd) (inboxes : List Inbox) (segments : List SegmentView) : Type 0 where
+  pub each : (k : ℕ) (s : SegmentView) → slice_get segments k ≡ Some s → IsNewSegment script k s
+  pub forth : links_of outs ≡ links_in (map inbox_of segments)
+  pub back : links_of (map out_of segments) ≡ links_in inboxes
+  pub shelves : map (λ s. s.shelf) segments ≡ shelves
+  pub sent : AreUnsent outs
+  pub received : AreBlank inboxes
+
+pub none-made : (script : Script) → AreMade script [] [] [] []
+none-made script =
+    record { each = λ k s at. absurd (cc); forth = refl; back = refl; shelves = refl; sent = λ k out at. absurd (cc); received = λ k inbox at. absurd (cc) }
+
+pub made-next : (script : Script) (shelves : List Shelf) (outs outs' : List OutEnd) (inboxes inboxes' : List Inbox) (segments segments' : List SegmentView) (out : OutEnd) (inbox : Inbox) (s : SegmentView) → AreMade script shelves outs inboxes segments
+    → IsNewSegment script (length segments) s → out.link ≡ s.source.link → s.out.link ≡ inbox.source.link → out.sent ≡ [] → inbox.source.received ≡ [] → inbox.again ≡ None → outs' ≡ outs ++ out ∷ [] → inboxes' ≡ inboxes ++ inbox ∷ [] → segments' ≡ segments ++ s ∷ []
+    → AreMade script (shelves ++ s.shelf ∷ []) outs' inboxes' segments'
+made-next script shelves outs outs' inboxes inboxes' segments segments' out inbox s m new forth back sent received again os is ss =
+    record {
+      each = subst (λ (vs : List SegmentView). (k : ℕ) (v : SegmentView) → slice_get vs k ≡ Some v → IsNewSegment script k v) (sym ss) (get-pushed (IsNewSegment script) segments s m.each new);
+      forth = ap links_of os ∙ map-append (λ (o : OutEnd). o.link) outs (out ∷ []) ∙ ap (λ ls. ls ++ out.link ∷ []) m.forth ∙ ap (λ l. links_in (map inbox_of segments) ++ l ∷ []) forth
+          ∙ sym (ap (λ vs. links_in (map inbox_of vs)) ss ∙ ap links_in (map-append inbox_of segments (s ∷ [])) ∙ map-append (λ (i : Inbox). i.source.link) (map inbox_of segments) (inbox_of s ∷ []));
+      back = ap (λ vs. links_of (map out_of vs)) ss ∙ ap links_of (map-append out_of segments (s ∷ [])) ∙ map-append (λ (o : OutEnd). o.link) (map out_of segments) (out_of s ∷ [])
+          ∙ ap (λ ls. ls ++ s.out.link ∷ []) m.back ∙ ap (λ l. links_in inboxes ++ l ∷ []) back ∙ sym (ap links_in is ∙ map-append (λ (i : Inbox). i.source.link) inboxes (inbox ∷ []));
+      shelves = ap (map (λ (v : SegmentView). v.shelf)) ss ∙ map-append (λ (v : SegmentView). v.shelf) segments (s ∷ []) ∙ ap (λ xs. xs ++ s.shelf ∷ []) m.shelves;
+      sent = subst AreUnsent (sym os) (get-pushed (λ k (o : OutEnd). o.sent ≡ []) outs out m.sent sent);
+      received = subst AreBlank (sym is) (get-pushed (λ k (i : Inbox). (i.source.received ≡ []) × (i.again ≡ None)) inboxes inbox m.received (received, again));
+    }
+
+-- so many as there are journals
+pub made-count : (script : Script) (shelves : List Shelf) (outs : List OutEnd) (inboxes : List Inbox) (segments : List SegmentView) → AreMade script shelves outs inboxes segments → length segments ≡ length shelves
+made-count script shelves outs inboxes segments m = sym (length-map segments (λ (v : SegmentView). v.shelf)) ∙ ap length m.shelves
+
+pub made-outs : (script : Script) (shelves : List Shelf) (outs : List OutEnd) (inboxes : List Inbox) (segments : List SegmentView) → AreMade script shelves outs inboxes segments → length outs ≡ length shelves
+made-outs script shelves outs inboxes segments m =
+    sym (length-map outs (λ (o : OutEnd). o.link)) ∙ ap length m.forth ∙ length-map (map inbox_of segments) (λ (i : Inbox). i.source.link) ∙ length-map segments inbox_of ∙ made-count script shelves outs inboxes segments m
+
+pub made-inboxes : (script : Script) (shelves : List Shelf) (outs : List OutEnd) (inboxes : List Inbox) (segments : List SegmentView) → AreMade script shelves outs inboxes segments → length inboxes ≡ length shelves
+made-inboxes script shelves outs inboxes segments m =
+    sym (length-map inboxes (λ (i : Inbox). i.source.link)) ∙ ap length (sym m.back) ∙ length-map (map out_of segments) (λ (o : OutEnd). o.link) ∙ length-map segments out_of ∙ made-count script shelves outs inboxes segments m
