@@ -132,9 +132,9 @@ pair-left outs0 inboxes0 outs outs' inboxes o a last none = some-out outs' o (ap
 pub record AreTaken (coord : CoordView) (segments : List SegmentView) (histories : List NodeHistory) (shelves : List Shelf) (outs : List OutEnd) (inboxes : List Inbox) : Type 0 where
   pub steps : map (λ h. h.steps) histories ≡ histories_of coord segments
   pub nodes : map (λ h. h.node) histories ≡ the_coordinator ∷ map (λ s. s.node) segments
-  pub shelves : shelves ≡ coord.shelf ∷ map (λ s. s.shelf) segments
-  pub outs : outs ≡ map out_of segments
-  pub inboxes : inboxes ≡ map inbox_of segments
+  pub shelved : shelves ≡ coord.shelf ∷ map (λ s. s.shelf) segments
+  pub sends : outs ≡ map out_of segments
+  pub hears : inboxes ≡ map inbox_of segments
   pub kept : (k : ℕ) (s : SegmentView) → slice_get segments k ≡ Some s → IsSegmentKept s
 
 get-pushed : {A : Type 0} (P : A → Type 0) (xs : List A) (y : A) → ((k : ℕ) (x : A) → slice_get xs k ≡ Some x → P x) → P y → (k : ℕ) (x : A) → slice_get (xs ++ y ∷ []) k ≡ Some x → P x
@@ -152,8 +152,8 @@ taken-next coord segments histories histories' shelves shelves' outs outs' inbox
           ∙ ap (λ (ss : List (List Step)). coord.steps ∷ ss) (sym (map-append (λ (v : SegmentView). v.steps) segments (s ∷ [])));
       nodes = ap (map (λ (x : NodeHistory). x.node)) hs ∙ map-append (λ (x : NodeHistory). x.node) histories (h ∷ []) ∙ ap (λ ns. ns ++ h.node ∷ []) a.nodes ∙ ap (λ n. (the_coordinator ∷ map (λ (v : SegmentView). v.node) segments) ++ n ∷ []) node
           ∙ ap (λ ns. the_coordinator ∷ ns) (sym (map-append (λ (v : SegmentView). v.node) segments (s ∷ [])));
-      shelves = js ∙ ap (λ xs. xs ++ s.shelf ∷ []) a.shelves ∙ ap (λ xs. coord.shelf ∷ xs) (sym (map-append (λ (v : SegmentView). v.shelf) segments (s ∷ [])));
-      outs = os ∙ ap (λ xs. xs ++ s.out ∷ []) a.outs ∙ sym (map-append out_of segments (s ∷ []));
-      inboxes = is ∙ ap (λ xs. xs ++ inbox_of s ∷ []) a.inboxes ∙ sym (map-append inbox_of segments (s ∷ []));
+      shelved = js ∙ ap (λ xs. xs ++ s.shelf ∷ []) a.shelved ∙ ap (λ xs. coord.shelf ∷ xs) (sym (map-append (λ (v : SegmentView). v.shelf) segments (s ∷ [])));
+      sends = os ∙ ap (λ xs. xs ++ s.out ∷ []) a.sends ∙ sym (map-append out_of segments (s ∷ []));
+      hears = is ∙ ap (λ xs. xs ++ inbox_of s ∷ []) a.hears ∙ sym (map-append inbox_of segments (s ∷ []));
       kept = get-pushed IsSegmentKept segments s a.kept kept;
     }

@@ -29,13 +29,13 @@ pub record AreMade (script : Script) (shelves : List Shelf) (outs : List OutEnd)
   pub each : (k : ℕ) (s : SegmentView) → slice_get segments k ≡ Some s → IsNewSegment script k s
   pub forth : links_of outs ≡ links_in (map inbox_of segments)
   pub back : links_of (map out_of segments) ≡ links_in inboxes
-  pub shelves : map (λ s. s.shelf) segments ≡ shelves
+  pub shelved : map (λ s. s.shelf) segments ≡ shelves
   pub sent : AreUnsent outs
   pub received : AreBlank inboxes
 
 pub none-made : (script : Script) → AreMade script [] [] [] []
 none-made script =
-    record { each = λ k s at. absurd (cc); forth = refl; back = refl; shelves = refl; sent = λ k out at. absurd (cc); received = λ k inbox at. absurd (cc) }
+    record { each = λ k s at. absurd (cc); forth = refl; back = refl; shelved = refl; sent = λ k out at. absurd (cc); received = λ k inbox at. absurd (cc) }
 
 pub made-next : (script : Script) (shelves : List Shelf) (outs outs' : List OutEnd) (inboxes inboxes' : List Inbox) (segments segments' : List SegmentView) (out : OutEnd) (inbox : Inbox) (s : SegmentView) → AreMade script shelves outs inboxes segments
     → IsNewSegment script (length segments) s → out.link ≡ s.source.link → s.out.link ≡ inbox.source.link → out.sent ≡ [] → inbox.source.received ≡ [] → inbox.again ≡ None → outs' ≡ outs ++ out ∷ [] → inboxes' ≡ inboxes ++ inbox ∷ [] → segments' ≡ segments ++ s ∷ []
@@ -47,14 +47,14 @@ made-next script shelves outs outs' inboxes inboxes' segments segments' out inbo
           ∙ sym (ap (λ vs. links_in (map inbox_of vs)) ss ∙ ap links_in (map-append inbox_of segments (s ∷ [])) ∙ map-append (λ (i : Inbox). i.source.link) (map inbox_of segments) (inbox_of s ∷ []));
       back = ap (λ vs. links_of (map out_of vs)) ss ∙ ap links_of (map-append out_of segments (s ∷ [])) ∙ map-append (λ (o : OutEnd). o.link) (map out_of segments) (out_of s ∷ [])
           ∙ ap (λ ls. ls ++ s.out.link ∷ []) m.back ∙ ap (λ l. links_in inboxes ++ l ∷ []) back ∙ sym (ap links_in is ∙ map-append (λ (i : Inbox). i.source.link) inboxes (inbox ∷ []));
-      shelves = ap (map (λ (v : SegmentView). v.shelf)) ss ∙ map-append (λ (v : SegmentView). v.shelf) segments (s ∷ []) ∙ ap (λ xs. xs ++ s.shelf ∷ []) m.shelves;
+      shelved = ap (map (λ (v : SegmentView). v.shelf)) ss ∙ map-append (λ (v : SegmentView). v.shelf) segments (s ∷ []) ∙ ap (λ xs. xs ++ s.shelf ∷ []) m.shelved;
       sent = subst AreUnsent (sym os) (get-pushed (λ k (o : OutEnd). o.sent ≡ []) outs out m.sent sent);
       received = subst AreBlank (sym is) (get-pushed (λ k (i : Inbox). (i.source.received ≡ []) × (i.again ≡ None)) inboxes inbox m.received (received, again));
     }
 
 -- so many as there are journals
 pub made-count : (script : Script) (shelves : List Shelf) (outs : List OutEnd) (inboxes : List Inbox) (segments : List SegmentView) → AreMade script shelves outs inboxes segments → length segments ≡ length shelves
-made-count script shelves outs inboxes segments m = sym (length-map segments (λ (v : SegmentView). v.shelf)) ∙ ap length m.shelves
+made-count script shelves outs inboxes segments m = sym (length-map segments (λ (v : SegmentView). v.shelf)) ∙ ap length m.shelved
 
 pub made-outs : (script : Script) (shelves : List Shelf) (outs : List OutEnd) (inboxes : List Inbox) (segments : List SegmentView) → AreMade script shelves outs inboxes segments → length outs ≡ length shelves
 made-outs script shelves outs inboxes segments m =

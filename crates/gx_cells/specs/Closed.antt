@@ -57,11 +57,11 @@ IsNewSegment script k s = (s.script ≡ script) × (s.node.0 ≡ k + 1) × (s.sp
 
 -- nothing was done yet
 pub record AreNew (script : Script) (coord : CoordView) (segments : List SegmentView) : Type 0 where
-  pub script : coord.script ≡ script
+  pub of : coord.script ≡ script
   pub unspent : coord.spent ≡ false
   pub steps : coord.steps ≡ []
   pub first : coord.first ≡ coord.shelf.faults
-  pub segments : (k : ℕ) (s : SegmentView) → slice_get segments k ≡ Some s → IsNewSegment script k s
+  pub each : (k : ℕ) (s : SegmentView) → slice_get segments k ≡ Some s → IsNewSegment script k s
 
 -- their histories, from node 0 on
 abbrev pub histories_of : CoordView → List SegmentView → List (List Step)
