@@ -1,0 +1,16 @@
+//! The sum of the balances of generated work.
+ghost use Rattle.std.specs.Prelude.{ℕ, List};
+ghost use Rattle.gx_law_sums.specs.Sums.{KeepsTheSum};
+ghost use Rattle.gx_law_work.specs.Work.{drawn_script, work_script};
+
+/// Transfers make and lose no money, whatever words are drawn: at no point of a legal history is one seen by halves. A reader that has written
+/// nothing sees no account until the load has committed, and from then on 64 whose balances sum to 6400; so whoever is in no transaction at the
+/// end. PostgreSQL manual 13.2: a snapshot holds what had committed, of each transaction all or nothing.
+pub fn transfers_keep_the_sum()
+    ensures { (words : List ℕ) → KeepsTheSum (drawn_script words) }
+{}
+
+/// So it is of generated work, whatever its number.
+pub fn generated_work_keeps_the_sum()
+    ensures { (number : ℕ) → KeepsTheSum (work_script number) }
+{}
