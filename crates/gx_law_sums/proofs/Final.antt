@@ -1,5 +1,5 @@
 -- The table of the accounts as a reader sees it: it is empty, or its balances sum to 6400.
-use Rattle.std.proofs.Common.{◌≡◌, ◌⊎◌, inl, inr, ◌≤◌, ℕ, pos, Bool, true, false, List, [], ◌∷◌, Option, Some, None, refl, sym, ap, ◌∙◌, subst}
+use Rattle.std.proofs.Common.{◌≡◌, ◌⊎◌, inl, inr, ◌≤◌, ℕ, pos, Bool, true, false, List, [], ◌∷◌, Option, Some, None, refl, sym, ap, ◌∙◌, subst, append-nil}
 use Rattle.std.specs.Prelude.{length}
 use Rattle.gx_ids.specs.declared.ids.Gxid.{Gxid}
 use Rattle.gx_ids.specs.declared.ids.Table.{Table}
@@ -13,10 +13,11 @@ use Rattle.gx_lemmas.proofs.Tests.{true-false}
 use Rattle.gx_report.specs.Summary.{total_balance}
 use Rattle.gx_store.specs.declared.mark.Mark.{Mark}
 use Rattle.gx_store.specs.Marks.{is_aborted, is_committed}
+use Rattle.gx_store.specs.Points.{marks_of}
 use Rattle.gx_store.specs.Rows.{row_at}
 use Rattle.gx_store.specs.View.{IsView, image_after, is_shown_to}
 use Rattle.gx_law_work.specs.Work.{drawn_script, work_script}
-use Rattle.gx_law_sums.specs.Sums.{HasWrittenNothing, IsLoaded, IsSumKept, KeepsTheSum, the_accounts}
+use Rattle.gx_law_sums.specs.Sums.{EndsWithTheSum, HasWrittenNothing, IsLoaded, IsSumKept, KeepsTheSum, the_accounts}
 use Rattle.gx_law_sums.specs.Transfers.{AreTransfers}
 use Rattle.gx_law_sums.proofs.Answered.{IsThere, account-there}
 use Rattle.gx_law_sums.proofs.Books.{IsLoader}
@@ -125,3 +126,10 @@ drawn-kept words steps legal before after split reader nothing rows view =
 
 pub work-kept : (number : ℕ) → KeepsTheSum (work_script number)
 work-kept number = drawn-kept (words_of number)
+
+pub work-ends : (number : ℕ) → EndsWithTheSum (work_script number)
+work-ends number run legal [] one final = absurd (none one)
+  where
+    none : (let n : ℕ = 0 in n ≡ 1) → ⊥
+    none e = cc
+work-ends number run legal (rows ∷ tables) one final = work-kept number run.steps legal (marks_of run) [] (sym (append-nil (marks_of run))) None tt rows.items final.0

@@ -1,6 +1,8 @@
 -- The sum of the balances: transfers move money between the accounts, and make and lose none.
 use Rattle.std.specs.Prelude.{◌≡◌, ◌≤◌, pos, true, List, [], ◌++◌, length, Some, None, Contains}
+use Rattle.std.specs.declared.alloc.Global.{Global}
 use Rattle.std.specs.declared.option.Option.{Option}
+use Rattle.std.specs.declared.vec.Vec.{Vec}
 use Rattle.gx_ids.specs.declared.ids.Cid.{Cid}
 use Rattle.gx_ids.specs.declared.ids.Gxid.{Gxid}
 use Rattle.gx_ids.specs.declared.ids.Node.{Node}
@@ -9,14 +11,15 @@ use Rattle.gx_ids.specs.declared.rid.Rid.{Rid}
 use Rattle.gx_script.specs.declared.Script.{Script}
 use Rattle.gx_tree.specs.declared.row.KeyedRow.{KeyedRow}
 use Rattle.gx_tree.specs.declared.value.Value.{Value}
-use Rattle.gx_report.specs.Summary.{total_balance}
+use Rattle.gx_report.specs.Summary.{accounts_in, total_balance}
 use Rattle.gx_store.specs.declared.mark.Mark.{Mark}
 use Rattle.gx_store.specs.declared.mark.Mark.TheVariants.{Write}
+use Rattle.gx_store.specs.declared.run.Run.{Run}
 use Rattle.gx_store.specs.declared.run.Step.{Step}
 use Rattle.gx_store.specs.Legal.{AreLegalSteps}
 use Rattle.gx_store.specs.Marks.{is_committed, started_after}
-use Rattle.gx_store.specs.Points.{marks_in}
-use Rattle.gx_store.specs.View.{IsView, Reader}
+use Rattle.gx_store.specs.Points.{marks_in, marks_of}
+use Rattle.gx_store.specs.View.{AreFinalFrom, IsView, Reader}
 use Rattle.gx_law_sums.specs.Transfers.{loader}
 
 -- generated work has one table
@@ -46,3 +49,8 @@ KeepsTheSum script = (steps : List Step) → AreLegalSteps script [] steps
     → (before after : List Mark) → marks_in steps ≡ before ++ after
     → (reader : Reader) → HasWrittenNothing (marks_in steps) reader
     → (rows : List KeyedRow) → IsView (marks_in steps) before reader the_accounts rows → IsSumKept before rows
+
+-- and so it is of the tables that a run ends with
+abbrev pub EndsWithTheSum : Script → Type 0
+EndsWithTheSum script = (run : Run) → AreLegalSteps script [] run.steps → (tables : List (Vec KeyedRow Global)) → length tables ≡ length script.tables → AreFinalFrom 0 (marks_of run) tables
+    → IsSumKept (marks_of run) (accounts_in tables)

@@ -1,6 +1,6 @@
 //! The sum of the balances of generated work.
 ghost use Rattle.std.specs.Prelude.{ℕ, List};
-ghost use Rattle.gx_law_sums.specs.Sums.{KeepsTheSum};
+ghost use Rattle.gx_law_sums.specs.Sums.{EndsWithTheSum, KeepsTheSum};
 ghost use Rattle.gx_law_work.specs.Work.{drawn_script, work_script};
 
 /// Transfers make and lose no money, whatever words are drawn: at no point of a legal history is one seen by halves. A reader that has written
@@ -13,4 +13,9 @@ pub fn transfers_keep_the_sum()
 /// So it is of generated work, whatever its number.
 pub fn generated_work_keeps_the_sum()
     ensures { (number : ℕ) → KeepsTheSum (work_script number) }
+{}
+
+/// So the table that a run of generated work ends with, of which `--gen` tells the rows and the sum, is empty or has 64 rows that sum to 6400.
+pub fn final_accounts_keep_the_sum()
+    ensures { (number : ℕ) → EndsWithTheSum (work_script number) }
 {}
