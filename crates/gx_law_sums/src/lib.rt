@@ -1,0 +1,4 @@
+//! Generated work moves money between accounts, and makes and loses none.
+#![tactic(auto)]
+
+pub mod laws;
