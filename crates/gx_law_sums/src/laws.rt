@@ -3,9 +3,9 @@ ghost use Rattle.std.specs.Prelude.{ℕ, List};
 ghost use Rattle.gx_law_sums.specs.Sums.{EndsWithTheSum, KeepsTheSum};
 ghost use Rattle.gx_law_work.specs.Work.{drawn_script, work_script};
 
-/// Transfers make and lose no money, whatever words are drawn: at no point of a legal history is one seen by halves. A reader that has written
-/// nothing sees no account until the load has committed, and from then on 64 whose balances sum to 6400; so whoever is in no transaction at the
-/// end. PostgreSQL manual 13.2: a snapshot holds what had committed, of each transaction all or nothing.
+/// Transfers make and lose no money, whatever words are drawn. In each legal history a reader that has written nothing sees, at any point, no
+/// account until the load has committed, and from then on 64 whose balances sum to 6400; so does whoever is in no transaction at the end.
+/// PostgreSQL manual 13.2: a snapshot holds what had committed, of each transaction all or nothing.
 pub fn transfers_keep_the_sum()
     ensures { (words : List ℕ) → KeepsTheSum (drawn_script words) }
 {}
