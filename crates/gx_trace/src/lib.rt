@@ -1,5 +1,5 @@
-//! What the printed text and trace of a whole run show and may show, and the words of their lines, read back: numbers, names, rows'
-//! identities, locks, edges and images. Each is read exactly where it stands as it is printed.
+//! What the printed text and trace of a whole run show and may show, and the words of their lines, read back: rows' identities, names, locks,
+//! lists of transactions and edges, and images, each exactly where it stands as it is printed; and numbers, as the definitions have it.
 #![tactic(auto)]
 
 mod cursor;
