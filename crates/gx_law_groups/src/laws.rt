@@ -32,7 +32,7 @@ pub fn slots_tell_what_sessions_do()
 {}
 
 /// Of two sessions that ask for one slot the first takes it where its transaction begins, not before, and keeps it until that commits or
-/// aborts, whatever is answered to it; then the second may take it, not before.
+/// aborts, also behind the answer to a line; then the second may take it, not before.
 pub fn a_slot_goes_from_one_to_the_next()
     ensures asked { (holds asked first ≡ false) × (may asked first ≡ true) × (may asked second ≡ false) }
     ensures begun { (holds (behind beginning) first ≡ true) × (may (behind beginning) second ≡ false) }

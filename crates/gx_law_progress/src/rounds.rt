@@ -18,7 +18,8 @@ pub fn rounds_that_find_victims_are_few()
         → DoLoneRoundsFindVictims script lets [] steps → AreLoneRoundsFew script lets steps }
 {}
 
-/// So it is in every run whose steps do what was enabled, and not held up, where nothing but lines that open a transaction is held up.
+/// So it is in every run whose steps do what was enabled, and not held up, where nothing but lines that open a transaction is held up, each
+/// until a step that tells of a transaction or of a session.
 pub fn lone_rounds_are_few()
     ensures { (script : Script) (lets : List OneStep → OneEvent → Bool) (steps : List OneStep) → 1 ≤ script.segments → AreLinesNumbered [] script.lines
         → All (λ line. line.session.0 < length script.sessions) script.lines → AreInsertsWhole script.tables script.lines
