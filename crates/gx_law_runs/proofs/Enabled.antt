@@ -70,12 +70,12 @@ pub filter-same : {A : Type 0} (f g : A → Bool) → ((x : A) → f x ≡ g x) 
 filter-same f g e [] = refl
 filter-same f g e (x ∷ xs) = ap (λ b. cond b (x ∷ filter f xs) (filter f xs)) (e x) ∙ ap (λ ys. cond (g x) (x ∷ ys) ys) (filter-same f g e xs)
 
-each-first : (P : Event → Type 0) (xs : List Event) → Each P xs → Each P (first_of xs)
+pub each-first : (P : Event → Type 0) (xs : List Event) → Each P xs → Each P (first_of xs)
 each-first P [] e = tt
 each-first P (x ∷ xs) e = (e.0, tt)
 
 -- of those that pass a test
-each-passing : {A : Type 0} (P : A → Type 0) (t : A → Bool) (xs : List A) → Each (λ x. t x ≡ true → P x) xs → Each P (filter t xs)
+pub each-passing : {A : Type 0} (P : A → Type 0) (t : A → Bool) (xs : List A) → Each (λ x. t x ≡ true → P x) xs → Each P (filter t xs)
 each-passing P t [] e = tt
 each-passing P t (x ∷ xs) e = by_test (t x) refl (each-passing P t xs e.1)
   where
@@ -83,7 +83,7 @@ each-passing P t (x ∷ xs) e = by_test (t x) refl (each-passing P t xs e.1)
     by_test true q f = (e.0 q, f)
     by_test false q f = f
 
-each-every : {A : Type 0} (P : A → Type 0) → ((x : A) → P x) → (xs : List A) → Each P xs
+pub each-every : {A : Type 0} (P : A → Type 0) → ((x : A) → P x) → (xs : List A) → Each P xs
 each-every P f [] = tt
 each-every P f (x ∷ xs) = (f x, each-every P f xs)
 
@@ -94,7 +94,7 @@ all-each t (x ∷ xs) e = both (t x) (list_all t xs) e.0 (all-each t xs e.1)
     both : (a b : Bool) → a ≡ true → b ≡ true → (a && b) ≡ true
     both a b e f = grind arith
 
-each-range : (P : ℕ → Type 0) (a n : ℕ) → ((k : ℕ) → a ≤ k → k < a + n → P k) → Each P (range_with_len a n)
+pub each-range : (P : ℕ → Type 0) (a n : ℕ) → ((k : ℕ) → a ≤ k → k < a + n → P k) → Each P (range_with_len a n)
 each-range P a zero f = tt
 each-range P a (suc n) f = (f a (same a) (first a n), each-range P (a + 1) n (λ k l h. f k (less a k l) (more a n k h)))
   where
