@@ -10,6 +10,7 @@ use Rattle.gx_store.specs.Language.{IsLine, IsScript}
 use Rattle.gx_tree.specs.declared.schema.Schema.{Schema}
 use Rattle.gx_store.specs.declared.run.Run.{Run}
 use Rattle.gx_store.specs.declared.run.Step.{Step}
+use Rattle.gx_store.specs.OneAnswer.{DoSegmentsAnswerOnce}
 use Rattle.gx_store.specs.Ordered.{AreOrdered}
 use Rattle.gx_store.specs.Protocol.{DoStepsFollow}
 use Rattle.gx_store.specs.Stands.{DoRowsStand}
@@ -22,6 +23,7 @@ use Rattle.gx_law_order.proofs.Always.{world-holds}
 use Rattle.gx_law_order.proofs.Whole.{world-follows}
 use Rattle.gx_store.specs.Whole.{AreInsertsWhole}
 use Rattle.gx_law_answers.proofs.Join.{legal}
+use Rattle.gx_law_answers.proofs.OneAnswer.{run-once}
 use Rattle.gx_store.specs.Points.{marks_in}
 use Rattle.gx_law_locks.specs.Blocked.{DoStayBlocked}
 use Rattle.gx_law_locks.proofs.Lawful.{run-stays-blocked}
@@ -61,6 +63,7 @@ run-of script options run language inserts is driven within =
       protocol = by-events script run.steps is (DoStepsFollow script []) (world-follows script language.some_segments);
       tells = by-events script run.steps is (DoStepsTell []) (λ es. (world-holds script language.some_segments es).tells);
       standing = by-events script run.steps is (DoRowsStand []) (world-stands script language.some_segments language.numbers);
+      answers = by-events script run.steps is (DoSegmentsAnswerOnce script) (run-once script language.some_segments language.numbers);
       locks = by-events script run.steps is (AreLocksLegal script) (locks-legal script language.some_segments language.numbers);
       blocked = by-events script run.steps is (λ ss. DoStayBlocked (marks_in ss)) (run-stays-blocked script language.some_segments);
       rounds = by-events script run.steps is (AreRoundsLegal script) (world-legal script language.some_segments (world-rounds script language.some_segments));

@@ -19,6 +19,7 @@ use Rattle.gx_store.specs.declared.run.Run.{Run}
 use Rattle.gx_store.specs.declared.run.Step.{Step}
 use Rattle.gx_store.specs.Groups.{AlwaysKeepsSlots, BeginAsAsked, lets}
 use Rattle.gx_store.specs.Language.{HasFaultsOnce, IsScript}
+use Rattle.gx_store.specs.OneAnswer.{DoSegmentsAnswerOnce}
 use Rattle.gx_store.specs.Ordered.{AreOrdered}
 use Rattle.gx_store.specs.Points.{marks_of}
 use Rattle.gx_store.specs.Protocol.{DoStepsFollow}
@@ -57,12 +58,13 @@ AreDriven None script steps = AreFirst script [] steps
 AreDriven (Some seed) script steps = AreDrawn script seed [] steps
 
 -- The run is a legal history of one store without segments. Its nodes follow their rules and the commit protocol, its messages are
--- numbered, follow what they tell of, and arrive after they were sent, clocks rise, rows stand where it tells of them, its locks are legal,
--- who is blocked stays blocked until one of them aborts, and each event is the one that the driver takes. Its rounds of the deadlock
--- detector ask, report and decide as they are defined; where one names somebody the waits that it found stuck still stand, and whoever it
--- names is the youngest of those who can't go on; and where a round was all that was left to choose, it comes to victims, so that there
--- are no more such rounds, of those that came to their recheck, than transactions. No resource group ever has more open transactions than
--- slots, and its sessions begin theirs in the order in which they asked. The run has no more steps than turns were asked for.
+-- numbered, follow what they tell of, and arrive after they were sent, clocks rise, rows stand where it tells of them, a segment gives
+-- one answer to a command, its locks are legal, who is blocked stays blocked until one of them aborts, and each event is the one that
+-- the driver takes. Its rounds of the deadlock detector ask, report and decide as they are defined; where one names somebody the waits
+-- that it found stuck still stand, and whoever it names is the youngest of those who can't go on; and where a round was all that was
+-- left to choose, it comes to victims, so that there are no more such rounds, of those that came to their recheck, than transactions. No
+-- resource group ever has more open transactions than slots, and its sessions begin theirs in the order in which they asked. The run has
+-- no more steps than turns were asked for.
 pub record IsRunOf (script : Script) (options : Options) (run : Run) : Type 0 where
   pub legal : IsLegalHistory script run
   pub ordered : AreOrdered script [] run.steps
@@ -70,6 +72,7 @@ pub record IsRunOf (script : Script) (options : Options) (run : Run) : Type 0 wh
   pub protocol : DoStepsFollow script [] run.steps
   pub tells : DoStepsTell [] run.steps
   pub standing : DoRowsStand [] run.steps
+  pub answers : DoSegmentsAnswerOnce script run.steps
   pub locks : AreLocksLegal script run.steps
   pub blocked : DoStayBlocked (marks_of run)
   pub rounds : AreRoundsLegal script run.steps

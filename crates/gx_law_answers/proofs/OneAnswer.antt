@@ -7,6 +7,7 @@ use Rattle.gx_lemmas.proofs.Options.{some-same}
 use Rattle.gx_ids.specs.declared.ids.Cid.{Cid}
 use Rattle.gx_ids.specs.declared.ids.Gxid.{Gxid}
 use Rattle.gx_ids.specs.declared.ids.Node.{Node}
+use Rattle.gx_tree.specs.declared.part.Part.{Part}
 use Rattle.gx_tree.specs.declared.slice.Slice.{Slice}
 use Rattle.gx_tree.specs.declared.stmt.Level.{Level}
 use Rattle.gx_dsnap.specs.declared.snapshot.Snapshot.{Snapshot}
@@ -14,14 +15,17 @@ use Rattle.gx_msg.specs.declared.message.Envelope.{Envelope}
 use Rattle.gx_msg.specs.declared.message.Message.{Message}
 use Rattle.gx_msg.specs.declared.message.Message.TheVariants as message
 use Rattle.gx_msg.specs.declared.message.Out.{Out}
+use Rattle.gx_msg.specs.declared.reply.Cause.{Cause}
 use Rattle.gx_msg.specs.declared.reply.Reply.{Reply}
 use Rattle.gx_msg.specs.declared.reply.Reply.TheVariants as reply
 use Rattle.gx_script.specs.declared.Script.{Script}
 use Rattle.gx_store.specs.declared.event.Event.{Event}
 use Rattle.gx_store.specs.declared.event.Event.TheVariants.{Receive, Resume}
 use Rattle.gx_store.specs.declared.run.Run.{Run}
+use Rattle.gx_store.specs.declared.run.Step.{Step}
 use Rattle.gx_store.specs.Language.{AreLinesNumbered}
 use Rattle.gx_store.specs.Messages.{IsSending}
+use Rattle.gx_store.specs.OneAnswer.{DoSegmentsAnswerOnce}
 use Rattle.gx_store.specs.Points.{marks_in}
 use Rattle.gx_store.specs.Refusals.{the_coordinator}
 use Rattle.gx_rules.specs.AtSegment.{on_message}
@@ -168,3 +172,24 @@ module _ (script : Script) (some : 1 ≤ script.segments) (numbered : AreLinesNu
 
 pub system-one : (script : Script) (some : 1 ≤ script.segments) (numbered : AreLinesNumbered [] script.lines) (run : Run) → IsSystemRun script run → AreAnswersOne script run.steps
 system-one script some numbered run system = let m = system-led script run system in subst (AreAnswersOne script) m.is (answers-one script some numbered m.events)
+
+-- SAID BY WHAT A TRACE SHOWS
+module _ (steps : List Step) (script : Script) (one : AreAnswersOne script steps) where
+  pub answers-once : DoSegmentsAnswerOnce script steps
+  answers-once segment g c place =
+      record {
+        done = λ to other number again count wrote part cause sent second. no-done (one segment to other number again g c (reply.Done c wrote count part) (reply.Failed c cause) place refl refl sent second);
+        failed = λ to other number again cause another sent second. same-cause (one segment to other number again g c (reply.Failed c cause) (reply.Failed c another) place refl refl sent second);
+      }
+    where
+      no-done : {wrote : Bool} {count : ℕ} {part : Part} {cause : Cause} → reply.Done c wrote count part ≡ reply.Failed c cause → ⊥
+      no-done e = cc
+
+      same-cause : {cause another : Cause} → reply.Failed c cause ≡ reply.Failed c another → cause ≡ another
+      same-cause e = cc
+
+pub run-once : (script : Script) (some : 1 ≤ script.segments) (numbered : AreLinesNumbered [] script.lines) (es : Events) → DoSegmentsAnswerOnce script (world_of script es).steps
+run-once script some numbered es = answers-once (world_of script es).steps script (answers-one script some numbered es)
+
+pub system-once : (script : Script) (some : 1 ≤ script.segments) (numbered : AreLinesNumbered [] script.lines) (run : Run) → IsSystemRun script run → DoSegmentsAnswerOnce script run.steps
+system-once script some numbered run system = answers-once run.steps script (system-one script some numbered run system)

@@ -2,6 +2,7 @@
 ghost use Rattle.std.specs.Prelude.{◌≡◌, ◌≤◌, Bool, List, []};
 ghost use Rattle.gx_law_answers.specs.Earned.{AreAnswersEarned};
 ghost use Rattle.gx_law_answers.specs.OneAnswer.{AreAnswersOne};
+ghost use Rattle.gx_store.specs.OneAnswer.{DoSegmentsAnswerOnce};
 ghost use Rattle.gx_store.specs.Whole.{AreInsertsWhole};
 ghost use Rattle.gx_meaning.specs.Answer.{ArePartsOf, answer_of};
 ghost use Rattle.gx_law_order.specs.Finish.{AreSegmentsLegal};
@@ -38,10 +39,11 @@ pub fn every_answer_was_earned()
 {}
 
 /// A segment gives one answer to a command: any two DONE or FAILED of it that the segment ever sends, to whomever and how often, are the
-/// same, a FAILED's cause and a DONE's rows with it.
+/// same, a FAILED's cause and a DONE's rows with it. So by what a trace shows, and the cause, it says one of the two, and one cause.
 pub fn a_segment_gives_one_answer_to_a_command()
     ensures machine { (script : Script) (events : List (OneEvent × Bool)) → 1 ≤ script.segments → AreLinesNumbered [] script.lines → AreAnswersOne script (world_of script events).steps }
     ensures system { (script : Script) (run : OneRun) → 1 ≤ script.segments → AreLinesNumbered [] script.lines → IsSystemRun script run → AreAnswersOne script run.steps }
+    ensures told { (script : Script) (run : OneRun) → 1 ≤ script.segments → AreLinesNumbered [] script.lines → IsSystemRun script run → DoSegmentsAnswerOnce script run.steps }
 {}
 
 /// The marks of a segment's step may stand there: its writes and skips, and each fault, of a condition on a row that the command

@@ -19,16 +19,17 @@ use Rattle.gx_tree.specs.declared.stmt.Stmt.TheVariants as stmt
 use Rattle.gx_tree.specs.declared.value.Value.{Value}
 use Rattle.gx_dsnap.specs.declared.snapshot.Snapshot.{Snapshot}
 use Rattle.gx_modes.specs.declared.modes.Mode.{Mode}
+use Rattle.gx_modes.specs.declared.modes.Mode.TheVariants.{Exclusive}
 use Rattle.gx_msg.specs.declared.reply.Cause.{Cause}
 use Rattle.gx_waits.specs.Claim.{same_claim}
 use Rattle.gx_waits.specs.declared.claim.Claim.{Claim}
 use Rattle.gx_waits.specs.declared.object.Object.{Object}
-use Rattle.gx_waits.specs.declared.object.Object.TheVariants.{Relation}
+use Rattle.gx_waits.specs.declared.object.Object.TheVariants.{Relation, Tuple}
 use Rattle.gx_meaning.specs.declared.fault.ArithFault.{ArithFault}
 use Rattle.gx_script.specs.declared.Script.{Script}
 use Rattle.gx_store.specs.Asking.{GoesThroughRows, LocksItself, Needs, NeedsAt, NeedsTable}
 use Rattle.gx_store.specs.Marks.{is_same_gxid}
-use Rattle.gx_store.specs.Waits.{waits_at}
+use Rattle.gx_store.specs.Waits.{is_held, waits_at}
 use Rattle.gx_waits.specs.Claims.{claim}
 use Rattle.gx_store.specs.declared.mark.Mark.{Mark}
 use Rattle.gx_store.specs.declared.mark.Mark.TheVariants as mark
@@ -46,10 +47,11 @@ use Rattle.gx_rules.proofs.Loop.{goes}
 use Rattle.gx_rules.proofs.RowEnds.{does}
 use Rattle.gx_law_order.proofs.Changing.{IsAtRow}
 use Rattle.gx_law_locks.specs.Waiting.{EachBehind}
+use Rattle.gx_law_locks.proofs.Lasting.{in-new}
 use Rattle.gx_law_locks.proofs.Lets.{behind-append}
 use Rattle.gx_law_writes.proofs.Changing.{change-line}
 use Rattle.gx_law_writes.proofs.Frames.{held-other}
-use Rattle.gx_law_writes.proofs.NeedsRows.{NeedsThere, Stops}
+use Rattle.gx_law_writes.proofs.NeedsRows.{AreHoldsTold, NeedsThere, Stops, told-taken}
 use Rattle.gx_law_writes.proofs.Pieces.{IsSliceOf}
 use Rattle.gx_law_writes.specs.Says.{changing_stmt, stmt_of_change}
 
@@ -240,7 +242,12 @@ module _ (script : Script) (ms : List Mark) (node : Node) (level : Level) (g : G
           first : (a b : Bool) → (a || b) ≡ false → a ≡ false
           first a b e = grind arith
 
-      stops : (m : Moved) (rid : Rid) (rest : List Rid) (count : ℕ) (turn : RowTurn) (stop : DidStop m g k rid turn) → Needed m rid × Needed (takes_lock (tuple_lock g rid) m) rid → Gone m → IsRight (suspends_at stop.stopped g k (suspended_at k rid rest count))
+      -- what it holds there by the marks
+      holds-row : (n : Moved) (rid : Rid) → AreHoldsTold (ms ++ lead) node n → is_holding n (tuple_lock g rid) ≡ true → is_held (ms ++ (lead ++ n.marks)) node g (Tuple rid) Exclusive ≡ true
+      holds-row n rid told h =
+          ap (λ b. is_held b node g (Tuple rid) Exclusive) (sym (append_assoc ms lead n.marks)) ∙ ap (λ hs. list_any (same_claim (tuple_lock g rid)) hs) (sym told.1) ∙ h
+
+      stops : (m : Moved) (rid : Rid) (rest : List Rid) (count : ℕ) (turn : RowTurn) (stop : DidStop m g k rid turn) → Needed m rid × Needed (takes_lock (tuple_lock g rid) m) rid × AreHoldsTold (ms ++ lead) node m → Gone m → IsRight (suspends_at stop.stopped g k (suspended_at k rid rest count))
       stops m rid rest count turn stop needed f = by_how stop.stopped stop.how
         where
           row : NeedsAt (ms ++ (lead ++ m.marks)) node level g c k.table k.cond rid stop.version.gxid
@@ -249,8 +256,12 @@ module _ (script : Script) (ms : List Mark) (node : Node) (level : Level) (g : G
           with-lock : NeedsAt (ms ++ (lead ++ (takes_lock (tuple_lock g rid) m).marks)) node level g c k.table k.cond rid stop.version.gxid
           with-lock = needed-at (takes_lock (tuple_lock g rid) m) rid stop.version.gxid (needed.1 stop.version stop.current (still-unsettled m rid stop.version.gxid stop.unsettled))
 
-          for-end : (n : Moved) → NeedsAt (ms ++ (lead ++ n.marks)) node level g c k.table k.cond rid stop.version.gxid → Needs script (ms ++ (lead ++ n.marks)) node level g c line (end_lock g stop.version.gxid).object (end_lock g stop.version.gxid).mode
-          for-end n need = inr (k.table, k.cond, goes-on, (refl, (rid, need)))
+          for-end : (n : Moved) → is_held (ms ++ (lead ++ n.marks)) node g (Tuple rid) Exclusive ≡ true → NeedsAt (ms ++ (lead ++ n.marks)) node level g c k.table k.cond rid stop.version.gxid
+              → Needs script (ms ++ (lead ++ n.marks)) node level g c line (end_lock g stop.version.gxid).object (end_lock g stop.version.gxid).mode
+          for-end n held need = inr (k.table, k.cond, goes-on, (refl, (rid, held, need)))
+
+          own : is_held (ms ++ (lead ++ (takes_lock (tuple_lock g rid) m).marks)) node g (Tuple rid) Exclusive ≡ true
+          own = holds-row (takes_lock (tuple_lock g rid) m) rid (told-taken (ms ++ lead) node m (tuple_lock g rid) needed.2) (in-new (tuple_lock g rid) m.seg.locks.holds)
 
           for-row : Needs script (ms ++ (lead ++ m.marks)) node level g c line (tuple_lock g rid).object (tuple_lock g rid).mode
           for-row = inr (k.table, k.cond, goes-on, (refl, (stop.version.gxid, row)))
@@ -259,13 +270,13 @@ module _ (script : Script) (ms : List Mark) (node : Node) (level : Level) (g : G
           Stopped n = IsRight (suspends_at n g k (suspended_at k rid rest count))
 
           by_how : (n : Moved) → WaitsAt m g rid stop.version.gxid n → Stopped n
-          by_how n (inl h) = subst Stopped (sym h.1) (waits-so rid rest count (end_lock g stop.version.gxid) m refl (for-end m row) f)
+          by_how n (inl h) = subst Stopped (sym h.1) (waits-so rid rest count (end_lock g stop.version.gxid) m refl (for-end m (holds-row m rid needed.2 h.0) row) f)
           by_how n (inr (inl h)) =
               subst Stopped (sym h.1)
-              (waits-so rid rest count (end_lock g stop.version.gxid) (takes_lock (tuple_lock g rid) m) refl (for-end (takes_lock (tuple_lock g rid) m) with-lock) (takes (tuple_lock g rid) m refl for-row f))
+              (waits-so rid rest count (end_lock g stop.version.gxid) (takes_lock (tuple_lock g rid) m) refl (for-end (takes_lock (tuple_lock g rid) m) own with-lock) (takes (tuple_lock g rid) m refl for-row f))
           by_how n (inr (inr h)) = subst Stopped (sym h.1) (waits-so rid rest count (tuple_lock g rid) m refl for-row f)
 
-      by-stop : (m : Moved) (rid : Rid) (rest : List Rid) (count : ℕ) (turn : RowTurn) (stopped : Moved) → Needed m rid × Needed (takes_lock (tuple_lock g rid) m) rid → Gone m → Does m g k rid turn → turn ≡ row_ended stopped Waiting → IsRight (suspends_at stopped g k (suspended_at k rid rest count))
+      by-stop : (m : Moved) (rid : Rid) (rest : List Rid) (count : ℕ) (turn : RowTurn) (stopped : Moved) → Needed m rid × Needed (takes_lock (tuple_lock g rid) m) rid × AreHoldsTold (ms ++ lead) node m → Gone m → Does m g k rid turn → turn ≡ row_ended stopped Waiting → IsRight (suspends_at stopped g k (suspended_at k rid rest count))
       by-stop m rid rest count turn stopped needed f (inl h) e = absurd (no (ap (λ (x : RowTurn). x.end) (sym h.is ∙ e)))
         where
           no : Written ≡ Waiting → ⊥

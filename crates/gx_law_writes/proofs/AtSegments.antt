@@ -1,6 +1,7 @@
 -- A step of a segment: what it writes is legal, what it tells is so, and no more rows are written of a command that has run there.
-use Rattle.std.proofs.Common.{◌≡◌, ◌≤◌, ◌<◌, ◌⊎◌, inl, inr, ℕ, ◌+◌, ◌||◌, List, [], ◌∷◌, ◌++◌, Option, Some, None, Bool, true, false, refl, sym, subst, ap, ◌∙◌, if◌then◌else◌, arith, eqb}
+use Rattle.std.proofs.Common.{◌≡◌, ◌≤◌, ◌<◌, ◌⊎◌, inl, inr, ℕ, ◌+◌, ◌||◌, List, [], ◌∷◌, ◌++◌, Option, Some, None, Bool, true, false, refl, sym, subst, ap, ◌∙◌, ◌==◌, if◌then◌else◌, arith, eqb}
 use Rattle.std.proofs.lemmas.Bool.{eqb-true}
+use Rattle.std.proofs.lemmas.Bool.Decides.{nat_tests}
 use Rattle.std.proofs.lemmas.List.{append_assoc}
 use Rattle.std.specs.Prelude.{length, slice_get, take}
 use Rattle.gx_lemmas.proofs.Numbers.{eqb-self, none-plus}
@@ -24,6 +25,9 @@ use Rattle.gx_dsnap.specs.Gxids.{is_below}
 use Rattle.gx_dsnap.specs.Snapshot.{sees}
 use Rattle.gx_dsnap.specs.declared.snapshot.Snapshot.{Snapshot}
 use Rattle.gx_waits.specs.declared.claim.Claim.{Claim}
+use Rattle.gx_waits.specs.Claims.{with_claim}
+use Rattle.gx_store.proofs.Exclusive.{holds_from-append}
+use Rattle.gx_store.specs.Waits.{holds_at}
 use Rattle.gx_meaning.specs.declared.fault.ArithFault.{ArithFault}
 use Rattle.gx_msg.specs.declared.message.Message.{Message}
 use Rattle.gx_msg.specs.declared.message.Message.TheVariants as message
@@ -244,9 +248,20 @@ module _ (script : Script) (some : 1 ≤ script.segments) (numbered_lines : AreL
         start-all later = (tt, legals-each script w.steps e c.node pre goes.marks later so-legal)
 
         -- where it stops it needs what it asks for
-        pub there-stops : wanted.gxid ≡ g → Stops (marks_in w.steps ++ hold_mark (w.segs i).node wanted ∷ []) c.node g q (selected q.cond (shown_to c g q)) (starts_from c)
-        there-stops owner =
-            start-stops script numbered_lines w known e quiet-event i place.0 placed h.begun g q changes its-line horizon c onit pre (tt, tt) (le-next undone-yet) on.alone opens undone-yet below its-served seen (owner, tt) how
+        pub there-stops : wanted.gxid ≡ g → c.locks.holds ≡ with_claim wanted (w.segs i).locks.holds → Stops (marks_in w.steps ++ hold_mark (w.segs i).node wanted ∷ []) c.node g q (selected q.cond (shown_to c g q)) (starts_from c)
+        there-stops owner held =
+            start-stops script numbered_lines w known e quiet-event i place.0 placed h.begun g q changes its-line horizon c onit pre (tt, tt) (le-next undone-yet) on.alone opens undone-yet below its-served seen (owner, tt) (held ∙ told-with) how
+          where
+            self : (a : ℕ) → (a == a) ≡ true
+            self a = grind (arith, nat_tests)
+
+            named : s.node ≡ at i
+            named = b.knows.well.names i
+
+            told-with : with_claim wanted s.locks.holds ≡ holds_at (ms ++ hold_mark s.node wanted ∷ []) c.node
+            told-with =
+                ap (λ hs. with_claim wanted hs) ((locked.marked.segments i place.0).holds ∙ ap (λ q. holds_at ms q) (sym (onit.node ∙ named)))
+                ∙ sym (holds_from-append c.node [] ms (hold_mark s.node wanted ∷ []) ∙ ap (λ q. if q then with_claim wanted (holds_at ms c.node) else holds_at ms c.node) (ap (λ (q : Node). s.node.0 == q.0) onit.node ∙ self s.node.0))
 
         start-moves : Moves (after_marks (hold_mark s.node wanted ∷ []) (changes_rows c g (Some q)))
         start-moves = change-move script numbered_lines ms w.steps e i s (h.kept i) (b.knows.well.names i) g q changes its-order fresh c on pre (tt, tt) homes-here (λ later. changes-writes script w.steps e [] (pre ++ goes.marks) later (start-all later))
@@ -342,7 +357,7 @@ module _ (script : Script) (some : 1 ≤ script.segments) (numbered_lines : AreL
           (selected z.change.cond (shown_to (base (w.segs i) z.horizon (with_hold (w.segs i).locks z.wanted)) z.g z.change)) (starts_from (base (w.segs i) z.horizon (with_hold (w.segs i).locks z.wanted)))
       exec-stops =
           there-stops z.g z.change z.changes its-order still-fresh z.horizon started (started-on s z.g z.horizon z.wanted owner-is) (started-base s z.g z.horizon (with_hold s.locks z.wanted) z.alone) z.wanted z.opened (new-undone (s.locals z.g.0) z.change.cid.0 z.alone z.fresh)
-          (λ unaborted. seen-so.0 (to-run unaborted)) (λ unaborted. seen-so.1 place.0 (to-run unaborted)) how-it-is owner-is
+          (λ unaborted. seen-so.0 (to-run unaborted)) (λ unaborted. seen-so.1 place.0 (to-run unaborted)) how-it-is owner-is refl
 
       pub exec-says : Says ms (at i) z.g z.change y
       exec-says =
@@ -447,7 +462,7 @@ module _ (script : Script) (some : 1 ≤ script.segments) (numbered_lines : AreL
 
           pub table-stops : Stops (marks_in w.steps ++ hold_mark (w.segs i).node wanted ∷ []) (freed (w.segs i) g wanted).node g q (selected q.cond (shown_to (freed (w.segs i) g wanted) g q)) (starts_from (freed (w.segs i) g wanted))
           table-stops =
-              there-stops g q parts.again later-order its-next o.waits.horizon rests rests-on-it (freed-base s g wanted) wanted rests-open rests-undone (λ unaborted. still-sees.0 (still-to-run unaborted)) (λ unaborted. still-sees.1 place.0 (still-to-run unaborted)) still-alive owner
+              there-stops g q parts.again later-order its-next o.waits.horizon rests rests-on-it (freed-base s g wanted) wanted rests-open rests-undone (λ unaborted. still-sees.0 (still-to-run unaborted)) (λ unaborted. still-sees.1 place.0 (still-to-run unaborted)) still-alive owner refl
 
           pub table-says : Says ms (at i) g q (after_marks (hold_mark s.node wanted ∷ []) (changes_rows (freed s g wanted) g (Some q)))
           table-says =

@@ -27,6 +27,7 @@ use Rattle.gx_store.specs.Marks.{is_aborted, is_committed, is_ended, is_processe
 use Rattle.gx_store.specs.Points.{marks_in, starts_by}
 use Rattle.gx_store.specs.Rows.{row_at}
 use Rattle.gx_store.specs.View.{image}
+use Rattle.gx_store.specs.Waits.{holds_at}
 use Rattle.gx_store.specs.Writes.{IsLate}
 use Rattle.gx_rules.specs.AtSegment.{raised}
 use Rattle.gx_rules.specs.Changes.{Change, change_of, changes_rows, goes_through, selected, shown_to, unless_fault}
@@ -55,7 +56,7 @@ use Rattle.gx_law_writes.proofs.Half.{AreLeft, HasPart, IsHalf, IsHalfDone}
 use Rattle.gx_law_writes.proofs.Late.{late-changes, late-goes, late-granted}
 use Rattle.gx_law_writes.proofs.Locks.{granted-locks, granted-versions, image-behind, processed-behind, writes-behind}
 use Rattle.gx_law_writes.proofs.OnBase.{shown-on}
-use Rattle.gx_law_writes.proofs.NeedsRows.{IsOwned, Stops, granted-owned, marked-for, stops-so}
+use Rattle.gx_law_writes.proofs.NeedsRows.{IsOwned, Stops, granted-owned, marked-for, stops-so, told-granted}
 use Rattle.gx_law_writes.proofs.Outcome.{Outcome, fault-out, goes-out, is-statement}
 use Rattle.gx_law_writes.proofs.Parts.{part-later}
 use Rattle.gx_law_writes.proofs.Path.{IsLock, Legals, legals-locks}
@@ -299,9 +300,9 @@ module _ (script : Script) (numbered : AreLinesNumbered [] script.lines) (w : Wo
       start-result (inr v) p = late-result v (changes_rows b g (Some k))
 
       -- where it stops it needs what it asks for
-      pub start-stops : Each (IsOwned g) pre → How → Stops (marks_in w.steps ++ pre) b.node g k (selected k.cond (shown_to b g k)) (starts_from b)
-      start-stops owned how =
-          stops-so (ms ++ pre) b g k (marked-for script w known i one g horizon b on opens pre owned homes-pre b-versions b-named) (starts_from b) begins tt (selected k.cond (shown_to b g k)) (λ unaborted. by_way unaborted how)
+      pub start-stops : Each (IsOwned g) pre → b.locks.holds ≡ holds_at (marks_in w.steps ++ pre) b.node → How → Stops (marks_in w.steps ++ pre) b.node g k (selected k.cond (shown_to b g k)) (starts_from b)
+      start-stops owned told how =
+          stops-so (ms ++ pre) b g k (marked-for script w known i one g horizon b on opens pre owned homes-pre b-versions b-named) (starts_from b) begins tt (refl, told ∙ ap (λ q. holds_at q b.node) (sym (append-nil (ms ++ pre)))) (selected k.cond (shown_to b g k)) (λ unaborted. by_way unaborted how)
         where
           by_way : is_aborted (marks_in w.steps ++ pre) g ≡ false → How → (sight : Sight (marks_in w.steps ++ pre) b g k) × ((visits : List Visit) (last : Moved) (rid : Rid) (rest : List Rid) → selected k.cond (shown_to b g k) ≡ visited visits ++ rid ∷ rest → IsPath g k (starts_from b) visits last
               → IsChosen sight.rows k rid × (is_processed ((marks_in w.steps ++ pre) ++ last.marks) g k.cid rid ≡ false))
@@ -371,7 +372,8 @@ module _ (script : Script) (numbered : AreLinesNumbered [] script.lines) (w : Wo
     -- where it stops it needs what it asks for
     pub row-stops : How → Stops (marks_in w.steps ++ []) (w.segs i).node g k rids (is_granted (w.segs i) g wanted)
     row-stops how =
-        stops-so (ms ++ []) s g k (marked-for script w known i one g horizon s on-it opens [] tt here-homes here-versions named) (is_granted s g wanted) goes-on (granted-owned s g wanted owner) rids (λ unaborted. by_way unaborted how)
+        stops-so (ms ++ []) s g k (marked-for script w known i one g horizon s on-it opens [] tt here-homes here-versions named) (is_granted s g wanted) goes-on (granted-owned s g wanted owner)
+        (told-granted (ms ++ []) s.node s g wanted refl ((known.locked.marked.segments i one).holds ∙ ap (λ q. holds_at ms q) (sym named) ∙ ap (λ q. holds_at q s.node) (sym (append-nil ms)))) rids (λ unaborted. by_way unaborted how)
       where
         by_way : is_aborted (marks_in w.steps ++ []) g ≡ false → How → (sight : Sight (marks_in w.steps ++ []) (w.segs i) g k) × ((visits : List Visit) (last : Moved) (rid : Rid) (rest : List Rid) → rids ≡ visited visits ++ rid ∷ rest → IsPath g k (is_granted (w.segs i) g wanted) visits last
             → IsChosen sight.rows k rid × (is_processed ((marks_in w.steps ++ []) ++ last.marks) g k.cid rid ≡ false))

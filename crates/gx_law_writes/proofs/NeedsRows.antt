@@ -1,5 +1,5 @@
 -- At a row at which a command stops another transaction is in the way, and, unless its own has aborted, it has the row still to do.
-use Rattle.std.proofs.Common.{◌≡◌, ◌≤◌, ◌∙◌, ℕ, ◌&&◌, ◌||◌, ◌==◌, not, List, [], ◌∷◌, ◌++◌, Some, None, Bool, true, false, refl, sym, subst, ap, if◌then◌else◌, arith}
+use Rattle.std.proofs.Common.{◌≡◌, ◌≤◌, ◌∙◌, ℕ, ◌&&◌, ◌||◌, ◌==◌, not, List, [], ◌∷◌, ◌++◌, Option, Some, None, Bool, true, false, refl, sym, subst, ap, if◌then◌else◌, arith}
 use Rattle.std.proofs.lemmas.Bool.{or_left}
 use Rattle.std.proofs.lemmas.Bool.Decides.{nat_tests}
 use Rattle.std.proofs.lemmas.List.{append_assoc}
@@ -12,6 +12,8 @@ use Rattle.gx_ids.specs.declared.ids.Gxid.{Gxid}
 use Rattle.gx_ids.specs.declared.ids.Node.{Node}
 use Rattle.gx_ids.specs.declared.ids.Table.{Table}
 use Rattle.gx_ids.specs.declared.rid.Rid.{Rid}
+use Rattle.gx_tree.specs.declared.value.Value.{Value}
+use Rattle.gx_locks.specs.Locks.{Locks}
 use Rattle.gx_modes.specs.declared.modes.Mode.TheVariants.{Exclusive}
 use Rattle.gx_waits.specs.Claim.{same_claim}
 use Rattle.gx_waits.specs.Claims.{claim, with_claim, without_claim}
@@ -31,13 +33,13 @@ use Rattle.gx_store.specs.Waits.{holds_at, holds_from, is_held}
 use Rattle.gx_store.specs.declared.mark.Mark.{Mark}
 use Rattle.gx_store.specs.declared.mark.Mark.TheVariants as mark
 use Rattle.gx_rules.specs.Changes.{Change, is_settled, tuple_lock}
-use Rattle.gx_rules.specs.Locks.{hold_mark}
+use Rattle.gx_rules.specs.Locks.{hold_mark, release_mark}
 use Rattle.gx_rules.specs.Machine.{World}
 use Rattle.gx_rules.specs.Running.{is_granted, unless_end}
 use Rattle.gx_rules.specs.Segments.{Phase, Seg, Version, has_committed, has_ended, is_unaborted, local_of}
 use Rattle.gx_rules.specs.Segments.Phase.{Aborted, Committed, Forgotten, Prepared, Reading, Writing}
 use Rattle.gx_rules.specs.Shown.{current_of, is_current}
-use Rattle.gx_rules.specs.Slices.{Moved, is_holding, own_lock, takes_lock, takes_own}
+use Rattle.gx_rules.specs.Slices.{Moved, adds_version, gives_back, is_holding, own_lock, takes_lock, takes_own, version}
 use Rattle.gx_rules.specs.Visits.{IsPath, Visit, visited}
 use Rattle.gx_rules.proofs.Moving.{Keeps, path-keeps}
 use Rattle.gx_law_order.proofs.Letters.{same_node}
@@ -327,10 +329,72 @@ to-do before b g k sight m i rid chosen free =
 abbrev pub NeedsThere : List Mark → Node → Gxid → Change → Moved → Rid → Type 0
 NeedsThere before node g k m rid = (v : Version) → current_of m.seg k.table rid ≡ Some v → is_settled m g v.gxid ≡ false → NeedsAt (before ++ m.marks) node k.level g k.cid k.table k.cond rid v.gxid
 
+-- what it holds is what the marks tell
+abbrev pub AreHoldsTold : List Mark → Node → Moved → Type 0
+AreHoldsTold before node m = (m.seg.node ≡ node) × (m.seg.locks.holds ≡ holds_at (before ++ m.marks) node)
+
 abbrev pub Stops : List Mark → Node → Gxid → Change → List Rid → Moved → Type 0
 Stops before node g k rids m =
     (visits : List Visit) (last : Moved) (rid : Rid) (rest : List Rid) → rids ≡ visited visits ++ rid ∷ rest → IsPath g k m visits last
-    → NeedsThere before node g k last rid × NeedsThere before node g k (takes_lock (tuple_lock g rid) last) rid
+    → NeedsThere before node g k last rid × NeedsThere before node g k (takes_lock (tuple_lock g rid) last) rid × AreHoldsTold before node last
+
+-- so it is with a lock more, with one less, and behind a mark of none
+module _ (before : List Mark) (node : Node) where
+  itself : (a : ℕ) → (a == a) ≡ true
+  itself a = grind (arith, nat_tests)
+
+  here : (m : Moved) → m.seg.node ≡ node → (m.seg.node.0 == node.0) ≡ true
+  here m there = ap (λ (q : Node). q.0 == node.0) there ∙ itself node.0
+
+  behind : (m : Moved) (x : Mark) → holds_at (before ++ (m.marks ++ x ∷ [])) node ≡ holds_from node (holds_at (before ++ m.marks) node) (x ∷ [])
+  behind m x = ap (λ b. holds_at b node) (sym (append_assoc before m.marks (x ∷ []))) ∙ holds_from-append node [] (before ++ m.marks) (x ∷ [])
+
+  pub told-taken : (m : Moved) (wanted : Claim) → AreHoldsTold before node m → AreHoldsTold before node (takes_lock wanted m)
+  told-taken m wanted e = (e.0, ap (λ hs. with_claim wanted hs) e.1 ∙ sym (behind m (hold_mark m.seg.node wanted) ∙ ap (λ b. if b then with_claim wanted (holds_at (before ++ m.marks) node) else holds_at (before ++ m.marks) node) (here m e.0)))
+
+  told-given : (m : Moved) (old : Claim) → AreHoldsTold before node m → AreHoldsTold before node (gives_back old m)
+  told-given m old e = (e.0, ap (λ hs. without_claim old hs) e.1 ∙ sym (behind m (release_mark m.seg.node old) ∙ ap (λ b. if b then without_claim old (holds_at (before ++ m.marks) node) else holds_at (before ++ m.marks) node) (here m e.0)))
+
+  told-noted : (m : Moved) (s : Seg) (x : Mark) → s.node ≡ m.seg.node → s.locks ≡ m.seg.locks → ((hs : List Claim) → holds_from node hs (x ∷ []) ≡ hs) → AreHoldsTold before node m → AreHoldsTold before node (record { seg = s; marks = m.marks ++ x ∷ [] })
+  told-noted m s x same locks free e = (same ∙ e.0, ap (λ (q : Locks). q.holds) locks ∙ e.1 ∙ sym (behind m x ∙ free (holds_at (before ++ m.marks) node)))
+
+  told-own : (g : Gxid) (phase : Phase) (m : Moved) → AreHoldsTold before node m → AreHoldsTold before node (takes_own g phase m)
+  told-own g Reading m e = told-taken m (own_lock g) e
+  told-own g Writing m e = e
+  told-own g Prepared m e = e
+  told-own g Committed m e = e
+  told-own g (Forgotten b) m e = e
+  told-own g Aborted m e = e
+
+  told-keeps : (g : Gxid) (k : Change) → Keeps g k (AreHoldsTold before node)
+  told-keeps g k =
+      record {
+        takes = λ m rid free e. told-taken m (tuple_lock g rid) e;
+        gives = λ m rid held e. told-given m (tuple_lock g rid) e;
+        writes = λ m rid image why e.
+            told-own g (local_of m.seg g).phase (record { seg = with-version m rid image; marks = m.marks ++ mark.Write g k.cid m.seg.node k.table rid image ∷ [] })
+            (told-noted m (with-version m rid image) (mark.Write g k.cid m.seg.node k.table rid image) refl refl (λ hs. refl) e);
+        skips = λ m rid why e. told-noted m m.seg (mark.Skip g k.cid rid) refl refl (λ hs. refl) e;
+        faults = λ m rid image e. told-noted m m.seg (mark.Fault g k.cid rid image) refl refl (λ hs. refl) e;
+      }
+    where
+      with-version : Moved → Rid → Option (List Value) → Seg
+      with-version m rid image = adds_version m.seg g (version g k.cid k.table rid image)
+
+  -- and where what it has waited for is granted
+  pub told-granted : (s : Seg) (g : Gxid) (wanted : Claim) → s.node ≡ node → s.locks.holds ≡ holds_at before node → AreHoldsTold before node (is_granted s g wanted)
+  told-granted s g wanted there told = by_object wanted.object
+    where
+      held : Moved
+      held = record { seg = freed s g wanted; marks = hold_mark s.node wanted ∷ [] }
+
+      is-told : AreHoldsTold before node held
+      is-told = (there, ap (λ hs. with_claim wanted hs) told ∙ sym (holds_from-append node [] before (hold_mark s.node wanted ∷ []) ∙ ap (λ b. if b then with_claim wanted (holds_at before node) else holds_at before node) (ap (λ (q : Node). q.0 == node.0) there ∙ itself node.0)))
+
+      by_object : (o : Object) → AreHoldsTold before node (unless_end wanted o held)
+      by_object (Transaction writer) = told-given held wanted is-told
+      by_object (Relation table) = is-told
+      by_object (Tuple rid) = is-told
 
 -- its marks of locks are its own
 own-owned : (g : Gxid) (phase : Phase) (m : Moved) → Each (IsOwned g) m.marks → Each (IsOwned g) (takes_own g phase m).marks
@@ -364,15 +428,16 @@ granted-owned s g wanted owner = by_object wanted.object
     by_object (Tuple rid) = (owner, tt)
 
 -- A row that it comes to, unless its transaction has aborted, it has chosen and has still to do. Then that is what it needs there.
-pub stops-so : (before : List Mark) (b : Seg) (g : Gxid) (k : Change) → IsMarkedFor before b g → (m : Moved) → Inv b before g k.cid k.table m → Each (IsOwned g) m.marks → (rids : List Rid)
+pub stops-so : (before : List Mark) (b : Seg) (g : Gxid) (k : Change) → IsMarkedFor before b g → (m : Moved) → Inv b before g k.cid k.table m → Each (IsOwned g) m.marks → AreHoldsTold before b.node m → (rids : List Rid)
     → (is_aborted before g ≡ false → (sight : Sight before b g k) × ((visits : List Visit) (last : Moved) (rid : Rid) (rest : List Rid) → rids ≡ visited visits ++ rid ∷ rest → IsPath g k m visits last
     → IsChosen sight.rows k rid × (is_processed (before ++ last.marks) g k.cid rid ≡ false))) → Stops before b.node g k rids m
-stops-so before b g k is m i owned rids live visits last rid rest split path = (
+stops-so before b g k is m i owned told rids live visits last rid rest split path = (
   λ v current unsettled. (in-the-way before b g k is last inv mine rid v current unsettled, λ alive. let a = live (unaborted last inv alive) in let t = a.1 visits last rid rest split path in to-do before b g k a.0 last inv rid t.0 t.1),
   λ v current unsettled. (
     in-the-way before b g k is with-lock inv-lock mine-lock rid v current unsettled,
     λ alive. let a = live (unaborted with-lock inv-lock alive) in let t = a.1 visits last rid rest split path in to-do before b g k a.0 with-lock inv-lock rid t.0 (still t.1),
   ),
+  path-keeps g k (AreHoldsTold before b.node) (told-keeps before b.node g k) m visits last told path,
 )
   where
     inv : Inv b before g k.cid k.table last

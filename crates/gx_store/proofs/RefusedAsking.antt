@@ -26,14 +26,14 @@ use Rattle.gx_tree.specs.declared.stmt.Stmt.TheVariants as stmt
 use Rattle.gx_waits.specs.Claim.{same_claim}
 use Rattle.gx_waits.specs.declared.claim.Claim.{Claim}
 use Rattle.gx_waits.specs.declared.object.Object.{Object}
-use Rattle.gx_waits.specs.declared.object.Object.TheVariants.{Relation, Transaction}
+use Rattle.gx_waits.specs.declared.object.Object.TheVariants.{Relation, Transaction, Tuple}
 use Rattle.gx_store.specs.Asking.{AreAsked, Asks, AsksThere, GrantsWait, IsOrWasUnderWay, IsToDo, LocksItself, Needs, NeedsTable, has_told}
 use Rattle.gx_store.specs.Commands.{RunsCommand}
 use Rattle.gx_store.specs.Lines.{Outside, cid_of, next_stmt, state_of}
 use Rattle.gx_store.specs.Marks.{answer_count, is_aborted, is_committed, is_same_rid, is_same_session}
 use Rattle.gx_store.specs.Points.{Point, before, starts_at}
-use Rattle.gx_store.specs.RefusedAsking.{change_and_insert, done_while_waiting, idle_wait, locks_itself_early, locks_too_little, one_change, the_table, two_locks, two_queried, waits_elsewhere, waits_for_a_reader, waits_for_more, waits_for_the_ended, waits_for_unselected, waits_here_for_more, waits_when_done, writes_when_done}
-use Rattle.gx_store.specs.RefusedParts.{anna, bert, first_cid, first_txn, other_segment, second_txn, the_segment}
+use Rattle.gx_store.specs.RefusedAsking.{change_and_insert, done_while_waiting, idle_wait, locks_itself_early, locks_too_little, one_change, the_table, two_changes, two_locks, two_queried, waits_elsewhere, waits_for_a_reader, waits_for_more, waits_for_the_ended, waits_for_unselected, waits_here_for_more, waits_when_done, waits_without_lock, writes_when_done}
+use Rattle.gx_store.specs.RefusedParts.{anna, bert, first_cid, first_txn, other_segment, second_txn, the_segment, third_txn}
 use Rattle.gx_store.specs.RefusedWaits.{first_table, on_first, one_query}
 use Rattle.gx_store.specs.Refusals.{the_coordinator}
 use Rattle.gx_store.specs.Silent.{AreWaitersSilent}
@@ -216,7 +216,7 @@ on-a-table script g h line mode = by_line line
 
 no-writer : (marks : List Mark) (level : Level) (c : Cid) (line : Stmt) (script : Script) → All NoWrite marks → Needs script marks the_segment level first_txn c line (Transaction second_txn) Share → ⊥
 no-writer marks level c line script none (inl z) = on-a-table script first_txn second_txn line Share z
-no-writer marks level c line script none (inr z) = let way = z.3.1.1.0 in All-contains NoWrite marks (mark.Write second_txn way.write.cid the_segment z.0 z.3.1.0 way.write.image) none way.made
+no-writer marks level c line script none (inr z) = let way = z.3.1.2.0 in All-contains NoWrite marks (mark.Write second_txn way.write.cid the_segment z.0 z.3.1.0 way.write.image) none way.made
 
 no-writer-there : {script : Script} {point : Point} → Asks script point the_segment first_txn (Transaction second_txn) Share → is_aborted (before point) first_txn ≡ false → AreNoWrites (before point) → ⊥
 no-writer-there {script = script} {point = point} a none nobody = let u = under a none in no-writer (before point) u.asks.level u.asks.cid u.asks.line script (no-writes (before point) nobody) u.asks.needs
@@ -295,7 +295,7 @@ at-no-row {script = script} {point = point} a none running writes = let u = unde
   where
     by_need : (level : Level) (c : Cid) (line : Stmt) → Needs script (before point) the_segment level first_txn c line (Transaction second_txn) Share → ⊥
     by_need level c line (inl z) = on-a-table script first_txn second_txn line Share z
-    by_need level c line (inr z) = none-seen running writes (z.3.1.1.1 none)
+    by_need level c line (inr z) = none-seen running writes (z.3.1.2.1 none)
 
 pub not-unselected : (script : Script) (rows : List KeyedRow) (image : List Value) (assigns : List Assign) (cond : Option Cond) (tuples : List (List Expr)) (snapshot : Snapshot)
     → AreAsked (change_and_insert script assigns cond tuples) [] (waits_for_unselected rows image assigns cond snapshot) → ⊥
@@ -307,11 +307,23 @@ no-end {script = script} {point = point} a none free = let u = under a none in b
   where
     by_need : (level : Level) (c : Cid) (line : Stmt) → Needs script (before point) the_segment level first_txn c line (Transaction second_txn) Share → ⊥
     by_need level c line (inl z) = on-a-table script first_txn second_txn line Share z
-    by_need level c line (inr z) = clash (is_held (before point) the_segment second_txn (Transaction second_txn) Exclusive) z.3.1.1.0.unended free
+    by_need level c line (inr z) = clash (is_held (before point) the_segment second_txn (Transaction second_txn) Exclusive) z.3.1.2.0.unended free
 
 pub not-for-the-ended : (script : Script) (rows : List KeyedRow) (image : List Value) (assigns : List Assign) (cond : Option Cond) (tuples : List (List Expr)) (snapshot : Snapshot)
     → AreAsked (change_and_insert script assigns cond tuples) [] (waits_for_the_ended rows image assigns cond snapshot) → ⊥
 not-for-the-ended script rows image assigns cond tuples snapshot h = no-end h.1.1.1.1.1.1.0.1.0 refl refl
+
+-- THE ROW'S LOCK
+no-lock : {script : Script} {point : Point} → Asks script point the_segment first_txn (Transaction third_txn) Share → is_aborted (before point) first_txn ≡ false → ((rid : Rid) → is_held (before point) the_segment first_txn (Tuple rid) Exclusive ≡ false) → ⊥
+no-lock {script = script} {point = point} a none free = let u = under a none in by_need u.asks.level u.asks.cid u.asks.line u.asks.needs
+  where
+    by_need : (level : Level) (c : Cid) (line : Stmt) → Needs script (before point) the_segment level first_txn c line (Transaction third_txn) Share → ⊥
+    by_need level c line (inl z) = on-a-table script first_txn third_txn line Share z
+    by_need level c line (inr z) = clash (is_held (before point) the_segment first_txn (Tuple z.3.1.0) Exclusive) z.3.1.1 (free z.3.1.0)
+
+pub not-without-lock : (script : Script) (rows : List KeyedRow) (image changed : List Value) (assigns : List Assign) (cond : Option Cond) (tuples : List (List Expr)) (snapshot later : Snapshot)
+    → AreAsked (two_changes script assigns cond tuples) [] (waits_without_lock rows image changed assigns cond snapshot later) → ⊥
+not-without-lock script rows image changed assigns cond tuples snapshot later h = no-lock h.1.1.1.1.1.1.1.1.0.1.0 refl (λ rid. refl)
 
 -- WHO WAITS
 pub not-silent : (query : Query) (snapshot : Snapshot) → AreWaitersSilent [] (done_while_waiting query snapshot) → ⊥

@@ -1,5 +1,5 @@
 -- Why nothing comes without its cause.
-use Rattle.std.proofs.Common.{◌≡◌, ◌⊎◌, inl, inr, ℕ, zero, suc, ◌+◌, List, [], ◌∷◌, None, Some, Option, Bool, true, false, if◌then◌else◌, refl, sym, subst, ap, arith}
+use Rattle.std.proofs.Common.{◌≡◌, ◌≤◌, ◌⊎◌, inl, inr, ℕ, zero, suc, ◌+◌, List, [], ◌∷◌, None, Some, Option, Bool, true, false, if◌then◌else◌, refl, sym, subst, ap, arith}
 use Rattle.std.proofs.lemmas.Bool.{eqb-true}
 use Rattle.std.specs.Prelude.{Contains, map, slice_get}
 use Rattle.gx_ids.specs.declared.ids.Cid.{Cid}
@@ -10,6 +10,7 @@ use Rattle.gx_ids.specs.declared.ids.Table.{Table}
 use Rattle.gx_ids.specs.declared.rid.Rid.{Rid}
 use Rattle.gx_tree.specs.declared.cond.Cond.{Cond}
 use Rattle.gx_tree.specs.declared.expr.Expr.{Expr}
+use Rattle.gx_tree.specs.declared.part.Part.{Part}
 use Rattle.gx_tree.specs.declared.schema.Dist.{Dist}
 use Rattle.gx_tree.specs.declared.schema.Dist.TheVariants.{By, Randomly}
 use Rattle.gx_tree.specs.declared.slice.Slice.TheVariants as slice
@@ -21,6 +22,7 @@ use Rattle.gx_dsnap.specs.declared.snapshot.Snapshot.{Snapshot}
 use Rattle.gx_msg.specs.declared.message.Message.{Message}
 use Rattle.gx_msg.specs.declared.message.Message.TheVariants as message
 use Rattle.gx_msg.specs.declared.reply.Cause.{Cause}
+use Rattle.gx_msg.specs.declared.reply.Reply.{Reply}
 use Rattle.gx_msg.specs.declared.reply.Reply.TheVariants as reply
 use Rattle.gx_meaning.specs.Plan.{pieces}
 use Rattle.gx_meaning.specs.Target.{target_of}
@@ -30,10 +32,11 @@ use Rattle.gx_store.specs.declared.event.Event.{Event}
 use Rattle.gx_store.specs.declared.event.Event.TheVariants as event
 use Rattle.gx_store.specs.declared.mark.Mark.TheVariants as mark
 use Rattle.gx_store.specs.declared.run.Step.{Step}
-use Rattle.gx_store.specs.Messages.{HasReceived, Receives, ReceivesAt}
+use Rattle.gx_store.specs.Messages.{HasReceived, IsSent, Receives, ReceivesAt}
+use Rattle.gx_store.specs.OneAnswer.{DoSegmentsAnswerOnce, GivesOneAnswer}
 use Rattle.gx_store.specs.Points.{Point, before}
 use Rattle.gx_store.specs.Protocol.{CommitsAlone, CommitsAsPromised, CommitsThere, Decides, FailsThere, FaultsThere, IsDone, IsExecuted, IsReturned, Promises, IsDoneAsPlanned}
-use Rattle.gx_store.specs.RefusedCauses.{alone, asked_before_commit, asked_unwritten, at_three, done_unexecuted, failed_unasked, failed_undecided, marked_unexecuted, one_update, one_writer, TellsElsewhere, marked_elsewhere, overtaken_elsewhere, said_unasked, told_at_once, told_early, told_undone, two_rows, written_behind_commit, written_behind_decision, asked_alone, committed_behind_failure, decided_behind_failure, faulted_behind_abort, sent_behind_answer, sent_behind_prepare, told_half_sent}
+use Rattle.gx_store.specs.RefusedCauses.{alone, answers_twice, asked_before_commit, asked_unwritten, at_three, done_unexecuted, failed_unasked, failed_undecided, marked_unexecuted, one_update, one_writer, TellsElsewhere, marked_elsewhere, overtaken_elsewhere, said_unasked, told_at_once, told_early, told_undone, two_rows, written_behind_commit, written_behind_decision, asked_alone, committed_behind_failure, decided_behind_failure, faulted_behind_abort, sent_behind_answer, sent_behind_prepare, told_half_sent}
 use Rattle.gx_store.specs.RefusedCommits.{BreaksProtocol, two_writers}
 use Rattle.gx_store.specs.Marks.{is_same_session, is_aborted}
 use Rattle.gx_store.specs.RefusedParts.{anna, empty_block, first_cid, first_txn, nth_row, other_segment, second_txn, the_segment}
@@ -101,6 +104,34 @@ faulted-there rid image n e (inr x) = unexecuted first_txn first_cid the_segment
 
 pub causes-faulted : (script : Script) (table : Table) (assigns : List Assign) (cond : Option Cond) (s : Snapshot) (rid : Rid) (image : Option (List Value)) → BreaksProtocol (one_update script table assigns cond) (marked_unexecuted table assigns cond s (mark.Fault first_txn first_cid rid image))
 causes-faulted script table assigns cond s rid image h = faulted-there rid image (tt, tt) tt h.1.0.0
+
+-- TWO ANSWERS
+of-two : (n m : ℕ) → n ≡ 1 → m ≡ 2 → (1 ≤ n) × (n ≤ m)
+of-two n m e f = (omega arith, omega arith)
+
+module _ (script : Script) (table : Table) (assigns : List Assign) (cond : Option Cond) (s : Snapshot) (told again : Reply) where
+  at-first : IsSent (answers_twice table assigns cond s told again) the_segment the_coordinator 1 (message.Answer first_txn told)
+  at-first = record { step = 1; mark = 0; sending = record { sender = _; at = refl; node = refl; sent = refl } }
+
+  at-last : IsSent (answers_twice table assigns cond s told again) the_segment the_coordinator 2 (message.Answer first_txn again)
+  at-last = record { step = 2; mark = 0; sending = record { sender = _; at = refl; node = refl; sent = refl } }
+
+  gives-one : DoSegmentsAnswerOnce (one_update script table assigns cond) (answers_twice table assigns cond s told again) → GivesOneAnswer (answers_twice table assigns cond s told again) the_segment first_txn first_cid
+  gives-one h = h the_segment first_txn first_cid (of-two the_segment.0 2 refl refl)
+
+pub causes-done-and-failed : (script : Script) (table : Table) (assigns : List Assign) (cond : Option Cond) (s : Snapshot) (wrote : Bool) (count : ℕ) (part : Part) (cause : Cause)
+    → DoSegmentsAnswerOnce (one_update script table assigns cond) (answers_twice table assigns cond s (reply.Done first_cid wrote count part) (reply.Failed first_cid cause)) → ⊥
+causes-done-and-failed script table assigns cond s wrote count part cause h =
+    let told : Reply = reply.Done first_cid wrote count part in
+    let again : Reply = reply.Failed first_cid cause in
+    (gives-one script table assigns cond s told again h).done the_coordinator the_coordinator 1 2 count wrote part cause (at-first script table assigns cond s told again) (at-last script table assigns cond s told again)
+
+pub causes-failed-twice : (script : Script) (table : Table) (assigns : List Assign) (cond : Option Cond) (s : Snapshot) (cause another : Cause) → (cause ≡ another → ⊥)
+    → DoSegmentsAnswerOnce (one_update script table assigns cond) (answers_twice table assigns cond s (reply.Failed first_cid cause) (reply.Failed first_cid another)) → ⊥
+causes-failed-twice script table assigns cond s cause another apart h =
+    let told : Reply = reply.Failed first_cid cause in
+    let again : Reply = reply.Failed first_cid another in
+    apart ((gives-one script table assigns cond s told again h).failed the_coordinator the_coordinator 1 2 cause another (at-first script table assigns cond s told again) (at-last script table assigns cond s told again))
 
 -- WHERE ROWS STAND
 abbrev number_in : Option Node → ℕ

@@ -75,14 +75,14 @@ pub record IsInTheWay (marks : List Mark) (node : Node) (g : Gxid) (table : Tabl
   pub made : Contains marks (Write h write.cid node table rid write.image)
   pub unended : is_held marks node h (Transaction h) Exclusive ≡ true
 
--- At a row at which another is in the way they need the row, or, in mode Share, the other's end. It is one that they have selected, unless
--- their transaction has aborted, whose view counts for nothing.
+-- At a row at which another is in the way they need the row, or, with the row's lock, in mode Share, the other's end. It is one that they
+-- have selected, unless their transaction has aborted, whose view counts for nothing.
 abbrev pub NeedsAt : List Mark → Node → Level → Gxid → Cid → Table → Option Cond → Rid → Gxid → Type 0
 NeedsAt marks node level g c table cond rid h = IsInTheWay marks node g table rid h × (is_aborted marks g ≡ false → IsToDo marks level g c table cond rid)
 
 abbrev pub NeedsRow : List Mark → Node → Level → Gxid → Cid → Table → Option Cond → Object → Mode → Type 0
 NeedsRow marks node level g c table cond (Tuple rid) mode = (mode ≡ Exclusive) × ((h : Gxid) × NeedsAt marks node level g c table cond rid h)
-NeedsRow marks node level g c table cond (Transaction h) mode = (mode ≡ Share) × ((rid : Rid) × NeedsAt marks node level g c table cond rid h)
+NeedsRow marks node level g c table cond (Transaction h) mode = (mode ≡ Share) × ((rid : Rid) × (is_held marks node g (Tuple rid) Exclusive ≡ true) × NeedsAt marks node level g c table cond rid h)
 NeedsRow marks node level g c table cond (Relation other) mode = ⊥
 
 -- what a command needs at a segment

@@ -21,6 +21,7 @@ pub mod Stands
 pub mod Silent
 pub mod Outgoing
 pub mod Ordered
+pub mod OneAnswer
 pub mod Rounds
 pub mod Schedule
 pub mod Groups

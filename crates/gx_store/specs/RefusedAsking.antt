@@ -27,7 +27,7 @@ use Rattle.gx_store.specs.declared.event.Event.TheVariants as event
 use Rattle.gx_store.specs.declared.mark.Mark.{Mark}
 use Rattle.gx_store.specs.declared.mark.Mark.TheVariants as mark
 use Rattle.gx_store.specs.declared.run.Step.{Step}
-use Rattle.gx_store.specs.RefusedParts.{anna, bert, block_begins, first_cid, first_txn, line_of, other_segment, row_of, second_txn, step_at, the_segment, with_lines, with_two}
+use Rattle.gx_store.specs.RefusedParts.{anna, bert, block_begins, first_cid, first_txn, line_of, other_segment, row_of, second_txn, step_at, the_segment, third_txn, with_lines, with_two}
 use Rattle.gx_store.specs.RefusedWaits.{first_table, on_first}
 use Rattle.gx_store.specs.Refusals.{the_coordinator}
 
@@ -178,12 +178,38 @@ waits_for_unselected rows image assigns cond snapshot =
     insert_runs rows image snapshot
     ++ change_behind 4 assigns cond snapshot (mark.Hold the_segment first_txn the_table RowExclusive ∷ mark.Wait the_segment first_txn (Transaction second_txn) Share ∷ [])
 
--- WHO HAS ENDED
--- Bert's INSERT is done and commits, and the segment is told of his end; there Anna's UPDATE, which sees his row, waits for him.
-abbrev pub waits_for_the_ended : List KeyedRow → List Value → List Assign → Option Cond → Snapshot → List Step
-waits_for_the_ended rows image assigns cond snapshot =
+-- Bert's INSERT is done and commits, and the segment is told of his end
+abbrev pub insert_ends : List KeyedRow → List Value → Snapshot → List Step
+insert_ends rows image snapshot =
     insert_runs rows image snapshot
     ++ step_at the_coordinator 4 (event.Receive the_segment the_coordinator 1)
     (mark.Commit second_txn ∷ mark.Answer bert 1 (answer.Inserted 1) ∷ mark.Sent the_segment 3 (message.Forget second_txn) ∷ [])
-    ∷ step_at the_segment 5 (event.Receive the_coordinator the_segment 3) (mark.Release the_segment second_txn (Transaction second_txn) Exclusive ∷ [])
-    ∷ change_behind 6 assigns cond snapshot (mark.Hold the_segment first_txn the_table RowExclusive ∷ mark.Wait the_segment first_txn (Transaction second_txn) Share ∷ [])
+    ∷ step_at the_segment 5 (event.Receive the_coordinator the_segment 3) (mark.Release the_segment second_txn (Transaction second_txn) Exclusive ∷ []) ∷ []
+
+-- WHO HAS ENDED
+-- There Anna's UPDATE, which sees his row, waits for him.
+abbrev pub waits_for_the_ended : List KeyedRow → List Value → List Assign → Option Cond → Snapshot → List Step
+waits_for_the_ended rows image assigns cond snapshot =
+    insert_ends rows image snapshot
+    ++ change_behind 6 assigns cond snapshot (mark.Hold the_segment first_txn the_table RowExclusive ∷ mark.Wait the_segment first_txn (Transaction second_txn) Share ∷ [])
+
+-- THE ROW'S LOCK
+-- then Bert changes rows too
+abbrev pub two_changes : Script → List Assign → Option Cond → List (List Expr) → Script
+two_changes script assigns cond tuples =
+    with_lines (record script { detector = true })
+    (line_of anna 1 (stmt.Begin ReadCommitted) ∷ line_of anna 2 (stmt.Update first_table assigns cond) ∷ line_of bert 1 (stmt.Insert first_table tuples)
+    ∷ line_of bert 2 (stmt.Update first_table assigns cond) ∷ [])
+
+-- His UPDATE writes his row once more. Anna's, which sees the row as it was inserted, waits there for his end without the row's lock, and so
+-- past all who wait for that.
+abbrev pub waits_without_lock : List KeyedRow → List Value → List Value → List Assign → Option Cond → Snapshot → Snapshot → List Step
+waits_without_lock rows image changed assigns cond snapshot later =
+    insert_ends rows image snapshot
+    ++ step_at the_coordinator 6 (event.Start bert)
+    (mark.Start third_txn bert ∷ mark.Hold the_coordinator third_txn the_table RowExclusive ∷ mark.Snap third_txn first_cid later
+    ∷ mark.Sent the_segment 4 (order_of third_txn (Some later) (slice.Update first_table assigns cond)) ∷ [])
+    ∷ step_at the_segment 7 (event.Receive the_coordinator the_segment 4)
+    (mark.Hold the_segment third_txn the_table RowExclusive ∷ mark.Write third_txn first_cid the_segment first_table (row_of second_txn) (Some changed)
+    ∷ mark.Hold the_segment third_txn (Transaction third_txn) Exclusive ∷ [])
+    ∷ change_behind 8 assigns cond later (mark.Hold the_segment first_txn the_table RowExclusive ∷ mark.Wait the_segment first_txn (Transaction third_txn) Share ∷ [])

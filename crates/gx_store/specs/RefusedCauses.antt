@@ -107,6 +107,15 @@ done_unexecuted table assigns cond snapshot =
 abbrev pub marked_unexecuted : Table → List Assign → Option Cond → Snapshot → Mark → List Step
 marked_unexecuted table assigns cond snapshot m = update_goes table assigns cond snapshot ∷ unasked the_segment 2 (m ∷ []) ∷ []
 
+-- TWO ANSWERS
+-- a segment that has received it says one thing, and another where the EXEC comes once more
+abbrev pub answers_twice : Table → List Assign → Option Cond → Snapshot → Reply → Reply → List Step
+answers_twice table assigns cond snapshot told again =
+    update_goes table assigns cond snapshot
+    ∷ step_at the_segment 2 (event.Receive the_coordinator the_segment 1) (mark.Sent the_coordinator 1 (message.Answer first_txn told) ∷ [])
+    ∷ step_at the_segment 3 (event.Receive the_coordinator the_segment 1) (mark.Sent the_coordinator 2 (message.Answer first_txn again) ∷ []) ∷ []
+
+-- A LATE FAULT
 -- a segment faults, it is refused, and behind that the coordinator notes a fault of its own
 abbrev pub faulted_behind_abort : Table → List Assign → Option Cond → Snapshot → Rid → List Value → List Step
 faulted_behind_abort table assigns cond snapshot rid row =

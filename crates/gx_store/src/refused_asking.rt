@@ -3,7 +3,7 @@ ghost use Rattle.gx_dsnap.specs.declared.snapshot.Snapshot.{Snapshot};
 ghost use Rattle.gx_ids.specs.declared.rid.Rid.{Rid as OneRid};
 ghost use Rattle.gx_script.specs.declared.Script.{Script};
 ghost use Rattle.gx_store.specs.Asking.{AreAsked};
-ghost use Rattle.gx_store.specs.RefusedAsking.{change_and_insert, done_while_waiting, idle_wait, locks_itself_early, locks_too_little, one_change, two_locks, two_queried, waits_elsewhere, waits_for_a_reader, waits_for_more, waits_for_the_ended, waits_for_unselected, waits_here_for_more, waits_when_done, writes_when_done};
+ghost use Rattle.gx_store.specs.RefusedAsking.{change_and_insert, done_while_waiting, idle_wait, locks_itself_early, locks_too_little, one_change, two_changes, two_locks, two_queried, waits_elsewhere, waits_for_a_reader, waits_for_more, waits_for_the_ended, waits_for_unselected, waits_here_for_more, waits_when_done, waits_without_lock, writes_when_done};
 ghost use Rattle.gx_store.specs.Silent.{AreWaitersSilent};
 ghost use Rattle.gx_store.specs.RefusedWaits.{one_query};
 ghost use Rattle.gx_tree.specs.declared.cond.Cond.{Cond as OneCond};
@@ -49,6 +49,12 @@ pub fn waited_for_at_no_row_of_its_own()
         → AreAsked (change_and_insert script assigns cond tuples) [] (waits_for_unselected rows image assigns cond snapshot) → ⊥ }
     ensures ended { (script : Script) (rows : List OneRow) (image : List OneValue) (assigns : List OneAssign) (cond : Perhaps OneCond) (tuples : List (List OneExpr)) (snapshot : Snapshot)
         → AreAsked (change_and_insert script assigns cond tuples) [] (waits_for_the_ended rows image assigns cond snapshot) → ⊥ }
+{}
+
+/// An UPDATE that waits for a writer's end has the row's lock.
+pub fn waited_for_without_the_row()
+    ensures { (script : Script) (rows : List OneRow) (image changed : List OneValue) (assigns : List OneAssign) (cond : Perhaps OneCond) (tuples : List (List OneExpr)) (snapshot later : Snapshot)
+        → AreAsked (two_changes script assigns cond tuples) [] (waits_without_lock rows image changed assigns cond snapshot later) → ⊥ }
 {}
 
 /// A segment that has said that a command is done there has it wait for nothing more.

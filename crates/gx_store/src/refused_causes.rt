@@ -1,5 +1,5 @@
 //! Runs that don't follow the commit protocol since something comes without its cause: in each of them all but one thing is right.
-ghost use Rattle.std.specs.Prelude.{List, None};
+ghost use Rattle.std.specs.Prelude.{◌≢◌, ℕ, Bool as Truth, List, None};
 ghost use Rattle.std.specs.declared.option.Option.{Option as Maybe};
 ghost use Rattle.gx_dsnap.specs.declared.snapshot.Snapshot.{Snapshot as OneSnapshot};
 ghost use Rattle.gx_ids.specs.declared.ids.Table.{Table as OneTable};
@@ -9,10 +9,12 @@ ghost use Rattle.gx_msg.specs.declared.reply.Cause.{Cause as OneCause};
 ghost use Rattle.gx_msg.specs.declared.reply.Reply.TheVariants as reply;
 ghost use Rattle.gx_script.specs.declared.Script.{Script as OneScript};
 ghost use Rattle.gx_store.specs.declared.mark.Mark.TheVariants as mark;
-ghost use Rattle.gx_store.specs.RefusedCauses.{alone, asked_before_commit, asked_unwritten, at_three, done_unexecuted, failed_unasked, failed_undecided, marked_elsewhere, marked_unexecuted, one_update, one_writer, overtaken_elsewhere, said_unasked, TellsElsewhere, told_at_once, told_early, told_undone, written_behind_commit, written_behind_decision, asked_alone, committed_behind_failure, decided_behind_failure, faulted_behind_abort, sent_behind_answer, sent_behind_prepare, told_half_sent};
+ghost use Rattle.gx_store.specs.RefusedCauses.{alone, answers_twice, asked_before_commit, asked_unwritten, at_three, done_unexecuted, failed_unasked, failed_undecided, marked_elsewhere, marked_unexecuted, one_update, one_writer, overtaken_elsewhere, said_unasked, TellsElsewhere, told_at_once, told_early, told_undone, written_behind_commit, written_behind_decision, asked_alone, committed_behind_failure, decided_behind_failure, faulted_behind_abort, sent_behind_answer, sent_behind_prepare, told_half_sent};
+ghost use Rattle.gx_store.specs.OneAnswer.{DoSegmentsAnswerOnce};
 ghost use Rattle.gx_store.specs.RefusedCommits.{BreaksProtocol, two_writers};
 ghost use Rattle.gx_store.specs.RefusedParts.{empty_block, first_cid, first_txn, nth_row, second_txn};
 ghost use Rattle.gx_store.specs.Refusals.{the_coordinator};
+ghost use Rattle.gx_tree.specs.declared.part.Part.{Part as OnePart};
 ghost use Rattle.gx_tree.specs.declared.cond.Cond.{Cond as OneCond};
 ghost use Rattle.gx_tree.specs.declared.expr.Expr.{Expr as OneExpr};
 ghost use Rattle.gx_tree.specs.declared.stmt.Assign.{Assign as OneAssign};
@@ -37,6 +39,15 @@ pub fn commands_are_received_first()
         → BreaksProtocol (one_update script table assigns cond) (marked_unexecuted table assigns cond snapshot (mark.Skip first_txn first_cid rid)) }
     ensures faulted { (script : OneScript) (table : OneTable) (assigns : List OneAssign) (cond : Maybe OneCond) (snapshot : OneSnapshot) (rid : OneRid) (image : Maybe (List OneValue))
         → BreaksProtocol (one_update script table assigns cond) (marked_unexecuted table assigns cond snapshot (mark.Fault first_txn first_cid rid image)) }
+{}
+
+/// A segment that has said that a command is done doesn't say that it has failed; nor does one that has said so for one cause say so for
+/// another.
+pub fn segments_answer_once()
+    ensures done { (script : OneScript) (table : OneTable) (assigns : List OneAssign) (cond : Maybe OneCond) (snapshot : OneSnapshot) (wrote : Truth) (count : ℕ) (part : OnePart) (cause : OneCause)
+        → DoSegmentsAnswerOnce (one_update script table assigns cond) (answers_twice table assigns cond snapshot (reply.Done first_cid wrote count part) (reply.Failed first_cid cause)) → ⊥ }
+    ensures failed { (script : OneScript) (table : OneTable) (assigns : List OneAssign) (cond : Maybe OneCond) (snapshot : OneSnapshot) (cause another : OneCause) → cause ≢ another
+        → DoSegmentsAnswerOnce (one_update script table assigns cond) (answers_twice table assigns cond snapshot (reply.Failed first_cid cause) (reply.Failed first_cid another)) → ⊥ }
 {}
 
 /// Of a row that stands at one segment another one tells nothing: it doesn't skip it, faults on no image of it, and doesn't say that it

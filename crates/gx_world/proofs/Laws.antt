@@ -1,5 +1,5 @@
 -- What the laws of every run say of a network's run.
-use Rattle.std.proofs.Common.{◌≡◌, List, [], subst}
+use Rattle.std.proofs.Common.{◌≡◌, List, [], false, subst, sym}
 use Rattle.gx_script.specs.declared.Script.{Script}
 use Rattle.gx_store.specs.Language.{IsScript}
 use Rattle.gx_store.specs.Ordered.{AreOrdered}
@@ -37,7 +37,8 @@ use Rattle.gx_law_locks.specs.Legal.{AreRoundsLegal}
 use Rattle.gx_law_locks.proofs.EachVictim.{world-cancels, world-legal}
 use Rattle.gx_law_locks.proofs.Whole.{world-rounds}
 use Rattle.gx_world.specs.declared.network.Network.{Network}
-use Rattle.gx_world.specs.Networks.{IsNetwork}
+use Rattle.gx_world.specs.declared.network.Nodes.{Nodes}
+use Rattle.gx_world.specs.Networks.{AreNodesBehind, IsNetwork}
 
 module _ (script : Script) (network : Network) (is : IsNetwork network) (of : network.script.value ≡ script) where
   language : IsScript script
@@ -81,3 +82,10 @@ module _ (script : Script) (network : Network) (is : IsNetwork network) (of : ne
       subst (λ ss. AreFinalFrom 0 (marks_in ss) tables) is.is
       (world-tables script language.some_segments is.events tables 0 (at-home script language.some_segments language.numbers is.events)
       (rows-of-all script network.run.steps (world_of script is.events) (replayed script network.run.steps is) is.is 0 tables rows))
+
+-- its nodes stand where its run leads the machine
+pub nodes-behind : (network : Network) (nodes : Nodes) → IsNetwork network → network.spent ≡ false → nodes ≡ record { script = network.script; coord = network.coord; segments = network.segments; letters = network.letters }
+    → AreNodesBehind network.script.value network.run.steps nodes
+nodes-behind network nodes is unspent same =
+    let stands = is.stands unspent in
+    subst (AreNodesBehind network.script.value network.run.steps) (sym same) (record { coord = stands.coord; count = stands.count; segments = stands.segments; letters = stands.letters })

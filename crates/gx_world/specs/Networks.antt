@@ -20,6 +20,7 @@ use Rattle.gx_world.specs.declared.letters.Letters.{Letters}
 use Rattle.gx_world.specs.declared.letters.Place.{Place}
 use Rattle.gx_world.specs.Links.{ArePosted, IsLong, link_in}
 use Rattle.gx_world.specs.declared.network.Network.{Network}
+use Rattle.gx_world.specs.declared.network.Nodes.{Nodes}
 use Rattle.gx_world.specs.Worlds.{HasStepped}
 
 -- the segment of a number, from 1, agrees with the machine's
@@ -52,6 +53,13 @@ pub record IsNetwork (network : Network) : Type 0 where
   pub language : IsScript network.script.value
   pub reached : IsReached network.script.value network.run.steps
   pub stands : network.spent ≡ false → Stands network.script.value (world_behind network.script.value network.run.steps) network
+
+-- nodes that stand where these steps lead the machine, with every message's place
+pub record AreNodesBehind (script : Script) (steps : List Step) (nodes : Nodes) : Type 0 where
+  pub coord : IsCoord nodes.coord (world_behind script steps).coord
+  pub count : length nodes.segments.items ≡ script.segments
+  pub segments : (k : ℕ) (segment : Segment) → slice_get nodes.segments.items k ≡ Some segment → IsAt script (world_behind script steps) (k + 1) segment
+  pub letters : ArePosted nodes.letters steps (world_behind script steps).sent
 
 -- no number lacks room: clocks, the numbers of messages and of rounds, and the next transaction's
 pub record HasRoom (network : Network) : Type 0 where

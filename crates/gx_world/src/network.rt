@@ -29,13 +29,13 @@ pub struct Network {
     pub spent: bool,
 }
 
-/// The nodes of a network with which nothing more is to be done.
+/// The nodes of a network with which nothing more is to be done, and the places of all messages.
 #[derive(Drop)]
 pub struct Nodes {
-    script: Arc<Script, Global>,
-    coord: Coord,
-    segments: Vec<Segment>,
-    letters: Letters,
+    pub script: Arc<Script, Global>,
+    pub coord: Coord,
+    pub segments: Vec<Segment>,
+    pub letters: Letters,
 }
 
 impl Network {
@@ -95,7 +95,8 @@ impl Network {
 
     /// The run, and the nodes.
     pub fn into_parts(self) -> (Run, Nodes)
-        ensures { result.0 ≡ self.run }
+        ensures run { result.0 ≡ self.run }
+        ensures nodes { result.1 ≡ record { script = self.script; coord = self.coord; segments = self.segments; letters = self.letters } }
     {
         let Network {
             alloc: _,

@@ -22,6 +22,7 @@ ghost use Rattle.gx_store.specs.Runs.{IsLegalHistory};
 ghost use Rattle.gx_store.specs.Schedule.{is_any_wait, resumptions, segments_of, sent_message};
 ghost use Rattle.gx_store.specs.View.{AreFinalFrom};
 ghost use Rattle.gx_store.specs.declared.event.Event.TheVariants.{Resume};
+ghost use Rattle.gx_world.specs.Networks.{AreNodesBehind};
 ghost use Rattle.gx_world.specs.Worlds.{AreLater, HasStepped};
 
 use crate::admitting::can;
@@ -196,10 +197,11 @@ impl World {
         graphs(&self.network)
     }
 
-    /// The run, when nothing more is to be done, and the nodes that made it.
+    /// The run, when nothing more is to be done, and the nodes that made it, as it has left them. Of the nodes of a spent world nothing is said.
     pub fn into_parts(self) -> (Run, Nodes)
         ensures value { result.0 ≡ self.run }
         ensures reached { IsReached self.script self.run.steps }
+        ensures nodes { self.spent ≡ false → AreNodesBehind self.script self.run.steps result.1 }
     {
         let World { network } = self;
         network.into_parts()
