@@ -1,25 +1,12 @@
 -- How often a session stands in the lists of its group.
-use Rattle.std.proofs.Common.{◌≡◌, ℕ, ◌+◌, ◌<◌, Bool, true, false, List, [], ◌∷◌, ◌++◌, drop, arith, refl, sym, ◌∙◌, ap}
+use Rattle.std.proofs.Common.{◌≡◌, ◌+◌, ◌<◌, true, false, List, [], ◌∷◌, ◌++◌, drop, arith, refl, sym, ◌∙◌, ap}
 use Rattle.std.proofs.lemmas.Bool.Decides.{nat_tests}
 use Rattle.gx_ids.specs.declared.ids.SessionId.{SessionId}
 use Rattle.gx_groups.specs.declared.seat.Standing.{Standing}
 use Rattle.gx_groups.specs.declared.seat.Standing.TheVariants.{Idle, Asking, Holding}
 use Rattle.gx_groups.specs.Slots.{Slots, has, is, lets, without, asked, taken, given}
 use Rattle.gx_groups.proofs.Sessions.{first-asker}
-use Rattle.gx_groups.specs.Table.{is_asking, is_holding}
-
-abbrev pub one : Bool → ℕ
-one true = 1
-one false = 0
-
-abbrev pub is_idle : Standing → Bool
-is_idle Idle = true
-is_idle _ = false
-
--- how often a session stands in a list
-abbrev pub times : SessionId → List SessionId → ℕ
-times s [] = 0
-times s (x ∷ xs) = one (is s x) + times s xs
+use Rattle.gx_groups.specs.Standings.{Does, one, times}
 
 pub times-append : (s : SessionId) (xs ys : List SessionId) → times s (xs ++ ys) ≡ times s xs + times s ys
 times-append s [] ys = omega arith
@@ -46,12 +33,6 @@ has-some s (x ∷ xs) some = grind (arith, nat_tests, has-some s xs)
 
 pub itself : (s : SessionId) → is s s ≡ true
 itself s = grind (arith, nat_tests)
-
--- a session stands in one list of its group, once, by what it does
-pub record Does (s : SessionId) (standing : Standing) (slots : Slots) : Type 0 where
-  pub holders : times s slots.holders ≡ one (is_holding standing)
-  pub askers : times s slots.askers ≡ one (is_asking standing)
-  pub idle : times s slots.idle ≡ one (is_idle standing)
 
 -- the session that a call is about
 pub does-ask : (s : SessionId) (standing : Standing) (slots : Slots) → has s slots.askers ≡ false → has s slots.holders ≡ false → Does s standing slots → Does s Asking (asked slots s)

@@ -28,17 +28,17 @@ limit-taken slots s free = grind (arith, nat_tests, length-append slots.holders 
 limit-given : (slots : Slots) (s : SessionId) → KeepsLimit slots → KeepsLimit (given slots s)
 limit-given slots s limit = omega (arith, length-without s slots.holders)
 
-whole-ask : (t : Table) (s : SessionId) (seat : Option Seat) → seat_of t s ≡ seat → Whole t → Whole (changed_at t s asked Asking seat)
+pub whole-ask : (t : Table) (s : SessionId) (seat : Option Seat) → seat_of t s ≡ seat → Whole t → Whole (changed_at t s asked Asking seat)
 whole-ask t s None e whole = whole
 whole-ask t s (Some (Grouped p)) e whole = whole-group t.groups t.seats p (asked (group_at t p) s) whole (limit-at t p whole (whole.within s.0 p e)) (member-asked (group_at t p) s)
 whole-ask t s (Some (Alone standing)) e whole = whole-standing t.groups t.seats s.0 Asking whole
 
-whole-take : (t : Table) (s : SessionId) (seat : Option Seat) → seat_of t s ≡ seat → may_at t s seat ≡ true → Whole t → Whole (changed_at t s taken Holding seat)
+pub whole-take : (t : Table) (s : SessionId) (seat : Option Seat) → seat_of t s ≡ seat → may_at t s seat ≡ true → Whole t → Whole (changed_at t s taken Holding seat)
 whole-take t s None e free whole = whole
 whole-take t s (Some (Grouped p)) e free whole = whole-group t.groups t.seats p (taken (group_at t p) s) whole (limit-taken (group_at t p) s free) (member-taken (group_at t p) s free)
 whole-take t s (Some (Alone standing)) e free whole = whole-standing t.groups t.seats s.0 Holding whole
 
-whole-give : (t : Table) (s : SessionId) (seat : Option Seat) → seat_of t s ≡ seat → Whole t → Whole (changed_at t s given Idle seat)
+pub whole-give : (t : Table) (s : SessionId) (seat : Option Seat) → seat_of t s ≡ seat → Whole t → Whole (changed_at t s given Idle seat)
 whole-give t s None e whole = whole
 whole-give t s (Some (Grouped p)) e whole =
     whole-group t.groups t.seats p (given (group_at t p) s) whole (limit-given (group_at t p) s (limit-at t p whole (whole.within s.0 p e))) (member-given (group_at t p) s)

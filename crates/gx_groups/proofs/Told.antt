@@ -12,20 +12,14 @@ use Rattle.gx_groups.specs.Slots.{Slots, fresh, has, is, asked, taken, given}
 use Rattle.gx_groups.specs.Table.{Table, IsWithin, asks, changed_at, group_at, holds, is_asking, is_holding, is_known, asks_at, holds_at, may_at, members_of, new_seat, seat_of}
 use Rattle.gx_groups.specs.Seats.{is_known_at}
 use Rattle.gx_groups.specs.Calls.{Call, Ask, Take, Give, IsRun, after, fresh_table, standing_after}
+use Rattle.gx_groups.specs.Standings.{Does, IsTold, Tells, one, times}
 use Rattle.gx_groups.proofs.Fresh.{fresh-at, grouped-of, within-of, whole-fresh}
 use Rattle.gx_groups.proofs.Runs.{Whole, at-other, at-same, whole-after}
 use Rattle.gx_groups.proofs.Sessions.{same-session}
-use Rattle.gx_groups.proofs.Counts.{Does, one, times, has-none, has-some, does-ask, does-take, does-give, other-ask, other-take, other-give}
+use Rattle.gx_groups.proofs.Counts.{has-none, has-some, does-ask, does-take, does-give, other-ask, other-take, other-give}
 
 -- WHAT THE TABLE SAYS OF A SESSION
-abbrev Tells : Table → SessionId → Standing → Seat → Type 0
-Tells t s standing (Grouped place) = Does s standing (group_at t place)
-Tells t s standing (Alone own) = own ≡ standing
-
-abbrev IsTold : Table → (SessionId → Standing) → Type 0
-IsTold t standing = (s : SessionId) (seat : Seat) → seat_of t s ≡ Some seat → Tells t s (standing s) seat
-
-abbrev instead : SessionId → Standing → (SessionId → Standing) → SessionId → Standing
+abbrev pub instead : SessionId → Standing → (SessionId → Standing) → SessionId → Standing
 instead s new standing x = if is x s then new else standing x
 
 -- what a call makes of the slots of its session's group
@@ -96,7 +90,7 @@ told-alone : (t : Table) (s : SessionId) (change : Slots → SessionId → Slots
     → IsTold t standing → IsTold (changed_at t s change new (Some (Alone own))) (instead s new standing)
 told-alone t s change new own standing e told x seat at = alone-changed t s x new own standing seat e told at (is x s) refl
 
-told-ask : (t : Table) (s : SessionId) (standing : SessionId → Standing) (seat : Option Seat) → seat_of t s ≡ seat → is_known_at seat ≡ true → asks_at t s seat ≡ false → holds_at t s seat ≡ false → Whole t
+pub told-ask : (t : Table) (s : SessionId) (standing : SessionId → Standing) (seat : Option Seat) → seat_of t s ≡ seat → is_known_at seat ≡ true → asks_at t s seat ≡ false → holds_at t s seat ≡ false → Whole t
     → IsTold t standing → IsTold (changed_at t s asked Asking seat) (instead s Asking standing)
 told-ask t s standing None e known not_asking no_slot whole told = cc
 told-ask t s standing (Some (Alone own)) e known not_asking no_slot whole told = told-alone t s asked Asking own standing e told
@@ -105,7 +99,7 @@ told-ask t s standing (Some (Grouped p)) e known not_asking no_slot whole told =
     (record { own = does-ask s (standing s) (group_at t p) not_asking no_slot; others = λ x other does. other-ask s x (standing x) (group_at t p) other does })
     told
 
-told-take : (t : Table) (s : SessionId) (standing : SessionId → Standing) (seat : Option Seat) → seat_of t s ≡ seat → may_at t s seat ≡ true → Whole t
+pub told-take : (t : Table) (s : SessionId) (standing : SessionId → Standing) (seat : Option Seat) → seat_of t s ≡ seat → may_at t s seat ≡ true → Whole t
     → IsTold t standing → IsTold (changed_at t s taken Holding seat) (instead s Holding standing)
 told-take t s standing None e free whole told = cc
 told-take t s standing (Some (Alone own)) e free whole told = told-alone t s taken Holding own standing e told
@@ -114,7 +108,7 @@ told-take t s standing (Some (Grouped p)) e free whole told =
     (record { own = does-take s (standing s) (group_at t p) free; others = λ x other does. other-take s x (standing x) (group_at t p) other does free })
     told
 
-told-give : (t : Table) (s : SessionId) (standing : SessionId → Standing) (seat : Option Seat) → seat_of t s ≡ seat → holds_at t s seat ≡ true → Whole t
+pub told-give : (t : Table) (s : SessionId) (standing : SessionId → Standing) (seat : Option Seat) → seat_of t s ≡ seat → holds_at t s seat ≡ true → Whole t
     → IsTold t standing → IsTold (changed_at t s given Idle seat) (instead s Idle standing)
 told-give t s standing None e holding whole told = cc
 told-give t s standing (Some (Alone own)) e holding whole told = told-alone t s given Idle own standing e told
@@ -152,7 +146,7 @@ alone-of (None ∷ of) zero own e = cc
 alone-of (Some p ∷ of) zero own e = cc
 alone-of (group ∷ of) (suc n) own e = alone-of of n own e
 
-told-fresh : (limits : List ℕ) (of : List (Option ℕ)) → All (IsWithin (length limits)) of → IsTold (fresh_table limits of) (λ s. Idle)
+pub told-fresh : (limits : List ℕ) (of : List (Option ℕ)) → All (IsWithin (length limits)) of → IsTold (fresh_table limits of) (λ s. Idle)
 told-fresh limits of within s (Alone own) at = alone-of of s.0 own at
 told-fresh limits of within s (Grouped p) at =
     let there = grouped-of of s.0 p at in
@@ -169,11 +163,11 @@ has-by s sessions false true e is_there = let some = has-some s sessions is_ther
 has-one : (s : SessionId) (sessions : List SessionId) (b : Bool) → times s sessions ≡ one b → has s sessions ≡ b
 has-one s sessions b e = has-by s sessions b (has s sessions) e refl
 
-says-asks : (t : Table) (s : SessionId) (standing : Standing) (seat : Seat) → Tells t s standing seat → asks_at t s (Some seat) ≡ is_asking standing
+pub says-asks : (t : Table) (s : SessionId) (standing : Standing) (seat : Seat) → Tells t s standing seat → asks_at t s (Some seat) ≡ is_asking standing
 says-asks t s standing (Grouped p) tells = has-one s (group_at t p).askers (is_asking standing) tells.askers
 says-asks t s standing (Alone own) tells = ap is_asking tells
 
-says-holds : (t : Table) (s : SessionId) (standing : Standing) (seat : Seat) → Tells t s standing seat → holds_at t s (Some seat) ≡ is_holding standing
+pub says-holds : (t : Table) (s : SessionId) (standing : Standing) (seat : Seat) → Tells t s standing seat → holds_at t s (Some seat) ≡ is_holding standing
 says-holds t s standing (Grouped p) tells = has-one s (group_at t p).holders (is_holding standing) tells.holders
 says-holds t s standing (Alone own) tells = ap is_holding tells
 

@@ -54,7 +54,7 @@ module _ (groups : List Slots) (seats : List Seat) (s : SessionId) (place at : �
   found : was ≡ get_or groups at (fresh 0 [])
   found = here ∙ get_or_default groups at was (fresh 0 []) inside
 
-  found-there : was ≡ get_or groups place (fresh 0 [])
+  pub found-there : was ≡ get_or groups place (fresh 0 [])
   found-there = found ∙ ap (λ q. get_or groups q (fresh 0 [])) e
 
   member : is_member s was ≡ true

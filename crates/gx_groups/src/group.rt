@@ -1,7 +1,7 @@
 ghost use Rattle.std.specs.Prelude.{◌≡◌, true, IfOk};
 ghost use Rattle.gx_groups.specs.Slots.{asked, first_in, fresh, given, has, lets, taken};
 
-use crate::members::{is_among, take_out};
+use crate::members::take_out;
 use gx_ids::{Mem, SessionId};
 use std::alloc::Global;
 use std::marker::Model;
@@ -60,20 +60,6 @@ impl Group {
             Some(first) => *first == session && (self.holders.len() as u64) < self.limit,
             None => false,
         }
-    }
-
-    /// Whether a session asks for a slot.
-    pub fn asks(&self, session: SessionId) -> bool
-        ensures { result ≡ has session self.now.askers }
-    {
-        is_among(&self.askers, session)
-    }
-
-    /// Whether a session holds a slot.
-    pub fn holds(&self, session: SessionId) -> bool
-        ensures { result ≡ has session self.now.holders }
-    {
-        is_among(&self.holders, session)
     }
 
     /// Who asked before all others that ask.

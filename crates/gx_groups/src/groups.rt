@@ -1,8 +1,8 @@
 ghost use Rattle.std.specs.Prelude.{◌≡◌, ◌≤◌, ◌^◌, true, false, All, IfOk, length, map};
 
 use crate::group::Group;
-use crate::making::{new_groups, new_seats};
-use crate::seat::{Seat, Standing, seat_of, stand};
+use crate::making::{new_groups, new_seats, new_standings};
+use crate::seat::{Seat, Standing, is_asking, is_holding, note, seat_of, stand, standing_of};
 use gx_ids::{Mem, SessionId};
 use std::alloc::Global;
 use std::marker::Model;
@@ -13,16 +13,19 @@ use std::marker::Model;
 pub struct Groups {
     groups: Vec<Group>,
     seats: Vec<Seat>,
+    // What each session does, so that nobody looks it up in its group's lists.
+    standings: Vec<Standing>,
 }
 
 impl Model for Groups {
     ghost use Rattle.gx_groups.specs.Table.{Table, IsWhole};
+    ghost use Rattle.gx_groups.specs.Standings.{AreNoted};
 
     ghost Value = { Table };
 
     ghost view = { λ a. record { groups = a.groups.items; seats = a.seats.items } };
 
-    ghost invariant = { λ a. IsWhole a.groups.items a.seats.items };
+    ghost invariant = { λ a. IsWhole a.groups.items a.seats.items × AreNoted a.groups.items a.seats.items a.standings.items };
 }
 
 impl Groups {
@@ -38,7 +41,12 @@ impl Groups {
     {
         let groups = new_groups(alloc, limits, of)?;
         let seats = new_seats(alloc, of)?;
-        Ok(Groups { groups, seats })
+        let standings = new_standings(alloc, of.len())?;
+        Ok(Groups {
+            groups,
+            seats,
+            standings,
+        })
     }
 
     /// A session asks for a slot.
@@ -48,7 +56,9 @@ impl Groups {
         requires no_slot { holds self.old session ≡ false }
         ensures { self.new ≡ after_ask self.old session }
     {
-        match seat_of(&self.seats, session) {
+        let seat = seat_of(&self.seats, session);
+        note(&mut self.standings, session, Standing::Asking);
+        match seat {
             Seat::Grouped(place) => self.groups[usize::from(place)].ask(session),
             Seat::Alone(_) => stand(&mut self.seats, session, Standing::Asking),
         }
@@ -65,22 +75,14 @@ impl Groups {
     pub fn asks(&self, session: SessionId) -> bool
         ensures { result ≡ asks self.now session }
     {
-        match self.seats.get(usize::from(session.0)) {
-            Some(Seat::Grouped(place)) => self.groups[usize::from(*place)].asks(session),
-            Some(Seat::Alone(standing)) => *standing == Standing::Asking,
-            None => false,
-        }
+        is_asking(standing_of(&self.standings, session))
     }
 
     /// Whether a session holds a slot.
     pub fn holds(&self, session: SessionId) -> bool
         ensures { result ≡ holds self.now session }
     {
-        match self.seats.get(usize::from(session.0)) {
-            Some(Seat::Grouped(place)) => self.groups[usize::from(*place)].holds(session),
-            Some(Seat::Alone(standing)) => *standing == Standing::Holding,
-            None => false,
-        }
+        is_holding(standing_of(&self.standings, session))
     }
 
     /// Who of a session's group asked before all others of it that ask; nobody where it has no group.
@@ -109,7 +111,9 @@ impl Groups {
         requires { may self.old session ≡ true }
         ensures { self.new ≡ after_take self.old session }
     {
-        match seat_of(&self.seats, session) {
+        let seat = seat_of(&self.seats, session);
+        note(&mut self.standings, session, Standing::Holding);
+        match seat {
             Seat::Grouped(place) => self.groups[usize::from(place)].take(session),
             Seat::Alone(_) => stand(&mut self.seats, session, Standing::Holding),
         }
@@ -120,7 +124,9 @@ impl Groups {
         requires { holds self.old session ≡ true }
         ensures { self.new ≡ after_give self.old session }
     {
-        match seat_of(&self.seats, session) {
+        let seat = seat_of(&self.seats, session);
+        note(&mut self.standings, session, Standing::Idle);
+        match seat {
             Seat::Grouped(place) => self.groups[usize::from(place)].give(session),
             Seat::Alone(_) => stand(&mut self.seats, session, Standing::Idle),
         }

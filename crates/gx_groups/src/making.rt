@@ -1,6 +1,7 @@
 // The groups and the seats of which nothing was asked yet.
-ghost use Rattle.std.specs.Prelude.{◌≡◌, ◌≤◌, ◌^◌, IfOk, length, map};
+ghost use Rattle.std.specs.Prelude.{◌≡◌, ◌≤◌, ◌^◌, IfOk, length, map, replicate};
 ghost use Rattle.gx_groups.specs.Table.{fresh_groups, new_seat};
+ghost use Rattle.gx_groups.specs.declared.seat.Standing.TheVariants.{Idle};
 
 use crate::group::Group;
 use crate::members::members;
@@ -34,4 +35,14 @@ fn first_seat(group: Option<u8>) -> Seat
         Some(place) => Seat::Grouped(place),
         None => Seat::Alone(Standing::Idle),
     }
+}
+
+pub(crate) fn new_standings(alloc: Global, sessions: usize) -> Mem<Vec<Standing>>
+    ensures { IfOk result (λ standings. standings.items ≡ replicate sessions Idle) }
+{
+    let mut standings = Vec::with_capacity(alloc, sessions)?;
+    for _session in 0..sessions {
+        standings.push(Standing::Idle)?;
+    }
+    Ok(standings)
 }

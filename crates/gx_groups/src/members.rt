@@ -7,18 +7,6 @@ ghost use Rattle.gx_groups.specs.Table.{is_in, members_of};
 use gx_ids::{Mem, SessionId};
 use std::alloc::Global;
 
-// Whether a session is one of these.
-pub(crate) fn is_among(sessions: &[SessionId], session: SessionId) -> bool
-    ensures { result ≡ has session sessions.now }
-{
-    for other in sessions {
-        if *other == session {
-            return true;
-        }
-    }
-    false
-}
-
 // Takes a session out of a list.
 pub(crate) fn take_out(sessions: &mut Vec<SessionId>, session: SessionId)
     ensures items { sessions.new.items ≡ without session sessions.old.items }
