@@ -2,7 +2,7 @@ ghost use Rattle.std.specs.Prelude.{◌≡◌, ◌≢◌, ◌↔◌, Ok, Err, If
 ghost use Rattle.gx_meaning.specs.Kinds.{IsTyped, are_comparable, kind_of, kinds_of};
 ghost use Rattle.gx_meaning.specs.Expressions.{compared, order_of, truth_of};
 
-use crate::expression::{eval_int, text_of};
+use crate::expression::{eval_int, leaf};
 use crate::fault::EvalFault;
 use gx_meaning::ArithFault;
 use gx_tree::{CmpOp, Cond, Expr, Row};
@@ -41,7 +41,7 @@ fn order(left: &Expr, right: &Expr, row: &Row) -> Result<Ordering, ArithFault>
     requires { IsTrue (are_comparable (kind_of (kinds_of row.now) left.now) (kind_of (kinds_of row.now) right.now)) }
     ensures { result ≡ order_of row.now left.now right.now }
 {
-    match (text_of(left, row), text_of(right, row)) {
+    match (leaf(left, row), leaf(right, row)) {
         (Some(a), Some(b)) => Ok(a.cmp(b)),
         _ => {
             let a = eval_int(left, row)?;

@@ -2,7 +2,7 @@ ghost use Rattle.std.specs.Prelude.{◌≡◌, ◌↔◌, Some, Ok, IsSome, IfOk
 ghost use Rattle.gx_tree.specs.declared.schema.Kind.TheVariants as kind;
 ghost use Rattle.gx_tree.specs.declared.value.Value.TheVariants.{Text};
 ghost use Rattle.gx_eval.specs.Faults.{value_result};
-ghost use Rattle.gx_meaning.specs.Kinds.{kind_of, kinds_of};
+ghost use Rattle.gx_meaning.specs.Kinds.{kind_of, kinds_of, value_kind};
 ghost use Rattle.gx_meaning.specs.Expressions.{value_of};
 
 use crate::arith::{arith, negated};
@@ -44,6 +44,19 @@ pub fn eval_int(expr: &Expr, row: &Row) -> Result<i64, ArithFault>
             let b = eval_int(right.get(), row)?;
             arith(*op, a, b)
         }
+    }
+}
+
+// The value of a literal or a column. Every other expression is a whole number. It is borrowed, so it takes no memory.
+pub fn leaf<'a>(expr: &'a Expr, row: &'a Row) -> Option<&'a Value>
+    requires { IsSome (kind_of (kinds_of row.now) expr.now) }
+    ensures { MatchOption result (kind_of (kinds_of row.now) expr.now ≡ Some kind.Int) (λ value. (kind_of (kinds_of row.now) expr.now ≡ Some (value_kind value.now))
+        × (value_of row.now expr.now ≡ Ok value.now)) }
+{
+    match expr {
+        Expr::Lit(value) => Some(value),
+        Expr::Col(column) => Some(column_value(row, *column)),
+        Expr::Neg(_) | Expr::Bin(_, _, _) => None,
     }
 }
 
