@@ -15,7 +15,7 @@ Equal-from Less e = cc
 Equal-from Equal e = refl
 Equal-from Greater e = cc
 
-not_above-reverse : (o : Ordering) → is_gt o ≡ true → is_gt (ordering_reverse o) ≡ false
+pub not_above-reverse : (o : Ordering) → is_gt o ≡ true → is_gt (ordering_reverse o) ≡ false
 not_above-reverse Less e = cc
 not_above-reverse Equal e = cc
 not_above-reverse Greater e = refl

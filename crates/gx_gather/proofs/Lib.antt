@@ -1,4 +1,5 @@
 pub mod Adding
+pub mod Behind
 pub mod Choices
 pub mod Combining
 pub mod Dealing
@@ -13,5 +14,6 @@ pub mod Orders
 pub mod Permuted
 pub mod Stable
 pub mod Steps
+pub mod Tallied
 pub mod Totals
 pub mod Whole

@@ -5,6 +5,7 @@ use Rattle.std.specs.Cmp.{on_total}
 use Rattle.std.specs.List.Sorted.{IsStrictlySortedBy}
 use Rattle.std.specs.Map.{keys_of, lookup}
 use Rattle.std.specs.Prelude.{Option, None, Some}
+use Rattle.std.specs.declared.cmp.Ordering.{Ordering}
 use Rattle.gx_tree.specs.declared.part.Group.{Group}
 use Rattle.gx_tree.specs.declared.query.Query.{Query}
 use Rattle.gx_tree.specs.declared.row.KeyedRow.{KeyedRow}
@@ -25,7 +26,7 @@ take-map f zero xs = refl
 take-map f (suc n) [] = refl
 take-map f (suc n) (x ∷ xs) = ap (λ l. f x ∷ l) (take-map f n xs)
 
-limited-map : {X Y : Type 0} (f : X → Y) (limit : Option ℕ) (xs : List X) → map f (limited limit xs) ≡ limited limit (map f xs)
+pub limited-map : {X Y : Type 0} (f : X → Y) (limit : Option ℕ) (xs : List X) → map f (limited limit xs) ≡ limited limit (map f xs)
 limited-map f None xs = refl
 limited-map f (Some n) xs = take-map f n xs
 
@@ -34,11 +35,18 @@ map-map g f [] = refl
 map-map g f (x ∷ xs) = ap (λ l. g (f x) ∷ l) (map-map g f xs)
 
 -- rows in order, cut at the limit
-pub rows_answered : {X : Type 0} (f : X → KeyedRow) (query : Query) (found : List KeyedRow) (ordered : List X) → map f ordered ≡ in_order (row_order (row_keys query.order)) found
-    → map (λ x. map (row_cell (f x)) query.items) (limited query.limit ordered) ≡ limited query.limit (plain_answer query found)
-rows_answered f query found ordered is =
-    limited-map (λ x. map (row_cell (f x)) query.items) query.limit ordered
-    ∙ ap (limited query.limit) (map-map (λ row. map (row_cell row) query.items) f ordered ∙ ap (map (λ row. map (row_cell row) query.items)) is)
+pub rows_answered : {X : Type 0} (f : X → KeyedRow) (query : Query) (found : List KeyedRow) (first : List X) → map f first ≡ limited query.limit (in_order (row_order (row_keys query.order)) found)
+    → map (λ x. map (row_cell (f x)) query.items) first ≡ limited query.limit (plain_answer query found)
+rows_answered f query found first is =
+    map-map (λ row. map (row_cell row) query.items) f first
+    ∙ ap (map (λ row. map (row_cell row) query.items)) is
+    ∙ limited-map (λ row. map (row_cell row) query.items) query.limit (in_order (row_order (row_keys query.order)) found)
+
+-- the first of a list in the order of what f gives of its items
+pub first_ordered : {X Y : Type 0} (f : X → Y) (R : Y → Y → Ordering) (limit : Option ℕ) (n : ℕ) (xs first : List X) → limit ≡ Some n → first ≡ take n (in_order (λ a b. R (f a) (f b)) xs)
+    → map f first ≡ limited limit (in_order R (map f xs))
+first_ordered f R limit n xs first few is =
+    ap (map f) is ∙ take-map f n (in_order (λ a b. R (f a) (f b)) xs) ∙ ap (take n) (map-in_order f R xs) ∙ ap (λ l. limited l (in_order R (map f xs))) (sym few)
 
 -- groups in order, cut at the limit
 pub groups_answered : (query : Query) (gs : List Group) (ordered : List Entry) → map entry_group ordered ≡ ordered_groups query gs

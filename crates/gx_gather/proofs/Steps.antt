@@ -1,5 +1,6 @@
 -- The steps of the loops, and what a query answers on rows that it keeps.
-use Rattle.std.proofs.Common.{ℕ, suc, ◌+◌, ◌<◌, ◌≡◌, ◌∙◌, Bool, true, false, cond, List, [], ◌∷◌, ◌++◌, filter, map, length, get_or, drop, refl, ap, sym, subst, add-one, drop-cons, append_assoc}
+use Rattle.std.proofs.Common.{ℕ, suc, ◌+◌, ◌<◌, ◌≡◌, ◌∙◌, Bool, true, false, cond, List, [], ◌∷◌, ◌++◌, filter, map, length, get_or, drop, take, refl, ap, sym, subst, add-one, drop-cons, append_assoc}
+use Rattle.std.proofs.Math.Seq.{take-suc}
 use Rattle.std.proofs.lemmas.List.Elements.{recursion_from_All}
 use Rattle.std.specs.BTreeMap.{is_at}
 use Rattle.std.specs.List.{All, AllByRecursion, flat_map}
@@ -16,9 +17,10 @@ use Rattle.gx_tree.specs.declared.row.KeyedRow.{KeyedRow}
 use Rattle.gx_tree.specs.declared.value.Value.{Value}
 use Rattle.gx_meaning.specs.Aggregates.{aggregate}
 use Rattle.gx_meaning.specs.Answer.{ArePartsOf, answer_of, group_of, grouped_answer, groups_in, keeps, limited, part_of, plain_answer, rows_in}
-use Rattle.gx_meaning.specs.Groups.{is_same_key, key_of, keys_of}
+use Rattle.gx_meaning.specs.Groups.{is_same_key, key_of, keys_of, members}
 use Rattle.gx_meaning.specs.Order.{in_order, rising}
 use Rattle.gx_meaning.specs.Tallies.{entry_group, joined, row_group, tally, total_at}
+use Rattle.gx_gather.specs.Added.{group_of_all}
 use Rattle.gx_gather.proofs.Listing.{listed_is}
 use Rattle.gx_gather.proofs.Totals.{tally-append, tally-rows}
 use Rattle.gx_gather.proofs.Whole.{rows-parts}
@@ -64,6 +66,21 @@ part_grouped query rows es groups grouped rises totals listed =
     ap Groups (listed ∙ listed_is query rows es rises (λ q. totals q ∙ tally-rows query q [] rows))
     ∙ part-grouped query.grouped rows (map (group_of query rows) (in_order rising (keys_of query.group rows))) grouped
 
+-- without GROUP BY all rows are members of the one group
+members-all : (rows : List KeyedRow) → members [] rows [] ≡ rows
+members-all [] = refl
+members-all (row ∷ rows) = ap (λ l. row ∷ l) (members-all rows)
+
+whole-group : (query : Query) (rows : List KeyedRow) → query.group ≡ [] → map (group_of query rows) (in_order rising (keys_of query.group rows)) ≡ group_of_all query.items rows ∷ []
+whole-group query rows alone =
+    let made : List ℕ → List Value → Group = λ group key. record { key = key; cells = map (aggregate (members group rows key)) query.items } in
+    ap (λ group. map (made group) (in_order rising (keys_of group rows))) alone ∙ ap (λ l. group_of_all query.items l ∷ []) (members-all rows)
+
+pub part_whole : (query : Query) (rows : List KeyedRow) (items : List Item) → query.grouped ≡ true → query.group ≡ [] → items ≡ query.items → Groups (group_of_all items rows ∷ []) ≡ part_of query rows
+part_whole query rows items grouped alone same =
+    ap (λ l. Groups (group_of_all l rows ∷ [])) same ∙ ap Groups (sym (whole-group query rows alone))
+    ∙ part-grouped query.grouped rows (map (group_of query rows) (in_order rising (keys_of query.group rows))) grouped
+
 -- ---- the condition holds on the whole
 all-kept : {X : Type 0} (p : X → Bool) (xs : List X) → AllByRecursion (λ x. p x ≡ true) xs → filter p xs ≡ xs
 all-kept p [] all = refl
@@ -90,3 +107,6 @@ module _ (query : Query) (whole : List KeyedRow) (kept : All (λ row. keeps quer
   answer-plain plain =
       ap (limited query.limit) (choice-false query.grouped (grouped_answer query whole) (plain_answer query whole) plain
       ∙ ap (λ l. cond query.grouped (grouped_answer query l) (plain_answer query l)) (sym same-kept))
+
+pub take_next : {X : Type 0} (xs : List X) (i : ℕ) (x : X) → i < length xs → x ≡ get_or xs i x → take (i + 1) xs ≡ take i xs ++ x ∷ []
+take_next xs i x low is = rw (add-one) (take-suc xs i x low ∙ ap (λ y. take i xs ++ y ∷ []) (sym is))

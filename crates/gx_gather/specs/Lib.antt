@@ -1,2 +1,4 @@
+pub mod Added
 pub mod Answered
+pub mod First
 pub mod Laws

@@ -63,7 +63,7 @@ pub fn row_aggregates(alloc: Global, items: &[Item], row: &KeyedRow) -> Mem<Seq<
 }
 
 // An aggregate over no rows.
-fn empty_aggregate(item: Item) -> Cell
+pub fn empty_aggregate(item: Item) -> Cell
     ensures { result ≡ aggregate [] item }
 {
     match item {

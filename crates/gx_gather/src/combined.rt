@@ -24,7 +24,7 @@ pub fn combined_cells(
     Ok(Seq::from_vec(cells))
 }
 
-fn combined(item: Item, left: Cell, right: Cell) -> Cell
+pub fn combined(item: Item, left: Cell, right: Cell) -> Cell
     ensures { result ≡ combine item left right }
 {
     match item {

@@ -1,6 +1,10 @@
-ghost use Rattle.std.specs.Prelude.{◌≡◌};
+ghost use Rattle.std.specs.Prelude.{◌≡◌, [], IfOk, OnOk};
+ghost use Rattle.gx_meaning.specs.Expressions.{column_of};
+ghost use Rattle.gx_meaning.specs.Groups.{key_of};
 
-use gx_tree::{Row, Value};
+use gx_ids::{Duplicate, Mem, copies};
+use gx_tree::{KeyedRow, Row, Value};
+use std::alloc::Global;
 use std::cmp::Ordering;
 use std::marker::Model;
 
@@ -8,7 +12,7 @@ use std::marker::Model;
 // first difference.
 #[derive(Drop)]
 pub struct GroupKey {
-    row: Row,
+    values: Vec<Value>,
 }
 
 impl Model for GroupKey {
@@ -17,27 +21,74 @@ impl Model for GroupKey {
 
     ghost Value = { List RowValue };
 
-    ghost view = { λ key. key.row };
+    ghost view = { λ key. key.values.items };
 }
 
 impl GroupKey {
-    pub fn from_row(row: Row) -> GroupKey
-        ensures { result ≡ row }
+    // The key without values.
+    pub fn new(alloc: Global) -> GroupKey
+        ensures { result ≡ [] }
     {
-        GroupKey { row }
+        GroupKey {
+            values: Vec::new(alloc),
+        }
+    }
+
+    // The key of a group's row of values.
+    pub fn from_row(alloc: Global, row: &Row) -> Mem<GroupKey>
+        ensures { IfOk result (λ key. key ≡ row.now) }
+    {
+        Ok(GroupKey {
+            values: copies(alloc, row.as_slice())?,
+        })
     }
 
     pub fn as_slice(&self) -> &[Value]
         ensures { result.now ≡ self.now }
     {
-        self.row.as_slice()
+        self.values.as_slice()
     }
 
-    pub fn into_row(self) -> Row
-        ensures { result ≡ self }
+    pub fn into_row(self, alloc: Global) -> Mem<Row>
+        ensures { IfOk result (λ row. row ≡ self) }
     {
-        let GroupKey { row } = self;
-        row
+        let GroupKey { values } = self;
+        Row::from_vec(alloc, values)
+    }
+
+    // Makes it the key of a row's group, in the room that it has.
+    pub fn set(&mut self, alloc: Global, group: &[u8], row: &KeyedRow) -> Mem<()>
+        ensures { OnOk result (self.new ≡ key_of group.now row.now) }
+    {
+        put_values(alloc, &mut self.values, group, row)
+    }
+}
+
+// The values of a row's GROUP BY columns, in place of others.
+fn put_values(alloc: Global, values: &mut Vec<Value>, group: &[u8], row: &KeyedRow) -> Mem<()>
+    ensures { OnOk result (values.new.items ≡ key_of group.now row.now) }
+{
+    values.clear();
+    for column in group {
+        values.push(column_value(alloc, row, *column)?)?;
+    }
+    Ok(())
+}
+
+fn column_value(alloc: Global, row: &KeyedRow, column: u8) -> Mem<Value>
+    ensures { IfOk result (λ value. value ≡ column_of row.now.row column) }
+{
+    match row.row.as_slice().get(usize::from(column)) {
+        Some(value) => value.copy(alloc),
+        None => Ok(Value::Int(0)),
+    }
+}
+
+impl Duplicate for GroupKey {
+    fn copy(&self, alloc: Global) -> Mem<GroupKey> {
+        Ok(GroupKey {
+            values: copies(alloc, self.values.as_slice())?,
+        })
     }
 }
 
@@ -75,7 +126,7 @@ impl Ord for GroupKey {
     ghost matches_eq = { λ a b. refl };
 
     fn cmp(&self, other: &GroupKey) -> Ordering {
-        self.row.as_slice().cmp(other.row.as_slice())
+        self.values.as_slice().cmp(other.values.as_slice())
     }
 }
 

@@ -4,6 +4,7 @@
 
 mod cells;
 mod combined;
+mod first;
 mod groups;
 mod key;
 mod laws;
@@ -12,6 +13,7 @@ mod merging;
 mod order;
 mod output;
 mod partial_answer;
+mod tally;
 
 pub use laws::{dealt_rows_are_divided, ordered_lists_are_sorted};
 pub use merging::merge_parts;

@@ -7,14 +7,11 @@ ghost use Rattle.gx_meaning.specs.Answer.{groups_in};
 ghost use Rattle.gx_meaning.specs.Order.{rising};
 ghost use Rattle.gx_meaning.specs.Tallies.{tally, total_at};
 
-use crate::groups::{Groups, add_group, new_groups};
+use crate::groups::{Entry, Groups, add_group, new_groups};
 use crate::key::GroupKey;
-use gx_ids::{Duplicate, Mem, Seq};
-use gx_tree::{Cell, Group, Item, Part, Query, Value};
+use gx_ids::{Duplicate, Mem};
+use gx_tree::{Group, Item, Part, Query, Value};
 use std::alloc::Global;
-
-// A group's key and its aggregates.
-pub type Entry = (GroupKey, Seq<Cell>);
 
 // The groups of all parts, those of one key together.
 pub fn groups_of(alloc: Global, query: &Query, parts: &[Part]) -> Mem<Groups>
@@ -45,7 +42,7 @@ fn add_groups(alloc: Global, groups: &mut Groups, items: &[Item], more: &[Group]
     ensures { OnOk result ((q : List RowValue) → get rising groups.new q ≡ tally items.now q (get rising groups.old q) more.now) }
 {
     for group in more {
-        let key = GroupKey::from_row(group.key.copy(alloc)?);
+        let key = GroupKey::from_row(alloc, &group.key)?;
         let cells = group.cells.copy(alloc)?;
         add_group(alloc, groups, items, key, cells)?;
     }

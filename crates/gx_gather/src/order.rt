@@ -3,7 +3,7 @@ ghost use Rattle.gx_meaning.specs.Answer.{group_keys, row_keys};
 ghost use Rattle.gx_meaning.specs.Groups.{place_of};
 ghost use Rattle.gx_meaning.specs.Order.{by_place, by_places, group_order, in_order, row_order};
 
-use crate::merged::Entry;
+use crate::groups::Entry;
 use gx_ids::Mem;
 use gx_meaning::SortKey;
 use gx_tree::{Key, KeyedRow, Value};
@@ -11,7 +11,7 @@ use std::alloc::Global;
 use std::cmp::Ordering;
 
 // Rows by places, and those that tie by identity.
-fn compare_rows(keys: &[SortKey], left: &KeyedRow, right: &KeyedRow) -> Ordering
+pub fn compare_rows(keys: &[SortKey], left: &KeyedRow, right: &KeyedRow) -> Ordering
     ensures { result ≡ row_order keys.now left.now right.now }
 {
     compare_at(keys, left.row.as_slice(), right.row.as_slice()).then(left.rid.cmp(&right.rid))

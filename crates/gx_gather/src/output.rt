@@ -3,7 +3,7 @@ ghost use Rattle.gx_meaning.specs.Answer.{row_cell};
 ghost use Rattle.gx_meaning.specs.Tallies.{entry_group, out_cell, out_row};
 
 use crate::cells::cell_at_place;
-use crate::merged::Entry;
+use crate::groups::Entry;
 use crate::order::place_of;
 use gx_ids::{Duplicate, Mem};
 use gx_tree::{Cell, Item, KeyedRow, OutRow, Query, Value};

@@ -10,5 +10,5 @@ pub returns : goal.returns
 returns c =
     IfOk-weaker c.rows_out.result _ _ (λ out made.
     made ∙ ap (λ items. map (λ (row : Bor KeyedRow). map (row_cell row.now) items) c.as_slice-2.result.now) c.as_slice.ensures
-    ∙ ap (map (λ (row : Bor KeyedRow). map (row_cell row.now) c.args.query.now.items)) (c.as_slice-2.ensures.value ∙ c.cut.ensures)
+    ∙ ap (map (λ (row : Bor KeyedRow). map (row_cell row.now) c.args.query.now.items)) c.as_slice-2.ensures.value
     ∙ rows_answered (λ (row : Bor KeyedRow). row.now) c.args.query.now (flat_map rows_in c.args.parts.now) c.in_ok-rows.rows.items c.in_ok-rows.ensures) c.rows_out.ensures
