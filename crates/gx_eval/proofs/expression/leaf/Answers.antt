@@ -11,6 +11,7 @@ column_value-requires c = column_within c.args.row.now c.args.expr.now c.in-Col.
 pub returns-in-Col : goal.returns-in-Col
 returns-in-Col c =
     let row = c.args.row.now in
-    let is = sym c.column_value.ensures in
-    (kind_of-column row c.args.expr.now c.in-Col.column c.in-Col.is c.requires ∙ ap (λ v. Some (value_kind v)) is,
-    ap (value_of row) c.in-Col.is ∙ value_of-col row c.in-Col.column ∙ ap Ok is)
+    let is = sym c.column_value.ensures in (
+      kind_of-column row c.args.expr.now c.in-Col.column c.in-Col.is c.requires ∙ ap (λ v. Some (value_kind v)) is,
+      ap (value_of row) c.in-Col.is ∙ value_of-col row c.in-Col.column ∙ ap Ok is,
+    )
