@@ -1,9 +1,10 @@
-ghost use Rattle.std.specs.Prelude.{◌≡◌, ◌<◌, ◌≤◌, ◌+◌, ◌++◌, ◌∷◌, [], length, take, drop, IfOk, OnOk, OnErr};
+ghost use Rattle.std.specs.Prelude.{◌≡◌, ◌<◌, ◌≤◌, ◌+◌, ◌++◌, ◌∷◌, [], length, take, drop, IfOk, OnOk, OnErr, ◌==◌};
+ghost use Rattle.std.specs.List.{list_any};
 ghost use Rattle.std.specs.Vec.{vec_capacity};
 ghost use Rattle.gx_rows.specs.VersionLists.{listed};
 
 use crate::version::Version;
-use gx_ids::Mem;
+use gx_ids::{Mem, Table};
 use std::alloc::Global;
 use std::marker::Model;
 use std::{mem, slice};
@@ -58,6 +59,13 @@ impl VersionList {
         sliced(&self.versions)
     }
 
+    /// Whether a version of them is in the table.
+    pub fn is_of(&self, table: Table) -> bool
+        ensures { result ≡ list_any (λ v. v.table.0 == table.0) self.now }
+    {
+        is_any_of(self.as_slice(), table)
+    }
+
     /// How many there are.
     pub fn len(&self) -> usize
         ensures { result ≡ length self.now }
@@ -80,6 +88,12 @@ impl VersionList {
     {
         remove_from(&mut self.versions, place)
     }
+}
+
+fn is_any_of(list: &[Version], table: Table) -> bool
+    ensures { result ≡ list_any (λ v. v.table.0 == table.0) list.now }
+{
+    list.iter().any(|version| version.table == table)
 }
 
 fn sliced(versions: &Few) -> &[Version]

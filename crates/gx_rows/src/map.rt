@@ -3,7 +3,7 @@ ghost use Rattle.std.specs.BTreeMap.{IsEmpty, IsLowerBound, IsUnchanged, Updates
 ghost use Rattle.gx_ids.specs.declared.ids.Gxid.{Gxid};
 ghost use Rattle.gx_ids.specs.declared.ids.Lxid.{Lxid};
 ghost use Rattle.gx_rows.specs.Truncated.{IsTruncated};
-ghost use Rattle.gx_rows.specs.Xids.{assigned, entry_of, gxid_cmp, gxid_of, is_given, lxid_cmp, lxid_of, status_of, with_entry, with_status};
+ghost use Rattle.gx_rows.specs.Xids.{assigned, entry_of, gxid_cmp, gxid_of, is_given, kept, lxid_cmp, lxid_of, status_of, with_entry, with_status};
 ghost use Rattle.gx_rows.specs.Keys.{AreLeft, HasEntry, IsForgotten, is_done};
 
 use crate::entry::XidEntry;
@@ -88,6 +88,17 @@ impl XidMap {
         }
     }
 
+    /// What became of a transaction here, and its gxid, as `status` and `gxid_of` say.
+    pub fn standing(&self, lxid: Lxid) -> (LocalStatus, Option<Gxid>)
+        ensures status { result.0 ≡ status_of self.now lxid }
+        ensures gxid { result.1 ≡ gxid_of self.now lxid }
+    {
+        match self.entries.get(&lxid) {
+            Some(entry) => (entry.status, gxid_from(self.horizon, entry.gxid)),
+            None => (status_without(lxid, self.given), None),
+        }
+    }
+
     /// Gives a transaction the next lxid, at its first write here. Where all numbers are given out it fails as for want of memory.
     pub fn assign(&mut self, gxid: Gxid) -> Mem<Lxid>
         requires fresh { lxid_of self.old gxid ≡ None }
@@ -126,6 +137,12 @@ impl XidMap {
             drop_entries(&mut self.lxids, &mut self.entries, horizon);
         }
     }
+}
+
+fn gxid_from(horizon: Gxid, gxid: Gxid) -> Option<Gxid>
+    ensures { result ≡ kept horizon gxid }
+{
+    if gxid < horizon { None } else { Some(gxid) }
 }
 
 fn status_without(lxid: Lxid, given: u64) -> LocalStatus

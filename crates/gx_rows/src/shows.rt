@@ -1,11 +1,11 @@
-ghost use Rattle.std.specs.Prelude.{◌≡◌};
+ghost use Rattle.std.specs.Prelude.{◌≡◌, ◌&&◌};
 ghost use Rattle.std.specs.Option.{option_copied};
-ghost use Rattle.gx_rows.specs.Counts.{counts, is_own, is_seen, shown_of};
-ghost use Rattle.gx_rows.specs.Xids.{gxid_of};
+ghost use Rattle.gx_rows.specs.Counts.{counts, is_committed, is_own, is_seen, shown_of};
+ghost use Rattle.gx_rows.specs.Xids.{gxid_of, status_of};
 
 use crate::{LocalStatus, Version, XidMap};
 use gx_dsnap::Snapshot;
-use gx_ids::{Cid, Lxid};
+use gx_ids::{Cid, Gxid, Lxid};
 
 /// Whether a version counts for a reader: it is the reader's own and of an earlier command, or it is locally committed
 /// and the snapshot sees its transaction (PostgreSQL manual 13.2; Lyu et al., SIGMOD 2021). `own` is the reader's lxid
@@ -13,8 +13,15 @@ use gx_ids::{Cid, Lxid};
 pub fn visible(v: &Version, map: &XidMap, snap: &Snapshot, own: Option<Lxid>, cid: Cid) -> bool
     ensures { result ≡ counts v.now map.now snap.now own cid }
 {
-    is_own(v, own, cid)
-        || map.status(v.lxid) == LocalStatus::Committed && is_seen(map, snap, v.lxid)
+    is_own(v, own, cid) || has_come(map, snap, v.lxid)
+}
+
+// Whether the transaction is committed here, and seen.
+fn has_come(map: &XidMap, snap: &Snapshot, lxid: Lxid) -> bool
+    ensures { result ≡ (is_committed (status_of map.now lxid) && is_seen snap.now (gxid_of map.now lxid)) }
+{
+    let (status, gxid) = map.standing(lxid);
+    status == LocalStatus::Committed && is_seen(snap, gxid)
 }
 
 // Whether the reader wrote a version by an earlier command.
@@ -28,10 +35,10 @@ fn is_own(v: &Version, own: Option<Lxid>, cid: Cid) -> bool
 }
 
 // Whether the transaction is seen. One whose gxid isn't known any more ended below the horizon, and is.
-fn is_seen(map: &XidMap, snap: &Snapshot, lxid: Lxid) -> bool
-    ensures { result ≡ is_seen snap.now (gxid_of map.now lxid) }
+fn is_seen(snap: &Snapshot, gxid: Option<Gxid>) -> bool
+    ensures { result ≡ is_seen snap.now gxid }
 {
-    match map.gxid_of(lxid) {
+    match gxid {
         None => true,
         Some(gxid) => snap.sees(gxid),
     }

@@ -1,5 +1,4 @@
-ghost use Rattle.std.specs.Prelude.{◌≡◌, ◌≢◌, ◌++◌, ◌∷◌, [], List, IfOk, OnOk, OnErr, ◌==◌};
-ghost use Rattle.std.specs.List.{list_any};
+ghost use Rattle.std.specs.Prelude.{◌≡◌, ◌≢◌, ◌++◌, ◌∷◌, [], List, IfOk, OnOk, OnErr};
 ghost use Rattle.std.specs.Map.{set_value};
 ghost use Rattle.std.specs.Option.{option_copied};
 ghost use Rattle.std.specs.BTreeMap.{IsOrdered, IsUnchanged, is_at};
@@ -46,6 +45,13 @@ impl Versions {
             alloc,
             lists: BTreeMap::new(alloc),
         })
+    }
+
+    /// The versions of each rid, by the rids.
+    pub fn lists(&self) -> &BTreeMap<Rid, VersionList>
+        ensures { result.now.entries ≡ self.now }
+    {
+        &self.lists
     }
 
     /// The versions of a rid, none where it is unknown.
@@ -153,12 +159,6 @@ fn replace_list(
     }
 }
 
-fn is_of_table(list: &[Version], table: Table) -> bool
-    ensures { result ≡ list_any (λ v. v.table.0 == table.0) list.now }
-{
-    list.iter().any(|version| version.table == table)
-}
-
 // The keys of the lists with a version in a table; the keys are in order.
 fn table_rids(alloc: Global, lists: &BTreeMap<Rid, VersionList>, table: Table) -> Mem<Vec<Rid>>
     ensures whole { IfOk result (λ rids. rids.items ≡ rids_of lists.now.entries table) }
@@ -166,7 +166,7 @@ fn table_rids(alloc: Global, lists: &BTreeMap<Rid, VersionList>, table: Table) -
 {
     let entries = lists.iter();
     let rids: Vec<Rid> = entries
-        .filter(|entry| is_of_table(entry.1.as_slice(), table))
+        .filter(|entry| entry.1.is_of(table))
         .map(|entry| *entry.0)
         .collect(alloc)?;
     Ok(rids)
