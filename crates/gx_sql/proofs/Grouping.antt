@@ -1,5 +1,5 @@
 -- The groups of a script that was read.
-use Rattle.std.proofs.Common.{◌≡◌, ◌⊎◌, inl, inr, ℕ, ◌+◌, ◌<◌, ◌≤◌, ◌==◌, if◌then◌else◌, Bool, true, false, List, [], ◌∷◌, ◌++◌, length, map, All, Option, Some, None, refl, sym, ◌∙◌, ap, subst, arith}
+use Rattle.std.proofs.Common.{◌≡◌, ◌⊎◌, inl, inr, ℕ, suc, ◌+◌, ◌<◌, ◌≤◌, ◌==◌, if◌then◌else◌, Bool, true, false, List, [], ◌∷◌, ◌++◌, length, map, All, Option, Some, None, refl, sym, ◌∙◌, ap, subst, arith, get_or}
 use Rattle.std.specs.List.{flat_map}
 use Rattle.std.proofs.lemmas.List.Elements.{All-nil, All-cons, All-head, All-tail, All-weaker}
 use Rattle.gx_ids.specs.declared.ids.SessionId.{SessionId}
@@ -8,7 +8,7 @@ use Rattle.gx_meaning.specs.Statements.{IsOneOf, AreDistinct}
 use Rattle.gx_store.specs.Language.{IsName}
 use Rattle.gx_store.specs.Heads.{AreGroups, IsGroup, group_name, group_sessions}
 use Rattle.gx_sql.specs.declared.groups.GroupHead.{GroupHead}
-use Rattle.gx_sql.specs.Groups.{groups_from, is_at, place_among, sessions_at}
+use Rattle.gx_sql.specs.Groups.{groups_by, groups_from, is_at, place_among, places_among, sessions_at, sessions_by}
 
 -- what a head of a group keeps
 pub record IsHead (head : GroupHead) : Type 0 where
@@ -36,6 +36,27 @@ distinct-append (x ∷ xs) ys a b n = (λ h. both (one-append x xs ys h), distin
     both : IsOneOf x xs ⊎ IsOneOf x ys → ⊥
     both (inl h) = a.0 h
     both (inr h) = n x (inl refl) h
+
+pub only-one : (names : List (List ℕ)) (name : List ℕ) → 1 ≤ length names → length names ≤ 1 → name ≡ get_or names 0 name → name ∷ [] ≡ names
+only-one [] name low high is = absurd (omega arith)
+only-one (x ∷ []) name low high is = ap (λ (n : List ℕ). n ∷ []) is
+only-one (x ∷ y ∷ more) name low high is = absurd (omega arith)
+
+-- PLACES THAT ARE LOOKED UP ONCE
+pub many-places : (members : List (List ℕ × ℕ)) (names : List (List ℕ)) → length (places_among members names) ≡ length names
+many-places members [] = refl
+many-places members (name ∷ names) = ap suc (many-places members names)
+
+sessions-by : (members : List (List ℕ × ℕ)) (place number : ℕ) (names : List (List ℕ)) → sessions_by place number (places_among members names) ≡ sessions_at members place number names
+sessions-by members place number [] = refl
+sessions-by members place number (name ∷ names) =
+    ap (λ (rest : List SessionId). if is_at place (place_among name members) then record { 0 = number } ∷ rest else rest) (sessions-by members place (number + 1) names)
+
+pub by-places : (members : List (List ℕ × ℕ)) (names : List (List ℕ)) (place : ℕ) (heads : List GroupHead) → groups_by (places_among members names) place heads ≡ groups_from members names place heads
+by-places members names place [] = refl
+by-places members names place (g ∷ gs) =
+    ap (λ (sessions : List SessionId). record { name = g.name; limit = g.limit; sessions = sessions } ∷ groups_by (places_among members names) (place + 1) gs) (sessions-by members place 0 names)
+    ∙ ap (λ (rest : List SlotGroup). record { name = g.name; limit = g.limit; sessions = sessions_at members place 0 names } ∷ rest) (by-places members names (place + 1) gs)
 
 -- SESSIONS OF A GROUP
 module _ (members : List (List ℕ × ℕ)) where

@@ -1,5 +1,5 @@
 -- Groups as their heads name them, and as they stand in the script.
-use Rattle.std.specs.Prelude.{ℕ, ◌+◌, ◌==◌, nat_eq, Bool, false, if◌then◌else◌, ◌||◌, List, [], ◌∷◌, ◌++◌, Option, Some, None, Result, Ok, Err, is_some}
+use Rattle.std.specs.Prelude.{ℕ, ◌+◌, ◌==◌, nat_eq, Bool, false, if◌then◌else◌, ◌||◌, List, [], ◌∷◌, ◌++◌, Option, Some, None, Result, Ok, Err, is_some, map}
 use Rattle.std.specs.Cmp.Lexicographic.{pointwise}
 use Rattle.gx_ids.specs.declared.ids.SessionId.{SessionId}
 use Rattle.gx_script.specs.declared.group.SlotGroup.{SlotGroup}
@@ -52,3 +52,15 @@ sessions_at members place number (name ∷ names) =
 abbrev pub groups_from : List (List ℕ × ℕ) → List (List ℕ) → ℕ → List GroupHead → List SlotGroup
 groups_from members names place [] = []
 groups_from members names place (g ∷ gs) = record { name = g.name; limit = g.limit; sessions = sessions_at members place 0 names } ∷ groups_from members names (place + 1) gs
+
+-- the same, where the places of their groups are looked up once for each session
+abbrev pub places_among : List (List ℕ × ℕ) → List (List ℕ) → List (Option ℕ)
+places_among members names = map (λ name. place_among name members) names
+
+abbrev pub sessions_by : ℕ → ℕ → List (Option ℕ) → List SessionId
+sessions_by place number [] = []
+sessions_by place number (at ∷ places) = if is_at place at then record { 0 = number } ∷ sessions_by place (number + 1) places else sessions_by place (number + 1) places
+
+abbrev pub groups_by : List (Option ℕ) → ℕ → List GroupHead → List SlotGroup
+groups_by places place [] = []
+groups_by places place (g ∷ gs) = record { name = g.name; limit = g.limit; sessions = sessions_by place 0 places } ∷ groups_by places (place + 1) gs

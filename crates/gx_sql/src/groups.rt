@@ -1,5 +1,5 @@
 // Groups of sessions: by names while heads are read, and by places in the script.
-ghost use Rattle.std.specs.Prelude.{◌≡◌, ◌≤◌, ◌∷◌, ◌++◌, [], IfOk, None, OnOk, Ok, is_some, length};
+ghost use Rattle.std.specs.Prelude.{◌≡◌, ◌≤◌, ◌∷◌, ◌++◌, [], ℕ, IfOk, None, OnOk, Ok, is_some, length};
 ghost use Rattle.gx_sql.specs.Groups as of;
 ghost use Rattle.gx_sql.specs.Held.{Ends, OnFault, named};
 
@@ -87,8 +87,18 @@ fn before_again(
     Ok(names.len())
 }
 
-/// How many sessions of a group at a place stand before the first that stands in a group already, or before in its line.
-pub fn before_standing(
+// The same count of one session, for which no map is needed.
+fn before_one(members: &IndexMap<Vec<u8>, u32>, name: &[u8]) -> usize
+    ensures { (place : ℕ) → result ≡ of.before_standing place (named members.now.entries) (name.now ∷ []) }
+{
+    if place_of(members, name).is_some() {
+        0
+    } else {
+        1
+    }
+}
+
+fn before_several(
     alloc: Global,
     members: &IndexMap<Vec<u8>, u32>,
     names: &[Txt],
@@ -100,6 +110,21 @@ pub fn before_standing(
     let count = before_again(alloc, &mut line, members, names, place);
     drop(line);
     count
+}
+
+/// How many sessions of a group at a place stand before the first that stands in a group already, or before in its line.
+pub fn before_standing(
+    alloc: Global,
+    members: &IndexMap<Vec<u8>, u32>,
+    names: &[Txt],
+    place: u32,
+) -> Mem<usize>
+    ensures { IfOk result (λ count. count ≡ of.before_standing place (named members.now.entries) names.now) }
+{
+    match names {
+        [name] => Ok(before_one(members, name.as_slice())),
+        _ => before_several(alloc, members, names, place),
+    }
 }
 
 fn add_member(
@@ -161,19 +186,29 @@ fn is_at(place: usize, at: Option<u32>) -> bool
     }
 }
 
-/// The sessions that stand in the group at a place.
-fn sessions_at(
+/// The places of the groups in which the sessions of these names stand.
+fn places_of(
     alloc: Global,
     members: &IndexMap<Vec<u8>, u32>,
     names: &[Txt],
-    place: usize,
-) -> Mem<Seq<SessionId>>
-    requires { length names.now ≤ 64 }
-    ensures { IfOk result (λ sessions. sessions ≡ of.sessions_at (named members.now.entries) place 0 names.now) }
+) -> Mem<Vec<Option<u32>>>
+    ensures { IfOk result (λ places. places.items ≡ of.places_among (named members.now.entries) names.now) }
+{
+    let mut places = Vec::with_capacity(alloc, names.len())?;
+    for name in names {
+        places.push(place_of(members, name.as_slice()))?;
+    }
+    Ok(places)
+}
+
+/// The sessions that stand in the group at a place, by the places of all.
+fn sessions_at(alloc: Global, places: &[Option<u32>], place: usize) -> Mem<Seq<SessionId>>
+    requires { length places.now ≤ 64 }
+    ensures { IfOk result (λ sessions. sessions ≡ of.sessions_by place 0 places.now) }
 {
     let mut sessions = Vec::new(alloc);
-    for number in 0..names.len() {
-        if is_at(place, place_of(members, names[number].as_slice())) {
+    for number in 0..places.len() {
+        if is_at(place, places[number]) {
             sessions.push(SessionId(number as u8))?;
         }
     }
@@ -183,20 +218,30 @@ fn sessions_at(
 fn group_at(
     alloc: Global,
     group: &GroupHead,
-    members: &IndexMap<Vec<u8>, u32>,
-    names: &[Txt],
+    places: &[Option<u32>],
     place: usize,
 ) -> Mem<SlotGroup>
-    requires { length names.now ≤ 64 }
-    ensures { IfOk result (λ made. made ≡ record { name = group.now.name; limit = group.now.limit; sessions = of.sessions_at (named members.now.entries) place 0 names.now }) }
+    requires { length places.now ≤ 64 }
+    ensures { IfOk result (λ made. made ≡ record { name = group.now.name; limit = group.now.limit; sessions = of.sessions_by place 0 places.now }) }
 {
     let name = copied(alloc, group.name.as_slice())?;
-    let sessions = sessions_at(alloc, members, names, place)?;
+    let sessions = sessions_at(alloc, places, place)?;
     Ok(SlotGroup {
         name: Txt::from_vec(name),
         limit: group.limit,
         sessions,
     })
+}
+
+fn groups_by(alloc: Global, groups: &[GroupHead], places: &[Option<u32>]) -> Mem<Seq<SlotGroup>>
+    requires { length places.now ≤ 64 }
+    ensures { IfOk result (λ made. made ≡ of.groups_by places.now 0 groups.now) }
+{
+    let mut made = Vec::new(alloc);
+    for place in 0..groups.len() {
+        made.push(group_at(alloc, &groups[place], places, place)?)?;
+    }
+    Ok(Seq::from_vec(made))
 }
 
 /// The groups with those of their sessions that have lines.
@@ -209,9 +254,7 @@ pub(crate) fn all_groups(
     requires { length names.now ≤ 64 }
     ensures { IfOk result (λ made. made ≡ of.groups_from (named members.now.entries) names.now 0 groups.now) }
 {
-    let mut made = Vec::new(alloc);
-    for place in 0..groups.len() {
-        made.push(group_at(alloc, &groups[place], members, names, place)?)?;
-    }
-    Ok(Seq::from_vec(made))
+    let places = places_of(alloc, members, names)?;
+    let made = groups_by(alloc, groups, places.as_slice())?;
+    Ok(made)
 }
