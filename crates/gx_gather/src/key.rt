@@ -1,6 +1,8 @@
-ghost use Rattle.std.specs.Prelude.{◌≡◌, [], IfOk, OnOk};
+ghost use Rattle.std.specs.Prelude.{◌≡◌, ◌∷◌, [], IfOk, IfSome, OnOk};
+ghost use Rattle.gx_tree.specs.declared.value.Value.TheVariants.{Int};
 ghost use Rattle.gx_meaning.specs.Expressions.{column_of};
 ghost use Rattle.gx_meaning.specs.Groups.{key_of};
+ghost use Rattle.gx_meaning.specs.Order.{rising};
 
 use gx_ids::{Duplicate, Mem, copies};
 use gx_tree::{KeyedRow, Row, Value};
@@ -84,6 +86,26 @@ fn column_value(alloc: Global, row: &KeyedRow, column: u8) -> Mem<Value>
     }
 }
 
+// Lists of values by their first difference. Most keys are one number.
+fn compare_values(left: &[Value], right: &[Value]) -> Ordering
+    ensures { result ≡ rising left.now right.now }
+{
+    match (one_number(left), one_number(right)) {
+        (Some(a), Some(b)) => a.cmp(&b),
+        _ => left.cmp(right),
+    }
+}
+
+// The number of a list that has only one.
+fn one_number(values: &[Value]) -> Option<i64>
+    ensures { IfSome result (λ number. values.now ≡ Int number ∷ []) }
+{
+    match values {
+        [Value::Int(number)] => Some(*number),
+        _ => None,
+    }
+}
+
 impl Duplicate for GroupKey {
     fn copy(&self, alloc: Global) -> Mem<GroupKey> {
         Ok(GroupKey {
@@ -126,7 +148,7 @@ impl Ord for GroupKey {
     ghost matches_eq = { λ a b. refl };
 
     fn cmp(&self, other: &GroupKey) -> Ordering {
-        self.values.as_slice().cmp(other.values.as_slice())
+        compare_values(self.values.as_slice(), other.values.as_slice())
     }
 }
 
