@@ -46,7 +46,7 @@ fn added(left: Cell, right: Cell) -> Cell
 }
 
 #[tactic(auto, using(std::proofs::lemmas::Int::wraps))]
-fn wrapping_sum(a: i128, b: i128) -> i128
+pub fn wrapping_sum(a: i128, b: i128) -> i128
     ensures { result ≡ int_wrap w128 (a +ℤ b) }
 {
     a.wrapping_add(b)

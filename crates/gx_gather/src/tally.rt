@@ -1,11 +1,12 @@
 // Aggregates to which rows are added one after the other.
-ghost use Rattle.std.specs.Prelude.{◌≡◌, ◌∷◌, [], IfOk, OnOk, map};
+ghost use Rattle.std.specs.Prelude.{◌≡◌, ◌∷◌, [], IfOk, MatchOption, OnOk, map};
+ghost use Rattle.gx_tree.specs.declared.cell.Cell.TheVariants.{Int, Null};
 ghost use Rattle.gx_gather.specs.Added.{added_at};
 ghost use Rattle.gx_meaning.specs.Aggregates.{aggregate};
 ghost use Rattle.gx_meaning.specs.Cells.{combine, combine_all};
 
 use crate::cells::{empty_aggregate, row_aggregate};
-use crate::combined::combined;
+use crate::combined::{combined, wrapping_sum};
 use gx_ids::{Mem, Seq};
 use gx_tree::{Cell, Item, KeyedRow};
 use std::alloc::Global;
@@ -38,10 +39,51 @@ pub fn aggregates_over(alloc: Global, items: &[Item], rows: &[KeyedRow]) -> Mem<
 fn add_row(alloc: Global, item: Item, cell: &mut Cell, row: &KeyedRow) -> Mem<()>
     ensures { OnOk result (cell.new ≡ combine item cell.old (aggregate (row.now ∷ []) item)) }
 {
-    let more = row_aggregate(alloc, item, row)?;
+    match row_aggregate(alloc, item, row)? {
+        Cell::Int(number) => add_number(item, cell, number),
+        more => add_cell(item, cell, more),
+    }
+    Ok(())
+}
+
+// Adds a number, in place where there is one.
+fn add_number(item: Item, cell: &mut Cell, number: i128)
+    ensures { cell.new ≡ combine item cell.old (Int number) }
+{
+    match cell {
+        Cell::Int(before) => match both_numbers(item, *before, number) {
+            Some(sum) => *before = sum,
+            None => *cell = Cell::Null,
+        },
+        _ => add_cell(item, cell, Cell::Int(number)),
+    }
+}
+
+fn add_cell(item: Item, cell: &mut Cell, more: Cell)
+    ensures { cell.new ≡ combine item cell.old more }
+{
     let before = mem::replace(cell, Cell::Null);
     *cell = combined(item, before, more);
-    Ok(())
+}
+
+// The aggregate over two, of which each is a number; a column by itself is none.
+fn both_numbers(item: Item, left: i128, right: i128) -> Option<i128>
+    ensures { MatchOption result (combine item (Int left) (Int right) ≡ Null) (λ number. combine item (Int left) (Int right) ≡ Int number) }
+{
+    match item {
+        Item::Col(_) => None,
+        Item::Count | Item::Sum(_) => Some(wrapping_sum(left, right)),
+        Item::Min(_) => Some(if left.cmp(&right).is_gt() {
+            right
+        } else {
+            left
+        }),
+        Item::Max(_) => Some(if left.cmp(&right).is_gt() {
+            left
+        } else {
+            right
+        }),
+    }
 }
 
 // The aggregates of a group so far, one for each item. Contracts see them as the list of them.
