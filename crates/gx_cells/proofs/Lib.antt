@@ -7,3 +7,9 @@ pub mod Links
 pub mod AtCoordinators
 pub mod Inboxes
 pub mod MoreHeard
+pub mod Sent
+pub mod MadeCells
+pub mod LinkPairs
+pub mod Staying
+pub mod Fitting
+pub mod Ended

@@ -38,7 +38,7 @@ module _ {Data : Type 0} (rule : Rule Data) (at : Node) (post : Post) where
       let first : List JournalItem = takes_by rule held (here_in post x) (has_failed x.marks) in
       ap (λ its. first ++ its) (takes-next next ss s) ∙ sym (append_assoc first (takes_in rule post next ss) (takes_by rule (holds_after rule post next ss) (here_in post s) (has_failed s.marks)))
 
-failures-append : (node : Node) (xs ys : List Mark) → failures_in node (xs ++ ys) ≡ failures_in node xs + failures_in node ys
+pub failures-append : (node : Node) (xs ys : List Mark) → failures_in node (xs ++ ys) ≡ failures_in node xs + failures_in node ys
 failures-append node [] ys = none (failures_in node ys)
   where
     none : (a : ℕ) → a ≡ 0 + a

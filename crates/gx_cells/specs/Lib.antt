@@ -7,3 +7,5 @@ pub mod CoordActs
 pub mod CoordAnswers
 pub mod CoordReceipts
 pub mod CoordViews
+pub mod Closed
+pub mod Done

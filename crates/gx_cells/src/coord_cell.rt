@@ -5,6 +5,7 @@ ghost use Rattle.gx_locks.specs.Locks.{next_ready};
 ghost use Rattle.gx_store.specs.Language.{IsScript};
 ghost use Rattle.gx_store.specs.Refusals.{the_coordinator};
 ghost use Rattle.gx_store.specs.declared.node.NodeEvent.TheVariants as node;
+ghost use Rattle.gx_cells.specs.Closed.{IsCoordKept};
 ghost use Rattle.gx_cells.specs.CoordAnswers.{HasActed, is_own};
 ghost use Rattle.gx_cells.specs.CoordReceipts.{AreBlank, HasHeardFrom};
 ghost use Rattle.gx_cells.specs.CoordViews.{IsSameCoord, IsSameNode, coord_data, coord_sight};
@@ -31,12 +32,21 @@ use std::sync::{Arc, Wait};
 /// spent, and answers the same from then on.
 #[derive(Drop)]
 pub struct CoordCell<J: Journal> {
-    history: CoordHistory,
-    inboxes: Vec<Inbox>,
-    coord: Coord,
-    faults: Faults,
-    journal: J,
-    spent: bool,
+    pub(crate) history: CoordHistory,
+    pub(crate) inboxes: Vec<Inbox>,
+    pub(crate) coord: Coord,
+    pub(crate) faults: Faults,
+    pub(crate) journal: J,
+    pub(crate) spent: bool,
+}
+
+// What a cell has.
+#[derive(Drop)]
+pub(crate) struct CoordParts<J: Journal> {
+    pub steps: Steps,
+    pub outs: Vec<LinkOut>,
+    pub inboxes: Vec<Inbox>,
+    pub journal: J,
 }
 
 impl<J: Journal> Model for CoordCell<J> {
@@ -202,6 +212,34 @@ impl<J: Journal> CoordCell<J> {
         ensures again { self.old.spent ≡ true → IsErr result }
     {
         self.own(rt, NodeEvent::Round)
+    }
+
+    // What it has, unless it is spent.
+    pub(crate) fn into_parts(self) -> Mem<CoordParts<J>>
+        ensures kept { OnOk result (IsCoordKept self) }
+        ensures unspent { OnOk result (self.spent ≡ false) }
+        ensures steps { IfOk result (λ parts. parts.steps ≡ self.steps) }
+        ensures outs { IfOk result (λ parts. parts.outs.items ≡ self.outs) }
+        ensures inboxes { IfOk result (λ parts. parts.inboxes.items ≡ self.inboxes) }
+        ensures shelf { IfOk result (λ parts. J.shelf parts.journal ≡ self.shelf) }
+    {
+        if self.spent {
+            return Err(OutOfMemory);
+        }
+        let CoordCell {
+            history,
+            inboxes,
+            coord: _,
+            faults: _,
+            journal,
+            spent: _,
+        } = self;
+        Ok(CoordParts {
+            steps: history.steps,
+            outs: history.outs,
+            inboxes,
+            journal,
+        })
     }
 
     // Does an event by itself.

@@ -3,12 +3,18 @@
 #![tactic(auto)]
 
 mod acting;
+pub mod action;
+pub mod cells;
+pub mod closing;
 pub mod coord_cell;
 pub mod coord_history;
+mod doing;
 mod hearing;
 pub mod history;
 pub mod inbox;
 pub mod looked;
+mod making;
+mod reading;
 mod receipts;
 mod receiving;
 mod resuming;
@@ -16,6 +22,9 @@ pub mod segment_cell;
 mod sending;
 mod spreading;
 
+pub use action::Action;
+pub use cells::Cells;
+pub use closing::ClosedCells;
 pub use coord_cell::CoordCell;
 pub use looked::Looked;
 pub use segment_cell::SegmentCell;

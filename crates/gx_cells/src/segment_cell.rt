@@ -3,8 +3,10 @@ ghost use Rattle.gx_locks.specs.Locks.{next_ready};
 ghost use Rattle.gx_segment.specs.Room.{has_room};
 ghost use Rattle.gx_store.specs.Ordered.{IsSegment as IsPlace};
 ghost use Rattle.gx_store.specs.Refusals.{the_coordinator};
+ghost use Rattle.gx_cells.specs.Closed.{IsSegmentKept, inbox_of};
 ghost use Rattle.gx_cells.specs.Receipts.{HasReceived, HasResumed};
 ghost use Rattle.gx_cells.specs.Views.{IsSameCell, data_of, sight_of};
+ghost use Rattle.gx_cells.specs.declared.looked.Looked.TheVariants.{NotNow};
 
 use crate::history::History;
 use crate::inbox::Inbox;
@@ -27,12 +29,22 @@ use std::sync::{Arc, Wait};
 /// it is spent, and answers the same from then on.
 #[derive(Drop)]
 pub struct SegmentCell<J: Journal> {
-    history: History,
-    inbox: Inbox,
-    segment: Segment,
-    faults: Faults,
-    journal: J,
-    spent: bool,
+    pub(crate) history: History,
+    pub(crate) inbox: Inbox,
+    pub(crate) segment: Segment,
+    pub(crate) faults: Faults,
+    pub(crate) journal: J,
+    pub(crate) spent: bool,
+}
+
+// What a cell has.
+#[derive(Drop)]
+pub(crate) struct SegmentParts<J: Journal> {
+    pub node: Node,
+    pub steps: Steps,
+    pub out: LinkOut,
+    pub inbox: Inbox,
+    pub journal: J,
 }
 
 impl<J: Journal> Model for SegmentCell<J> {
@@ -163,5 +175,48 @@ impl<J: Journal> SegmentCell<J> {
         let looked = resume_next(rt, history, inbox, segment, journal, gate);
         *spent = looked.is_err();
         looked
+    }
+
+    // Does nothing.
+    pub(crate) fn not_now(&self) -> Mem<Looked>
+        ensures looked { IfOk result (λ looked. looked ≡ NotNow) }
+        ensures unspent { OnOk result (self.now.spent ≡ false) }
+        ensures err { OnErr result (self.now.spent ≡ true) }
+        ensures again { self.now.spent ≡ true → IsErr result }
+    {
+        if self.spent {
+            Err(OutOfMemory)
+        } else {
+            Ok(Looked::NotNow)
+        }
+    }
+
+    // What it has, unless it is spent.
+    pub(crate) fn into_parts(self) -> Mem<SegmentParts<J>>
+        ensures kept { OnOk result (IsSegmentKept self) }
+        ensures node { IfOk result (λ parts. parts.node ≡ self.node) }
+        ensures steps { IfOk result (λ parts. parts.steps ≡ self.steps) }
+        ensures out { IfOk result (λ parts. parts.out ≡ self.out) }
+        ensures inbox { IfOk result (λ parts. parts.inbox ≡ inbox_of self) }
+        ensures shelf { IfOk result (λ parts. J.shelf parts.journal ≡ self.shelf) }
+    {
+        if self.spent {
+            return Err(OutOfMemory);
+        }
+        let SegmentCell {
+            history,
+            inbox,
+            segment: _,
+            faults: _,
+            journal,
+            spent: _,
+        } = self;
+        Ok(SegmentParts {
+            node: history.node,
+            steps: history.steps,
+            out: history.out,
+            inbox,
+            journal,
+        })
     }
 }

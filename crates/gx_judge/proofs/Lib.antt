@@ -1,3 +1,5 @@
 mod Answered
+mod AnsweredApart
 mod Below
+mod Finals
 mod Words

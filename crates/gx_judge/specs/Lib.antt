@@ -1,3 +1,4 @@
+pub mod Apart
 pub mod Judged
 pub mod Refusing
 pub mod Telling

@@ -1,0 +1,2 @@
+mod Unfinished
+mod Making

@@ -1,0 +1,52 @@
+// A run of nodes apart, from a script to the one run that their histories make.
+ghost use Rattle.std.specs.Prelude.{◌≡◌, [], IfOk, length, map};
+ghost use Rattle.gx_outside.specs.Shelves.{AreEmpty};
+ghost use Rattle.gx_store.specs.Language.{IsScript};
+ghost use Rattle.gx_apart.specs.Made.{IsMade};
+
+use crate::driving::drive;
+use gx_cells::Cells;
+use gx_ids::Mem;
+use gx_merge::merge;
+use gx_outside::{Gate, Journal};
+use gx_script::Script;
+use gx_store::Run;
+use std::alloc::Global;
+use std::sync::{Arc, Wait};
+
+/// What nodes apart have made: one run, whether it is whole, and the journals of all nodes, from the coordinator's on.
+#[derive(Drop)]
+pub struct ApartRun<J: Journal> {
+    pub run: Run,
+    pub is_whole: bool,
+    pub journals: Vec<J>,
+}
+
+/// Runs a script on nodes apart, for so many turns at most. The coordinator's journal and one for each segment are handed over, and
+/// hold no item.
+pub fn run_apart<R: Wait, J: Journal, G: Gate>(
+    rt: &R,
+    alloc: Global,
+    script: &Arc<Script, Global>,
+    journal: J,
+    journals: Vec<J>,
+    gate: &G,
+    turns: u64,
+) -> Mem<ApartRun<J>>
+    requires language { IsScript script.now.value }
+    requires count { length journals.items ≡ script.now.value.segments }
+    requires blank { (J.shelf journal).items ≡ [] }
+    requires blanks { AreEmpty (map J.shelf journals.items) }
+    ensures { IfOk result (λ apart. IsMade script.now.value apart.run.steps apart.is_whole (map J.shelf apart.journals.items)) }
+{
+    let mut cells = Cells::new(alloc, script.clone()?, journal, journals)?;
+    drive(rt, alloc, script, &mut cells, gate, turns)?;
+    let unfinished = cells.coord().unfinished();
+    let closed = cells.close(rt, alloc)?;
+    let run = merge(alloc, script, closed.histories.as_slice())?;
+    Ok(ApartRun {
+        run,
+        is_whole: !unfinished,
+        journals: closed.journals,
+    })
+}
