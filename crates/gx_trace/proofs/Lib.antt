@@ -5,4 +5,5 @@ pub mod ReadFields
 pub mod Names
 pub mod Many
 pub mod Alternatives
+pub mod Wholes
 pub mod Rows

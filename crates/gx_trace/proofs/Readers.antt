@@ -19,10 +19,10 @@ kept-by limit n m rest left false c e = absurd (none-some _ e)
 
 pub numbers-below : (limit : ℕ) → limit < 2 ^ 64 + 1 → IsReaderOf decimal (λ n. n < limit) EndsNumber (number_below limit)
 numbers-below limit small = record {
-  again = λ n rest is ends. ap (option_and_then (kept_below limit)) (number-again n rest (omega arith) ends) ∙ if-true (nat_lt n limit) (Some (n, rest)) None (of-lt n limit is);
+  again = λ n rest is ends. ap (option_and_then (kept_below limit)) (number-again (2 ^ 64) (omega arith) (omega arith) n rest (omega arith) ends) ∙ if-true (nat_lt n limit) (Some (n, rest)) None (of-lt n limit is);
   sound = λ bytes rest n e. option_and_then_some (kept_below limit) (number bytes) (n, rest) e (λ x is kept.
       let (a, b, c) = kept-by limit x.0 n rest x.1 (nat_lt x.0 limit) refl kept in
-      let (fits, stands) = number-sound bytes x.1 x.0 is in
+      let (fits, stands) = number-sound (2 ^ 64) (omega arith) (omega arith) bytes x.1 x.0 is in
       (omega (arith, a, b), stands ∙ (λ i. decimal (b i) ++ c i)));
 }
 

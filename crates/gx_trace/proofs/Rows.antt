@@ -5,7 +5,6 @@ use Rattle.std.specs.Prelude.{option_and_then, All, ◌⊎◌}
 use Rattle.std.specs.Option.{option_map}
 use Rattle.std.specs.List.{flat_map}
 use Rattle.std.specs.Fmt.{decimal, signed_decimal}
-use Rattle.std.proofs.lemmas.Fmt.{decimal_by_steps}
 use Rattle.std.proofs.lemmas.List.{length-append}
 use Rattle.std.proofs.lemmas.List.Elements.{All-nil, All-cons, All-head, All-tail}
 use Rattle.std.proofs.lemmas.Option.{none-some, some_pair_parts, option_and_then_some}
@@ -22,6 +21,7 @@ use Rattle.gx_trace.proofs.Alternatives.{one-or-other, said-as}
 use Rattle.gx_trace.proofs.Digits.{number-again, number-sound}
 use Rattle.gx_trace.proofs.Many.{ends-read}
 use Rattle.gx_trace.proofs.Readers.{behind-word, made-into, one-behind-other}
+use Rattle.gx_trace.proofs.Wholes.{IsWithin, not-word, wholes}
 use Rattle.gx_trace.proofs.Words.{if-true, if-false, word-again, word-sound}
 
 -- TEXTS
@@ -126,105 +126,16 @@ texts = said-text (behind-word (codes "'") rest-of-text)
     said-text r = record { again = λ t rest line ends. r.again t rest line ends; sound = λ bytes rest t e. r.sound bytes rest t e }
 
 -- WHOLE NUMBERS
-abbrev IsPositive : ℤ → Type 0
-IsPositive (pos n) = n < 2 ^ 63
-IsPositive (negsuc n) = ⊥
+is-signed : (z : ℤ) → IsWithin (2 ^ 63) z → IsSigned 63 z
+is-signed (pos n) is = is
+is-signed (negsuc n) is = is
 
-abbrev IsNegative : ℤ → Type 0
-IsNegative (pos n) = ⊥
-IsNegative (negsuc n) = n < 2 ^ 63
-
--- the same text, written otherwise
-text-said-as : {A : Type 0} {text : A → List ℕ} {Is : A → Type 0} {Ends : List ℕ → Type 0} {read : List ℕ → Front A} (other : A → List ℕ) → IsReaderOf text Is Ends read → ((a : A) → Is a → other a ≡ text a) → IsReaderOf other Is Ends read
-text-said-as {read = read} other r same = record {
-  again = λ a rest is ends. ap (λ x. read (x ++ rest)) (same a is) ∙ r.again a rest is ends;
-  sound = λ bytes rest a e. let (is, t) = r.sound bytes rest a e in (is, t ∙ ap (λ x. x ++ rest) (sym (same a is)));
-}
-
--- a number begins with a digit
-abbrev BeginsWithDigit : ℕ → List ℕ → Type 0
-BeginsWithDigit n ds = (d : ℕ) × (more : List ℕ) × (ds ≡ (48 + d) ∷ more) × (d < 10)
-
-first-digit : (n : ℕ) → n < 2 ^ 64 → BeginsWithDigit n (decimal n)
-first-digit = decimal_by_steps BeginsWithDigit (λ n l. (n, [], refl, l)) (λ n ds l x. (x.0, x.1 ++ (48 + n % 10) ∷ [], ap (λ y. y ++ (48 + n % 10) ∷ []) x.2, x.3))
-
-not-word : (w : ℕ) (ws : List ℕ) (n : ℕ) (rest : List ℕ) → n < 2 ^ 64 → ((d : ℕ) → d < 10 → (48 + d == w) ≡ false) → word (w ∷ ws) (decimal n ++ rest) ≡ None
-not-word w ws n rest small other =
-    let (d, more, is, digit) = first-digit n small in
-    ap (λ x. word (w ∷ ws) (x ++ rest)) is ∙ if-false (48 + d == w) (word ws (more ++ rest)) None (other d digit)
-
-plus-by : (n : ℕ) (z : ℤ) (left rest : List ℕ) (c : Bool) → nat_lt n (2 ^ 63) ≡ c
-    → option_map (λ (y : ℤ). let p : ℤ × List ℕ = (y, left) in p) (if c then Some (pos n) else None) ≡ Some (z, rest) → (n < 2 ^ 63) × (pos n ≡ z) × (left ≡ rest)
-plus-by n z left rest false c e = absurd (none-some _ e)
-plus-by n z left rest true c e = let (p, q) = some_pair_parts (pos n) z left rest e in (grind (arith, c), p, q)
-
-minus-by : (n : ℕ) (z : ℤ) (left rest : List ℕ) (c : Bool) → nat_lt n (2 ^ 63) ≡ c
-    → option_map (λ (y : ℤ). let p : ℤ × List ℕ = (y, left) in p) (if c then Some (negsuc n) else None) ≡ Some (z, rest) → (n < 2 ^ 63) × (negsuc n ≡ z) × (left ≡ rest)
-minus-by n z left rest false c e = absurd (none-some _ e)
-minus-by n z left rest true c e = let (p, q) = some_pair_parts (negsuc n) z left rest e in (grind (arith, c), p, q)
-
-positive-again : (z : ℤ) (rest : List ℕ) → IsPositive z → EndsNumber rest → positive (signed_decimal z ++ rest) ≡ Some (z, rest)
-positive-again (pos n) rest is ends =
-    let small : nat_lt n (2 ^ 63) ≡ true = grind (arith, is) in
-    ap (option_and_then (taken plus)) (number-again n rest (omega (arith, is)) ends) ∙ ap (option_map (λ (y : ℤ). let p : ℤ × List ℕ = (y, rest) in p)) (if-true (nat_lt n (2 ^ 63)) (Some (pos n)) None small)
-positive-again (negsuc n) rest is ends = absurd is
-
-positives : IsReaderOf signed_decimal IsPositive EndsNumber positive
-positives = record {
-  again = positive-again;
-  sound = λ bytes rest z e. option_and_then_some (taken plus) (number bytes) (z, rest) e (λ x is t.
-      let (small, p, q) = plus-by x.0 z x.1 rest (nat_lt x.0 (2 ^ 63)) refl t in
-      let (_, stands) = number-sound bytes x.1 x.0 is in
-      (subst IsPositive p small, stands ∙ (λ i. signed_decimal (p i) ++ q i)));
-}
-
-abbrev magnitude : ℤ → List ℕ
-magnitude (pos n) = []
-magnitude (negsuc n) = decimal (suc n)
-
-abbrev behind_minus : List ℕ → Front ℤ
-behind_minus bytes = option_and_then (taken minus) (number bytes)
-
-minus-again : (z : ℤ) (rest : List ℕ) → IsNegative z → EndsNumber rest → behind_minus (magnitude z ++ rest) ≡ Some (z, rest)
-minus-again (pos n) rest is ends = absurd is
-minus-again (negsuc n) rest is ends =
-    let small : nat_lt n (2 ^ 63) ≡ true = grind (arith, is) in
-    ap (option_and_then (taken minus)) (number-again (suc n) rest (omega (arith, is)) ends)
-    ∙ ap (option_map (λ (y : ℤ). let p : ℤ × List ℕ = (y, rest) in p)) (if-true (nat_lt n (2 ^ 63)) (Some (negsuc n)) None small)
-
-minus-stands : (m : ℕ) (z : ℤ) (bytes left rest : List ℕ) → bytes ≡ decimal m ++ left → taken minus (m, left) ≡ Some (z, rest) → IsNegative z × (bytes ≡ magnitude z ++ rest)
-minus-stands zero z bytes left rest stands e = absurd (none-some _ e)
-minus-stands (suc n) z bytes left rest stands e =
-    let (small, p, q) = minus-by n z left rest (nat_lt n (2 ^ 63)) refl e in
-    (subst IsNegative p small, stands ∙ (λ i. magnitude (p i) ++ q i))
-
-magnitudes : IsReaderOf magnitude IsNegative EndsNumber behind_minus
-magnitudes = record {
-  again = minus-again;
-  sound = λ bytes rest z e. option_and_then_some (taken minus) (number bytes) (z, rest) e (λ x is t. minus-stands x.0 z bytes x.1 rest (number-sound bytes x.1 x.0 is).1 t);
-}
-
-with-sign : (z : ℤ) → IsNegative z → signed_decimal z ≡ codes "-" ++ magnitude z
-with-sign (pos n) is = absurd is
-with-sign (negsuc n) is = refl
-
-negatives : IsReaderOf signed_decimal IsNegative EndsNumber negative
-negatives = text-said-as signed_decimal (behind-word (codes "-") magnitudes) with-sign
-
-no-minus : (z : ℤ) (rest : List ℕ) → IsPositive z → negative (signed_decimal z ++ rest) ≡ None
-no-minus (pos n) rest is = ap (option_and_then (λ x. behind_minus x.1)) (not-word 45 [] n rest (omega (arith, is)) (λ d l. grind arith))
-no-minus (negsuc n) rest is = absurd is
-
-has-sign : (z : ℤ) → IsSigned 63 z → IsNegative z ⊎ IsPositive z
-has-sign (pos n) is = inr is
-has-sign (negsuc n) is = inl is
-
-of-sign : (z : ℤ) → IsNegative z ⊎ IsPositive z → IsSigned 63 z
-of-sign (pos n) is = elim is [ inl h ↦ absurd h | inr h ↦ h ]
-of-sign (negsuc n) is = elim is [ inl h ↦ h | inr h ↦ absurd h ]
+signed-is : (z : ℤ) → IsSigned 63 z → IsWithin (2 ^ 63) z
+signed-is (pos n) is = is
+signed-is (negsuc n) is = is
 
 pub integers : IsReaderOf signed_decimal (IsSigned 63) EndsNumber integer
-integers = said-as (IsSigned 63) EndsNumber (one-or-other signed_decimal IsNegative IsPositive negatives positives no-minus) has-sign of-sign (λ rest ends. ends)
+integers = said-as (IsSigned 63) EndsNumber (wholes (2 ^ 64) (2 ^ 63) (omega arith) (omega arith) (omega arith)) signed-is is-signed (λ rest ends. ends)
 
 -- VALUES
 -- what is neither a digit nor a quote ends a value
@@ -287,7 +198,7 @@ more-values =
     ends-read (behind-word (codes "|") one-value)
     (record { begins = λ v is. omega (arith, length-append (codes "|") (bytes_of_value v)); follows = λ v rest is. (refl, refl); last = tt })
 
-abbrev IsRow : List Value → Type 0
+abbrev pub IsRow : List Value → Type 0
 IsRow [] = ⊥
 IsRow (v ∷ vs) = All IsValue (v ∷ vs)
 
@@ -299,7 +210,7 @@ row-parts : (row : List Value) → IsRow row → (x : Value × List Value) × (j
 row-parts [] is = absurd is
 row-parts (v ∷ vs) is = ((v, vs), refl, (All-head IsValue v vs is, All-tail IsValue v vs is))
 
-rows : IsReaderOf bytes_of_row IsRow IsEnd values
+pub rows : IsReaderOf bytes_of_row IsRow IsEnd values
 rows = made-into bytes_of_row IsRow joined (one-behind-other one-value more-values bar-behind) row-parts (λ x is. (All-cons IsValue x.0 x.1 is.0 is.1, refl))
 
 -- IMAGES

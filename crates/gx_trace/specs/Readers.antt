@@ -17,16 +17,21 @@ abbrev pub split_of : Option (ℕ × Bor (List ℕ)) → Front ℕ
 split_of None = None
 split_of (Some x) = Some (x.0, x.1.now)
 
-abbrev pub grown : ℕ → ℕ → Option ℕ
-grown n d = if n == 0 then None else (if nat_lt (n * 10 + d) (2 ^ 64) then Some (n * 10 + d) else None)
+-- one digit more, below a limit; no number of several digits begins with 0
+abbrev pub grown : ℕ → ℕ → ℕ → Option ℕ
+grown limit n d = if n == 0 then None else (if nat_lt (n * 10 + d) limit then Some (n * 10 + d) else None)
 
-abbrev pub number_on : ℕ → List ℕ → Front ℕ
-number_on n [] = Some (n, [])
-number_on n (b ∷ bs) = if is_digit b then option_and_then (λ m. number_on m bs) (grown n (b - 48)) else Some (n, b ∷ bs)
+abbrev pub number_on : ℕ → ℕ → List ℕ → Front ℕ
+number_on limit n [] = Some (n, [])
+number_on limit n (b ∷ bs) = if is_digit b then option_and_then (λ m. number_on limit m bs) (grown limit n (b - 48)) else Some (n, b ∷ bs)
 
+abbrev pub number_to : ℕ → List ℕ → Front ℕ
+number_to limit [] = None
+number_to limit (b ∷ bs) = if is_digit b then number_on limit (b - 48) bs else None
+
+-- of 64 bits
 abbrev pub number : List ℕ → Front ℕ
-number [] = None
-number (b ∷ bs) = if is_digit b then number_on (b - 48) bs else None
+number = number_to (2 ^ 64)
 
 -- behind a word
 abbrev pub word : List ℕ → List ℕ → Front (Unit {0})

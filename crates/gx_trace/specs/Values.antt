@@ -3,7 +3,7 @@ use Rattle.std.specs.Prelude.{ℕ, zero, suc, ◌^◌, ◌==◌, nat_lt, Bool, t
 use Rattle.std.specs.Option.{option_map}
 use Rattle.gx_tree.specs.declared.value.Value.{Value}
 use Rattle.gx_tree.specs.declared.value.Value.TheVariants as value
-use Rattle.gx_trace.specs.Readers.{Front, behind, both, either, made, number, to_end, word}
+use Rattle.gx_trace.specs.Readers.{Front, behind, both, either, made, number_to, to_end, word}
 
 -- The bytes of a quoted text so far, and whether the last byte was a quote: a second one makes one in the text, anything else ends it. A line feed is in
 -- no text.
@@ -16,26 +16,29 @@ text_on true acc (b ∷ bs) = if b == 39 then text_on false (acc ++ b ∷ []) bs
 abbrev pub text : List ℕ → Front (List ℕ)
 text = behind (codes "'") (text_on false [])
 
--- the number behind a minus sign, which isn't 0
-abbrev pub minus : ℕ → Option ℤ
-minus zero = None
-minus (suc n) = if nat_lt n (2 ^ 63) then Some (negsuc n) else None
+-- the number behind a minus sign, which isn't 0, where half of all numbers have one
+abbrev pub minus : ℕ → ℕ → Option ℤ
+minus half zero = None
+minus half (suc n) = if nat_lt n half then Some (negsuc n) else None
 
-abbrev pub plus : ℕ → Option ℤ
-plus n = if nat_lt n (2 ^ 63) then Some (pos n) else None
+abbrev pub plus : ℕ → ℕ → Option ℤ
+plus half n = if nat_lt n half then Some (pos n) else None
 
 -- as what a number is taken
 abbrev pub taken : (ℕ → Option ℤ) → ℕ × List ℕ → Front ℤ
 taken f x = option_map (λ z. (z, x.1)) (f x.0)
 
-abbrev pub positive : List ℕ → Front ℤ
-positive bytes = option_and_then (taken plus) (number bytes)
+abbrev pub positive : ℕ → ℕ → List ℕ → Front ℤ
+positive limit half bytes = option_and_then (taken (plus half)) (number_to limit bytes)
 
-abbrev pub negative : List ℕ → Front ℤ
-negative = behind (codes "-") (λ bytes. option_and_then (taken minus) (number bytes))
+abbrev pub negative : ℕ → ℕ → List ℕ → Front ℤ
+negative limit half = behind (codes "-") (λ bytes. option_and_then (taken (minus half)) (number_to limit bytes))
+
+abbrev pub whole : ℕ → ℕ → List ℕ → Front ℤ
+whole limit half bytes = either (negative limit half bytes) (positive limit half bytes)
 
 abbrev pub integer : List ℕ → Front ℤ
-integer bytes = either (negative bytes) (positive bytes)
+integer = whole (2 ^ 64) (2 ^ 63)
 
 abbrev pub value_at : List ℕ → Front Value
 value_at bytes = either (made value.Text (text bytes)) (made value.Int (integer bytes))

@@ -6,7 +6,7 @@ ghost use Rattle.gx_trace.specs.Fields.{count, dotted};
 use crate::cursor::Cursor;
 
 fn grown(number: u64, digit: u8) -> Option<u64>
-    ensures { result ≡ of.grown number digit }
+    ensures { result ≡ of.grown (2 ^ 64) number digit }
 {
     if number == 0 {
         return None;
@@ -16,7 +16,7 @@ fn grown(number: u64, digit: u8) -> Option<u64>
 
 // The digits that go on behind those of the number so far, and what is left behind them.
 fn number_on(first: u64, left: &[u8]) -> Option<(u64, &[u8])>
-    ensures { of.split_of result ≡ of.number_on first left.now }
+    ensures { of.split_of result ≡ of.number_on (2 ^ 64) first left.now }
 {
     let mut number = first;
     for (place, byte) in left.iter().enumerate() {
@@ -37,7 +37,52 @@ fn number(left: &[u8]) -> Option<(u64, &[u8])>
     }
 }
 
+fn vast_grown(number: u128, digit: u8) -> Option<u128>
+    ensures { result ≡ of.grown (2 ^ 128) number digit }
+{
+    if number == 0 {
+        return None;
+    }
+    number.checked_mul(10)?.checked_add(u128::from(digit))
+}
+
+// The same with 128 bits.
+fn vast_number_on(first: u128, left: &[u8]) -> Option<(u128, &[u8])>
+    ensures { of.split_of result ≡ of.number_on (2 ^ 128) first left.now }
+{
+    let mut number = first;
+    for (place, byte) in left.iter().enumerate() {
+        if !(b'0'..=b'9').contains(byte) {
+            return Some((number, &left[place..]));
+        }
+        number = vast_grown(number, *byte - b'0')?;
+    }
+    Some((number, &left[left.len()..]))
+}
+
+fn vast_number(left: &[u8]) -> Option<(u128, &[u8])>
+    ensures { of.split_of result ≡ of.number_to (2 ^ 128) left.now }
+{
+    match left {
+        [first @ b'0'..=b'9', left @ ..] => vast_number_on(u128::from(*first - b'0'), left),
+        _ => None,
+    }
+}
+
 impl<'a> Cursor<'a> {
+    /// Reads a number of 128 bits.
+    pub fn vast_number(&mut self) -> Option<u128>
+        ensures { of.IsRead result self.new (of.number_to (2 ^ 128) self.old) }
+    {
+        match vast_number(self.left()) {
+            Some((number, left)) => {
+                self.go_to(left);
+                Some(number)
+            }
+            None => None,
+        }
+    }
+
     /// Reads a number of 64 bits.
     pub fn number(&mut self) -> Option<u64>
         ensures { of.IsRead result self.new (of.number self.old) }

@@ -1,5 +1,5 @@
 // Values, images and rows where they stand.
-ghost use Rattle.std.specs.Prelude.{◌≡◌, ◌++◌, IfOk, codes, false, []};
+ghost use Rattle.std.specs.Prelude.{◌≡◌, ◌++◌, ◌^◌, IfOk, codes, false, []};
 ghost use Rattle.gx_msg.specs.ItemBytes.{bytes_of_image};
 ghost use Rattle.gx_report.specs.Words.{word_text};
 ghost use Rattle.gx_trace.specs.Lawful.{IsImage};
@@ -14,7 +14,7 @@ use std::alloc::Global;
 
 // The number behind a minus sign, which isn't 0.
 fn minus(number: u64) -> Option<i64>
-    ensures { result ≡ of.minus number }
+    ensures { result ≡ of.minus (2 ^ 63) number }
 {
     if number == 0 {
         None
@@ -28,7 +28,7 @@ fn minus(number: u64) -> Option<i64>
 }
 
 fn plus(number: u64) -> Option<i64>
-    ensures { result ≡ of.plus number }
+    ensures { result ≡ of.plus (2 ^ 63) number }
 {
     if number < 1 << 63 {
         Some(number as i64)
@@ -67,7 +67,8 @@ impl<'a> Cursor<'a> {
         Ok(Some(Txt::from_vec(text)))
     }
 
-    fn text(&mut self, alloc: Global) -> Mem<Option<Txt>>
+    /// Reads a text in quotes.
+    pub fn text(&mut self, alloc: Global) -> Mem<Option<Txt>>
         ensures { IfOk result (λ read. IsRead read self.new (of.text self.old)) }
     {
         match self.skip(b"'") {
@@ -77,7 +78,7 @@ impl<'a> Cursor<'a> {
     }
 
     fn negative(&mut self) -> Option<i64>
-        ensures { IsRead result self.new (of.negative self.old) }
+        ensures { IsRead result self.new (of.negative (2 ^ 64) (2 ^ 63) self.old) }
     {
         self.skip(b"-")?;
         let number = self.number()?;
@@ -85,7 +86,7 @@ impl<'a> Cursor<'a> {
     }
 
     fn positive(&mut self) -> Option<i64>
-        ensures { IsRead result self.new (of.positive self.old) }
+        ensures { IsRead result self.new (of.positive (2 ^ 64) (2 ^ 63) self.old) }
     {
         let number = self.number()?;
         plus(number)
@@ -158,7 +159,8 @@ impl<'a> Cursor<'a> {
         self.other_values(alloc, values)
     }
 
-    fn row(&mut self, alloc: Global) -> Mem<Option<Row>>
+    /// Reads the values of a row, to the end.
+    pub fn row(&mut self, alloc: Global) -> Mem<Option<Row>>
         ensures { IfOk result (λ read. IsRead read self.new (of.values self.old)) }
     {
         match self.values(alloc)? {
