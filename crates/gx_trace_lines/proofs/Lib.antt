@@ -4,3 +4,6 @@ pub mod ReadHeads
 pub mod ReadEvents
 pub mod ReadTables
 pub mod ReadMessages
+pub mod EdgeOrder
+pub mod ReadSnapshots
+pub mod ReadMarks

@@ -5,3 +5,6 @@ pub mod Answers
 pub mod Tables
 pub mod Events
 pub mod Messages
+pub mod Edges
+pub mod Snapshots
+pub mod Marks
