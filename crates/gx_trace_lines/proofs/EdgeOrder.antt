@@ -46,7 +46,8 @@ stays-by e es [] q = (rest-same e e [] es q, λ f gs r. absurd (no-nil (rest-sam
     no-nil r = absurd (grind (arith, r))
 stays-by e es (f ∷ fs) q = by (is_gt (edge_order e f)) refl q
   where
-    by : (c : Bool) → is_gt (edge_order e f) ≡ c → (if c then f ∷ placed edge_order e fs else e ∷ f ∷ fs) ≡ e ∷ es → (f ∷ fs ≡ es) × ((g : Edge) (gs : List Edge) → es ≡ g ∷ gs → is_gt (edge_order e g) ≡ false)
+    by : (c : Bool) → is_gt (edge_order e f) ≡ c → (if c then f ∷ placed edge_order e fs else e ∷ f ∷ fs) ≡ e ∷ es
+        → (f ∷ fs ≡ es) × ((g : Edge) (gs : List Edge) → es ≡ g ∷ gs → is_gt (edge_order e g) ≡ false)
     by true c r =
         let same = first-same f e (placed edge_order e fs) es r in
         absurd (clash (is_gt (edge_order e f)) c (ap (λ x. is_gt (edge_order e x)) same ∙ same-edge e))

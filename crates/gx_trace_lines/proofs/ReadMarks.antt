@@ -1,5 +1,6 @@
 -- The lines of marks are read as they are printed.
-use Rattle.std.proofs.Common.{◌≡◌, ◌≢◌, ℕ, ◌^◌, ◌<◌, ◌==◌, Bool, true, false, if◌then◌else◌, List, [], ◌∷◌, ◌++◌, codes, Option, Some, None, refl, sym, ◌∙◌, ap, subst, arith, append_assoc, append-nil}
+use Rattle.std.proofs.Common.{◌≡◌, ◌≢◌, ℕ, ◌^◌, ◌<◌, ◌==◌, Bool, true, false, if◌then◌else◌, List, [], ◌∷◌, ◌++◌, codes}
+use Rattle.std.proofs.Common.{Option, Some, None, refl, sym, ◌∙◌, ap, subst, arith, append_assoc, append-nil}
 use Rattle.std.specs.Prelude.{All, option_and_then}
 use Rattle.std.specs.List.{flat_map}
 use Rattle.std.specs.Fmt.{decimal}
@@ -67,7 +68,8 @@ IsCommand x = IsGxid x.0 × IsCid x.1
 commands : IsReaderOf command_text IsCommand EndsNumber command
 commands = one-behind-other gxids cids (λ b rest is ends. refl)
 
-answers : (script : Script) → IsReaderOf (λ (x : SessionId × ℕ). word_text (session_name script x.0) ++ (codes "." ++ decimal x.1)) (λ x. IsSession script x.0 × (x.1 < 2 ^ 32)) EndsNumber (both (session script) (behind (codes ".") (number_below (2 ^ 32))))
+answers : (script : Script) → IsReaderOf (λ (x : SessionId × ℕ). word_text (session_name script x.0) ++ (codes "." ++ decimal x.1)) (λ x. IsSession script x.0 × (x.1 < 2 ^ 32)) EndsNumber
+    (both (session script) (behind (codes ".") (number_below (2 ^ 32))))
 answers script = one-behind-other (sessions script) (behind-word (codes ".") (numbers-below (2 ^ 32) (omega arith))) (λ b rest is ends. refl)
 
 begins : (script : Script) → IsReaderOf (λ (x : Gxid × SessionId). gxid_text x.0 ++ word_text (session_name script x.1)) (λ x. IsGxid x.0 × IsSession script x.1) EndsName (both gxid (session script))
@@ -117,7 +119,8 @@ blank-behind script (object.Transaction g) more = refl
 locks : (script : Script) → IsReaderOf (locked_text script) (IsLocked script) EndsNumber (locked script)
 locks script =
     one-behind-other nodes
-    (one-behind-other gxids (one-behind-other (objects script) modes (λ b rest is ends. refl)) (λ b rest is ends. subst EndsNumber (sym (append_assoc (object_text script b.0) (number_text (number_of b.1)) rest)) (blank-behind script b.0 (number_text (number_of b.1) ++ rest))))
+    (one-behind-other gxids (one-behind-other (objects script) modes (λ b rest is ends. refl))
+    (λ b rest is ends. subst EndsNumber (sym (append_assoc (object_text script b.0) (number_text (number_of b.1)) rest)) (blank-behind script b.0 (number_text (number_of b.1) ++ rest))))
     (λ b rest is ends. refl)
 
 -- whatever comes
@@ -272,19 +275,23 @@ module _ (script : Script) where
       → IsMarkLine script (if c then Own x.0.1 x.1 else Alone (seen.Whole (mark.Report x.0.0 x.0.1 (record { node = x.0.0; edges = x.1 }))))
       × (text (if c then Own x.0.1 x.1 else Alone (seen.Whole (mark.Report x.0.0 x.0.1 (record { node = x.0.0; edges = x.1 })))) ≡ codes "report" ++ reported_text x)
   report-line x is true e =
-      let zero : 0 ≡ x.0.0.0 = grind (arith, e) in
-      ((is.0.1, record { here = refl; edges = is.1.0; order = is.1.1 }),
-      own-text x ∙ ap (λ n. codes "report" ++ ((number_text n ++ (number_text x.0.1 ++ codes ":")) ++ flat_map edge_text x.1)) zero)
+      let zero : 0 ≡ x.0.0.0 = grind (arith, e) in (
+        (is.0.1, record { here = refl; edges = is.1.0; order = is.1.1 }),
+        own-text x ∙ ap (λ n. codes "report" ++ ((number_text n ++ (number_text x.0.1 ++ codes ":")) ++ flat_map edge_text x.1)) zero,
+      )
     where
       own-text : (x : Reported) → text (Own x.0.1 x.1) ≡ codes "report" ++ ((number_text 0 ++ (number_text x.0.1 ++ codes ":")) ++ flat_map edge_text x.1)
       own-text x = two-and-graph (codes "report") (number_text 0) (number_text x.0.1) (codes ":") (flat_map edge_text x.1)
-  report-line x is false e =
-      ((is.0.0, (λ same. absurd (clash x.0.0 e same)), is.0.1, record { here = refl; edges = is.1.0; order = is.1.1 }), whole-text x ∙ ap (λ es. codes "report" ++ ((number_text x.0.0.0 ++ (number_text x.0.1 ++ codes ":")) ++ flat_map edge_text es)) is.1.1)
+  report-line x is false e = (
+    (is.0.0, (λ same. absurd (clash x.0.0 e same)), is.0.1, record { here = refl; edges = is.1.0; order = is.1.1 }),
+    whole-text x ∙ ap (λ es. codes "report" ++ ((number_text x.0.0.0 ++ (number_text x.0.1 ++ codes ":")) ++ flat_map edge_text es)) is.1.1,
+  )
     where
       clash : (n : Node) → (n.0 == 0) ≡ false → n ≡ the_coordinator → ⊥
       clash n e same = let q : n.0 ≡ 0 = ap (λ (m : Node). m.0) same in absurd (grind (arith, e, q))
 
-      whole-text : (x : Reported) → text (Alone (seen.Whole (mark.Report x.0.0 x.0.1 (record { node = x.0.0; edges = x.1 })))) ≡ codes "report" ++ ((number_text x.0.0.0 ++ (number_text x.0.1 ++ codes ":")) ++ flat_map edge_text (in_order edge_order x.1))
+      whole-text : (x : Reported) → text (Alone (seen.Whole (mark.Report x.0.0 x.0.1 (record { node = x.0.0; edges = x.1 }))))
+          ≡ codes "report" ++ ((number_text x.0.0.0 ++ (number_text x.0.1 ++ codes ":")) ++ flat_map edge_text (in_order edge_order x.1))
       whole-text x = two-then-graph (codes "report") (number_text x.0.0.0) (number_text x.0.1) (codes ":") (flat_map edge_text (in_order edge_order x.1))
 
   report-whole : (x : Reported) → IsReported x → IsMarkLine script (report_of x) × (text (report_of x) ≡ codes "report" ++ reported_text x)
@@ -303,16 +310,21 @@ module _ (script : Script) where
   line-again (Alone (seen.Whole (mark.LocalCommit n g))) rest is end = made-again text read (codes "local") local_of at-nodes (λ bytes. refl) (n, g) rest is (ends-number rest end) (local-text (n, g))
   line-again (Alone (seen.Whole (mark.JournalFailed n g))) rest is end = made-again text read (codes "journal") journal_of at-nodes (λ bytes. refl) (n, g) rest is (ends-number rest end) (journal-text (n, g))
   line-again (Alone (seen.Sent to n m)) rest is end = made-again text read (codes "send") sent_of sendings (λ bytes. refl) ((to, n), m) rest ((is.0, is.1), is.2) end (send-text ((to, n), m))
-  line-again (Alone (seen.Whole (mark.Write g c n t r i))) rest is end = made-again text read (codes "write") write_of (writes script) (λ bytes. refl) (((g, c), (n, (t, r))), i) rest (((is.0, is.1), (is.2, (is.3, is.4))), is.5) end (write-text (((g, c), (n, (t, r))), i))
+  line-again (Alone (seen.Whole (mark.Write g c n t r i))) rest is end =
+      made-again text read (codes "write") write_of (writes script) (λ bytes. refl) (((g, c), (n, (t, r))), i) rest (((is.0, is.1), (is.2, (is.3, is.4))), is.5) end (write-text (((g, c), (n, (t, r))), i))
   line-again (Alone (seen.Whole (mark.Skip g c r))) rest is end = made-again text read (codes "skip") skip_of on-rows (λ bytes. refl) ((g, c), r) rest ((is.0, is.1), is.2) (ends-number rest end) (skip-text ((g, c), r))
   line-again (Alone (seen.Whole (mark.Fault g c r i))) rest is end = made-again text read (codes "fault") fault_of faults (λ bytes. refl) (((g, c), r), i) rest (((is.0, is.1), is.2), is.3) end (fault-text (((g, c), r), i))
-  line-again (Alone (seen.Whole (mark.Hold n g o m))) rest is end = made-again text read (codes "hold") hold_of (locks script) (λ bytes. refl) (n, (g, (o, m))) rest (is.0, (is.1, (is.2, tt))) (ends-number rest end) (hold-text (n, (g, (o, m))))
-  line-again (Alone (seen.Whole (mark.Wait n g o m))) rest is end = made-again text read (codes "wait") wait_of (locks script) (λ bytes. refl) (n, (g, (o, m))) rest (is.0, (is.1, (is.2, tt))) (ends-number rest end) (wait-text (n, (g, (o, m))))
-  line-again (Alone (seen.Whole (mark.Release n g o m))) rest is end = made-again text read (codes "release") release_of (locks script) (λ bytes. refl) (n, (g, (o, m))) rest (is.0, (is.1, (is.2, tt))) (ends-number rest end) (release-text (n, (g, (o, m))))
+  line-again (Alone (seen.Whole (mark.Hold n g o m))) rest is end =
+      made-again text read (codes "hold") hold_of (locks script) (λ bytes. refl) (n, (g, (o, m))) rest (is.0, (is.1, (is.2, tt))) (ends-number rest end) (hold-text (n, (g, (o, m))))
+  line-again (Alone (seen.Whole (mark.Wait n g o m))) rest is end =
+      made-again text read (codes "wait") wait_of (locks script) (λ bytes. refl) (n, (g, (o, m))) rest (is.0, (is.1, (is.2, tt))) (ends-number rest end) (wait-text (n, (g, (o, m))))
+  line-again (Alone (seen.Whole (mark.Release n g o m))) rest is end =
+      made-again text read (codes "release") release_of (locks script) (λ bytes. refl) (n, (g, (o, m))) rest (is.0, (is.1, (is.2, tt))) (ends-number rest end) (release-text (n, (g, (o, m))))
   line-again (Alone (seen.Whole (mark.Report n round graph))) rest is end =
       let x : Reported = ((n, round), graph.edges) in
       let same : report_of x ≡ Alone (seen.Whole (mark.Report n round graph)) =
-          other-node n (Own round graph.edges) (Alone (seen.Whole (mark.Report n round (record { node = n; edges = graph.edges })))) is.1 ∙ ap (λ k. Alone (seen.Whole (mark.Report n round (record { node = k; edges = graph.edges })))) (sym is.3.here) in
+      other-node n (Own round graph.edges) (Alone (seen.Whole (mark.Report n round (record { node = n; edges = graph.edges })))) is.1
+      ∙ ap (λ k. Alone (seen.Whole (mark.Report n round (record { node = k; edges = graph.edges })))) (sym is.3.here) in
       subst (λ m. read (text m ++ rest) ≡ Some (m, rest)) same (report-again x rest ((is.0, is.2), (is.3.edges, is.3.order)) end)
   line-again (Own round graph) rest is end = report-again ((the_coordinator, round), graph) rest ((omega arith, is.0), (is.1.edges, is.1.order)) end
   line-again (Ended n v) rest is end = made-again text read (codes "recheck") ended_of rechecks (λ bytes. refl) (n, v) rest is end (recheck-text (n, v))

@@ -173,43 +173,109 @@ failed-is : (t : List ℕ) → is_of_command (codes "failed") t ≡ true → is_
 failed-is t e = is-slice t (right-of (is_of_command (codes "exec") t) (is_of_command (codes "done") t || is_of_command (codes "failed") t) (right-of (is_of_command (codes "done") t) (is_of_command (codes "failed") t) e))
 
 prepare-is : (t : List ℕ) → is_numbered (codes "prepare") t ≡ true → is_message t ≡ true
-prepare-is t e = is-request t (left-of (is_numbered (codes "prepare") t) (is_numbered (codes "commit") t || (is_numbered (codes "commit prepared") t || (is_numbered (codes "abort") t || (is_numbered (codes "forget") t || is_numbered (codes "collect") t)))) e)
+prepare-is t e = is-request t
+    (left-of (is_numbered (codes "prepare") t)
+    (is_numbered (codes "commit") t || (is_numbered (codes "commit prepared") t || (is_numbered (codes "abort") t || (is_numbered (codes "forget") t || is_numbered (codes "collect") t)))) e)
 
 commit-is : (t : List ℕ) → is_numbered (codes "commit") t ≡ true → is_message t ≡ true
-commit-is t e = is-request t (right-of (is_numbered (codes "prepare") t) (is_numbered (codes "commit") t || (is_numbered (codes "commit prepared") t || (is_numbered (codes "abort") t || (is_numbered (codes "forget") t || is_numbered (codes "collect") t)))) (left-of (is_numbered (codes "commit") t) (is_numbered (codes "commit prepared") t || (is_numbered (codes "abort") t || (is_numbered (codes "forget") t || is_numbered (codes "collect") t))) e))
+commit-is t e = is-request t
+    (right-of (is_numbered (codes "prepare") t)
+    (is_numbered (codes "commit") t || (is_numbered (codes "commit prepared") t || (is_numbered (codes "abort") t || (is_numbered (codes "forget") t || is_numbered (codes "collect") t))))
+    (left-of (is_numbered (codes "commit") t) (is_numbered (codes "commit prepared") t || (is_numbered (codes "abort") t || (is_numbered (codes "forget") t || is_numbered (codes "collect") t))) e))
 
 commit-prepared-is : (t : List ℕ) → is_numbered (codes "commit prepared") t ≡ true → is_message t ≡ true
-commit-prepared-is t e = is-request t (right-of (is_numbered (codes "prepare") t) (is_numbered (codes "commit") t || (is_numbered (codes "commit prepared") t || (is_numbered (codes "abort") t || (is_numbered (codes "forget") t || is_numbered (codes "collect") t)))) (right-of (is_numbered (codes "commit") t) (is_numbered (codes "commit prepared") t || (is_numbered (codes "abort") t || (is_numbered (codes "forget") t || is_numbered (codes "collect") t))) (left-of (is_numbered (codes "commit prepared") t) (is_numbered (codes "abort") t || (is_numbered (codes "forget") t || is_numbered (codes "collect") t)) e)))
+commit-prepared-is t e = is-request t
+    (right-of (is_numbered (codes "prepare") t)
+    (is_numbered (codes "commit") t || (is_numbered (codes "commit prepared") t || (is_numbered (codes "abort") t || (is_numbered (codes "forget") t || is_numbered (codes "collect") t))))
+    (right-of (is_numbered (codes "commit") t) (is_numbered (codes "commit prepared") t || (is_numbered (codes "abort") t || (is_numbered (codes "forget") t || is_numbered (codes "collect") t)))
+    (left-of (is_numbered (codes "commit prepared") t) (is_numbered (codes "abort") t || (is_numbered (codes "forget") t || is_numbered (codes "collect") t)) e)))
 
 abort-is : (t : List ℕ) → is_numbered (codes "abort") t ≡ true → is_message t ≡ true
-abort-is t e = is-request t (right-of (is_numbered (codes "prepare") t) (is_numbered (codes "commit") t || (is_numbered (codes "commit prepared") t || (is_numbered (codes "abort") t || (is_numbered (codes "forget") t || is_numbered (codes "collect") t)))) (right-of (is_numbered (codes "commit") t) (is_numbered (codes "commit prepared") t || (is_numbered (codes "abort") t || (is_numbered (codes "forget") t || is_numbered (codes "collect") t))) (right-of (is_numbered (codes "commit prepared") t) (is_numbered (codes "abort") t || (is_numbered (codes "forget") t || is_numbered (codes "collect") t)) (left-of (is_numbered (codes "abort") t) (is_numbered (codes "forget") t || is_numbered (codes "collect") t) e))))
+abort-is t e = is-request t
+    (right-of (is_numbered (codes "prepare") t)
+    (is_numbered (codes "commit") t || (is_numbered (codes "commit prepared") t || (is_numbered (codes "abort") t || (is_numbered (codes "forget") t || is_numbered (codes "collect") t))))
+    (right-of (is_numbered (codes "commit") t) (is_numbered (codes "commit prepared") t || (is_numbered (codes "abort") t || (is_numbered (codes "forget") t || is_numbered (codes "collect") t)))
+    (right-of (is_numbered (codes "commit prepared") t) (is_numbered (codes "abort") t || (is_numbered (codes "forget") t || is_numbered (codes "collect") t))
+    (left-of (is_numbered (codes "abort") t) (is_numbered (codes "forget") t || is_numbered (codes "collect") t) e))))
 
 forget-is : (t : List ℕ) → is_numbered (codes "forget") t ≡ true → is_message t ≡ true
-forget-is t e = is-request t (right-of (is_numbered (codes "prepare") t) (is_numbered (codes "commit") t || (is_numbered (codes "commit prepared") t || (is_numbered (codes "abort") t || (is_numbered (codes "forget") t || is_numbered (codes "collect") t)))) (right-of (is_numbered (codes "commit") t) (is_numbered (codes "commit prepared") t || (is_numbered (codes "abort") t || (is_numbered (codes "forget") t || is_numbered (codes "collect") t))) (right-of (is_numbered (codes "commit prepared") t) (is_numbered (codes "abort") t || (is_numbered (codes "forget") t || is_numbered (codes "collect") t)) (right-of (is_numbered (codes "abort") t) (is_numbered (codes "forget") t || is_numbered (codes "collect") t) (left-of (is_numbered (codes "forget") t) (is_numbered (codes "collect") t) e)))))
+forget-is t e = is-request t
+    (right-of (is_numbered (codes "prepare") t)
+    (is_numbered (codes "commit") t || (is_numbered (codes "commit prepared") t || (is_numbered (codes "abort") t || (is_numbered (codes "forget") t || is_numbered (codes "collect") t))))
+    (right-of (is_numbered (codes "commit") t) (is_numbered (codes "commit prepared") t || (is_numbered (codes "abort") t || (is_numbered (codes "forget") t || is_numbered (codes "collect") t)))
+    (right-of (is_numbered (codes "commit prepared") t) (is_numbered (codes "abort") t || (is_numbered (codes "forget") t || is_numbered (codes "collect") t))
+    (right-of (is_numbered (codes "abort") t) (is_numbered (codes "forget") t || is_numbered (codes "collect") t)
+    (left-of (is_numbered (codes "forget") t) (is_numbered (codes "collect") t) e)))))
 
 collect-is : (t : List ℕ) → is_numbered (codes "collect") t ≡ true → is_message t ≡ true
-collect-is t e = is-request t (right-of (is_numbered (codes "prepare") t) (is_numbered (codes "commit") t || (is_numbered (codes "commit prepared") t || (is_numbered (codes "abort") t || (is_numbered (codes "forget") t || is_numbered (codes "collect") t)))) (right-of (is_numbered (codes "commit") t) (is_numbered (codes "commit prepared") t || (is_numbered (codes "abort") t || (is_numbered (codes "forget") t || is_numbered (codes "collect") t))) (right-of (is_numbered (codes "commit prepared") t) (is_numbered (codes "abort") t || (is_numbered (codes "forget") t || is_numbered (codes "collect") t)) (right-of (is_numbered (codes "abort") t) (is_numbered (codes "forget") t || is_numbered (codes "collect") t) (right-of (is_numbered (codes "forget") t) (is_numbered (codes "collect") t) e)))))
+collect-is t e = is-request t
+    (right-of (is_numbered (codes "prepare") t)
+    (is_numbered (codes "commit") t || (is_numbered (codes "commit prepared") t || (is_numbered (codes "abort") t || (is_numbered (codes "forget") t || is_numbered (codes "collect") t))))
+    (right-of (is_numbered (codes "commit") t) (is_numbered (codes "commit prepared") t || (is_numbered (codes "abort") t || (is_numbered (codes "forget") t || is_numbered (codes "collect") t)))
+    (right-of (is_numbered (codes "commit prepared") t) (is_numbered (codes "abort") t || (is_numbered (codes "forget") t || is_numbered (codes "collect") t))
+    (right-of (is_numbered (codes "abort") t) (is_numbered (codes "forget") t || is_numbered (codes "collect") t)
+    (right-of (is_numbered (codes "forget") t) (is_numbered (codes "collect") t) e)))))
 
 prepared-is : (t : List ℕ) → is_numbered (codes "prepared") t ≡ true → is_message t ≡ true
-prepared-is t e = is-reply t (left-of (is_numbered (codes "prepared") t) (is_numbered (codes "committed") t || (is_numbered (codes "jfault") t || (is_numbered (codes "again") t || (is_numbered (codes "aborted") t || (is_numbered (codes "forgotten") t || is_numbered (codes "graph") t))))) e)
+prepared-is t e = is-reply t
+    (left-of (is_numbered (codes "prepared") t)
+    (is_numbered (codes "committed") t || (is_numbered (codes "jfault") t || (is_numbered (codes "again") t || (is_numbered (codes "aborted") t || (is_numbered (codes "forgotten") t || is_numbered (codes "graph") t))))) e)
 
 committed-is : (t : List ℕ) → is_numbered (codes "committed") t ≡ true → is_message t ≡ true
-committed-is t e = is-reply t (right-of (is_numbered (codes "prepared") t) (is_numbered (codes "committed") t || (is_numbered (codes "jfault") t || (is_numbered (codes "again") t || (is_numbered (codes "aborted") t || (is_numbered (codes "forgotten") t || is_numbered (codes "graph") t))))) (left-of (is_numbered (codes "committed") t) (is_numbered (codes "jfault") t || (is_numbered (codes "again") t || (is_numbered (codes "aborted") t || (is_numbered (codes "forgotten") t || is_numbered (codes "graph") t)))) e))
+committed-is t e = is-reply t
+    (right-of (is_numbered (codes "prepared") t)
+    (is_numbered (codes "committed") t || (is_numbered (codes "jfault") t || (is_numbered (codes "again") t || (is_numbered (codes "aborted") t || (is_numbered (codes "forgotten") t || is_numbered (codes "graph") t)))))
+    (left-of (is_numbered (codes "committed") t)
+    (is_numbered (codes "jfault") t || (is_numbered (codes "again") t || (is_numbered (codes "aborted") t || (is_numbered (codes "forgotten") t || is_numbered (codes "graph") t)))) e))
 
 jfault-is : (t : List ℕ) → is_numbered (codes "jfault") t ≡ true → is_message t ≡ true
-jfault-is t e = is-reply t (right-of (is_numbered (codes "prepared") t) (is_numbered (codes "committed") t || (is_numbered (codes "jfault") t || (is_numbered (codes "again") t || (is_numbered (codes "aborted") t || (is_numbered (codes "forgotten") t || is_numbered (codes "graph") t))))) (right-of (is_numbered (codes "committed") t) (is_numbered (codes "jfault") t || (is_numbered (codes "again") t || (is_numbered (codes "aborted") t || (is_numbered (codes "forgotten") t || is_numbered (codes "graph") t)))) (left-of (is_numbered (codes "jfault") t) (is_numbered (codes "again") t || (is_numbered (codes "aborted") t || (is_numbered (codes "forgotten") t || is_numbered (codes "graph") t))) e)))
+jfault-is t e = is-reply t
+    (right-of (is_numbered (codes "prepared") t)
+    (is_numbered (codes "committed") t || (is_numbered (codes "jfault") t || (is_numbered (codes "again") t || (is_numbered (codes "aborted") t || (is_numbered (codes "forgotten") t || is_numbered (codes "graph") t)))))
+    (right-of (is_numbered (codes "committed") t)
+    (is_numbered (codes "jfault") t || (is_numbered (codes "again") t || (is_numbered (codes "aborted") t || (is_numbered (codes "forgotten") t || is_numbered (codes "graph") t))))
+    (left-of (is_numbered (codes "jfault") t) (is_numbered (codes "again") t || (is_numbered (codes "aborted") t || (is_numbered (codes "forgotten") t || is_numbered (codes "graph") t))) e)))
 
 again-is : (t : List ℕ) → is_numbered (codes "again") t ≡ true → is_message t ≡ true
-again-is t e = is-reply t (right-of (is_numbered (codes "prepared") t) (is_numbered (codes "committed") t || (is_numbered (codes "jfault") t || (is_numbered (codes "again") t || (is_numbered (codes "aborted") t || (is_numbered (codes "forgotten") t || is_numbered (codes "graph") t))))) (right-of (is_numbered (codes "committed") t) (is_numbered (codes "jfault") t || (is_numbered (codes "again") t || (is_numbered (codes "aborted") t || (is_numbered (codes "forgotten") t || is_numbered (codes "graph") t)))) (right-of (is_numbered (codes "jfault") t) (is_numbered (codes "again") t || (is_numbered (codes "aborted") t || (is_numbered (codes "forgotten") t || is_numbered (codes "graph") t))) (left-of (is_numbered (codes "again") t) (is_numbered (codes "aborted") t || (is_numbered (codes "forgotten") t || is_numbered (codes "graph") t)) e))))
+again-is t e = is-reply t
+    (right-of (is_numbered (codes "prepared") t)
+    (is_numbered (codes "committed") t || (is_numbered (codes "jfault") t || (is_numbered (codes "again") t || (is_numbered (codes "aborted") t || (is_numbered (codes "forgotten") t || is_numbered (codes "graph") t)))))
+    (right-of (is_numbered (codes "committed") t)
+    (is_numbered (codes "jfault") t || (is_numbered (codes "again") t || (is_numbered (codes "aborted") t || (is_numbered (codes "forgotten") t || is_numbered (codes "graph") t))))
+    (right-of (is_numbered (codes "jfault") t) (is_numbered (codes "again") t || (is_numbered (codes "aborted") t || (is_numbered (codes "forgotten") t || is_numbered (codes "graph") t)))
+    (left-of (is_numbered (codes "again") t) (is_numbered (codes "aborted") t || (is_numbered (codes "forgotten") t || is_numbered (codes "graph") t)) e))))
 
 aborted-is : (t : List ℕ) → is_numbered (codes "aborted") t ≡ true → is_message t ≡ true
-aborted-is t e = is-reply t (right-of (is_numbered (codes "prepared") t) (is_numbered (codes "committed") t || (is_numbered (codes "jfault") t || (is_numbered (codes "again") t || (is_numbered (codes "aborted") t || (is_numbered (codes "forgotten") t || is_numbered (codes "graph") t))))) (right-of (is_numbered (codes "committed") t) (is_numbered (codes "jfault") t || (is_numbered (codes "again") t || (is_numbered (codes "aborted") t || (is_numbered (codes "forgotten") t || is_numbered (codes "graph") t)))) (right-of (is_numbered (codes "jfault") t) (is_numbered (codes "again") t || (is_numbered (codes "aborted") t || (is_numbered (codes "forgotten") t || is_numbered (codes "graph") t))) (right-of (is_numbered (codes "again") t) (is_numbered (codes "aborted") t || (is_numbered (codes "forgotten") t || is_numbered (codes "graph") t)) (left-of (is_numbered (codes "aborted") t) (is_numbered (codes "forgotten") t || is_numbered (codes "graph") t) e)))))
+aborted-is t e = is-reply t
+    (right-of (is_numbered (codes "prepared") t)
+    (is_numbered (codes "committed") t || (is_numbered (codes "jfault") t || (is_numbered (codes "again") t || (is_numbered (codes "aborted") t || (is_numbered (codes "forgotten") t || is_numbered (codes "graph") t)))))
+    (right-of (is_numbered (codes "committed") t)
+    (is_numbered (codes "jfault") t || (is_numbered (codes "again") t || (is_numbered (codes "aborted") t || (is_numbered (codes "forgotten") t || is_numbered (codes "graph") t))))
+    (right-of (is_numbered (codes "jfault") t) (is_numbered (codes "again") t || (is_numbered (codes "aborted") t || (is_numbered (codes "forgotten") t || is_numbered (codes "graph") t)))
+    (right-of (is_numbered (codes "again") t) (is_numbered (codes "aborted") t || (is_numbered (codes "forgotten") t || is_numbered (codes "graph") t))
+    (left-of (is_numbered (codes "aborted") t) (is_numbered (codes "forgotten") t || is_numbered (codes "graph") t) e)))))
 
 forgotten-is : (t : List ℕ) → is_numbered (codes "forgotten") t ≡ true → is_message t ≡ true
-forgotten-is t e = is-reply t (right-of (is_numbered (codes "prepared") t) (is_numbered (codes "committed") t || (is_numbered (codes "jfault") t || (is_numbered (codes "again") t || (is_numbered (codes "aborted") t || (is_numbered (codes "forgotten") t || is_numbered (codes "graph") t))))) (right-of (is_numbered (codes "committed") t) (is_numbered (codes "jfault") t || (is_numbered (codes "again") t || (is_numbered (codes "aborted") t || (is_numbered (codes "forgotten") t || is_numbered (codes "graph") t)))) (right-of (is_numbered (codes "jfault") t) (is_numbered (codes "again") t || (is_numbered (codes "aborted") t || (is_numbered (codes "forgotten") t || is_numbered (codes "graph") t))) (right-of (is_numbered (codes "again") t) (is_numbered (codes "aborted") t || (is_numbered (codes "forgotten") t || is_numbered (codes "graph") t)) (right-of (is_numbered (codes "aborted") t) (is_numbered (codes "forgotten") t || is_numbered (codes "graph") t) (left-of (is_numbered (codes "forgotten") t) (is_numbered (codes "graph") t) e))))))
+forgotten-is t e = is-reply t
+    (right-of (is_numbered (codes "prepared") t)
+    (is_numbered (codes "committed") t || (is_numbered (codes "jfault") t || (is_numbered (codes "again") t || (is_numbered (codes "aborted") t || (is_numbered (codes "forgotten") t || is_numbered (codes "graph") t)))))
+    (right-of (is_numbered (codes "committed") t)
+    (is_numbered (codes "jfault") t || (is_numbered (codes "again") t || (is_numbered (codes "aborted") t || (is_numbered (codes "forgotten") t || is_numbered (codes "graph") t))))
+    (right-of (is_numbered (codes "jfault") t) (is_numbered (codes "again") t || (is_numbered (codes "aborted") t || (is_numbered (codes "forgotten") t || is_numbered (codes "graph") t)))
+    (right-of (is_numbered (codes "again") t) (is_numbered (codes "aborted") t || (is_numbered (codes "forgotten") t || is_numbered (codes "graph") t))
+    (right-of (is_numbered (codes "aborted") t) (is_numbered (codes "forgotten") t || is_numbered (codes "graph") t)
+    (left-of (is_numbered (codes "forgotten") t) (is_numbered (codes "graph") t) e))))))
 
 graph-is : (t : List ℕ) → is_numbered (codes "graph") t ≡ true → is_message t ≡ true
-graph-is t e = is-reply t (right-of (is_numbered (codes "prepared") t) (is_numbered (codes "committed") t || (is_numbered (codes "jfault") t || (is_numbered (codes "again") t || (is_numbered (codes "aborted") t || (is_numbered (codes "forgotten") t || is_numbered (codes "graph") t))))) (right-of (is_numbered (codes "committed") t) (is_numbered (codes "jfault") t || (is_numbered (codes "again") t || (is_numbered (codes "aborted") t || (is_numbered (codes "forgotten") t || is_numbered (codes "graph") t)))) (right-of (is_numbered (codes "jfault") t) (is_numbered (codes "again") t || (is_numbered (codes "aborted") t || (is_numbered (codes "forgotten") t || is_numbered (codes "graph") t))) (right-of (is_numbered (codes "again") t) (is_numbered (codes "aborted") t || (is_numbered (codes "forgotten") t || is_numbered (codes "graph") t)) (right-of (is_numbered (codes "aborted") t) (is_numbered (codes "forgotten") t || is_numbered (codes "graph") t) (right-of (is_numbered (codes "forgotten") t) (is_numbered (codes "graph") t) e))))))
+graph-is t e = is-reply t
+    (right-of (is_numbered (codes "prepared") t)
+    (is_numbered (codes "committed") t || (is_numbered (codes "jfault") t || (is_numbered (codes "again") t || (is_numbered (codes "aborted") t || (is_numbered (codes "forgotten") t || is_numbered (codes "graph") t)))))
+    (right-of (is_numbered (codes "committed") t)
+    (is_numbered (codes "jfault") t || (is_numbered (codes "again") t || (is_numbered (codes "aborted") t || (is_numbered (codes "forgotten") t || is_numbered (codes "graph") t))))
+    (right-of (is_numbered (codes "jfault") t) (is_numbered (codes "again") t || (is_numbered (codes "aborted") t || (is_numbered (codes "forgotten") t || is_numbered (codes "graph") t)))
+    (right-of (is_numbered (codes "again") t) (is_numbered (codes "aborted") t || (is_numbered (codes "forgotten") t || is_numbered (codes "graph") t))
+    (right-of (is_numbered (codes "aborted") t) (is_numbered (codes "forgotten") t || is_numbered (codes "graph") t)
+    (right-of (is_numbered (codes "forgotten") t) (is_numbered (codes "graph") t) e))))))
 
 reply-there : (g : Gxid) (r : Reply) → IsGxid g × IsReply r → is_message (text_of_message (message.Answer g r)) ≡ true
 reply-there g (reply.Done c wrote count part) is =
