@@ -1,0 +1,11 @@
+-- What the lines of a text that may be shown are read as.
+use Rattle.std.specs.Prelude.{◌≡◌, ℕ, ◌^◌, ◌<◌, List, length, All, Some}
+use Rattle.gx_script.specs.declared.Script.{Script}
+use Rattle.gx_trace.specs.declared.seen.Seen.{Seen}
+use Rattle.gx_read_trace.specs.Machine.{Mid, ended, run, start}
+
+-- the lines lead from the start to an end at which this was seen
+pub record AreReadAs (script : Script) (lines : List (List ℕ)) (seen : Seen) : Type 0 where
+  pub last : Mid
+  pub leads : run script lines (start script) ≡ Some last
+  pub tells : ended last.so_far last.next ≡ Some seen

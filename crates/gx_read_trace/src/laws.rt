@@ -1,0 +1,18 @@
+//! What the lines of a text are read as that may be shown.
+ghost use Rattle.std.specs.Prelude.{◌≡◌, ◌+◌, ◌^◌, ◌<◌, length};
+ghost use Rattle.gx_script.specs.declared.Script.{Script as AnyScript};
+ghost use Rattle.gx_trace.specs.Shown.{IsShown};
+ghost use Rattle.gx_trace.specs.ShownText.{shown_text};
+ghost use Rattle.gx_trace.specs.declared.seen.Seen.{Seen as AnySeen};
+ghost use Rattle.gx_read_trace.specs.Lines.{fed, seen_lines};
+ghost use Rattle.gx_read_trace.specs.Reading.{AreReadAs};
+
+/// The lines of what a script's run may show, each with its line feed, are its text.
+pub fn lines_are_the_text()
+    ensures { (script : AnyScript) (seen : AnySeen) → IsShown script seen → fed (seen_lines script seen) ≡ shown_text script seen }
+{}
+
+/// The reader, which takes a line at a time, reads them as what they show.
+pub fn printed_lines_are_read()
+    ensures { (script : AnyScript) (seen : AnySeen) → length script.lines + 1 < 2 ^ 32 → IsShown script seen → AreReadAs script (seen_lines script seen) seen }
+{}

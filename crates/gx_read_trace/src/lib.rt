@@ -1,0 +1,6 @@
+//! A run's printed text and trace, read back a line at a time.
+#![tactic(auto)]
+
+mod laws;
+
+pub use laws::{lines_are_the_text, printed_lines_are_read};
