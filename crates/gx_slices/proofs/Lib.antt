@@ -39,3 +39,5 @@ pub mod Starting
 pub mod Progressing
 pub mod AfterSweep
 pub mod SweptTwice
+pub mod Listed
+pub mod Told

@@ -16,7 +16,8 @@ use Rattle.gx_rows.specs.Rows.{last_passing, is_unaborted}
 use Rattle.gx_rows.specs.Counts.{counts, is_committed, is_seen, shown_of}
 use Rattle.gx_rows.specs.Counts as counted
 use Rattle.gx_slices.specs.Store.{Write, current_of, is_by, is_own, is_shown, kept_at, newest_of, shown_row, writes_of}
-use Rattle.gx_slices.specs.Filed.{IsSound, current_at, last_unaborted, store_of, write_of}
+use Rattle.gx_slices.specs.Filed.{IsSound, current_at, last_unaborted, newest_at, store_of, write_of}
+use Rattle.gx_slices.specs.Changing.{newest_as}
 use Rattle.gx_slices.proofs.KeptVersions.{kept_at-map}
 use Rattle.gx_slices.proofs.Lists.{last_passing-cons, or_mapped}
 use Rattle.gx_slices.proofs.Statuses.{none_some, some_same}
@@ -112,3 +113,6 @@ module _ (tables : List (Table × List (Rid × List Version))) (x : Xids) (sound
 
     pub current_of-newest : option_map (current_at x) (last_unaborted (kept_at tables table rid) x) ≡ option_map current_of (newest_of (store_of tables x) table rid)
     current_of-newest = map_twice (write_of x) current_of (last_unaborted (kept_at tables table rid) x) ∙ ap (option_map current_of) newest_of-last_unaborted
+
+    pub newest_at-newest : option_map (newest_at x) (last_unaborted (kept_at tables table rid) x) ≡ option_map newest_as (newest_of (store_of tables x) table rid)
+    newest_at-newest = map_twice (write_of x) newest_as (last_unaborted (kept_at tables table rid) x) ∙ ap (option_map newest_as) newest_of-last_unaborted

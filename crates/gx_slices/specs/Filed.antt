@@ -14,10 +14,11 @@ use Rattle.gx_dsnap.specs.declared.snapshot.Snapshot.{Snapshot}
 use Rattle.gx_rows.specs.declared.status.LocalStatus.{LocalStatus}
 use Rattle.gx_rows.specs.Xids.{Xids, is_given, lxid_of, gxid_of, assigned, status_of, with_status}
 use Rattle.gx_rows.specs.declared.version.Version.{Version}
-use Rattle.gx_rows.specs.Rows.{versions_of, added, rids_of, last_passing, is_unaborted}
+use Rattle.gx_rows.specs.Rows.{versions_of, added, is_of_table, rids_of, last_passing, is_unaborted}
 use Rattle.gx_rows.specs.Counts.{shown_of}
 use Rattle.gx_slices.specs.Store.{Store, Write, kept_at, table_cmp}
 use Rattle.gx_slices.specs.declared.current.Current.{Current}
+use Rattle.gx_slices.specs.declared.newest.Newest.{Newest}
 
 abbrev pub write_of : Xids → Version → Write
 write_of x v = record { writer = gxid_of x v.lxid; cid = v.cid; status = status_of x v.lxid; image = v.image }
@@ -54,9 +55,13 @@ filed tables table rid v = insert_entry table_cmp tables table (added (versions_
 abbrev pub with_writer : Xids → Gxid → Xids
 with_writer x g = if is_some (lxid_of x g) then x else assigned x g
 
--- the row that a rid shows to a reader which has this lxid
+-- the row that versions show to a reader which has this lxid
+abbrev pub image_of : List Version → Xids → Snapshot → Option Lxid → Cid → Option (List Value)
+image_of versions x snap own cid = option_and_then (λ v. v.image) (shown_of versions x snap own cid)
+
+-- the row that a rid shows
 abbrev pub image_at : List (Rid × List Version) → Xids → Snapshot → Option Lxid → Cid → Rid → Option (List Value)
-image_at versions x snap own cid rid = option_and_then (λ v. v.image) (shown_of (versions_of versions rid) x snap own cid)
+image_at versions x snap own cid rid = image_of (versions_of versions rid) x snap own cid
 
 -- a row with its identity, if it is there
 abbrev pub keyed : Rid → Option (List Value) → List KeyedRow
@@ -67,6 +72,14 @@ keyed rid (Some row) = (record { rid = rid; row = row }) ∷ []
 abbrev pub rows_at : List (Rid × List Version) → Xids → Table → Snapshot → Option Lxid → Cid → List KeyedRow
 rows_at versions x table snap own cid = flat_map (λ rid. keyed rid (image_at versions x snap own cid rid)) (rids_of versions table)
 
+-- the row of a rid, if its versions are of the table and show one
+abbrev pub rows_in_entry : Xids → Table → Snapshot → Option Lxid → Cid → Rid × List Version → List KeyedRow
+rows_in_entry x table snap own cid e = if is_of_table table e then keyed e.0 (image_of e.1 x snap own cid) else []
+
+-- the same rows, as the versions of each rid show them
+abbrev pub listed_rows : List (Rid × List Version) → Xids → Table → Snapshot → Option Lxid → Cid → List KeyedRow
+listed_rows versions x table snap own cid = flat_map (rows_in_entry x table snap own cid) versions
+
 -- the last of the versions that isn't aborted
 abbrev pub last_unaborted : List Version → Xids → Option Version
 last_unaborted versions x = last_passing (λ v. is_unaborted (status_of x v.lxid)) versions
@@ -74,6 +87,10 @@ last_unaborted versions x = last_passing (λ v. is_unaborted (status_of x v.lxid
 -- who wrote a version, where that is known, and by which command
 abbrev pub current_at : Xids → Version → Current
 current_at x v = record { writer = gxid_of x v.lxid; cid = v.cid }
+
+-- a version with its writer, where that is known
+abbrev pub newest_at : Xids → Version → Newest
+newest_at x v = record { writer = gxid_of x v.lxid; cid = v.cid; image = v.image }
 
 -- with this status of a transaction, if it is here
 abbrev pub with_status_at : Option Lxid → Xids → LocalStatus → Xids

@@ -55,6 +55,11 @@ pub record IsFaulted (g : Gxid) (c : Cid) (row : KeyedRow) (fault : ArithFault) 
   pub marks : ran.marks ≡ select_marks g c (Some (row, fault))
   pub reply : ran.reply ≡ Failed c (cause_of fault)
 
+-- what a SELECT comes to by what its condition made of rows
+abbrev pub IsToldOf : Gxid → Cid → Bool → Query → Picked → Ran → Type 0
+IsToldOf g c wrote query (picked.Rows kept) ran = (ran.marks ≡ []) × (ran.reply ≡ Done c wrote 0 (part_of query kept.items))
+IsToldOf g c wrote query (picked.Fault row fault) ran = IsFaulted g c row fault ran
+
 -- what a SELECT comes to on these rows
 pub record IsSelected (g : Gxid) (c : Cid) (wrote : Bool) (query : Query) (rows : List KeyedRow) (ran : Ran) : Type 0 where
   pub marks : ran.marks ≡ select_marks g c (first_fault query.cond rows)

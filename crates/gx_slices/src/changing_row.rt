@@ -14,7 +14,7 @@ ghost use Rattle.gx_slices.specs.Changing.{Came, IsAt, IsFree, IsRightImage, IsT
 use crate::change::Change;
 use crate::changing::{Writer, write_row};
 use crate::held::{Entry, Held};
-use crate::newest::{Newest, awaited, newest_version, overtaker};
+use crate::newest::{Newest, awaited, overtaker};
 use crate::selecting::cause;
 use crate::setting::new_image;
 use gx_eval::decide;
@@ -323,7 +323,7 @@ fn look_at(
     ensures { IfOk result (λ end. Came stage change.now.writer.gxid held.new entry.new marks.new.items
         (rule.looked_at stage.moved change.now.writer.gxid (change_in change.now) rid) end) }
 {
-    match newest_version(alloc, &held.store, change.writer.table, rid)? {
+    match held.store.newest(change.writer.table, rid)? {
         Some(newest) => come_to(alloc, change, held, entry, rid, newest, marks),
         None => skip(change, rid, marks),
     }

@@ -12,27 +12,28 @@ ghost use Rattle.gx_tree.specs.declared.schema.Dist.{Dist};
 ghost use Rattle.gx_slices.specs.Keyed.{IsKeyed, IsShownFor, IsWanted, key_column};
 
 use crate::reading::{rows_in, rows_of};
+use crate::shown_row::ShownRow;
 use gx_dsnap::Snapshot;
 use gx_ids::{Cid, Lxid, Mem, Rid, Table};
 use gx_plan::wanted_key;
 use gx_rows::{Versions, XidMap};
 use gx_sweep::KeyIndex;
-use gx_tree::{Cond, Dist, KeyedRow, Value};
+use gx_tree::{Cond, Dist, Value};
 use std::alloc::Global;
 use std::collections::BTreeMap;
 
 // Of the rows that the index has under this value those that are shown, rising; some may have another value by now.
-fn rows_under_key(
+fn rows_under_key<'a>(
     alloc: Global,
     index: &KeyIndex,
-    tables: &BTreeMap<Table, Versions>,
+    tables: &'a BTreeMap<Table, Versions>,
     xids: &XidMap,
     table: Table,
     value: &Value,
     snap: &Snapshot,
     own: Option<Lxid>,
     cid: Cid,
-) -> Mem<Vec<KeyedRow>>
+) -> Mem<Vec<ShownRow<'a>>>
     ensures whole { IfOk result (λ rows. rows.items
         ≡ flat_map (λ rid. keyed rid (image_at (versions_in tables.now.entries table) xids.now snap.now own cid rid)) (rids_under index.now (key_at table value.now))) }
     ensures rising { IfOk result (λ rows. AreRising rows.items) }
@@ -65,10 +66,10 @@ fn wanted(column: u8, cond: &Option<Cond>) -> Option<&Value>
 }
 
 // The rows that are shown without some on which the condition is false, rising, where the table is distributed by this column.
-fn rows_by_column(
+fn rows_by_column<'a>(
     alloc: Global,
     index: &KeyIndex,
-    tables: &BTreeMap<Table, Versions>,
+    tables: &'a BTreeMap<Table, Versions>,
     xids: &XidMap,
     table: Table,
     column: u8,
@@ -76,7 +77,7 @@ fn rows_by_column(
     snap: &Snapshot,
     own: Option<Lxid>,
     cid: Cid,
-) -> Mem<Vec<KeyedRow>>
+) -> Mem<Vec<ShownRow<'a>>>
     ghost dists: { List Dist }
     requires keyed { IsKeyed dists index.now tables.now.entries xids.now }
     requires key { key_column (slice_get dists table.0) ≡ Some column }
@@ -90,18 +91,18 @@ fn rows_by_column(
 }
 
 // The same, however the table is distributed.
-pub(crate) fn rows_to_test(
+pub(crate) fn rows_to_test<'a>(
     alloc: Global,
     dists: &[Dist],
     index: &KeyIndex,
-    tables: &BTreeMap<Table, Versions>,
+    tables: &'a BTreeMap<Table, Versions>,
     xids: &XidMap,
     table: Table,
     cond: &Option<Cond>,
     snap: &Snapshot,
     own: Option<Lxid>,
     cid: Cid,
-) -> Mem<Vec<KeyedRow>>
+) -> Mem<Vec<ShownRow<'a>>>
     ghost all: { List Dist }
     requires dists { dists.now ≡ all }
     requires keyed { IsKeyed all index.now tables.now.entries xids.now }

@@ -26,6 +26,7 @@ mod reading;
 pub mod running;
 mod selecting;
 mod setting;
+mod shown_row;
 pub mod store;
 mod suspending;
 mod sweeping;

@@ -1,18 +1,16 @@
 // The newest version of a row.
-ghost use Rattle.std.specs.Prelude.{◌≡◌, ◌≤◌, IfOk, option_map, Some};
+ghost use Rattle.std.specs.Prelude.{◌≡◌, ◌≤◌, IfOk, Some};
 ghost use Rattle.std.specs.Option.{ForSome};
-ghost use Rattle.gx_slices.specs.Store.{newest_of};
-ghost use Rattle.gx_slices.specs.Changing.{awaited_in, newest_as, overtaker_in};
+ghost use Rattle.gx_slices.specs.Changing.{awaited_in, overtaker_in};
 
 use crate::change::Change;
 use crate::changing::own_lock;
 use crate::store::LocalStore;
-use gx_ids::{Cid, Duplicate, Gxid, Mem, Rid, Table};
+use gx_ids::{Cid, Gxid, Mem};
 use gx_locks::LockTable;
 use gx_node::is_held;
 use gx_rows::LocalStatus;
 use gx_tree::Row;
-use std::alloc::Global;
 
 /// The newest version of a row that isn't aborted: who wrote it, where that isn't below the horizon, by which command, and the row
 /// that it left; none is the row gone.
@@ -21,31 +19,6 @@ pub(crate) struct Newest {
     pub writer: Option<Gxid>,
     pub cid: Cid,
     pub image: Option<Row>,
-}
-
-pub(crate) fn newest_version(
-    alloc: Global,
-    store: &LocalStore,
-    table: Table,
-    rid: Rid,
-) -> Mem<Option<Newest>>
-    ensures { IfOk result (λ newest. newest ≡ option_map newest_as (newest_of store.now table rid)) }
-{
-    let image = match store.current_row(table, rid) {
-        Some(row) => Some(row.copy(alloc)?),
-        None => None,
-    };
-    match store.current(table, rid) {
-        Some(current) => Ok(Some(Newest {
-            writer: current.writer,
-            cid: current.cid,
-            image,
-        })),
-        None => {
-            drop(image);
-            Ok(None)
-        }
-    }
 }
 
 // Whom a command awaits at a row: who has written it, unless that is its own transaction or has ended here, where it doesn't hold

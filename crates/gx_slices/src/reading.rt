@@ -1,16 +1,20 @@
 ghost use Rattle.std.specs.Prelude.{◌≡◌, ◌++◌, IfOk, OnOk, option_map, option_and_then};
+ghost use Rattle.std.specs.BTreeMap.{IsOrdered};
 ghost use Rattle.std.specs.List.{flat_map};
 ghost use Rattle.std.specs.Option.{option_copied};
 ghost use Rattle.gx_meaning.specs.Answer.{AreRising};
+ghost use Rattle.gx_rows.specs.Rids.{rid_cmp};
 ghost use Rattle.gx_rows.specs.Xids.{lxid_of};
 ghost use Rattle.gx_slices.specs.Store.{kept_at};
-ghost use Rattle.gx_slices.specs.Filed.{current_at, image_at, keyed, last_unaborted, rows_at, versions_in};
+ghost use Rattle.gx_slices.specs.Filed.{current_at, image_at, image_of, keyed, last_unaborted, listed_rows, newest_at, rows_at, rows_in_entry, versions_in};
 
 use crate::current::Current;
+use crate::newest::Newest;
+use crate::shown_row::{ShownRow, push_shown};
 use gx_dsnap::Snapshot;
 use gx_ids::{Cid, Duplicate, Gxid, Lxid, Mem, Rid, Table};
-use gx_rows::{Version, Versions, XidMap, shown};
-use gx_tree::{KeyedRow, Row};
+use gx_rows::{Version, VersionList, Versions, XidMap, shown};
+use gx_tree::Row;
 use std::alloc::Global;
 use std::collections::BTreeMap;
 
@@ -25,15 +29,15 @@ pub(crate) fn own_lxid(xids: &XidMap, own: Option<Gxid>) -> Option<Lxid>
 }
 
 // The rows that a table shows, rising.
-pub(crate) fn rows_in(
+pub(crate) fn rows_in<'a>(
     alloc: Global,
-    tables: &BTreeMap<Table, Versions>,
+    tables: &'a BTreeMap<Table, Versions>,
     xids: &XidMap,
     table: Table,
     snap: &Snapshot,
     own: Option<Lxid>,
     cid: Cid,
-) -> Mem<Vec<KeyedRow>>
+) -> Mem<Vec<ShownRow<'a>>>
     ensures whole { IfOk result (λ rows. rows.items ≡ rows_at (versions_in tables.now.entries table) xids.now table snap.now own cid) }
     ensures rising { IfOk result (λ rows. AreRising rows.items) }
 {
@@ -44,65 +48,92 @@ pub(crate) fn rows_in(
 }
 
 // The rows that the versions of one table show, rising.
-fn rows_shown(
+fn rows_shown<'a>(
     alloc: Global,
-    versions: &Versions,
+    versions: &'a Versions,
     xids: &XidMap,
     table: Table,
     snap: &Snapshot,
     own: Option<Lxid>,
     cid: Cid,
-) -> Mem<Vec<KeyedRow>>
+) -> Mem<Vec<ShownRow<'a>>>
     ensures whole { IfOk result (λ rows. rows.items ≡ rows_at versions.now xids.now table snap.now own cid) }
     ensures rising { IfOk result (λ rows. AreRising rows.items) }
 {
-    let rids = versions.rids(table)?;
-    rows_of(alloc, versions, xids, rids.as_slice(), snap, own, cid)
+    rows_listed(alloc, versions.lists(), xids, table, snap, own, cid)
+}
+
+// The rows that lists of versions show, in the order of their rids.
+fn rows_listed<'a>(
+    alloc: Global,
+    lists: &'a BTreeMap<Rid, VersionList>,
+    xids: &XidMap,
+    table: Table,
+    snap: &Snapshot,
+    own: Option<Lxid>,
+    cid: Cid,
+) -> Mem<Vec<ShownRow<'a>>>
+    ensures whole { IfOk result (λ rows. rows.items ≡ listed_rows lists.now.entries xids.now table snap.now own cid) }
+    ensures ordered { IsOrdered rid_cmp lists.now }
+{
+    let mut rows = Vec::new(alloc);
+    for (rid, list) in lists {
+        push_entry(&mut rows, *rid, list, xids, table, snap, own, cid)?;
+    }
+    Ok(rows)
+}
+
+// Adds the row of a rid, if its versions are of the table and show one.
+fn push_entry<'a>(
+    rows: &mut Vec<ShownRow<'a>>,
+    rid: Rid,
+    list: &'a VersionList,
+    xids: &XidMap,
+    table: Table,
+    snap: &Snapshot,
+    own: Option<Lxid>,
+    cid: Cid,
+) -> Mem<()>
+    ensures { OnOk result (rows.new.items ≡ rows.old.items ++ rows_in_entry xids.now table snap.now own cid (rid, list.now)) }
+{
+    if list.is_of(table) {
+        let row = row_in(list.as_slice(), xids, snap, own, cid);
+        push_shown(rows, rid, row)?;
+    }
+    Ok(())
 }
 
 // The rows that these rids show, in their order.
-pub(crate) fn rows_of(
+pub(crate) fn rows_of<'a>(
     alloc: Global,
-    versions: &Versions,
+    versions: &'a Versions,
     xids: &XidMap,
     rids: &[Rid],
     snap: &Snapshot,
     own: Option<Lxid>,
     cid: Cid,
-) -> Mem<Vec<KeyedRow>>
+) -> Mem<Vec<ShownRow<'a>>>
     ensures { IfOk result (λ rows. rows.items ≡ flat_map (λ rid. keyed rid (image_at versions.now xids.now snap.now own cid rid)) rids.now) }
 {
     let mut rows = Vec::new(alloc);
     for rid in rids {
-        let row = row_shown(versions, xids, *rid, snap, own, cid);
-        push_keyed(alloc, &mut rows, *rid, row)?;
+        let row = row_in(versions.of(*rid), xids, snap, own, cid);
+        push_shown(&mut rows, *rid, row)?;
     }
     Ok(rows)
 }
 
-// Adds a row, if there is one.
-fn push_keyed(alloc: Global, rows: &mut Vec<KeyedRow>, rid: Rid, row: Option<&Row>) -> Mem<()>
-    ensures { OnOk result (rows.new.items ≡ rows.old.items ++ keyed rid (option_copied row.entry)) }
-{
-    if let Some(row) = row {
-        let row = row.copy(alloc)?;
-        rows.push(KeyedRow { rid, row })?;
-    }
-    Ok(())
-}
-
-// The row that a rid shows, none where it is gone or unknown.
-fn row_shown<'a>(
-    versions: &'a Versions,
+// The row that versions show, none where it is gone.
+fn row_in<'a>(
+    versions: &'a [Version],
     xids: &XidMap,
-    rid: Rid,
     snap: &Snapshot,
     own: Option<Lxid>,
     cid: Cid,
 ) -> Option<&'a Row>
-    ensures { option_copied result ≡ image_at versions.now xids.now snap.now own cid rid }
+    ensures { option_copied result ≡ image_of versions.now xids.now snap.now own cid }
 {
-    let version = shown(versions.of(rid), xids, snap, own, cid)?;
+    let version = shown(versions, xids, snap, own, cid)?;
     version.image.as_ref()
 }
 
@@ -133,6 +164,26 @@ pub(crate) fn current_row_in<'a>(
 {
     let version = newest(tables, xids, table, rid)?;
     version.image.as_ref()
+}
+
+// A copy of what it left, with who wrote it.
+pub(crate) fn newest_in(
+    alloc: Global,
+    tables: &BTreeMap<Table, Versions>,
+    xids: &XidMap,
+    table: Table,
+    rid: Rid,
+) -> Mem<Option<Newest>>
+    ensures { IfOk result (λ found. found ≡ option_map (newest_at xids.now) (last_unaborted (kept_at tables.now.entries table rid) xids.now)) }
+{
+    match newest(tables, xids, table, rid) {
+        Some(version) => Ok(Some(Newest {
+            writer: xids.gxid_of(version.lxid),
+            cid: version.cid,
+            image: version.image.copy(alloc)?,
+        })),
+        None => Ok(None),
+    }
 }
 
 fn newest<'a>(

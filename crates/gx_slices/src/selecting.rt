@@ -5,7 +5,7 @@ ghost use Rattle.gx_rules.specs.Slices.{cause_of, reads};
 ghost use Rattle.gx_tree.specs.declared.slice.Slice.TheVariants as slice;
 ghost use Rattle.gx_slices.specs.Agrees.{IsHeld};
 ghost use Rattle.gx_slices.specs.Apart.{IsBack, answered};
-ghost use Rattle.gx_slices.specs.Picked.{AreTypedOn, IsFaulted, IsSelected};
+ghost use Rattle.gx_slices.specs.Picked.{IsFaulted, IsToldOf};
 ghost use Rattle.gx_slices.specs.Ran.{HasRun, MayRun};
 
 use crate::answering::{has_written, keep_answer};
@@ -62,9 +62,10 @@ fn select_by(
     let rows = held
         .store
         .shown_rows_for(query.table, &query.cond, snapshot, Some(gxid), cid)?;
+    let picked = pick(alloc, &query.cond, rows)?;
     let entry = take_entry(alloc, &mut held.entries, gxid);
     let wrote = has_written(entry.local.phase);
-    match selection(alloc, gxid, cid, wrote, query, rows) {
+    match selection(alloc, gxid, cid, wrote, query, picked) {
         Ok(ran) => keep_ran(alloc, held, gxid, cid, entry, ran),
         Err(error) => {
             drop(entry);
@@ -93,19 +94,18 @@ fn keep_ran(
     }
 }
 
-// What the query comes to on the rows that are shown.
+// What the query comes to by what its condition makes of the rows that are shown.
 fn selection(
     alloc: Global,
     gxid: Gxid,
     cid: Cid,
     wrote: bool,
     query: &Query,
-    rows: Vec<KeyedRow>,
+    picked: Picked,
 ) -> Mem<Ran>
-    requires { AreTypedOn query.now.cond rows.items }
-    ensures { IfOk result (IsSelected gxid cid wrote query.now rows.items) }
+    ensures { IfOk result (IsToldOf gxid cid wrote query.now picked) }
 {
-    match pick(alloc, &query.cond, rows)? {
+    match picked {
         Picked::Rows(kept) => {
             let part = Shared::new(alloc, partial(alloc, query, kept.as_slice())?)?;
             Ok(Ran {

@@ -11,8 +11,10 @@ ghost use Rattle.gx_slices.specs.Store.{empty, writes_of, status_of, shown_row, 
 
 use crate::current::Current;
 use crate::finding::rows_to_test;
+use crate::newest::Newest;
 use crate::no_rows::NoRows;
-use crate::reading::{current_in, current_row_in, own_lxid, rows_in};
+use crate::reading::{current_in, current_row_in, newest_in, own_lxid, rows_in};
+use crate::shown_row::{ShownRow, to_all_keyed};
 use crate::sweeping::sweep_in;
 use crate::writing::{set_status_in, status_in, write_keyed};
 use gx_dsnap::Snapshot;
@@ -170,18 +172,19 @@ impl LocalStore {
         ensures images { IfOk result (λ rows. (rid : Rid) → row_at rows.items rid ≡ shown_row self.now snap.now own cid table rid) }
     {
         let own = own_lxid(&self.xids, own);
-        rows_in(self.alloc, &self.tables, &self.xids, table, snap, own, cid)
+        let rows = rows_in(self.alloc, &self.tables, &self.xids, table, snap, own, cid)?;
+        to_all_keyed(self.alloc, rows.as_slice())
     }
 
     /// The rows that a reader is shown, less some on which the condition, where it has a meaning on them, is false without a fault.
-    pub fn shown_rows_for(
+    pub(crate) fn shown_rows_for(
         &self,
         table: Table,
         cond: &Option<Cond>,
         snap: &Snapshot,
         own: Option<Gxid>,
         cid: Cid,
-    ) -> Mem<Vec<KeyedRow>>
+    ) -> Mem<Vec<ShownRow<'_>>>
         requires alive { ForSome own (λ g. self.now.horizon.0 ≤ g.0) }
         ensures rising { IfOk result (λ rows. AreRising rows.items) }
         ensures images { IfOk result (λ rows. (rid : Rid) → IsShownFor cond.now (shown_row self.now snap.now own cid table rid) (row_at rows.items rid)) }
@@ -199,6 +202,13 @@ impl LocalStore {
             own,
             cid,
         )
+    }
+
+    /// The newest write to a row that isn't aborted here, with a copy of the row that it left; none where there is none.
+    pub(crate) fn newest(&self, table: Table, rid: Rid) -> Mem<Option<Newest>>
+        ensures { IfOk result (λ found. found ≡ option_map (λ w. record { writer = w.writer; cid = w.cid; image = w.image }) (newest_of self.now table rid)) }
+    {
+        newest_in(self.alloc, &self.tables, &self.xids, table, rid)
     }
 
     /// The newest write to a row that isn't aborted here, none where there is none.

@@ -11,12 +11,13 @@ use Rattle.gx_slices.proofs.Counting.{HasNoDead-open, HasNoneBelow-alive}
 use Rattle.gx_slices.proofs.Closing.{IsApart-taken, IsHeld-answered, IsStored-held, no-wait}
 use Rattle.gx_slices.proofs.Enough.{select_reply-enough}
 use Rattle.gx_slices.proofs.Looked.{enough-shown}
+use Rattle.gx_slices.proofs.Told.{IsSelected-picked}
 use Rattle.gx_slices.proofs.Rightness.{right-shown, typed-select}
 use Rattle.gx_slices.proofs.Turning.{HasRun-selects}
 use Rattle.gx_slices.proofs.selecting.select_by.Goals as goal
 
-pub selection-requires : goal.selection-requires
-selection-requires g c =
+pub pick-requires : goal.pick-requires
+pick-requires g c =
     let is = c.requires.0 in
     let may = c.requires.1 in
     let query = c.args.query.now in
@@ -37,7 +38,7 @@ returns-in-Ok g c =
     let rows = c.in_ok-rows.rows.items in
     let enough : AreEnough query.cond all rows = enough-shown held.store g.s (IsStored-held c.args.tables.now held g.s is) c.args.snapshot.now c.args.gxid c.args.cid (HasNoDead-open g.s c.args.gxid c.args.cid may.open_here) (HasNoneBelow-alive g.s c.args.gxid c.args.cid may.alive) query.table query.cond rows c.in_ok-rows.ensures.rising c.in_ok-rows.ensures.images typed in
     let apart = IsApart-taken c.args.tables.now held c.take_entry-entry.new.entries g.s c.args.gxid entry is may.alive may.open_here took.local took.kept in
-    let chosen = c.in-Ok.ensures in
+    let chosen = IsSelected-picked c.args.gxid c.args.cid c.has_written-wrote.result query rows c.in_ok-picked.picked c.in-Ok.ran c.in_ok-picked.ensures c.in-Ok.ensures in
     let wrote = c.has_written-wrote.ensures ∙ ap (λ (l : Local). has_written l.phase) apart.local in
     let turn = reads g.s c.args.gxid c.args.cid query (Some c.args.snapshot.now) in
     IfOk-weaker c.keep_ran.result _ _
