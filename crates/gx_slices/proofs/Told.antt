@@ -28,6 +28,6 @@ module _ (g : Gxid) (c : Cid) (wrote : Bool) (query : Query) (rows : List KeyedR
   }
 
 -- the first of the rows that are left is the first on which the condition faults
-pub faults-first : (cond : Cond) (row at : KeyedRow) (rest rows : List KeyedRow) (fault : ArithFault) → first_fault (Some cond) (row ∷ rest) ≡ first_fault (Some cond) rows → truth_of row.row cond ≡ Err fault → at ≡ row → first_fault (Some cond) rows ≡ Some (at, fault)
-faults-first cond row at rest rows fault same is here =
+pub first_faults : (cond : Cond) (row at : KeyedRow) (rest rows : List KeyedRow) (fault : ArithFault) → first_fault (Some cond) (row ∷ rest) ≡ first_fault (Some cond) rows → truth_of row.row cond ≡ Err fault → at ≡ row → first_fault (Some cond) rows ≡ Some (at, fault)
+first_faults cond row at rest rows fault same is here =
     sym same ∙ ap (λ (r : Result Bool ArithFault). or_fault row r (first_fault (Some cond) rest)) is ∙ ap (λ (x : KeyedRow). Some (x, fault)) (sym here)

@@ -33,7 +33,7 @@ pub(crate) fn pick(alloc: Global, cond: &Option<Cond>, rows: Vec<ShownRow<'_>>) 
     }
 }
 
-#[tactic(auto, using(crate::proofs::Told::faults-first))]
+#[tactic(auto, using(crate::proofs::Told::first_faults))]
 fn pick_by(alloc: Global, cond: &Cond, rows: Vec<ShownRow<'_>>) -> Mem<Picked>
     requires { AllByRecursion (IsTypedOn cond.now) rows.items }
     ensures { IfOk result (IsPicked (Some cond.now) rows.entry.items) }
