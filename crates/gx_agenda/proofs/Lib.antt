@@ -27,3 +27,5 @@ pub mod Asking
 pub mod Slotting
 pub mod Placing
 pub mod LetStarts
+pub mod TakenSlots
+pub mod Unanswered

@@ -7,10 +7,11 @@ use Rattle.gx_tree.specs.declared.stmt.Stmt.TheVariants as stmt
 use Rattle.gx_script.specs.declared.Line.{Line}
 use Rattle.gx_script.specs.declared.Script.{Script}
 use Rattle.gx_store.specs.declared.mark.Mark.{Mark}
+use Rattle.gx_store.specs.declared.mark.Mark.TheVariants as mark
 use Rattle.gx_store.specs.declared.mark.Mark.TheVariants.{Answer}
 use Rattle.gx_store.specs.declared.run.Step.{Step}
 use Rattle.gx_groups.specs.Table.{Table}
-use Rattle.gx_store.specs.Groups.{asking, open_in, slots_after}
+use Rattle.gx_store.specs.Groups.{asking, open_from, open_in, slots_after, slots_through}
 use Rattle.gx_store.specs.Legal.{draws}
 use Rattle.gx_store.specs.Lines.{BlockState, Outside, state_of, stmt_of}
 use Rattle.gx_store.specs.Marks.{is_same_session}
@@ -99,16 +100,39 @@ pub record IsSpan (marks : List Mark) (span : Span) : Type 0 where
   pub from : span.from ≡ lowest_from 256 marks
   pub past : span.past ≡ beyond_from 0 marks
 
+-- MARKS OF SLOTS
+-- a transaction begins or ends by the mark
+abbrev pub is_of_slots : Mark → Bool
+is_of_slots (mark.Start g s) = true
+is_of_slots (mark.Commit g) = true
+is_of_slots (mark.Abort g) = true
+is_of_slots _ = false
+
+-- slots were taken and given back as these marks say, and it is known of whom they answer lines
+pub record HasTaken (marks : List Mark) (old new : Slots) : Type 0 where
+  pub groups : new.groups ≡ slots_through old.begun.items old.groups marks
+  pub begun : new.begun.items ≡ open_from old.begun.items marks
+  pub outside : new.outside.items ≡ old.outside.items
+  pub from : new.answered.from ≡ lowest_from old.answered.from marks
+  pub past : new.answered.past ≡ beyond_from old.answered.past marks
+
+abbrev pub HasGone : List Mark → Option Slots → Option Slots → Type 0
+HasGone marks None None = Unit {0}
+HasGone marks (Some old) (Some new) = HasTaken marks old new
+HasGone marks _ _ = ⊥
+
 -- WHAT IS KEPT
 -- which sessions stand outside a block
 abbrev pub AreOutside : Script → List Step → List Bool → Type 0
 AreOutside script steps outside = (session : SessionId) → session.0 < length script.sessions → slice_get outside session.0 ≡ Some (is_outside (state_of script session (marks_in steps)))
 
--- the slots, the open transactions, and which sessions stand outside a block
+-- the slots, the open transactions, and which sessions stand outside a block; of no step it is noted of whom it answers lines
 pub record AreAsTold (script : Script) (steps : List Step) (slots : Slots) : Type 0 where
   pub groups : slots.groups ≡ slots_after script steps
   pub begun : slots.begun.items ≡ open_in (marks_in steps)
   pub outside : AreOutside script steps slots.outside.items
+  pub from : slots.answered.from ≡ 256
+  pub past : slots.answered.past ≡ 0
 
 -- nothing is kept of a script without groups
 abbrev pub AreSlots : Script → List Step → Option Slots → Type 0

@@ -45,7 +45,7 @@ fn places_of(alloc: Global, script: &Script) -> Mem<Vec<Option<u8>>>
     requires { IsScript script.now }
     ensures { IfOk result (λ places. places.items ≡ map (λ s. of.place_in s script.now.groups) (sessions_of script.now)) }
 {
-    let mut places = Vec::new(alloc);
+    let mut places = Vec::with_capacity(alloc, script.sessions.len())?;
     for number in 0..script.sessions.len() {
         places.push(place_in(script.groups.as_slice(), SessionId(number as u8)))?;
     }

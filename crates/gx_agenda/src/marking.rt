@@ -17,10 +17,12 @@ ghost use Rattle.gx_agenda.specs.Following.{Follows};
 ghost use Rattle.gx_agenda.specs.Moves.{AreFew, session_answered};
 ghost use Rattle.gx_agenda.specs.Queued.{AreCounted, AreQueued, AreQueuedBy};
 ghost use Rattle.gx_agenda.specs.Quiet.{AreQuiet};
+ghost use Rattle.gx_agenda.specs.Slotted.{HasGone};
 
 use crate::asked::Asked;
 use crate::queue::Queue;
 use crate::quiet::Quiet;
+use crate::slots::{Slots, is_told, note_answered, note_told};
 use gx_ids::{Mem, Node, SessionId};
 use gx_msg::Message;
 use gx_store::{Mark, StepView};
@@ -31,15 +33,17 @@ pub fn note_step(
     quiet: &mut Quiet,
     queue: &mut Queue,
     asked: &mut Asked,
+    slots: &mut Option<Slots>,
     step: &StepView<'_>,
     told: Option<&Message>,
 ) -> Mem<()>
     ensures quiet { OnOk result ((script : Script) (steps : List Step) → AreQuiet script steps quiet.old → AreQuiet script (steps ++ step.now ∷ []) quiet.new) }
     ensures queue { OnOk result ((script : Script) (steps : List Step) → AreQueued script steps queue.old → AreCounted (steps ++ step.now ∷ []) → AreQueued script (steps ++ step.now ∷ []) queue.new) }
     ensures asked { OnOk result ((steps : List Step) → AreAsked steps asked.old → IsTold steps step.now (option_copied told.entry) → AreAsked (steps ++ step.now ∷ []) asked.new) }
+    ensures slots { OnOk result (HasGone step.now.marks slots.old slots.new) }
 {
     queue.note_event(step.event())?;
-    note_marks(quiet, queue, asked, step, told)
+    note_marks(quiet, queue, asked, slots, step, told)
 }
 
 // What the step did besides its event.
@@ -47,6 +51,7 @@ fn note_marks(
     quiet: &mut Quiet,
     queue: &mut Queue,
     asked: &mut Asked,
+    slots: &mut Option<Slots>,
     step: &StepView<'_>,
     told: Option<&Message>,
 ) -> Mem<()>
@@ -55,19 +60,26 @@ fn note_marks(
         → AreFew started → AreFew (λ s. answered s + answer_count s step.now.marks)
         → AreQueuedBy lines started (λ s. answered s + answer_count s step.now.marks) queue.new) }
     ensures asked { OnOk result ((steps : List Step) → AreAsked steps asked.old → IsTold steps step.now (option_copied told.entry) → AreAsked (steps ++ step.now ∷ []) asked.new) }
+    ensures slots { OnOk result (HasGone step.now.marks slots.old slots.new) }
 {
     let node = step.stamp().node;
     if node == Node(0) {
         asked.hear(step, told);
-        own_marks(quiet, queue, asked, step.marks())
+        own_marks(quiet, queue, asked, slots, step.marks())
     } else {
         quiet.sent_by(node);
-        their_marks(queue, asked, step.marks())
+        their_marks(queue, asked, slots, step.marks())
     }
 }
 
 // The coordinator's step made these marks.
-fn own_marks(quiet: &mut Quiet, queue: &mut Queue, asked: &mut Asked, marks: &[Mark]) -> Mem<()>
+fn own_marks(
+    quiet: &mut Quiet,
+    queue: &mut Queue,
+    asked: &mut Asked,
+    slots: &mut Option<Slots>,
+    marks: &[Mark],
+) -> Mem<()>
     ensures from { quiet.new.from ≡ quiet.old.from }
     ensures most { quiet.new.to ≤ quiet.old.to }
     ensures none { OnOk result ((segment : OneNode) → 0 < segment.0 → segment.0 ≤ quiet.new.to → sent_count segment marks.now ≡ 0) }
@@ -77,14 +89,21 @@ fn own_marks(quiet: &mut Quiet, queue: &mut Queue, asked: &mut Asked, marks: &[M
     ensures asked { OnOk result (Follows (λ segment g was. asked_by segment g was marks.now) asked.old asked.new) }
     ensures waits { OnOk result ((standing : OneNode → List OneClaim) → AreWaits standing asked.old → AreWaits (λ node. waits_from node (standing node) marks.now) asked.new) }
     ensures due { OnOk result (IsIndexed asked.old → IsIndexed asked.new) }
+    ensures slots { OnOk result (HasGone marks.now slots.old slots.new) }
 {
     for mark in marks {
-        own_mark(quiet, queue, asked, mark)?;
+        own_mark(quiet, queue, asked, slots, mark)?;
     }
     Ok(())
 }
 
-fn own_mark(quiet: &mut Quiet, queue: &mut Queue, asked: &mut Asked, mark: &Mark) -> Mem<()>
+fn own_mark(
+    quiet: &mut Quiet,
+    queue: &mut Queue,
+    asked: &mut Asked,
+    slots: &mut Option<Slots>,
+    mark: &Mark,
+) -> Mem<()>
     ensures from { quiet.new.from ≡ quiet.old.from }
     ensures most { quiet.new.to ≤ quiet.old.to }
     ensures none { (segment : OneNode) → 0 < segment.0 → segment.0 ≤ quiet.new.to → sent_count segment (mark.now ∷ []) ≡ 0 }
@@ -94,21 +113,32 @@ fn own_mark(quiet: &mut Quiet, queue: &mut Queue, asked: &mut Asked, mark: &Mark
     ensures asked { OnOk result (Follows (λ segment g was. asked_by segment g was (mark.now ∷ [])) asked.old asked.new) }
     ensures waits { OnOk result ((standing : OneNode → List OneClaim) → AreWaits standing asked.old → AreWaits (λ node. waits_from node (standing node) (mark.now ∷ [])) asked.new) }
     ensures due { OnOk result (IsIndexed asked.old → IsIndexed asked.new) }
+    ensures slots { OnOk result (HasGone (mark.now ∷ []) slots.old slots.new) }
 {
     match answered_session(mark) {
-        Some(session) => queue.count(session, 0, 1),
-        None => own_other(quiet, asked, mark),
+        Some(session) => {
+            note_answered(slots, session);
+            queue.count(session, 0, 1)
+        }
+        None => own_other(quiet, asked, slots, mark),
     }
 }
 
 // A mark that answers no line.
-fn own_other(quiet: &mut Quiet, asked: &mut Asked, mark: &Mark) -> Mem<()>
+fn own_other(
+    quiet: &mut Quiet,
+    asked: &mut Asked,
+    slots: &mut Option<Slots>,
+    mark: &Mark,
+) -> Mem<()>
+    requires { session_answered mark.now ≡ None }
     ensures from { quiet.new.from ≡ quiet.old.from }
     ensures most { quiet.new.to ≤ quiet.old.to }
     ensures none { (segment : OneNode) → 0 < segment.0 → segment.0 ≤ quiet.new.to → sent_count segment (mark.now ∷ []) ≡ 0 }
     ensures asked { OnOk result (Follows (λ segment g was. asked_by segment g was (mark.now ∷ [])) asked.old asked.new) }
     ensures waits { OnOk result ((standing : OneNode → List OneClaim) → AreWaits standing asked.old → AreWaits (λ node. waits_from node (standing node) (mark.now ∷ [])) asked.new) }
     ensures due { OnOk result (IsIndexed asked.old → IsIndexed asked.new) }
+    ensures slots { OnOk result (HasGone (mark.now ∷ []) slots.old slots.new) }
 {
     match mark {
         Mark::Sent { to, message, .. } => {
@@ -116,7 +146,9 @@ fn own_other(quiet: &mut Quiet, asked: &mut Asked, mark: &Mark) -> Mem<()>
             asked.sent(*to, message)
         }
         _ => {
-            if asked.is_passed_over(mark) {
+            if is_told(mark) {
+                note_told(slots, mark)
+            } else if asked.is_passed_over(mark) {
                 Ok(())
             } else {
                 asked.note_wait(mark)
@@ -126,32 +158,49 @@ fn own_other(quiet: &mut Quiet, asked: &mut Asked, mark: &Mark) -> Mem<()>
 }
 
 // A segment's step made these marks.
-fn their_marks(queue: &mut Queue, asked: &mut Asked, marks: &[Mark]) -> Mem<()>
+fn their_marks(
+    queue: &mut Queue,
+    asked: &mut Asked,
+    slots: &mut Option<Slots>,
+    marks: &[Mark],
+) -> Mem<()>
     ensures queue { OnOk result ((lines : List OneLine) (started answered : OneSession → ℕ) → AreQueuedBy lines started answered queue.old
         → AreFew started → AreFew (λ s. answered s + answer_count s marks.now)
         → AreQueuedBy lines started (λ s. answered s + answer_count s marks.now) queue.new) }
     ensures awaited { OnOk result ((r : OneRequest) → awaited_at asked.new r ≡ awaited_at asked.old r) }
     ensures waits { OnOk result ((standing : OneNode → List OneClaim) → AreWaits standing asked.old → AreWaits (λ node. waits_from node (standing node) marks.now) asked.new) }
     ensures due { OnOk result (IsIndexed asked.old → IsIndexed asked.new) }
+    ensures slots { OnOk result (HasGone marks.now slots.old slots.new) }
 {
     for mark in marks {
-        their_mark(queue, asked, mark)?;
+        their_mark(queue, asked, slots, mark)?;
     }
     Ok(())
 }
 
-fn their_mark(queue: &mut Queue, asked: &mut Asked, mark: &Mark) -> Mem<()>
+fn their_mark(
+    queue: &mut Queue,
+    asked: &mut Asked,
+    slots: &mut Option<Slots>,
+    mark: &Mark,
+) -> Mem<()>
     ensures queue { OnOk result ((lines : List OneLine) (started answered : OneSession → ℕ) → AreQueuedBy lines started answered queue.old
         → AreFew started → AreFew (λ s. answered s + answer_count s (mark.now ∷ []))
         → AreQueuedBy lines started (λ s. answered s + answer_count s (mark.now ∷ [])) queue.new) }
     ensures awaited { OnOk result ((r : OneRequest) → awaited_at asked.new r ≡ awaited_at asked.old r) }
     ensures waits { OnOk result ((standing : OneNode → List OneClaim) → AreWaits standing asked.old → AreWaits (λ node. waits_from node (standing node) (mark.now ∷ [])) asked.new) }
     ensures due { OnOk result (IsIndexed asked.old → IsIndexed asked.new) }
+    ensures slots { OnOk result (HasGone (mark.now ∷ []) slots.old slots.new) }
 {
     match answered_session(mark) {
-        Some(session) => queue.count(session, 0, 1),
+        Some(session) => {
+            note_answered(slots, session);
+            queue.count(session, 0, 1)
+        }
         None => {
-            if asked.is_passed_over(mark) {
+            if is_told(mark) {
+                note_told(slots, mark)
+            } else if asked.is_passed_over(mark) {
                 Ok(())
             } else {
                 asked.note_wait(mark)

@@ -6,7 +6,7 @@ ghost use Rattle.gx_store.specs.Legal.{draws as draws_in};
 ghost use Rattle.gx_store.specs.Lines.{Outside};
 ghost use Rattle.gx_store.specs.Marks.{is_answered as is_answered_in};
 ghost use Rattle.gx_store.specs.Schedule.{sessions_of};
-ghost use Rattle.gx_agenda.specs.Slotted.{IsSpan, asking_if, is_due, line_in, noted_at, opens_line, outside_behind, outside_line, place_of};
+ghost use Rattle.gx_agenda.specs.Slotted.{IsSpan, asking_if, is_due, line_in, noted, noted_at, opens_line, outside_behind, outside_line, place_of};
 
 use crate::queue::Queue;
 use crate::span::Span;
@@ -171,9 +171,8 @@ pub(crate) fn ask_answered(
     marks: &[Mark],
     answered: Span,
 )
-    requires language { IsScript script.now }
-    requires span { IsSpan marks.now answered }
-    ensures { groups.new ≡ asking_if (λ s. is_answered_in s marks.now && is_due script.now.lines queue.now.standings.items outside.now s) groups.old (sessions_of script.now) }
+    requires { IsScript script.now }
+    ensures { IsSpan marks.now answered → groups.new ≡ asking_if (λ s. is_answered_in s marks.now && is_due script.now.lines queue.now.standings.items outside.now s) groups.old (sessions_of script.now) }
 {
     let past = answered.past.min(script.sessions.len());
     for number in answered.from..past {
@@ -189,7 +188,7 @@ pub(crate) fn ask_answered(
 }
 
 // A session's line of a number was answered: it may have left its block, or stand in one.
-pub(crate) fn note_answer(
+fn note_answer(
     outside: &mut Vec<bool>,
     script: &Script,
     queue: &Queue,
@@ -206,6 +205,22 @@ pub(crate) fn note_answer(
                 place_of_line(standing, line),
                 was,
             );
+        }
+    }
+}
+
+// Lines were answered: sessions may have left their blocks, or stand in some.
+pub(crate) fn note_answers(outside: &mut Vec<bool>, script: &Script, queue: &Queue, marks: &[Mark])
+    ensures { outside.new.items ≡ noted script.now.lines queue.now.standings.items outside.old.items marks.now }
+{
+    for mark in marks {
+        if let Mark::Answer {
+            session,
+            number,
+            ..
+        } = mark
+        {
+            note_answer(outside, script, queue, *session, *number);
         }
     }
 }

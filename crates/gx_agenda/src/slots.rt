@@ -1,13 +1,15 @@
-ghost use Rattle.std.specs.Prelude.{◌≡◌, ◌++◌, ◌∷◌, [], IfOk, List, OnOk};
+ghost use Rattle.std.specs.Prelude.{◌≡◌, ◌++◌, ◌∷◌, [], ℕ, IfOk, List, None, OnOk, Option, false, true};
 ghost use Rattle.gx_groups.specs.Table.{is_held_up};
-ghost use Rattle.gx_store.specs.Groups.{open_from, slots_through};
 ghost use Rattle.gx_store.specs.Language.{IsScript};
 ghost use Rattle.gx_store.specs.declared.run.Step.{Step};
 ghost use Rattle.gx_agenda.specs.Queued.{AreQueued};
-ghost use Rattle.gx_agenda.specs.Slotted.{AreAsTold, AreSlots, IsSpan, noted};
+ghost use Rattle.gx_store.specs.declared.answer.StmtAnswer.{StmtAnswer};
+ghost use Rattle.gx_store.specs.declared.mark.Mark.TheVariants.{Answer};
+ghost use Rattle.gx_agenda.specs.Slotted.{AreAsTold, AreSlots, HasGone, HasTaken, is_of_slots};
+ghost use Rattle.gx_agenda.specs.declared.slots.Slots.{Slots as TheSlots};
 
 use crate::grouping::fresh_groups;
-use crate::opening::{all_outside, ask_all, ask_answered, note_answer};
+use crate::opening::{all_outside, ask_all, ask_answered, note_answers};
 use crate::queue::Queue;
 use crate::span::Span;
 use crate::taking::through_mark;
@@ -17,13 +19,14 @@ use gx_script::Script;
 use gx_store::{Mark, Opened, StepView};
 use std::alloc::Global;
 
-/// The slots of a script's groups where a run has led: who asks and who holds one, whose transactions are open, and which sessions
-/// stand outside a block.
+/// The slots of a script's groups where a run has led: who asks and who holds one, whose transactions are open, which sessions stand
+/// outside a block, and of whom the step that is noted answers lines.
 #[derive(Drop)]
 pub struct Slots {
     pub groups: Groups,
     pub begun: Vec<Opened>,
     pub outside: Vec<bool>,
+    pub answered: Span,
 }
 
 /// The slots of a run without steps, whose queue this is; none where the script has no groups.
@@ -39,19 +42,43 @@ pub fn slots_of(alloc: Global, script: &Script, queue: &Queue) -> Mem<Option<Slo
     Ok(Some(slots))
 }
 
-/// A step was done, of which the queue knows.
-pub fn note_slots(
-    slots: &mut Option<Slots>,
-    script: &Script,
-    queue: &Queue,
-    step: &StepView<'_>,
-) -> Mem<()>
+/// A step was done, of which the queue knows, and so do the slots mark by mark.
+pub fn note_slots(slots: &mut Option<Slots>, script: &Script, queue: &Queue, step: &StepView<'_>)
     requires { IsScript script.now }
-    ensures { OnOk result ((steps : List Step) → AreSlots script.now steps slots.old → AreQueued script.now (steps ++ step.now ∷ []) queue.now
-        → AreSlots script.now (steps ++ step.now ∷ []) slots.new) }
+    ensures { (steps : List Step) (was : Option TheSlots) → AreSlots script.now steps was → HasGone step.now.marks was slots.old
+        → AreQueued script.now (steps ++ step.now ∷ []) queue.now → AreSlots script.now (steps ++ step.now ∷ []) slots.new }
+{
+    if let Some(slots) = slots {
+        slots.note(script, queue, step.marks());
+    }
+}
+
+// A line of a session is answered by a mark.
+pub(crate) fn note_answered(slots: &mut Option<Slots>, session: SessionId)
+    ensures { (number : ℕ) (reply : StmtAnswer) → HasGone (Answer session number reply ∷ []) slots.old slots.new }
+{
+    if let Some(slots) = slots {
+        slots.answered.add(session);
+    }
+}
+
+// Whether a transaction begins or ends by a mark.
+pub(crate) fn is_told(mark: &Mark) -> bool
+    ensures { result ≡ is_of_slots mark.now }
+{
+    match mark {
+        Mark::Start { .. } | Mark::Commit { .. } | Mark::Abort { .. } => true,
+        _ => false,
+    }
+}
+
+// Slots are taken and given back as a mark says by which a transaction begins or ends.
+pub(crate) fn note_told(slots: &mut Option<Slots>, mark: &Mark) -> Mem<()>
+    requires { is_of_slots mark.now ≡ true }
+    ensures { OnOk result (HasGone (mark.now ∷ []) slots.old slots.new) }
 {
     match slots {
-        Some(slots) => slots.note(script, queue, step.marks()),
+        Some(slots) => through_mark(&mut slots.groups, &mut slots.begun, mark),
         None => Ok(()),
     }
 }
@@ -70,6 +97,7 @@ impl Slots {
             groups,
             begun: Vec::new(alloc),
             outside,
+            answered: Span::none(),
         })
     }
 
@@ -80,20 +108,26 @@ impl Slots {
         !self.groups.may(session) && self.groups.asks(session)
     }
 
-    // These are the marks of a step.
-    fn note(&mut self, script: &Script, queue: &Queue, marks: &[Mark]) -> Mem<()>
+    // These are the marks of a step, and the slots were taken and given back as they say.
+    fn note(&mut self, script: &Script, queue: &Queue, marks: &[Mark])
         requires { IsScript script.now }
-        ensures { OnOk result ((steps : List Step) (step : Step) → step.marks ≡ marks.now → AreAsTold script.now steps self.old
-            → AreQueued script.now (steps ++ step ∷ []) queue.now → AreAsTold script.now (steps ++ step ∷ []) self.new) }
+        ensures { (steps : List Step) (step : Step) (was : TheSlots) → step.marks ≡ marks.now → AreAsTold script.now steps was
+            → HasTaken marks.now was self.old → AreQueued script.now (steps ++ step ∷ []) queue.now → AreAsTold script.now (steps ++ step ∷ []) self.new }
     {
-        let answered = through_marks(
-            &mut self.groups,
-            &mut self.begun,
-            &mut self.outside,
-            script,
-            queue,
-            marks,
-        )?;
+        if self.answered.past > 0 {
+            self.note_answers(script, queue, marks);
+        }
+    }
+
+    // Some of them answer lines.
+    fn note_answers(&mut self, script: &Script, queue: &Queue, marks: &[Mark])
+        requires { IsScript script.now }
+        ensures { (steps : List Step) (step : Step) (was : TheSlots) → step.marks ≡ marks.now → AreAsTold script.now steps was
+            → HasTaken marks.now was self.old → AreQueued script.now (steps ++ step ∷ []) queue.now → AreAsTold script.now (steps ++ step ∷ []) self.new }
+    {
+        let answered = self.answered;
+        self.answered = Span::none();
+        note_answers(&mut self.outside, script, queue, marks);
         ask_answered(
             &mut self.groups,
             script,
@@ -102,38 +136,5 @@ impl Slots {
             marks,
             answered,
         );
-        Ok(())
     }
-}
-
-// Slots are taken and given back as marks say, and sessions leave their blocks or stand in some. The sessions of whom lines were answered
-// are told.
-fn through_marks(
-    groups: &mut Groups,
-    begun: &mut Vec<Opened>,
-    outside: &mut Vec<bool>,
-    script: &Script,
-    queue: &Queue,
-    marks: &[Mark],
-) -> Mem<Span>
-    ensures groups { OnOk result (groups.new ≡ slots_through begun.old.items groups.old marks.now) }
-    ensures begun { OnOk result (begun.new.items ≡ open_from begun.old.items marks.now) }
-    ensures outside { OnOk result (outside.new.items ≡ noted script.now.lines queue.now.standings.items outside.old.items marks.now) }
-    ensures span { IfOk result (λ span. IsSpan marks.now span) }
-{
-    let mut answered = Span::none();
-    for mark in marks {
-        match mark {
-            Mark::Answer {
-                session,
-                number,
-                ..
-            } => {
-                note_answer(outside, script, queue, *session, *number);
-                answered.add(*session);
-            }
-            _ => through_mark(groups, begun, mark)?,
-        }
-    }
-    Ok(answered)
 }

@@ -121,10 +121,12 @@ impl Agenda {
             &mut self.quiet,
             &mut self.queue,
             &mut self.asked,
+            &mut self.slots,
             step,
             told,
         )?;
-        note_slots(&mut self.slots, script, &self.queue, step)
+        note_slots(&mut self.slots, script, &self.queue, step);
+        Ok(())
     }
 }
 

@@ -10,6 +10,7 @@ use Rattle.gx_agenda.specs.Expected.{expected_of}
 use Rattle.gx_agenda.proofs.Noting.{AreNoted, on-ok}
 use Rattle.gx_agenda.proofs.Oks.{always-ok, on_ok-three}
 use Rattle.gx_agenda.proofs.Quieter.{quiet-behind-coordinator, quiet-behind-segment}
+use Rattle.gx_agenda.specs.Slotted.{HasGone}
 use Rattle.gx_agenda.proofs.Stamps.{here}
 use Rattle.gx_agenda.proofs.Steps.{asked-order, asked-other, asked-own}
 use Rattle.gx_agenda.proofs.Waiting.{noted}
@@ -57,3 +58,9 @@ returns-else-eq-clause-asked c = on_ok-three c.their_marks.result _ _ _ _ c.thei
     ∙ were.answers segment g
     ∙ sym (ap (option_map expected_of) (asked-other steps c.args.step.now segment g (here c.args.step.now.stamp c.stamp.result false c.stamp.ensures (sym c.eq.ensures ∙ c.if-eq.false)))))
     c.marks-else-eq.result.now c.marks-else-eq.ensures waits (due were.due))
+
+pub returns-then-eq-clause-slots : goal.returns-then-eq-clause-slots
+returns-then-eq-clause-slots c = subst (λ ms. OnOk c.own_marks.result (HasGone ms c.args.slots.now c.own_marks.new.slots)) c.marks.ensures c.own_marks.ensures.slots
+
+pub returns-else-eq-clause-slots : goal.returns-else-eq-clause-slots
+returns-else-eq-clause-slots c = subst (λ ms. OnOk c.their_marks.result (HasGone ms c.args.slots.now c.their_marks.new.slots)) c.marks-else-eq.ensures c.their_marks.ensures.slots

@@ -5,6 +5,7 @@ use Rattle.gx_agenda.specs.Expected.{expected_of}
 use Rattle.gx_agenda.specs.Moves.{more_for}
 use Rattle.gx_agenda.proofs.Noting.{counts-same, few-same, mark-answers, answer-asks, answer-sends, answer-waits, mark-none, none-more, on-ok}
 use Rattle.gx_agenda.proofs.Oks.{always-ok}
+use Rattle.gx_agenda.proofs.TakenSlots.{gone-answered}
 use Rattle.gx_agenda.proofs.Waiting.{of_gxid}
 use Rattle.gx_agenda.proofs.marking.own_mark.Goals as goal
 
@@ -31,3 +32,6 @@ returns-in-Some-clause-asked c = always-ok c.count.result (λ segment g was e.
 pub returns-in-Some-clause-waits : goal.returns-in-Some-clause-waits
 returns-in-Some-clause-waits c = always-ok c.count.result (λ standing were node g.
     were node g ∙ sym (ap (of_gxid g) (answer-waits c.args.mark.now c.in-Some.session (sym c.answered_session.ensures ∙ c.in-Some.is) node (standing node))))
+
+pub returns-in-Some-clause-slots : goal.returns-in-Some-clause-slots
+returns-in-Some-clause-slots c = always-ok c.count.result (gone-answered c.args.mark.now c.in-Some.session (sym c.answered_session.ensures ∙ c.in-Some.is) c.args.slots.now c.note_answered.new.slots c.note_answered.ensures)

@@ -11,6 +11,7 @@ use Rattle.gx_agenda.specs.Awaited.{AreWaits, IsIndexed}
 use Rattle.gx_agenda.specs.Following.{Follows}
 use Rattle.gx_agenda.specs.Moves.{AreFew}
 use Rattle.gx_agenda.specs.Queued.{AreQueuedBy}
+use Rattle.gx_agenda.proofs.TakenSlots.{LeadsOn}
 use Rattle.gx_agenda.proofs.marking.own_marks.Given as goal
 
 abbrev pub invariant-loop-mark : goal.invariant-loop-mark
@@ -23,3 +24,4 @@ invariant-loop-mark l =
     × Follows (λ segment g was. asked_by segment g was (take l.mark-index l.marks)) l.initial.asked l.asked
     × ((standing : Node → List Claim) → AreWaits standing l.initial.asked → AreWaits (λ node. waits_from node (standing node) (take l.mark-index l.marks)) l.asked)
     × (IsIndexed l.initial.asked → IsIndexed l.asked)
+    × LeadsOn l.marks l.mark-index l.initial.slots l.slots

@@ -3,6 +3,7 @@ use Rattle.gx_store.specs.Marks.{answer_count}
 use Rattle.gx_agenda.specs.Moves.{more_for}
 use Rattle.gx_agenda.proofs.Noting.{counts-same, few-same, mark-answers, answer-waits, mark-none, none-more, on-ok}
 use Rattle.gx_agenda.proofs.Oks.{always-ok}
+use Rattle.gx_agenda.proofs.TakenSlots.{gone-answered, gone-untold, told-waits}
 use Rattle.gx_agenda.proofs.Waiting.{of_gxid}
 use Rattle.gx_agenda.proofs.marking.their_mark.Goals as goal
 
@@ -26,3 +27,20 @@ returns-else-is_passed_over-clause-queue c = always-ok c.note_wait.result (λ li
 pub returns-in-Some-clause-waits : goal.returns-in-Some-clause-waits
 returns-in-Some-clause-waits c = always-ok c.count.result (λ standing were node g.
     were node g ∙ sym (ap (of_gxid g) (answer-waits c.args.mark.now c.in-Some.session (sym c.answered_session.ensures ∙ c.in-Some.is) node (standing node))))
+
+pub returns-in-Some-clause-slots : goal.returns-in-Some-clause-slots
+returns-in-Some-clause-slots c = always-ok c.count.result (gone-answered c.args.mark.now c.in-Some.session (sym c.answered_session.ensures ∙ c.in-Some.is) c.args.slots.now c.note_answered.new.slots c.note_answered.ensures)
+
+pub returns-then-is_told-clause-queue : goal.returns-then-is_told-clause-queue
+returns-then-is_told-clause-queue c = always-ok c.note_told.result (λ lines started answered queued few few_answered.
+    counts-same lines started answered started (λ s. answered s + answer_count s (c.args.mark.now ∷ [])) c.args.queue.now (λ s. refl) (mark-none c.args.mark.now (sym c.answered_session.ensures ∙ c.in-None.is) answered) queued)
+
+pub returns-then-is_told-clause-waits : goal.returns-then-is_told-clause-waits
+returns-then-is_told-clause-waits c = always-ok c.note_told.result (λ standing were node g.
+    were node g ∙ sym (ap (of_gxid g) (told-waits c.args.mark.now (sym c.is_told.ensures ∙ c.if-is_told.true) node (standing node))))
+
+pub returns-then-is_passed_over-clause-slots : goal.returns-then-is_passed_over-clause-slots
+returns-then-is_passed_over-clause-slots c = gone-untold c.args.mark.now (sym c.answered_session.ensures ∙ c.in-None.is) (sym c.is_told.ensures ∙ c.if-is_told.false) c.args.slots.now
+
+pub returns-else-is_passed_over-clause-slots : goal.returns-else-is_passed_over-clause-slots
+returns-else-is_passed_over-clause-slots c = always-ok c.note_wait.result (gone-untold c.args.mark.now (sym c.answered_session.ensures ∙ c.in-None.is) (sym c.is_told.ensures ∙ c.if-is_told.false) c.args.slots.now)

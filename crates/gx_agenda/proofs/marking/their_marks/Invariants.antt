@@ -9,6 +9,7 @@ use Rattle.gx_agenda.specs.Awaited.{AreWaits, IsIndexed, awaited_at}
 use Rattle.gx_agenda.specs.declared.request.Request.{Request}
 use Rattle.gx_agenda.specs.Moves.{AreFew}
 use Rattle.gx_agenda.specs.Queued.{AreQueuedBy}
+use Rattle.gx_agenda.proofs.TakenSlots.{LeadsOn}
 use Rattle.gx_agenda.proofs.marking.their_marks.Given as goal
 
 abbrev pub invariant-loop-mark : goal.invariant-loop-mark
@@ -18,3 +19,4 @@ invariant-loop-mark l =
     × ((r : Request) → awaited_at l.asked r ≡ awaited_at l.initial.asked r)
     × ((standing : Node → List Claim) → AreWaits standing l.initial.asked → AreWaits (λ node. waits_from node (standing node) (take l.mark-index l.marks)) l.asked)
     × (IsIndexed l.initial.asked → IsIndexed l.asked)
+    × LeadsOn l.marks l.mark-index l.initial.slots l.slots

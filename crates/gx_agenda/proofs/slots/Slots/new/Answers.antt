@@ -1,5 +1,6 @@
 use Rattle.std.proofs.Common.{◌∙◌, Bool, List, [], ap, subst, sym}
 use Rattle.gx_store.specs.Schedule.{sessions_of}
+use Rattle.gx_agenda.specs.declared.span.Span.{Span}
 use Rattle.gx_agenda.specs.Slotted.{AreOutside, asking_if, is_due}
 use Rattle.gx_agenda.proofs.Slotting.{groups-first, outside-first}
 use Rattle.gx_agenda.proofs.slots.Slots.new.Goals as goal
@@ -17,4 +18,6 @@ returns c =
           ∙ groups-first script queue c.requires.queued outside is_outside c.in_ok-groups.groups c.in_ok-groups.ensures;
       begun = c.new.ensures.items;
       outside = is_outside;
+      from = ap (λ (s : Span). s.from) c.none.ensures;
+      past = ap (λ (s : Span). s.past) c.none.ensures;
     }
