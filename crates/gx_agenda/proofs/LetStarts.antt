@@ -1,5 +1,5 @@
 -- The starts that the groups let.
-use Rattle.std.proofs.Common.{◌≡◌, ℕ, zero, suc, ◌+◌, Bool, true, false, cond, ◌&&◌, ◌||◌, List, [], ◌∷◌, ◌++◌, length, map, Option, Some, None, slice_get, set, refl, sym, ap, ◌∙◌, subst}
+use Rattle.std.proofs.Common.{◌≡◌, ℕ, zero, suc, Bool, true, false, cond, ◌&&◌, ◌||◌, List, [], ◌∷◌, ◌++◌, map, Option, Some, None, slice_get, set, refl, sym, ap, ◌∙◌, subst}
 use Rattle.std.specs.Prelude.{filter, not}
 use Rattle.gx_ids.specs.declared.ids.SessionId.{SessionId}
 use Rattle.gx_script.specs.declared.Script.{Script}
@@ -16,7 +16,7 @@ use Rattle.gx_store.specs.declared.mark.Mark.{Mark}
 use Rattle.gx_store.specs.declared.mark.Mark.TheVariants as mark
 use Rattle.gx_store.specs.declared.opened.Opened.{Opened}
 use Rattle.gx_store.specs.declared.run.Step.{Step}
-use Rattle.gx_store.specs.Groups.{all_asking, asking, asks_in, first_slots, fresh_slots, giving, is_to_open, lets, open_after, open_in, opener, place_in, slots_after, slots_behind, slots_by, slots_from, slots_through, taking}
+use Rattle.gx_store.specs.Groups.{all_asking, asking, asks_in, first_slots, fresh_slots, giving, is_to_open, lets, open_after, open_in, opener, place_in, slots_after, slots_behind, slots_by, slots_from, slots_through}
 use Rattle.gx_store.specs.Points.{marks_in}
 use Rattle.gx_store.specs.Schedule.{sessions_of}
 

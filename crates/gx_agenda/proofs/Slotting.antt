@@ -1,10 +1,8 @@
 -- Slots that agree with the steps of a run, before any and behind one more.
-use Rattle.std.proofs.Common.{◌≡◌, ℕ, zero, suc, ◌+◌, ◌-◌, ◌<◌, ◌≤◌, ◌==◌, Bool, true, false, cond, ◌&&◌, ◌||◌, List, [], ◌∷◌, ◌++◌, length, map, Option, Some, None, slice_get, set, refl, sym, ap, ◌∙◌, subst, arith, append_assoc, append-nil}
+use Rattle.std.proofs.Common.{◌≡◌, ℕ, zero, suc, ◌+◌, ◌-◌, ◌<◌, ◌==◌, Bool, true, false, cond, ◌&&◌, List, [], ◌∷◌, ◌++◌, length, Option, Some, None, slice_get, set, refl, sym, ap, ◌∙◌, subst, arith, append_assoc, append-nil}
 use Rattle.std.proofs.lemmas.Bool.Decides.{nat_tests}
 use Rattle.std.proofs.lemmas.Grind.{flat_map-append}
-use Rattle.std.proofs.lemmas.Option.{slice_get-map, slice_get_within}
-use Rattle.std.specs.Prelude.{All, filter, not, option_map, replicate}
-use Rattle.std.specs.List.{range_with_len}
+use Rattle.std.specs.Prelude.{filter, option_map, replicate}
 use Rattle.gx_ids.specs.declared.ids.SessionId.{SessionId}
 use Rattle.gx_tree.specs.declared.stmt.Stmt.{Stmt}
 use Rattle.gx_tree.specs.declared.stmt.Stmt.TheVariants as stmt
@@ -24,12 +22,11 @@ use Rattle.gx_store.specs.Points.{marks_in, starts_in}
 use Rattle.gx_store.specs.Schedule.{is_idle, sessions_of}
 use Rattle.gx_store.proofs.Lines.{state_from-append}
 use Rattle.gx_agenda.specs.declared.queue.Queue.{Queue}
-use Rattle.gx_agenda.specs.declared.slots.Slots.{Slots}
 use Rattle.gx_agenda.specs.declared.standing.Standing.{Standing}
-use Rattle.gx_agenda.specs.LinePlaces.{ArePlaces, HasPlace, IsLineAt}
+use Rattle.gx_agenda.specs.LinePlaces.{ArePlaces}
 use Rattle.gx_agenda.specs.Moves.{next_place}
 use Rattle.gx_agenda.specs.Queued.{AreQueued, IsStanding}
-use Rattle.gx_agenda.specs.Slotted.{AreAsTold, AreOutside, asking_if, is_due, is_outside, line_in, noted, noted_at, opens_line, opens_there, outside_behind, outside_from, outside_line, outside_stmt, place_of}
+use Rattle.gx_agenda.specs.Slotted.{AreOutside, asking_if, is_due, is_outside, line_in, noted, noted_at, opens_line, opens_there, outside_behind, outside_from, outside_line, outside_stmt, place_of}
 use Rattle.gx_agenda.proofs.Asking.{if-all, if-alike}
 
 same-session : (s k : SessionId) → is_same_session s k ≡ true → s ≡ k

@@ -1,4 +1,4 @@
-use Rattle.std.specs.Prelude.{◌≡◌, ◌-◌, ◌++◌, replicate, true}
+use Rattle.std.specs.Prelude.{◌≡◌, replicate, true}
 use Rattle.gx_agenda.proofs.opening.all_outside.Given as goal
 
 abbrev pub invariant-loop-session : goal.invariant-loop-session

@@ -1,7 +1,5 @@
-use Rattle.std.proofs.Common.{◌≡◌, ◌∙◌, ◌<◌, ◌≤◌, ◌&&◌, Bool, arith, ap, false, length, sym, subst}
-use Rattle.std.proofs.lemmas.Grind.{common_steps}
+use Rattle.std.proofs.Common.{◌∙◌, ◌&&◌, arith, ap, length, sym}
 use Rattle.std.specs.Prelude.{map}
-use Rattle.gx_ids.specs.declared.ids.SessionId.{SessionId}
 use Rattle.gx_store.specs.Marks.{is_answered}
 use Rattle.gx_agenda.specs.Slotted.{asking_if, is_due}
 use Rattle.gx_agenda.proofs.Asking.{answered-between, next-asks, numbered, range-none}

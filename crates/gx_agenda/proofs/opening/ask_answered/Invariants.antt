@@ -1,4 +1,4 @@
-use Rattle.std.specs.Prelude.{◌≡◌, ◌≤◌, ◌-◌, ◌&&◌, length, map}
+use Rattle.std.specs.Prelude.{◌≡◌, ◌-◌, ◌&&◌, map}
 use Rattle.std.specs.List.{range_with_len}
 use Rattle.gx_ids.specs.declared.ids.SessionId.{SessionId}
 use Rattle.gx_store.specs.Marks.{is_answered}

@@ -1,5 +1,4 @@
 use Rattle.std.proofs.Common.{◌≡◌, ◌∙◌, ◌&&◌, ◌++◌, ◌∷◌, [], Bool, List, ap, subst, sym}
-use Rattle.gx_ids.specs.declared.ids.SessionId.{SessionId}
 use Rattle.gx_groups.specs.Table.{Table}
 use Rattle.gx_store.specs.declared.mark.Mark.{Mark}
 use Rattle.gx_store.specs.declared.opened.Opened.{Opened}
