@@ -11,9 +11,9 @@ pub fn receipts_are_few()
     ensures { (script : Script) (steps : List OneStep) → AreEnabled script [] steps → AreReceiptsFew steps }
 {}
 
-/// In every run, whatever the network does and whichever appends fail, a segment sends at most one message for each step that it takes: a
-/// receipt, or a slice that goes on. With what the coordinator sends (`orders_are_few`) that bounds all messages by lines, ends, messages
-/// sent again, rounds, and slices that go on.
+/// In every run, whatever the network does and whichever appends fail, a segment sends the coordinator no more messages than it takes steps:
+/// receipts, and slices that go on. Where each step does what was enabled, this and the two other laws bound all messages by lines, ends,
+/// messages sent again, rounds, and slices that go on.
 pub fn answers_are_few()
     ensures { (script : Script) (steps : List OneStep) → 1 ≤ script.segments → IsReached script steps → AreAnswersFew steps }
 {}

@@ -1,4 +1,4 @@
-//! What the coordinator sends is bounded by the lines that were started.
+//! How much is sent and received is bounded by what has happened in a run.
 #![tactic(auto)]
 
 pub mod deliveries;
