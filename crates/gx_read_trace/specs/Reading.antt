@@ -1,5 +1,5 @@
 -- What the lines of a text that may be shown are read as.
-use Rattle.std.specs.Prelude.{◌≡◌, ℕ, ◌^◌, ◌<◌, List, length, All, Some}
+use Rattle.std.specs.Prelude.{◌≡◌, ℕ, List, Some}
 use Rattle.gx_script.specs.declared.Script.{Script}
 use Rattle.gx_trace.specs.declared.seen.Seen.{Seen}
 use Rattle.gx_read_trace.specs.Machine.{Mid, ended, run, start}

@@ -1,5 +1,5 @@
 //! What the lines of a text are read as that may be shown.
-ghost use Rattle.std.specs.Prelude.{◌≡◌, ◌+◌, ◌^◌, ◌<◌, length};
+ghost use Rattle.std.specs.Prelude.{◌≡◌, ℕ, ◌+◌, ◌^◌, ◌<◌, List, length};
 ghost use Rattle.gx_script.specs.declared.Script.{Script as AnyScript};
 ghost use Rattle.gx_trace.specs.Shown.{IsShown};
 ghost use Rattle.gx_trace.specs.ShownText.{shown_text};
@@ -15,4 +15,14 @@ pub fn lines_are_the_text()
 /// The reader, which takes a line at a time, reads them as what they show.
 pub fn printed_lines_are_read()
     ensures { (script : AnyScript) (seen : AnySeen) → length script.lines + 1 < 2 ^ 32 → IsShown script seen → AreReadAs script (seen_lines script seen) seen }
+{}
+
+/// What it reads lines as may be shown, and is what they show: it reads no other lines.
+pub fn what_is_read_is_printed()
+    ensures { (script : AnyScript) (lines : List (List ℕ)) (seen : AnySeen) → length script.lines + 1 < 2 ^ 32 → AreReadAs script lines seen → IsShown script seen × (lines ≡ seen_lines script seen) }
+{}
+
+/// Lines are read as one thing at most.
+pub fn lines_are_read_as_one()
+    ensures { (script : AnyScript) (lines : List (List ℕ)) (seen other : AnySeen) → AreReadAs script lines seen → AreReadAs script lines other → seen ≡ other }
 {}

@@ -3,4 +3,6 @@
 
 mod laws;
 
-pub use laws::{lines_are_the_text, printed_lines_are_read};
+pub use laws::{
+    lines_are_read_as_one, lines_are_the_text, printed_lines_are_read, what_is_read_is_printed,
+};
