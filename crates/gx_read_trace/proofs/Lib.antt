@@ -4,3 +4,6 @@ pub mod Places
 pub mod Alone
 pub mod Longer
 pub mod Stays
+pub mod Plain
+pub mod Feedless
+pub mod Cutting

@@ -1,12 +1,11 @@
 -- The lines that show something, each with its line feed, are its text.
-use Rattle.std.proofs.Common.{◌≡◌, ℕ, ◌<◌, List, [], ◌∷◌, ◌++◌, length, map, codes, refl, sym, ◌∙◌, ap, append_assoc, append-nil}
+use Rattle.std.proofs.Common.{◌≡◌, ℕ, List, [], ◌∷◌, ◌++◌, length, map, codes, refl, sym, ◌∙◌, ap, append_assoc, append-nil}
 use Rattle.std.specs.Prelude.{All}
 use Rattle.std.specs.List.{flat_map}
 use Rattle.std.specs.Fmt.{decimal}
 use Rattle.std.proofs.lemmas.List.Elements.{All-head, All-tail}
 use Rattle.gx_ids.specs.Rid.{text_of as rid_text}
-use Rattle.gx_meaning.specs.Order.{in_order}
-use Rattle.gx_report.specs.LockText.{edge_order, edge_text, verdict_text}
+use Rattle.gx_report.specs.LockText.{edge_text, verdict_text}
 use Rattle.gx_report.specs.Text.{answer_text, line_text, row_line}
 use Rattle.gx_report.specs.Words.{number_text, session_name, words_text}
 use Rattle.gx_script.specs.declared.Script.{Script}
@@ -15,7 +14,6 @@ use Rattle.gx_store.specs.declared.answer.Refused.TheVariants as refused
 use Rattle.gx_store.specs.declared.answer.StmtAnswer.{StmtAnswer}
 use Rattle.gx_store.specs.declared.answer.StmtAnswer.TheVariants as answer
 use Rattle.gx_store.specs.declared.mark.Mark.TheVariants as mark
-use Rattle.gx_tree.specs.declared.cell.Cell.{Cell}
 use Rattle.gx_tree.specs.declared.schema.Schema.{Schema}
 use Rattle.gx_tree.specs.declared.value.Value.{Value}
 use Rattle.gx_trace.specs.Lawful.{IsSeenMark}
@@ -30,12 +28,10 @@ use Rattle.gx_trace.specs.declared.seen.SeenStep.{SeenStep}
 use Rattle.gx_trace_lines.specs.Answers.{answer_head_text}
 use Rattle.gx_trace_lines.specs.Cells.{out_row_text}
 use Rattle.gx_trace_lines.specs.Events.{moment_text}
-use Rattle.gx_trace_lines.specs.Heads.{head_text, refused_text, said_text}
-use Rattle.gx_trace_lines.specs.Marks.{mark_line_text}
-use Rattle.gx_trace_lines.specs.Tables.{table_head_text, table_row_text}
+use Rattle.gx_trace_lines.specs.Heads.{head_text, refused_text}
+use Rattle.gx_trace_lines.specs.Tables.{table_row_text}
 use Rattle.gx_trace_lines.specs.declared.heads.AnswerHead.{AnswerHead}
 use Rattle.gx_trace_lines.specs.declared.heads.AnswerHead.TheVariants.{Said, Rows}
-use Rattle.gx_trace_lines.specs.declared.marks.MarkLine.TheVariants.{Alone, Own, Ended}
 use Rattle.gx_read_trace.specs.Lines.{answer_lines, blank_line, fed, fed_line, lines_of_answer, lines_of_table, lines_of_tables, mark_lines, moment_of_step, run_line, seen_lines, step_lines}
 
 in-head : (n k d b h f m : List ℕ) → ((n ++ (k ++ (d ++ (b ++ h)))) ++ f) ++ m ≡ n ++ k ++ d ++ b ++ (h ++ f) ++ m

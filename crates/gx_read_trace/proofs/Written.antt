@@ -1,12 +1,11 @@
 -- What is printed is read: the lines of what may be shown lead the reader from its start to it.
-use Rattle.std.proofs.Common.{◌≡◌, ◌≢◌, ℕ, zero, suc, ◌+◌, ◌^◌, ◌<◌, ◌≤◌, ◌==◌, Bool, true, false, if◌then◌else◌, List, [], ◌∷◌, ◌++◌, length, map, codes}
-use Rattle.std.proofs.Common.{Option, Some, None, refl, sym, ◌∙◌, ap, subst, arith, append_assoc, append-nil}
-use Rattle.std.specs.Prelude.{All, option_and_then, slice_get, unwrap_or}
-use Rattle.std.specs.List.{flat_map, range_with_len}
+use Rattle.std.proofs.Common.{◌≡◌, ℕ, suc, ◌^◌, ◌<◌, ◌==◌, true, List, [], ◌∷◌, ◌++◌, length, map, codes}
+use Rattle.std.proofs.Common.{Some, None, refl, sym, ◌∙◌, ap, subst, arith, append_assoc, append-nil}
+use Rattle.std.specs.Prelude.{All, option_and_then}
+use Rattle.std.specs.List.{flat_map}
 use Rattle.std.specs.Fmt.{decimal}
-use Rattle.std.proofs.lemmas.Grind.{common_steps}
-use Rattle.std.proofs.lemmas.List.Elements.{All-head, All-nil, All-tail}
-use Rattle.gx_report.specs.Words.{number_text, session_name}
+use Rattle.std.proofs.lemmas.List.Elements.{All-head, All-tail}
+use Rattle.gx_report.specs.Words.{session_name}
 use Rattle.gx_script.specs.declared.Script.{Script}
 use Rattle.gx_store.specs.declared.answer.StmtAnswer.{StmtAnswer}
 use Rattle.gx_store.specs.declared.answer.StmtAnswer.TheVariants as answer
@@ -14,10 +13,9 @@ use Rattle.gx_store.specs.declared.mark.Mark.TheVariants as mark
 use Rattle.gx_tree.specs.declared.cell.Cell.{Cell}
 use Rattle.gx_tree.specs.declared.schema.Schema.{Schema}
 use Rattle.gx_tree.specs.declared.value.Value.{Value}
-use Rattle.gx_trace.specs.Fields.{count}
 use Rattle.gx_trace.specs.Lawful.{IsAnswer, IsOutRow, IsSeenMark}
 use Rattle.gx_trace.specs.Names.{session_of}
-use Rattle.gx_trace.specs.Readers.{Front, behind, word, EndsNumber, IsReaderOf}
+use Rattle.gx_trace.specs.Readers.{Front, word, IsReaderOf}
 use Rattle.gx_trace.specs.Shown.{AreTables, IsRowOf, IsSeenStep, IsShown, all_places, place_of}
 use Rattle.gx_trace.specs.declared.seen.Seen.{Seen}
 use Rattle.gx_trace.specs.declared.seen.SeenAnswer.{SeenAnswer}
@@ -28,13 +26,12 @@ use Rattle.gx_trace.proofs.ReadFields.{counts}
 use Rattle.gx_trace.proofs.Readers.{behind-word}
 use Rattle.gx_trace.proofs.Wholes.{not-word}
 use Rattle.gx_trace.proofs.Words.{if-true}
-use Rattle.gx_trace_lines.specs.Answers.{answer_head, answer_head_text}
-use Rattle.gx_trace_lines.specs.Cells.{out_row, out_row_text}
+use Rattle.gx_trace_lines.specs.Answers.{answer_head_text}
+use Rattle.gx_trace_lines.specs.Cells.{out_row_text}
 use Rattle.gx_trace_lines.specs.Events.{IsMoment, moment, moment_text}
 use Rattle.gx_trace_lines.specs.Heads.{IsHead}
-use Rattle.gx_trace_lines.specs.Marks.{IsMarkLine, mark_line, mark_line_text, own_graph}
-use Rattle.gx_trace_lines.specs.Tables.{table_head, table_head_text, table_row, table_row_text}
-use Rattle.gx_trace_lines.specs.declared.events.Moment.{Moment}
+use Rattle.gx_trace_lines.specs.Marks.{IsMarkLine, mark_line_text, own_graph}
+use Rattle.gx_trace_lines.specs.Tables.{table_head_text, table_row_text}
 use Rattle.gx_trace_lines.specs.declared.heads.AnswerHead.{AnswerHead}
 use Rattle.gx_trace_lines.specs.declared.heads.AnswerHead.TheVariants.{Said, Rows}
 use Rattle.gx_trace_lines.specs.declared.marks.MarkLine.{MarkLine}

@@ -1,6 +1,8 @@
 -- What the lines of a text that may be shown are read as.
-use Rattle.std.specs.Prelude.{◌≡◌, ℕ, List, Some}
+use Rattle.std.specs.Prelude.{◌≡◌, ℕ, List, map, All, Some}
 use Rattle.gx_script.specs.declared.Script.{Script}
+use Rattle.gx_store.specs.Language.{table_name}
+use Rattle.gx_trace.specs.Lawful.{IsLine}
 use Rattle.gx_trace.specs.declared.seen.Seen.{Seen}
 use Rattle.gx_read_trace.specs.Machine.{Mid, ended, run, start}
 
@@ -9,3 +11,8 @@ pub record AreReadAs (script : Script) (lines : List (List ℕ)) (seen : Seen) :
   pub last : Mid
   pub leads : run script lines (start script) ≡ Some last
   pub tells : ended last.so_far last.next ≡ Some seen
+
+-- no name has a line feed in it: so it is in each script that keeps the language
+pub record HasPlainNames (script : Script) : Type 0 where
+  pub sessions : All IsLine script.sessions
+  pub tables : All IsLine (map table_name script.tables)

@@ -1,11 +1,12 @@
 //! What the lines of a text are read as that may be shown.
-ghost use Rattle.std.specs.Prelude.{◌≡◌, ℕ, ◌+◌, ◌^◌, ◌<◌, List, length};
+ghost use Rattle.std.specs.Prelude.{◌≡◌, ℕ, ◌+◌, ◌^◌, ◌<◌, List, length, All};
 ghost use Rattle.gx_script.specs.declared.Script.{Script as AnyScript};
+ghost use Rattle.gx_trace.specs.Lawful.{IsLine};
 ghost use Rattle.gx_trace.specs.Shown.{IsShown};
 ghost use Rattle.gx_trace.specs.ShownText.{shown_text};
 ghost use Rattle.gx_trace.specs.declared.seen.Seen.{Seen as AnySeen};
 ghost use Rattle.gx_read_trace.specs.Lines.{fed, seen_lines};
-ghost use Rattle.gx_read_trace.specs.Reading.{AreReadAs};
+ghost use Rattle.gx_read_trace.specs.Reading.{AreReadAs, HasPlainNames};
 
 /// The lines of what a script's run may show, each with its line feed, are its text.
 pub fn lines_are_the_text()
@@ -25,4 +26,15 @@ pub fn what_is_read_is_printed()
 /// Lines are read as one thing at most.
 pub fn lines_are_read_as_one()
     ensures { (script : AnyScript) (lines : List (List ℕ)) (seen other : AnySeen) → AreReadAs script lines seen → AreReadAs script lines other → seen ≡ other }
+{}
+
+/// None of the lines has a line feed in it, where the names of the script have none.
+pub fn printed_lines_have_no_feeds()
+    ensures { (script : AnyScript) (seen : AnySeen) → length script.lines + 1 < 2 ^ 32 → HasPlainNames script → IsShown script seen → All IsLine (seen_lines script seen) }
+{}
+
+/// So a text shows one thing at most.
+pub fn texts_show_one_thing()
+    ensures { (script : AnyScript) (seen other : AnySeen) → length script.lines + 1 < 2 ^ 32 → HasPlainNames script → IsShown script seen → IsShown script other
+        → shown_text script seen ≡ shown_text script other → seen ≡ other }
 {}
