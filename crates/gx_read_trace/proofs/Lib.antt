@@ -7,3 +7,4 @@ pub mod Stays
 pub mod Plain
 pub mod Feedless
 pub mod Cutting
+pub mod Ending

@@ -51,27 +51,27 @@ use Rattle.gx_read_trace.proofs.Alone.{alone}
 use Rattle.gx_read_trace.proofs.Longer.{all-behind, all-more, are-more, flat-more, length-more, map-more, no-tables, of-line, rows-more, tables-more}
 
 module _ (script : Script) where
-  abbrev places : List (ℕ × ℕ)
+  abbrev pub places : List (ℕ × ℕ)
   places = all_places script.lines 0 script.sessions
 
-  abbrev name_of : ℕ × ℕ → List ℕ
+  abbrev pub name_of : ℕ × ℕ → List ℕ
   name_of p = session_name script (session_of p.0)
 
-  abbrev answers_of : Seen → List (List ℕ)
+  abbrev pub answers_of : Seen → List (List ℕ)
   answers_of s = flat_map (answer_lines script) s.answers
 
-  abbrev before_run : Seen → List (List ℕ)
+  abbrev pub before_run : Seen → List (List ℕ)
   before_run s = answers_of s ++ lines_of_tables script.tables s.tables
 
   -- with so many steps still to come
-  abbrev behind_steps : Seen → ℕ → List (List ℕ)
+  abbrev pub behind_steps : Seen → ℕ → List (List ℕ)
   behind_steps s n = before_run s ++ (run_line (length s.steps + n) ∷ flat_map (step_lines script) s.steps)
 
-  abbrev within : Seen → SeenStep → ℕ → List (List ℕ)
+  abbrev pub within : Seen → SeenStep → ℕ → List (List ℕ)
   within s step n = before_run s ++ (run_line (length s.steps + suc n) ∷ (flat_map (step_lines script) s.steps ++ step_lines script step))
 
   -- the lines that lead to a state
-  abbrev printed : Seen → Where → List (List ℕ)
+  abbrev pub printed : Seen → Where → List (List ℕ)
   printed s (Answers ps) = answers_of s
   printed s (AnswerRows p rows others ps) = answers_of s ++ (answer_head_text (name_of p) p.1 (Rows (length rows + suc others)) ∷ map out_row_text rows)
   printed s (Tables ss) = before_run s
@@ -81,25 +81,26 @@ module _ (script : Script) where
   printed s (Recheck step round edges n) = within s step n ++ blank_line (mark_line_text script (Own round edges)) ∷ []
 
   -- the answers before these places
-  record AreAnswers (s : Seen) (ps : List (ℕ × ℕ)) : Type 0 where
+  pub record AreAnswers (s : Seen) (ps : List (ℕ × ℕ)) : Type 0 where
     pub places_are : map place_of s.answers ++ ps ≡ places
     pub lawful : All (λ (said : SeenAnswer). IsAnswer said.answer) s.answers
 
   -- all answers, and the tables before these
-  record AreListed (s : Seen) (ss : List Schema) : Type 0 where
+  pub record AreListed (s : Seen) (ss : List Schema) : Type 0 where
     pub answers : AreAnswers s []
     pub done : List Schema
     pub parts : script.tables ≡ done ++ ss
     pub tables : AreTables done s.tables
 
-  record AreStepped (s : Seen) (last : SeenStep) (n : ℕ) : Type 0 where
+  pub record AreStepped (s : Seen) (last : SeenStep) (n : ℕ) : Type 0 where
     pub listed : AreListed s []
     pub steps : All (IsSeenStep script) s.steps
     pub step : IsSeenStep script last
     pub count : length s.steps + suc n < 2 ^ 64
 
-  abbrev IsMid : Seen → Where → Type 0
-  IsMid s (Answers ps) = AreAnswers s ps × (s.tables ≡ []) × (s.steps ≡ [])
+  abbrev pub IsMid : Seen → Where → Type 0
+  IsMid s (Answers []) = ⊥
+  IsMid s (Answers (p ∷ ps)) = AreAnswers s (p ∷ ps) × (s.tables ≡ []) × (s.steps ≡ [])
   IsMid s (AnswerRows p rows others ps) = AreAnswers s (p ∷ ps) × (s.tables ≡ []) × (s.steps ≡ []) × (length rows + suc others < 2 ^ 64) × All IsOutRow rows
   IsMid s (Tables ss) = AreListed s ss × (s.steps ≡ [])
   IsMid s (TableRows t rows others ss) = AreListed s (t ∷ ss) × (s.steps ≡ []) × (length rows + suc others < 2 ^ 64) × All (IsRowOf t) rows
@@ -108,11 +109,11 @@ module _ (script : Script) where
   IsMid s (Recheck step round edges n) = AreStepped s step n × (round < 2 ^ 64) × IsGraph the_coordinator (own_graph edges)
 
   -- a state to which these lines lead
-  abbrev IsAt : Mid → List (List ℕ) → Type 0
+  abbrev pub IsAt : Mid → List (List ℕ) → Type 0
   IsAt m before = IsMid m.so_far m.next × (printed m.so_far m.next ≡ before)
 
   -- what a line makes of a state with these lines before it
-  abbrev Keeps : List (List ℕ) → List ℕ → Option Mid → Type 0
+  abbrev pub Keeps : List (List ℕ) → List ℕ → Option Mid → Type 0
   Keeps before line None = Unit {0}
   Keeps before line (Some m) = IsAt m (before ++ line ∷ [])
 
@@ -324,7 +325,7 @@ module _ (script : Script) where
   stays s (Recheck step round edges n) line small is =
       of-line (Keeps (printed s (Recheck step round edges n))) (behind-word (codes "  ") (mark-lines script)) (recheck_read s step round edges n) line tt (λ m lawful. recheck-at s step round edges n m is lawful)
 
-  led : (ls : List (List ℕ)) (m last : Mid) (before : List (List ℕ)) → All (λ (p : ℕ × ℕ). p.1 < 2 ^ 32) places → IsAt m before → run script ls m ≡ Some last → IsAt last (before ++ ls)
+  pub led : (ls : List (List ℕ)) (m last : Mid) (before : List (List ℕ)) → All (λ (p : ℕ × ℕ). p.1 < 2 ^ 32) places → IsAt m before → run script ls m ≡ Some last → IsAt last (before ++ ls)
   led [] m last before small is e = subst (λ x. IsAt x (before ++ [])) (same_Some m last e) (is.0, is.1 ∙ sym (append-nil before))
   led (l ∷ ls) m last before small is e =
       by (next_line script m.so_far m.next l) (subst (λ b. Keeps b l (next_line script m.so_far m.next l)) is.1 (stays m.so_far m.next l small is.0)) e
@@ -373,12 +374,13 @@ module _ (script : Script) where
         lines-of (stepped s step) (length s.steps + suc zero) (flat_map (step_lines script) s.steps ++ step_lines script step) (sym k) (sym (flat-more (step_lines script) s.steps step)),
       )
 
+  pub from-start : IsAt (start script) []
+  from-start = behind-answers (record { answers = []; tables = []; steps = [] }) places (record { places_are = refl; lawful = All-nil (λ (said : SeenAnswer). IsAnswer said.answer) }) refl refl
+
   -- what is read of lines is shown by them
   pub read-back : (ls : List (List ℕ)) (last : Mid) (tells : Seen) → All (λ (p : ℕ × ℕ). p.1 < 2 ^ 32) places → run script ls (start script) ≡ Some last → ended last.so_far last.next ≡ Some tells
       → IsShown script tells × (ls ≡ seen_lines script tells)
   read-back ls last tells small leads e =
-      let nothing : Seen = record { answers = []; tables = []; steps = [] } in
-      let from : IsAt (start script) [] = behind-answers nothing places (record { places_are = refl; lawful = All-nil (λ (said : SeenAnswer). IsAnswer said.answer) }) refl refl in
-      let (here, shows) = led ls (start script) last [] small from leads in
+      let (here, shows) = led ls (start script) last [] small from-start leads in
       let (lawful, same) = at-end last.so_far last.next tells here e in
       (lawful, sym shows ∙ same)

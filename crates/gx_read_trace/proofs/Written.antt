@@ -47,31 +47,31 @@ use Rattle.gx_read_trace.specs.Machine.{recheck_read, run, start, step_line, ste
 use Rattle.gx_read_trace.specs.Machine.{Answers, AnswerRows, Tables, TableRows, Steps, Marks, Recheck}
 
 -- a line that stands whole
-all-read : {A : Type 0} {text : A → List ℕ} {Is : A → Type 0} {Ends : List ℕ → Type 0} {read : List ℕ → Front A} → IsReaderOf text Is Ends read → Ends [] → (a : A) → Is a → all_of (read (text a)) ≡ Some a
+pub all-read : {A : Type 0} {text : A → List ℕ} {Is : A → Type 0} {Ends : List ℕ → Type 0} {read : List ℕ → Front A} → IsReaderOf text Is Ends read → Ends [] → (a : A) → Is a → all_of (read (text a)) ≡ Some a
 all-read {text = text} {read = read} r ends a is = ap (λ y. all_of (read y)) (sym (append-nil (text a))) ∙ ap all_of (r.again a [] is ends)
 
 module _ (script : Script) where
-  abbrev mid : Seen → Where → Mid
+  abbrev pub mid : Seen → Where → Mid
   mid s at = record { so_far = s; next = at }
 
   -- lines lead from one state to another
-  abbrev Leads : Mid → List (List ℕ) → Mid → Type 0
+  abbrev pub Leads : Mid → List (List ℕ) → Mid → Type 0
   Leads m ls n = (more : List (List ℕ)) → run script (ls ++ more) m ≡ run script more n
 
-  one : (m n : Mid) (l : List ℕ) → next_line script m.so_far m.next l ≡ Some n → Leads m (l ∷ []) n
+  pub one : (m n : Mid) (l : List ℕ) → next_line script m.so_far m.next l ≡ Some n → Leads m (l ∷ []) n
   one m n l e more = ap (option_and_then (run script more)) e
 
-  onward : (m n k : Mid) (ls : List (List ℕ)) (ms : List (List ℕ)) → Leads m ls n → Leads n ms k → Leads m (ls ++ ms) k
+  pub onward : (m n k : Mid) (ls : List (List ℕ)) (ms : List (List ℕ)) → Leads m ls n → Leads n ms k → Leads m (ls ++ ms) k
   onward m n k ls ms first second more = ap (λ x. run script x m) (append_assoc ls ms more) ∙ first (ms ++ more) ∙ second more
 
   -- ANSWERS
-  abbrev name_of : ℕ × ℕ → List ℕ
+  abbrev pub name_of : ℕ × ℕ → List ℕ
   name_of p = session_name script (session_of p.0)
 
   head-read : (s : Seen) (p : ℕ × ℕ) (ps : List (ℕ × ℕ)) (h : AnswerHead) → p.1 < 2 ^ 32 → IsHead h → next_line script s (Answers (p ∷ ps)) (answer_head_text (name_of p) p.1 h) ≡ Some (answer_begun script s p ps h)
   head-read s p ps h small is = ap (option_and_then (λ k. Some (answer_begun script s p ps k))) (all-read (answer-heads (name_of p) p.1 small) refl h is)
 
-  row-read : (s : Seen) (p : ℕ × ℕ) (acc : List (List Cell)) (n : ℕ) (ps : List (ℕ × ℕ)) (row : List Cell) → IsOutRow row
+  pub row-read : (s : Seen) (p : ℕ × ℕ) (acc : List (List Cell)) (n : ℕ) (ps : List (ℕ × ℕ)) (row : List Cell) → IsOutRow row
       → next_line script s (AnswerRows p acc n ps) (out_row_text row) ≡ Some (answer_row script s p acc n ps row)
   row-read s p acc n ps row is = ap (option_and_then (λ k. Some (answer_row script s p acc n ps k))) (all-read out-rows refl row is)
 
@@ -88,7 +88,7 @@ module _ (script : Script) where
   lone-head : (s : Seen) (p : ℕ × ℕ) (ps : List (ℕ × ℕ)) (h : AnswerHead) → p.1 < 2 ^ 32 → IsHead h → Leads (mid s (Answers (p ∷ ps))) (answer_head_text (name_of p) p.1 h ∷ []) (answer_begun script s p ps h)
   lone-head s p ps h small is = one (mid s (Answers (p ∷ ps))) (answer_begun script s p ps h) (answer_head_text (name_of p) p.1 h) (head-read s p ps h small is)
 
-  answer-leads : (s : Seen) (p : ℕ × ℕ) (ps : List (ℕ × ℕ)) (said : StmtAnswer) → p.1 < 2 ^ 32 → IsAnswer said
+  pub answer-leads : (s : Seen) (p : ℕ × ℕ) (ps : List (ℕ × ℕ)) (said : StmtAnswer) → p.1 < 2 ^ 32 → IsAnswer said
       → Leads (mid s (Answers (p ∷ ps))) (lines_of_answer (name_of p) p.1 said) (answered script s p said ps)
   answer-leads s p ps answer.Begin small is = lone-head s p ps (Said answer.Begin) small is
   answer-leads s p ps answer.Commit small is = lone-head s p ps (Said answer.Commit) small is
@@ -128,7 +128,7 @@ module _ (script : Script) where
       (subst (λ x. Leads next (flat_map (answer_lines script) xs) (mid (record { answers = x; tables = s.tables; steps = s.steps }) (Tables script.tables))) (append_assoc s.answers (a ∷ []) xs) rest)
 
   -- TABLES
-  table-row-read : (s : Seen) (t : Schema) (acc : List (List Value)) (n : ℕ) (ss : List Schema) (row : List Value) → IsRowOf t row
+  pub table-row-read : (s : Seen) (t : Schema) (acc : List (List Value)) (n : ℕ) (ss : List Schema) (row : List Value) → IsRowOf t row
       → next_line script s (TableRows t acc n ss) (table_row_text row) ≡ Some (table_row_read s t acc n ss row)
   table-row-read s t acc n ss row is = ap (option_and_then (λ k. Some (table_row_read s t acc n ss k))) (all-read (table-rows t) refl row is)
 
@@ -145,7 +145,7 @@ module _ (script : Script) where
   table-head-read : (s : Seen) (t : Schema) (ss : List Schema) (n : ℕ) → n < 2 ^ 64 → next_line script s (Tables (t ∷ ss)) (table_head_text t.name n) ≡ Some (table_begun s t ss n)
   table-head-read s t ss n small = ap (option_and_then (λ k. Some (table_begun s t ss k))) (all-read (table-heads t.name) tt n small)
 
-  table-leads : (s : Seen) (t : Schema) (ss : List Schema) (rows : List (List Value)) → length rows < 2 ^ 64 → All (IsRowOf t) rows → Leads (mid s (Tables (t ∷ ss))) (lines_of_table t.name rows) (listed s rows ss)
+  pub table-leads : (s : Seen) (t : Schema) (ss : List Schema) (rows : List (List Value)) → length rows < 2 ^ 64 → All (IsRowOf t) rows → Leads (mid s (Tables (t ∷ ss))) (lines_of_table t.name rows) (listed s rows ss)
   table-leads s t ss [] small all =
       one (mid s (Tables (t ∷ ss))) (listed s [] ss) (table_head_text t.name (length {A = List Value} [])) (table-head-read s t ss (length {A = List Value} []) small ∙ ap (λ k. Some (table_begun s t ss k)) none)
     where
@@ -172,7 +172,7 @@ module _ (script : Script) where
       (table-leads s t ss rows are.0 are.1)
       (subst (λ x. Leads (listed s rows ss) (lines_of_tables ss tables) (mid (record { answers = s.answers; tables = x; steps = s.steps }) (Tables []))) (append_assoc s.tables (rows ∷ []) tables) rest)
 
-  run-line-read : (s : Seen) (n : ℕ) → n < 2 ^ 64 → next_line script s (Tables []) (run_line n) ≡ Some (mid s (Steps n))
+  pub run-line-read : (s : Seen) (n : ℕ) → n < 2 ^ 64 → next_line script s (Tables []) (run_line n) ≡ Some (mid s (Steps n))
   run-line-read s n small = ap (option_and_then (λ k. Some (mid s (Steps k)))) (all-read (behind-word (codes "run") counts) tt n small)
 
   -- MARKS
@@ -240,14 +240,14 @@ module _ (script : Script) where
       ∙ not-word 32 (codes " ") step.stamp.clock _ (omega (arith, is.clock)) (λ d l. grind arith)
 
   -- from before the first step, or from behind another
-  first-leads : (s : Seen) (step : SeenStep) (n : ℕ) → IsSeenStep script step → Leads (mid s (Steps (suc n))) (step_lines script step) (mid s (Marks step n))
+  pub first-leads : (s : Seen) (step : SeenStep) (n : ℕ) → IsSeenStep script step → Leads (mid s (Steps (suc n))) (step_lines script step) (mid s (Marks step n))
   first-leads s step n is =
       let at = moment_of_step step in
       onward (mid s (Steps (suc n))) (mid s (Marks (begun at) n)) (mid s (Marks step n)) (moment_text script at ∷ []) (flat_map (mark_lines script) step.marks)
       (one (mid s (Steps (suc n))) (mid s (Marks (begun at) n)) (moment_text script at) (ap (option_and_then (event_read s (suc n))) (moment-read step is)))
       (marks-lead s (begun at) n step.marks is.marks)
 
-  next-leads : (s : Seen) (last step : SeenStep) (n : ℕ) → IsSeenStep script step → Leads (mid s (Marks last (suc n))) (step_lines script step) (mid (stepped s last) (Marks step n))
+  pub next-leads : (s : Seen) (last step : SeenStep) (n : ℕ) → IsSeenStep script step → Leads (mid s (Marks last (suc n))) (step_lines script step) (mid (stepped s last) (Marks step n))
   next-leads s last step n is =
       let at = moment_of_step step in
       let t = stepped s last in

@@ -1,12 +1,12 @@
 //! What the lines of a text are read as that may be shown.
-ghost use Rattle.std.specs.Prelude.{◌≡◌, ℕ, ◌+◌, ◌^◌, ◌<◌, List, length, All};
+ghost use Rattle.std.specs.Prelude.{◌≡◌, ℕ, ◌+◌, ◌^◌, ◌<◌, ◌↔◌, List, length, All};
 ghost use Rattle.gx_script.specs.declared.Script.{Script as AnyScript};
 ghost use Rattle.gx_trace.specs.Lawful.{IsLine};
 ghost use Rattle.gx_trace.specs.Shown.{IsShown};
 ghost use Rattle.gx_trace.specs.ShownText.{shown_text};
 ghost use Rattle.gx_trace.specs.declared.seen.Seen.{Seen as AnySeen};
 ghost use Rattle.gx_read_trace.specs.Lines.{fed, seen_lines};
-ghost use Rattle.gx_read_trace.specs.Reading.{AreReadAs, HasPlainNames};
+ghost use Rattle.gx_read_trace.specs.Reading.{AreReadAs, AreTaken, BeginText, HasPlainNames};
 
 /// The lines of what a script's run may show, each with its line feed, are its text.
 pub fn lines_are_the_text()
@@ -37,4 +37,9 @@ pub fn printed_lines_have_no_feeds()
 pub fn texts_show_one_thing()
     ensures { (script : AnyScript) (seen other : AnySeen) → length script.lines + 1 < 2 ^ 32 → HasPlainNames script → IsShown script seen → IsShown script other
         → shown_text script seen ≡ shown_text script other → seen ≡ other }
+{}
+
+/// The reader takes lines where some text begins with them: so a line at which it stops is the first with which no text goes on.
+pub fn lines_are_taken_that_begin_a_text()
+    ensures { (script : AnyScript) (lines : List (List ℕ)) → length script.lines + 1 < 2 ^ 32 → AreTaken script lines ↔ BeginText script lines }
 {}
