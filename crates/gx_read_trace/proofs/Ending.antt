@@ -165,7 +165,7 @@ module _ (script : Script) where
   goes s (Recheck step round edges n) small is = recheck-goes s step round edges n is.1
 
   -- LINES
-  on-behind : (ls more : List (List ℕ)) (m n : Mid) → run script ls m ≡ Some n → run script (ls ++ more) m ≡ run script more n
+  pub on-behind : (ls more : List (List ℕ)) (m n : Mid) → run script ls m ≡ Some n → run script (ls ++ more) m ≡ run script more n
   on-behind [] more m n e = ap (λ o. option_and_then (run script more) o) e
   on-behind (l ∷ ls) more m n e = by (next_line script m.so_far m.next l) e (λ k q. on-behind ls more k n q)
     where

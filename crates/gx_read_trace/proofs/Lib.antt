@@ -8,3 +8,4 @@ pub mod Plain
 pub mod Feedless
 pub mod Cutting
 pub mod Ending
+pub mod Deciding

@@ -25,7 +25,7 @@ abbrev pub unfed : List ℕ → Bool
 unfed [] = true
 unfed (b ∷ bs) = if b == 10 then false else unfed bs
 
-differs : (b : ℕ) → (b == 10) ≡ false → b ≢ 10
+pub differs : (b : ℕ) → (b == 10) ≡ false → b ≢ 10
 differs b e = λ same. clash (sym e ∙ e_at same)
   where
     e_at : b ≡ 10 → (b == 10) ≡ true

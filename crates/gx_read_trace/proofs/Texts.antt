@@ -46,7 +46,7 @@ in-event a k b c f = simp append_assoc
 in-recheck : (b f r k es q v : List ℕ) → ((b ++ (r ++ (k ++ es))) ++ f) ++ (((b ++ (q ++ (k ++ v))) ++ f) ++ []) ≡ (b ++ (r ++ k ++ es ++ (f ++ b) ++ q ++ k ++ v)) ++ f
 in-recheck b f r k es q v = simp (append_assoc, append-nil)
 
-fed-append : (xs ys : List (List ℕ)) → fed (xs ++ ys) ≡ fed xs ++ fed ys
+pub fed-append : (xs ys : List (List ℕ)) → fed (xs ++ ys) ≡ fed xs ++ fed ys
 fed-append [] ys = refl
 fed-append (x ∷ xs) ys = ap (λ z. fed_line x ++ z) (fed-append xs ys) ∙ sym (append_assoc (fed_line x) (fed xs) (fed ys))
 

@@ -1,3 +1,5 @@
 pub mod Lines
 pub mod Machine
 pub mod Reading
+pub mod FirstBad
+pub mod ReadText

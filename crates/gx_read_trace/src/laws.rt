@@ -1,11 +1,13 @@
 //! What the lines of a text are read as that may be shown.
-ghost use Rattle.std.specs.Prelude.{◌≡◌, ℕ, ◌+◌, ◌^◌, ◌<◌, ◌↔◌, List, length, All};
+ghost use Rattle.std.specs.Prelude.{◌≡◌, ℕ, ◌+◌, ◌^◌, ◌<◌, ◌↔◌, List, length, All, Ok, Err};
 ghost use Rattle.gx_script.specs.declared.Script.{Script as AnyScript};
 ghost use Rattle.gx_trace.specs.Lawful.{IsLine};
 ghost use Rattle.gx_trace.specs.Shown.{IsShown};
 ghost use Rattle.gx_trace.specs.ShownText.{shown_text};
 ghost use Rattle.gx_trace.specs.declared.seen.Seen.{Seen as AnySeen};
+ghost use Rattle.gx_read_trace.specs.FirstBad.{IsFirstBad};
 ghost use Rattle.gx_read_trace.specs.Lines.{fed, seen_lines};
+ghost use Rattle.gx_read_trace.specs.ReadText.{read_text};
 ghost use Rattle.gx_read_trace.specs.Reading.{AreReadAs, AreTaken, BeginText, HasPlainNames};
 
 /// The lines of what a script's run may show, each with its line feed, are its text.
@@ -42,4 +44,15 @@ pub fn texts_show_one_thing()
 /// The reader takes lines where some text begins with them: so a line at which it stops is the first with which no text goes on.
 pub fn lines_are_taken_that_begin_a_text()
     ensures { (script : AnyScript) (lines : List (List ℕ)) → length script.lines + 1 < 2 ^ 32 → AreTaken script lines ↔ BeginText script lines }
+{}
+
+/// Bytes are read as what is seen exactly where they are its text.
+pub fn texts_are_read_as_seen()
+    ensures { (script : AnyScript) (bytes : List ℕ) (seen : AnySeen) → length script.lines + 1 < 2 ^ 32 → HasPlainNames script
+        → read_text script bytes ≡ Ok seen ↔ IsShown script seen × (bytes ≡ shown_text script seen) }
+{}
+
+/// And where they are no text, the line is named that is the first with which none goes on.
+pub fn the_first_bad_line_is_named()
+    ensures { (script : AnyScript) (bytes : List ℕ) (line : ℕ) → length script.lines + 1 < 2 ^ 32 → HasPlainNames script → read_text script bytes ≡ Err line → IsFirstBad script bytes line }
 {}
