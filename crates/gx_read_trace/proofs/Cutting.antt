@@ -8,10 +8,10 @@ use Rattle.gx_read_trace.specs.Lines.{fed, fed_line}
 use Rattle.gx_read_trace.specs.ReadText.{cut, put}
 use Rattle.gx_read_trace.proofs.Plain.{NoFeed, differs}
 
-first-same : (a b : ℕ) (xs ys : List ℕ) → a ∷ xs ≡ b ∷ ys → a ≡ b
+pub first-same : (a b : ℕ) (xs ys : List ℕ) → a ∷ xs ≡ b ∷ ys → a ≡ b
 first-same a b xs ys e = ap (λ l. get_or l 0 0) e
 
-others-same : (a b : ℕ) (xs ys : List ℕ) → a ∷ xs ≡ b ∷ ys → xs ≡ ys
+pub others-same : (a b : ℕ) (xs ys : List ℕ) → a ∷ xs ≡ b ∷ ys → xs ≡ ys
 others-same a b xs ys e = ap (λ l. drop 1 l) e
 
 cut-line : (x y r s : List ℕ) → IsLine x → IsLine y → x ++ (10 ∷ r) ≡ y ++ (10 ∷ s) → (x ≡ y) × (r ≡ s)
@@ -81,7 +81,7 @@ cut-is (b ∷ bs) = by (b == 10) refl (cut bs) (cut-is bs)
         (ap (λ z. b ∷ z) is.0, All-cons IsLine (b ∷ l) ls (All-cons NoFeed b l (differs b e) (All-head IsLine l ls is.1)) (All-tail IsLine l ls is.1), is.2)
 
 -- FEEDS
-no-feed : (b : ℕ) → b ≢ 10 → (b == 10) ≡ false
+pub no-feed : (b : ℕ) → b ≢ 10 → (b == 10) ≡ false
 no-feed b ne = by (b == 10) refl
   where
     by : (c : Bool) → (b == 10) ≡ c → c ≡ false

@@ -114,7 +114,7 @@ module _ (script : Script) (names : HasPlainNames script) (small : All (λ (p : 
     parts = refl;
     at = ap (λ j. j + 1) (feeds-lines before all ∙ sym count) ∙ told-err (n + 1) left (ended m.so_far m.next) k e;
     begins = begins-text before (record { state = m; leads = at });
-    ends = AtEnd left line none;
+    ends = AtEnd line none;
   }
     where
       none : (s : Seen) → IsShown script s → fed before ++ left ≡ shown_text script s → ⊥
@@ -133,7 +133,7 @@ module _ (script : Script) (names : HasPlainNames script) (small : All (λ (p : 
     parts = refl;
     at = ap (λ j. j + 1) (feeds-lines before all ∙ sym count) ∙ e;
     begins = begins-text before (record { state = m; leads = at });
-    ends = AtLine l more line none;
+    ends = AtLine l more refl line none;
   }
     where
       none : BeginsText script (fed before ++ (l ++ 10 ∷ [])) → ⊥

@@ -9,3 +9,4 @@ pub mod Feedless
 pub mod Cutting
 pub mod Ending
 pub mod Deciding
+pub mod OneBad

@@ -14,9 +14,9 @@ pub record BeginsText (script : Script) (front : List ℕ) : Type 0 where
   pub text : shown_text script seen ≡ front ++ others
 
 -- no text goes on so behind the front, to the end of the next line; where no line ends any more, the bytes are no text
-pub data EndsThere (script : Script) (front : List ℕ) : List ℕ → Type 0 where
-  AtLine : (line more : List ℕ) → IsLine line → (BeginsText script (front ++ (line ++ 10 ∷ [])) → ⊥) → EndsThere script front (line ++ 10 ∷ more)
-  AtEnd : (line : List ℕ) → IsLine line → ((seen : Seen) → IsShown script seen → front ++ line ≡ shown_text script seen → ⊥) → EndsThere script front line
+pub data EndsThere (script : Script) (front rest : List ℕ) : Type 0 where
+  AtLine : (line more : List ℕ) → rest ≡ line ++ 10 ∷ more → IsLine line → (BeginsText script (front ++ (line ++ 10 ∷ [])) → ⊥) → EndsThere script front rest
+  AtEnd : IsLine rest → ((seen : Seen) → IsShown script seen → front ++ rest ≡ shown_text script seen → ⊥) → EndsThere script front rest
 
 abbrev pub is_feed : ℕ → Bool
 is_feed b = b == 10

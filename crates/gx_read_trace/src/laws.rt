@@ -52,7 +52,7 @@ pub fn texts_are_read_as_seen()
         → read_text script bytes ≡ Ok seen ↔ IsShown script seen × (bytes ≡ shown_text script seen) }
 {}
 
-/// And where they are no text, the line is named that is the first with which none goes on.
+/// A line is named exactly where it is the first with which no text goes on.
 pub fn the_first_bad_line_is_named()
-    ensures { (script : AnyScript) (bytes : List ℕ) (line : ℕ) → length script.lines + 1 < 2 ^ 32 → HasPlainNames script → read_text script bytes ≡ Err line → IsFirstBad script bytes line }
+    ensures { (script : AnyScript) (bytes : List ℕ) (line : ℕ) → length script.lines + 1 < 2 ^ 32 → HasPlainNames script → read_text script bytes ≡ Err line ↔ IsFirstBad script bytes line }
 {}
