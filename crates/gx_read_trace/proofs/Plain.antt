@@ -9,8 +9,8 @@ use Rattle.std.proofs.lemmas.List.Elements.{All-append, All-cons, All-head, All-
 use Rattle.std.proofs.lemmas.Option.{none-some, same_Some}
 use Rattle.gx_lex.specs.Lexing.{every}
 use Rattle.gx_report.specs.Words.{name_of_schema}
-use Rattle.gx_store.specs.Language.{table_name}
-use Rattle.gx_store.specs.Limits.{is_name_byte}
+use Rattle.gx_store.specs.Language.{IsName, table_name}
+use Rattle.gx_store.specs.Limits.{is_name_byte, is_small_letter}
 use Rattle.gx_text.specs.Quoted.{quoted_byte}
 use Rattle.gx_tree.specs.declared.schema.Schema.{Schema}
 use Rattle.gx_trace.specs.Lawful.{IsLine, IsNamed, IsSigned, names_of}
@@ -90,6 +90,18 @@ name-byte b e = λ same. clash (subst (λ x. is_name_byte x ≡ true) same e)
 letters : (name : List ℕ) → every is_name_byte name → IsLine name
 letters [] all = All-nil NoFeed
 letters (b ∷ bs) all = All-cons NoFeed b bs (name-byte b all.0) (letters bs all.1)
+
+small-letter : (b : ℕ) → is_small_letter b ≡ true → b ≢ 10
+small-letter b e = λ same. clash (subst (λ x. is_small_letter x ≡ true) same e)
+
+-- names of the language
+pub name-plain : (name : List ℕ) → IsName name → IsLine name
+name-plain [] is = absurd is.1.0
+name-plain (b ∷ bs) is = All-cons NoFeed b bs (small-letter b is.1.0.0) (letters bs is.1.0.1)
+
+pub names-plain : (names : List (List ℕ)) → All IsName names → All IsLine names
+names-plain [] all = All-nil IsLine
+names-plain (n ∷ ns) all = All-cons IsLine n ns (name-plain n (All-head IsName n ns all)) (names-plain ns (All-tail IsName n ns all))
 
 pub named : (names : List (List ℕ)) (place : ℕ) → IsNamed names place → IsLine (unwrap_or (slice_get names place) [])
 named names place is = subst (λ o. IsLine (unwrap_or o [])) (sym is.here) (letters is.name is.letters)

@@ -14,7 +14,7 @@ pub record AreReadAs (script : Script) (lines : List (List ℕ)) (seen : Seen) :
   pub leads : run script lines (start script) ≡ Some last
   pub tells : ended last.so_far last.next ≡ Some seen
 
--- no name has a line feed in it: so it is in each script that keeps the language
+-- no name has a line feed in it
 pub record HasPlainNames (script : Script) : Type 0 where
   pub sessions : All IsLine script.sessions
   pub tables : All IsLine (map table_name script.tables)

@@ -1,6 +1,7 @@
 //! What the lines of a text are read as that may be shown.
 ghost use Rattle.std.specs.Prelude.{◌≡◌, ℕ, ◌+◌, ◌^◌, ◌<◌, ◌↔◌, List, length, All, Ok, Err};
 ghost use Rattle.gx_script.specs.declared.Script.{Script as AnyScript};
+ghost use Rattle.gx_store.specs.Language.{IsScript};
 ghost use Rattle.gx_trace.specs.Lawful.{IsLine};
 ghost use Rattle.gx_trace.specs.Shown.{IsShown};
 ghost use Rattle.gx_trace.specs.ShownText.{shown_text};
@@ -55,4 +56,9 @@ pub fn texts_are_read_as_seen()
 /// A line is named exactly where it is the first with which no text goes on.
 pub fn the_first_bad_line_is_named()
     ensures { (script : AnyScript) (bytes : List ℕ) (line : ℕ) → length script.lines + 1 < 2 ^ 32 → HasPlainNames script → read_text script bytes ≡ Err line ↔ IsFirstBad script bytes line }
+{}
+
+/// All that these ask of a script is so where it keeps the language.
+pub fn scripts_of_the_language_have_plain_names()
+    ensures { (script : AnyScript) → IsScript script → (length script.lines + 1 < 2 ^ 32) × HasPlainNames script }
 {}
