@@ -58,9 +58,9 @@ AreDriven None script steps = AreFirst script [] steps
 AreDriven (Some seed) script steps = AreDrawn script seed [] steps
 
 -- The run is a legal history of one store without segments. Its nodes follow their rules and the commit protocol, its messages are
--- numbered, follow what they tell of, and arrive after they were sent, clocks rise, rows stand where it tells of them, a segment gives
--- one answer to a command, its locks are legal, who is blocked stays blocked until one of them aborts, and each event is the one that
--- the driver takes. Its rounds of the deadlock detector ask, report and decide as they are defined; where one names somebody the waits
+-- numbered, follow what they tell of, and arrive after they were sent, clocks rise, rows stand where it tells of them, no segment says
+-- of a command both that it is done and that it has failed, or two causes, its locks are legal, who is blocked stays blocked until one of
+-- them aborts, and each event is the one that the driver takes. Its rounds of the deadlock detector ask, report and decide as they are defined; where one names somebody the waits
 -- that it found stuck still stand, and whoever it names is the youngest of those who can't go on; and where a round was all that was
 -- left to choose, it comes to victims, so that there are no more such rounds, of those that came to their recheck, than transactions. No
 -- resource group ever has more open transactions than slots, and its sessions begin theirs in the order in which they asked. The run has

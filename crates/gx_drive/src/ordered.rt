@@ -21,8 +21,8 @@ use gx_outside::{Gate, Journal};
 use gx_world::World;
 use std::alloc::Global;
 
-/// Runs a new world by the ordered schedule: it does the first that is enabled at each turn, until no session is unfinished, so
-/// many turns were taken, or nothing is enabled. The journals are those of the coordinator and 16 segments, and hold
+/// Runs a new world by the ordered schedule: it does the first that is enabled, and that the groups let, at each turn, until no session is
+/// unfinished, so many turns were taken, or there is none. The journals are those of the coordinator and 16 segments, and hold
 /// nothing. Besides the step itself a turn costs the logarithm of what is under way, a move of the answers that are awaited or of the
 /// next lines, and a look at each link, node and session until one has what is first.
 pub fn run_ordered<J: Journal, G: Gate>(

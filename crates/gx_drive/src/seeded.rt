@@ -22,8 +22,9 @@ use gx_world::World;
 use rand_core::utils::NextWord;
 use std::alloc::Global;
 
-/// Runs a new world by a seed, until no session is unfinished, so many turns were taken, or nothing is enabled: at each turn it draws
-/// a word of the generator and does the event whose place among all that is enabled is what is left of the word by their number. The
+/// Runs a new world by a seed, until no session is unfinished, so many turns were taken, or nothing is enabled that the groups let: at each turn
+/// it draws a word of the generator and does the event whose place among all that is enabled, and that the groups let, is what is left of
+/// the word by their number. The
 /// journals are those of the coordinator and 16 segments, and hold nothing. Besides the step itself a turn costs a list of what is
 /// enabled: a look at each link, node and session, and what it holds.
 pub fn run_seeded<J: Journal, G: Gate>(

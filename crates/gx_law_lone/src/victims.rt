@@ -33,8 +33,8 @@ pub fn lone_rounds_find_victims_beside_groups()
         → IsReached script steps → AreLet script (lets script) [] steps → DoLoneRoundsFindVictims script (lets script) [] steps }
 {}
 
-/// Where two sessions wait for each other at the coordinator and a round is all that is left, one that finds nothing is refused by that, as a
-/// detector would make it that cancels nobody; and one that names the younger isn't.
+/// Where two sessions wait for each other at the coordinator and a round is all that is left, one that finds nothing is refused by that, and
+/// one that names the younger isn't.
 pub fn a_lone_round_that_finds_nothing_is_refused()
     ensures alone { (script : Script) (one other : List ℕ) → enabled (two_lockers script one other) deadlocked ≡ OneEvents.Round ∷ [] }
     ensures refused { (script : Script) (one other : List ℕ) → DoLoneRoundsFindVictims (two_lockers script one other) lets_all [] finds_nothing → ⊥ }

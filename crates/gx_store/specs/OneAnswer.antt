@@ -1,4 +1,5 @@
--- A segment gives one answer to a command: it says that it is done or that it has failed, and for one cause.
+-- Of one command a segment never says both that it is done and that it has failed, nor that it has failed for two causes. What it says where
+-- it is done may differ from one time to the next.
 use Rattle.std.specs.Prelude.{◌≡◌, ℕ, Bool, List}
 use Rattle.gx_ids.specs.declared.ids.Cid.{Cid}
 use Rattle.gx_ids.specs.declared.ids.Gxid.{Gxid}
