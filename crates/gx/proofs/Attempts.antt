@@ -10,8 +10,8 @@ use Rattle.gx_sql.specs.declared.refusal.Refusal.{Refusal}
 use Rattle.gx_store.specs.declared.attempt.Attempt.{Attempt}
 use Rattle.gx_store.specs.declared.attempt.Attempt.TheVariants.{Done, Stopped, Stuck, Usage, Refused, ReadFault, TooLarge, OutOfMemory}
 use Rattle.gx_words.specs.Asked.{AreAsked, AreGiven, limit}
-use Rattle.gx_law_work.specs.Work.{work_script}
-use Rattle.gx_law_work.proofs.Whole.{work_read}
+use Rattle.gx_work.specs.Work.{work_script}
+use Rattle.gx_work.proofs.Whole.{work_read}
 use Rattle.gx.specs.Top.{HasScript, IsAttempt, IsOfBytes, IsRan, IsRefusedFor, IsScriptWith}
 use Rattle.gx.proofs.Refusals.{read_as}
 

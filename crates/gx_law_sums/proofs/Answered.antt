@@ -14,7 +14,7 @@ use Rattle.gx_tree.specs.declared.stmt.Level.TheVariants.{RepeatableRead}
 use Rattle.gx_tree.specs.declared.stmt.Stmt.TheVariants as stmt
 use Rattle.gx_tree.specs.declared.value.Value.{Value}
 use Rattle.gx_script.specs.declared.Script.{Script}
-use Rattle.gx_words.specs.declared.transfer.Transfer.{Transfer}
+use Rattle.gx_work.specs.declared.transfer.Transfer.{Transfer}
 use Rattle.gx_lemmas.proofs.Options.{some-same}
 use Rattle.gx_lemmas.proofs.Tests.{false-true, true-false}
 use Rattle.gx_store.specs.declared.answer.StmtAnswer.{StmtAnswer}
@@ -30,7 +30,7 @@ use Rattle.gx_store.specs.View.{image_after, is_shown_to}
 use Rattle.gx_store.proofs.Lines.{state_from-append}
 use Rattle.gx_store.proofs.Marks.{answer_count-append, is_begun_after-append, started_after-append}
 use Rattle.gx_law_groups.proofs.Marks.{start_count-append}
-use Rattle.gx_law_work.specs.Work.{changing}
+use Rattle.gx_work.specs.Work.{changing}
 use Rattle.gx_law_sums.specs.Sums.{the_accounts}
 use Rattle.gx_law_sums.specs.Transfers.{AreTransfers, loader}
 use Rattle.gx_law_sums.proofs.Books.{AreBooks, IsLoader}

@@ -7,8 +7,8 @@ use Rattle.gx_ids.specs.declared.rid.Rid.{Rid}
 use Rattle.gx_tree.specs.declared.row.KeyedRow.{KeyedRow}
 use Rattle.gx_tree.specs.declared.value.Value.{Value}
 use Rattle.gx_script.specs.declared.Script.{Script}
-use Rattle.gx_words.specs.declared.transfer.Transfer.{Transfer}
-use Rattle.gx_words.specs.Work.{words_of}
+use Rattle.gx_work.specs.declared.transfer.Transfer.{Transfer}
+use Rattle.gx_work.specs.Text.{words_of}
 use Rattle.gx_lemmas.proofs.Tests.{true-false}
 use Rattle.gx_report.specs.Summary.{total_balance}
 use Rattle.gx_store.specs.declared.mark.Mark.{Mark}
@@ -16,7 +16,7 @@ use Rattle.gx_store.specs.Marks.{is_aborted, is_committed}
 use Rattle.gx_store.specs.Points.{marks_of}
 use Rattle.gx_store.specs.Rows.{row_at}
 use Rattle.gx_store.specs.View.{IsView, image_after, is_shown_to}
-use Rattle.gx_law_work.specs.Work.{drawn_script, work_script}
+use Rattle.gx_work.specs.Work.{drawn_script, work_script}
 use Rattle.gx_law_sums.specs.Sums.{EndsWithTheSum, HasWrittenNothing, IsLoaded, IsSumKept, KeepsTheSum, the_accounts}
 use Rattle.gx_law_sums.specs.Transfers.{AreTransfers}
 use Rattle.gx_law_sums.proofs.Answered.{IsThere, account-there}

@@ -6,7 +6,7 @@ use Rattle.gx_ids.specs.declared.ids.Gxid.{Gxid}
 use Rattle.gx_ids.specs.declared.ids.SessionId.{SessionId}
 use Rattle.gx_ids.specs.declared.rid.Rid.{Rid}
 use Rattle.gx_script.specs.declared.Script.{Script}
-use Rattle.gx_words.specs.declared.transfer.Transfer.{Transfer}
+use Rattle.gx_work.specs.declared.transfer.Transfer.{Transfer}
 use Rattle.gx_lemmas.proofs.Options.{some-same}
 use Rattle.gx_lemmas.proofs.Tests.{and-first, false-true, or-false, true-false}
 use Rattle.gx_store.specs.declared.answer.StmtAnswer.{StmtAnswer}
@@ -21,7 +21,7 @@ use Rattle.gx_store.specs.Lines.{Outside, state_of, transaction_of}
 use Rattle.gx_store.specs.Marks.{answer_count, is_aborted, is_answered, is_command_of, is_committed, is_processed, is_same_gxid, is_same_rid, is_same_session, start_count, started_after}
 use Rattle.gx_store.specs.Points.{Point, before, marks_in}
 use Rattle.gx_store.proofs.Marks.{is_aborted-append, is_committed-append, is_processed-append, started_after-append}
-use Rattle.gx_law_work.specs.Work.{loading}
+use Rattle.gx_work.specs.Work.{loading}
 use Rattle.gx_law_sums.specs.Transfers.{AreTransfers, loader}
 use Rattle.gx_law_sums.proofs.Neat.{AreAccounts, AreKnown, IsWhole, committed-stays, known-next, neat-next, of-session, row_of, same-gxid, sessions-same, skips-next}
 use Rattle.gx_law_sums.proofs.Standing.{Standing, standing-next, standing-first}

@@ -20,7 +20,7 @@ use Rattle.gx_meaning.specs.Expressions.{and_then, arithmetic, compared, in_rang
 use Rattle.gx_meaning.specs.declared.fault.ArithFault.{ArithFault}
 use Rattle.gx_meaning.specs.declared.fault.ArithFault.TheVariants.{Overflow}
 use Rattle.gx_store.specs.Writes.{set_row}
-use Rattle.gx_law_work.specs.Work.{accounts_from, literal}
+use Rattle.gx_work.specs.Work.{accounts_from, literal}
 
 -- an account's row
 abbrev pub account_image : ℕ → ℤ → List Value

@@ -12,7 +12,7 @@ use Rattle.gx_ids.specs.declared.rid.Rid.{Rid}
 use Rattle.gx_tree.specs.declared.row.KeyedRow.{KeyedRow}
 use Rattle.gx_tree.specs.declared.value.Value.{Value}
 use Rattle.gx_script.specs.declared.Script.{Script}
-use Rattle.gx_words.specs.declared.transfer.Transfer.{Transfer}
+use Rattle.gx_work.specs.declared.transfer.Transfer.{Transfer}
 use Rattle.gx_lemmas.proofs.Tests.{and-first, and-second, or-false, true-false}
 use Rattle.gx_store.specs.declared.event.Event.{Event}
 use Rattle.gx_store.specs.declared.mark.Mark.{Mark}

@@ -8,9 +8,9 @@ use Rattle.gx_lemmas.proofs.Numbers.{eqb-self}
 use Rattle.gx_lemmas.proofs.Tests.{and-false, and-true}
 use Rattle.gx_store.specs.Lines.{stmt_of}
 use Rattle.gx_store.specs.Marks.{is_same_session}
-use Rattle.gx_words.specs.declared.transfer.Transfer.{Transfer}
-use Rattle.gx_words.specs.Work.{transfers_from}
-use Rattle.gx_law_work.specs.Work.{batch_lines, batches_lines, drawn_script, ending, giving, loading, opening, pass_lines, taking}
+use Rattle.gx_work.specs.declared.transfer.Transfer.{Transfer}
+use Rattle.gx_work.specs.Text.{transfers_from}
+use Rattle.gx_work.specs.Work.{batch_lines, batches_lines, drawn_script, ending, giving, loading, opening, pass_lines, taking}
 use Rattle.gx_law_sums.specs.Transfers.{AreTransfers, does_in, loader}
 
 -- the session's transfer among these

@@ -6,7 +6,7 @@ use Rattle.gx_ids.specs.declared.ids.SessionId.{SessionId}
 use Rattle.gx_tree.specs.declared.stmt.Level.TheVariants.{RepeatableRead}
 use Rattle.gx_tree.specs.declared.stmt.Stmt.{Stmt}
 use Rattle.gx_script.specs.declared.Script.{Script}
-use Rattle.gx_words.specs.declared.transfer.Transfer.{Transfer}
+use Rattle.gx_work.specs.declared.transfer.Transfer.{Transfer}
 use Rattle.gx_lemmas.proofs.Numbers.{eqb-self}
 use Rattle.gx_lemmas.proofs.Options.{some-same}
 use Rattle.gx_lemmas.proofs.Tests.{false-true, or-false, true-false}
@@ -21,7 +21,7 @@ use Rattle.gx_store.specs.Points.{Point, before}
 use Rattle.gx_store.proofs.Lines.{state_from-append}
 use Rattle.gx_store.proofs.Marks.{answer_count-append, is_aborted-append, is_committed-append, started_after-append}
 use Rattle.gx_law_groups.proofs.Marks.{or_else, session_of-append, start_count-append}
-use Rattle.gx_law_work.specs.Work.{ending, giving, loading, opening, taking}
+use Rattle.gx_work.specs.Work.{ending, giving, loading, opening, taking}
 use Rattle.gx_law_sums.specs.Transfers.{AreTransfers, does_in, loader}
 
 -- where a session stands that has had so many answers: outside a block after whole transfers, in one after so many commands of one

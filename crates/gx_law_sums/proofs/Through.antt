@@ -2,7 +2,7 @@
 use Rattle.std.proofs.Common.{◌≡◌, inl, inr, ◌≤◌, ℕ, ◌+◌, Bool, true, false, if◌then◌else◌, List, [], ◌∷◌, ◌++◌, Option, Some, None, refl, sym, ap, ◌∙◌, arith}
 use Rattle.gx_ids.specs.declared.ids.Gxid.{Gxid}
 use Rattle.gx_script.specs.declared.Script.{Script}
-use Rattle.gx_words.specs.declared.transfer.Transfer.{Transfer}
+use Rattle.gx_work.specs.declared.transfer.Transfer.{Transfer}
 use Rattle.gx_lemmas.proofs.Options.{some-same}
 use Rattle.gx_store.specs.declared.event.Event.{Event}
 use Rattle.gx_store.specs.declared.mark.Mark.{Mark}

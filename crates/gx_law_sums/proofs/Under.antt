@@ -7,7 +7,7 @@ use Rattle.gx_tree.specs.declared.stmt.Level.{Level}
 use Rattle.gx_tree.specs.declared.stmt.Level.TheVariants.{RepeatableRead}
 use Rattle.gx_tree.specs.declared.stmt.Stmt.{Stmt}
 use Rattle.gx_script.specs.declared.Script.{Script}
-use Rattle.gx_words.specs.declared.transfer.Transfer.{Transfer}
+use Rattle.gx_work.specs.declared.transfer.Transfer.{Transfer}
 use Rattle.gx_lemmas.proofs.Options.{some-same}
 use Rattle.gx_lemmas.proofs.Tests.{false-true}
 use Rattle.gx_store.specs.declared.mark.Mark.{Mark}
@@ -15,7 +15,7 @@ use Rattle.gx_store.specs.Commands.{IsUnderWay}
 use Rattle.gx_store.specs.Lines.{BlockState, Outside, InBlock, Failed, cid_of, is_command, level_of, state_of, stmt_of, transaction_of}
 use Rattle.gx_store.specs.Marks.{answer_count, is_begun, started_after}
 use Rattle.gx_store.specs.Points.{Point, before}
-use Rattle.gx_law_work.specs.Work.{giving, loading, taking}
+use Rattle.gx_work.specs.Work.{giving, loading, taking}
 use Rattle.gx_law_sums.specs.Transfers.{AreTransfers, loader}
 use Rattle.gx_law_sums.proofs.Standing.{IsPlaced, Standing, is-ending, is-giving, is-opened, is-taking}
 

@@ -16,7 +16,7 @@ use Rattle.gx_tree.specs.declared.stmt.Level.TheVariants.{RepeatableRead}
 use Rattle.gx_tree.specs.declared.stmt.Stmt.{Stmt}
 use Rattle.gx_tree.specs.declared.value.Value.{Value}
 use Rattle.gx_script.specs.declared.Script.{Script}
-use Rattle.gx_words.specs.declared.transfer.Transfer.{Transfer}
+use Rattle.gx_work.specs.declared.transfer.Transfer.{Transfer}
 use Rattle.gx_meaning.specs.Constants.{values_of}
 use Rattle.gx_lemmas.proofs.Numbers.{none-plus}
 use Rattle.gx_lemmas.proofs.Options.{some-same}
@@ -32,7 +32,7 @@ use Rattle.gx_store.specs.View.{image, image_after, is_shown_to}
 use Rattle.gx_store.specs.Writes.{IsCurrentFor, IsWriteOf, set_row, Written, current, is_free_for, last_write, shown_write}
 use Rattle.gx_store.proofs.Marks.{started_after-append}
 use Rattle.gx_store.proofs.Rows.{same_rid}
-use Rattle.gx_law_work.specs.Work.{changing, literal}
+use Rattle.gx_work.specs.Work.{changing, literal}
 use Rattle.gx_law_sums.specs.Transfers.{AreTransfers, loader}
 use Rattle.gx_law_sums.proofs.Meaning.{account_image, changes, chosen-own, given, loaded-values, on_account, taken, tuple-at}
 use Rattle.gx_law_sums.proofs.Standing.{Standing}

@@ -5,8 +5,8 @@ use Rattle.gx_ids.specs.declared.ids.SessionId.{SessionId}
 use Rattle.gx_tree.specs.declared.stmt.Stmt.{Stmt}
 use Rattle.gx_script.specs.declared.Script.{Script}
 use Rattle.gx_store.specs.Lines.{stmt_of}
-use Rattle.gx_words.specs.declared.transfer.Transfer.{Transfer}
-use Rattle.gx_law_work.specs.Work.{ending, giving, loading, opening, taking}
+use Rattle.gx_work.specs.declared.transfer.Transfer.{Transfer}
+use Rattle.gx_work.specs.Work.{ending, giving, loading, opening, taking}
 
 -- the session that loads the accounts
 abbrev pub loader : SessionId

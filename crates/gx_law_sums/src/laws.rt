@@ -1,7 +1,7 @@
 //! The sum of the balances of generated work.
 ghost use Rattle.std.specs.Prelude.{ℕ, List};
 ghost use Rattle.gx_law_sums.specs.Sums.{EndsWithTheSum, KeepsTheSum};
-ghost use Rattle.gx_law_work.specs.Work.{drawn_script, work_script};
+ghost use Rattle.gx_work.specs.Work.{drawn_script, work_script};
 
 /// Transfers make and lose no money, whatever words are drawn. In each legal history a reader that has written nothing sees, at any point, no
 /// account until the load has committed, and from then on 64 whose balances sum to 6400; so does whoever is in no transaction at the end.

@@ -8,5 +8,3 @@ pub mod Splits
 pub mod Standing
 pub mod Told
 pub mod Turns
-pub mod Nexts
-pub mod Lengths

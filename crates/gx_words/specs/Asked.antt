@@ -7,7 +7,7 @@ use Rattle.std.specs.declared.vec.Vec.{Vec}
 use Rattle.std.specs.Io.KnownBytes.{Consumes, IsAtEnd}
 use Rattle.gx_outside.specs.Causes.{Rose}
 use Rattle.gx_words.specs.Words.{IsCommand}
-use Rattle.gx_words.specs.Work.{work_text}
+use Rattle.gx_work.specs.Text.{work_text}
 use Rattle.gx_words.specs.declared.bytes.NoBytes.TheVariants as unread
 use Rattle.gx_words.specs.declared.bytes.NoBytes.{NoBytes}
 use Rattle.gx_words.specs.declared.options.Options.{Options}

@@ -2,5 +2,4 @@ pub mod Command
 pub mod Digits
 pub mod Found
 pub mod Words
-pub mod Work
 pub mod Asked

@@ -3,9 +3,9 @@ ghost use Rattle.std.specs.Prelude.{◌≡◌, None};
 ghost use Rattle.gx_words.specs.Asked.{HasBytes};
 
 use crate::options::Options;
-use crate::work::generate;
 use gx_ids::OutOfMemory;
 use gx_outside::{ReadFault, Source, read_up_to};
+use gx_work::generate;
 use std::alloc::Global;
 
 // The most bytes of a script.

@@ -1,6 +1,0 @@
-pub mod Bytes
-pub mod Statements
-pub mod Leading
-pub mod Heads
-pub mod Passes
-pub mod Whole
