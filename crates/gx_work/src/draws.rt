@@ -10,7 +10,7 @@ use rand_core::utils::NextWord;
 use rand_xoshiro::Xoshiro256PlusPlus;
 use std::alloc::Global;
 
-#[tactic(auto, unfolding(crate::specs::Work::seeded))]
+#[tactic(auto, unfolding(crate::specs::Text::seeded))]
 fn generator(number: u64) -> Xoshiro256PlusPlus
     ensures { result ≡ seeded number }
 {
@@ -29,7 +29,7 @@ fn drawn(alloc: Global, mut generator: Xoshiro256PlusPlus, count: usize) -> Mem<
 }
 
 /// The words that the work of a number is made of.
-#[tactic(auto, unfolding(crate::specs::Work::words_of))]
+#[tactic(auto, unfolding(crate::specs::Text::words_of))]
 pub fn words_of(alloc: Global, number: u64) -> Mem<Vec<u64>>
     ensures { IfOk result (λ words. words.items ≡ words_of number) }
 {
