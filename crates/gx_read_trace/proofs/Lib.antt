@@ -10,3 +10,8 @@ pub mod Cutting
 pub mod Ending
 pub mod Deciding
 pub mod OneBad
+pub mod Feeds
+pub mod Onward
+pub mod Stepping
+pub mod Answering
+pub mod Readings

@@ -1,4 +1,4 @@
--- The reader of a run's printed text and trace, a line a step.
+-- The machine that takes a run's printed text and trace, a line a step.
 use Rattle.std.specs.Prelude.{ℕ, zero, suc, ◌==◌, if◌then◌else◌, List, [], ◌∷◌, ◌++◌, Option, Some, None, option_and_then, codes}
 use Rattle.gx_report.specs.Words.{session_name}
 use Rattle.gx_script.specs.declared.Script.{Script}
@@ -114,7 +114,7 @@ step_line script s step n line None = option_and_then (event_read (stepped s ste
 step_line script s step n line (Some x) = option_and_then (mark_read s step n) (all_of (mark_line script x.1))
 
 -- LINES
--- what the reader is in behind one more line, where a text may go on with it
+-- the state behind one more line, where a text may go on with it
 abbrev pub next_line : Script → Seen → Where → List ℕ → Option Mid
 next_line script s (Answers []) line = None
 next_line script s (Answers (p ∷ ps)) line = option_and_then (λ h. Some (answer_begun script s p ps h)) (all_of (answer_head (session_name script (session_of p.0)) p.1 line))

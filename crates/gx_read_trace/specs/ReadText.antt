@@ -1,4 +1,4 @@
--- The reader of bytes: their lines one after another, and what is named where it stops.
+-- What bytes are read as: their lines one after another, and what is named where the machine stops.
 use Rattle.std.specs.Prelude.{ℕ, ◌+◌, ◌==◌, if◌then◌else◌, List, [], ◌∷◌, Option, Some, None, Result, Ok, Err}
 use Rattle.gx_script.specs.declared.Script.{Script}
 use Rattle.gx_trace.specs.declared.seen.Seen.{Seen}

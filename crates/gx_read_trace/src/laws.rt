@@ -16,7 +16,7 @@ pub fn lines_are_the_text()
     ensures { (script : AnyScript) (seen : AnySeen) → IsShown script seen → fed (seen_lines script seen) ≡ shown_text script seen }
 {}
 
-/// The reader, which takes a line at a time, reads them as what they show.
+/// The machine, which takes a line at a time, reads them as what they show.
 pub fn printed_lines_are_read()
     ensures { (script : AnyScript) (seen : AnySeen) → length script.lines + 1 < 2 ^ 32 → IsShown script seen → AreReadAs script (seen_lines script seen) seen }
 {}
@@ -42,7 +42,7 @@ pub fn texts_show_one_thing()
         → shown_text script seen ≡ shown_text script other → seen ≡ other }
 {}
 
-/// The reader takes lines where some text begins with them: so a line at which it stops is the first with which no text goes on.
+/// The machine takes lines where some text begins with them: so a line at which it stops is the first with which no text goes on.
 pub fn lines_are_taken_that_begin_a_text()
     ensures { (script : AnyScript) (lines : List (List ℕ)) → length script.lines + 1 < 2 ^ 32 → AreTaken script lines ↔ BeginText script lines }
 {}
