@@ -1,0 +1,4 @@
+mod Counts
+mod Filing
+mod Following
+mod Numbering
