@@ -62,7 +62,7 @@ fn of_lines(alloc: Global, bytes: &[u8]) -> Attempt
     let attempt = of_ending(alloc, &mut progress, &mut tokens, bytes);
     // The process ends soon, and the memory of what was read with it.
     mem::forget(tokens);
-    mem::forget(progress);
+    progress.forget();
     attempt
 }
 

@@ -1,7 +1,6 @@
 // Hints for the usual mistakes. Nothing is proved of them.
 use crate::rules::{KINDS, NAMES, PLACES, WORDS};
 use crate::spelled::sign_text;
-use crate::words::Words;
 use gx_lex::byte::{is_capital, is_word_byte, small};
 use gx_lex::{Token, Word};
 use gx_sql::Limit;
@@ -124,22 +123,17 @@ fn clause_of(tokens: &[Token], front: &'static [u8]) -> &'static [u8] {
     }
 }
 
-fn hint_on_bad(first: Option<&u8>) -> Option<&'static [u8]> {
-    match first {
-        Some(byte) if is_capital(*byte) => Some(b"names are written in small letters"),
-        Some(byte) if *byte == 39 => Some(
+fn hint_on_stray(stray: Stray, tail: &[u8]) -> Option<&'static [u8]> {
+    match (stray, tail.first()) {
+        (Stray::Keyword, _) => Some(b"this word is a keyword, and can't be a name"),
+        (Stray::Fitting, _) => Some(b"this is told already"),
+        (Stray::Bad, Some(byte)) if is_capital(*byte) => Some(
+            b"names are written in small letters",
+        ),
+        (Stray::Bad, Some(byte)) if *byte == 39 => Some(
             b"a text ends on its line, and a quote within it is written twice",
         ),
         _ => None,
-    }
-}
-
-fn hint_on_stray(stray: Stray, tail: &[u8]) -> Option<&'static [u8]> {
-    match stray {
-        Stray::Keyword => Some(b"this word is a keyword, and can't be a name"),
-        Stray::Bad => hint_on_bad(tail.first()),
-        Stray::Fitting => Some(b"this is told already"),
-        Stray::Other => None,
     }
 }
 
@@ -187,14 +181,5 @@ pub fn hint(
             b"a row keeps its key: DELETE it and INSERT another, in a block",
         ),
         LineFault::TooMany(limit) => Some(hint_on_limit(limit)),
-    }
-}
-
-/// Adds a hint, where there is one.
-pub fn push_hint(words: &mut Words, hint: Option<&'static [u8]>) {
-    if let Some(hint) = hint {
-        words.push(b"  hint: ");
-        words.push(hint);
-        words.push(b"\n");
     }
 }

@@ -1,16 +1,15 @@
 // Where the part of a statement stands that is wrong by its kinds, counts or ranges.
 ghost use Rattle.std.specs.Prelude.{◌≡◌, ◌≤◌, ◌+◌, is_ok, length, IfOk};
-ghost use Rattle.std.specs.List.{list_any, prefix_len};
+ghost use Rattle.std.specs.List.{prefix_len};
 ghost use Rattle.gx_resolve.specs.Kinding.{assign_as};
 ghost use Rattle.gx_resolve.specs.Naming.{is_among, group_names};
-ghost use Rattle.gx_resolve.specs.Selecting as selecting;
 ghost use Rattle.gx_explain.specs.Places as of;
 
 use crate::parts::{before_listed, before_word};
 use gx_ids::{Mem, OutOfMemory, Seq};
 use gx_lex::{Token, Word};
 use gx_lines::{AssignSyn, ItemSyn, ItemsSyn, KeySyn, SelectSyn, Size, StmtSyn, TupleSyn};
-use gx_resolve::{ResolveError, Written};
+use gx_resolve::{ResolveError, Written, is_grouped};
 use gx_tree::{Column, Dist, Txt};
 use std::alloc::Global;
 
@@ -163,59 +162,17 @@ fn group_names_of(group: &Option<Seq<Txt>>) -> &[Txt]
     }
 }
 
-fn key_place(key: Option<usize>, tokens: &[Token]) -> usize
-    ensures { result ≡ of.key_place key tokens.now }
-{
-    match key {
-        Some(count) => before_key(count, tokens),
-        None => before_where(tokens),
-    }
-}
-
 fn group_place(select: &SelectSyn, tokens: &[Token]) -> usize
     ensures { result ≡ of.group_place select.now (of.plain_item (group_names select.now.group) select.now.items) tokens.now }
 {
     let names = group_names_of(&select.group);
     match plain_item(names, &select.items) {
         Some(count) => before_listed(3, count, tokens),
-        None => key_place(plain_key(names, &select.order), tokens),
+        None => match plain_key(names, &select.order) {
+            Some(count) => before_key(count, tokens),
+            None => before_where(tokens),
+        },
     }
-}
-
-fn is_aggregate(item: &ItemSyn) -> bool
-    ensures { result ≡ selecting.is_aggregate item.now }
-{
-    match item {
-        ItemSyn::Column(_) => false,
-        ItemSyn::Count => true,
-        ItemSyn::Agg(_, _) => true,
-    }
-}
-
-fn any_aggregate(items: &[ItemSyn]) -> bool
-    ensures { result ≡ list_any selecting.is_aggregate items.now }
-{
-    for item in items {
-        if is_aggregate(item) {
-            return true;
-        }
-    }
-    false
-}
-
-fn has_aggregate(items: &ItemsSyn) -> bool
-    ensures { result ≡ selecting.has_aggregate items.now }
-{
-    match items {
-        ItemsSyn::All => false,
-        ItemsSyn::These(items) => any_aggregate(items.as_slice()),
-    }
-}
-
-fn is_grouped(select: &SelectSyn) -> bool
-    ensures { result ≡ selecting.is_grouped select.now }
-{
-    has_aggregate(&select.items) || select.group.is_some()
 }
 
 fn select_place(select: &SelectSyn, item: Option<usize>, tokens: &[Token]) -> usize
@@ -230,15 +187,6 @@ fn select_place(select: &SelectSyn, item: Option<usize>, tokens: &[Token]) -> us
         group_place(select, tokens)
     } else {
         before_where(tokens)
-    }
-}
-
-fn update_place(assign: Option<usize>, tokens: &[Token]) -> usize
-    ensures { result ≡ of.update_place assign tokens.now }
-{
-    match assign {
-        Some(count) => before_listed(5, count, tokens),
-        None => before_where(tokens),
     }
 }
 
@@ -278,7 +226,10 @@ fn update_mismatch(
     ensures { IfOk result (λ place. place ≡ of.update_place (of.among (of.good_assigns columns.now assigns.now) (length assigns.now)) tokens.now) }
 {
     let count = right_parts(alloc, columns, assigns)?;
-    Ok(update_place(among(count, assigns.len()), tokens))
+    match among(count, assigns.len()) {
+        Some(count) => Ok(before_listed(5, count, tokens)),
+        None => Ok(before_where(tokens)),
+    }
 }
 
 /// How many tokens stand before the first part of a statement that is wrong by its kinds, counts and ranges.
@@ -333,25 +284,6 @@ fn other_assigns(alloc: Global, columns: &[Column], key: u8, assigns: &[AssignSy
     Ok(assigns.len())
 }
 
-fn key_set_place(
-    alloc: Global,
-    columns: &[Column],
-    key: u8,
-    stmt: &StmtSyn,
-    tokens: &[Token],
-) -> Mem<usize>
-    requires { length columns.now ≤ 256 }
-    ensures { IfOk result (λ place. place ≡ of.key_set_place columns.now key stmt.now tokens.now) }
-{
-    match stmt {
-        StmtSyn::Update(_, assigns, _) => {
-            let count = other_assigns(alloc, columns, key, assigns.as_slice())?;
-            Ok(before_listed(5, count, tokens))
-        }
-        _ => Ok(0),
-    }
-}
-
 /// How many tokens stand before the assignment that sets the distribution column.
 pub fn key_update_place(
     alloc: Global,
@@ -364,7 +296,13 @@ pub fn key_update_place(
     ensures { IfOk result (λ place. place ≡ of.key_update_place columns.now dist stmt.now tokens.now) }
 {
     match dist {
-        Dist::By(key) => key_set_place(alloc, columns, key, stmt, tokens),
+        Dist::By(key) => match stmt {
+            StmtSyn::Update(_, assigns, _) => {
+                let count = other_assigns(alloc, columns, key, assigns.as_slice())?;
+                Ok(before_listed(5, count, tokens))
+            }
+            _ => Ok(0),
+        },
         Dist::Randomly => Ok(0),
     }
 }

@@ -5,7 +5,7 @@ ghost use Rattle.std.specs.Cmp.Lexicographic.{pointwise};
 ghost use Rattle.gx_resolve.specs.Naming as naming;
 ghost use Rattle.gx_explain.specs.Parts as of;
 
-use crate::parts::{is_comma, is_table_word};
+use crate::parts::is_table_word;
 use gx_grammar::{is_sign, is_word};
 use gx_ids::Mem;
 use gx_lex::{Name, Symbol, Token, Word};
@@ -51,9 +51,9 @@ fn opens(assigned: bool, token: &Token) -> bool
     ensures { result ≡ of.opens assigned token.now }
 {
     if assigned {
-        is_word(Word::Set, token) || is_comma(token)
+        is_word(Word::Set, token) || is_sign(Symbol::Comma, token)
     } else {
-        is_sign(Symbol::Open, token) || is_comma(token)
+        is_sign(Symbol::Open, token) || is_sign(Symbol::Comma, token)
     }
 }
 

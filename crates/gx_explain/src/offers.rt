@@ -1,15 +1,14 @@
 // What could stand at the place of a fault.
-use crate::hints::{Stray, hint, push_hint};
-use crate::places::limits;
+use crate::hints::{Stray, hint};
 use crate::spelled::sign_text;
 use crate::words::Words;
-use gx_grammar::ReadError;
+use gx_grammar::{Fault, ReadError};
 use gx_ids::Mem;
 use gx_lex::{Name, Symbol, Token, WORDS, Word};
-use gx_lines::{read_head_line, read_segments_line, read_session_line};
-use gx_sql::Limit;
-use gx_sql::progress::Progress;
+use gx_lines::{LineSyn, read_head_line, read_segments_line, read_session_line};
+use gx_sql::progress::{Progress, drop_line};
 use gx_sql::refusal::LineFault;
+use gx_sql::{Limit, limits};
 use gx_tree::Txt;
 use std::alloc::Global;
 
@@ -58,25 +57,12 @@ fn keywords() -> &'static [Word] {
     &WORDS
 }
 
-// What a reading says of tokens: they are a line, they go on, or they don't; or memory ran out.
+// What a reading says of tokens: they are a line, they go on, or they don't.
 #[derive(Clone, Copy)]
 enum Going {
     Whole,
     On,
     Not,
-    CutShort,
-}
-
-fn going_of<T: Drop>(read: Result<T, ReadError>) -> Going {
-    match read {
-        Ok(value) => {
-            drop(value);
-            Going::Whole
-        }
-        Err(ReadError::Fault(_, 0)) => Going::On,
-        Err(ReadError::Fault(_, _)) => Going::Not,
-        Err(ReadError::OutOfMemory) => Going::CutShort,
-    }
 }
 
 /// Where in a script a line stands: first, where a head may with so many segments told, or behind a session's line.
@@ -101,47 +87,56 @@ pub fn front_of(progress: &Progress) -> Front {
     }
 }
 
-// How far the tokens are a line there.
-fn read_on(alloc: Global, front: Front, tokens: &[Token]) -> Going {
-    match front {
-        Front::Segments => going_of(read_segments_line(alloc, limits(), tokens)),
-        Front::Heads(0) => Going::Not,
-        Front::Heads(segments) => going_of(read_head_line(alloc, segments, limits(), tokens)),
-        Front::Lines => going_of(read_session_line(alloc, limits(), tokens)),
+// Whether a line was read.
+fn is_line(read: Result<LineSyn, ReadError>) -> Result<(), ReadError> {
+    match read {
+        Ok(line) => {
+            drop_line(line);
+            Ok(())
+        }
+        Err(error) => Err(error),
     }
 }
 
-// Whether a line there begins with the tokens.
-fn goes(alloc: Global, front: Front, tokens: &[Token], words: &mut Words) -> bool {
-    match read_on(alloc, front, tokens) {
-        Going::Whole => true,
-        Going::On => true,
-        Going::Not => false,
-        Going::CutShort => {
+// Reads the tokens as a line there.
+fn read_at(alloc: Global, front: Front, tokens: &[Token]) -> Result<(), ReadError> {
+    match front {
+        Front::Segments => match read_segments_line(alloc, limits(), tokens) {
+            Ok(_) => Ok(()),
+            Err(error) => Err(error),
+        },
+        Front::Heads(0) => Err(ReadError::Fault(Fault::Syntax, 1)),
+        Front::Heads(segments) => is_line(read_head_line(alloc, segments, limits(), tokens)),
+        Front::Lines => is_line(read_session_line(alloc, limits(), tokens)),
+    }
+}
+
+// How far the tokens are a line there.
+fn how_far(alloc: Global, front: Front, tokens: &[Token], words: &mut Words) -> Going {
+    match read_at(alloc, front, tokens) {
+        Ok(()) => Going::Whole,
+        Err(ReadError::Fault(_, 0)) => Going::On,
+        Err(ReadError::Fault(_, _)) => Going::Not,
+        Err(ReadError::OutOfMemory) => {
             words.cut_short();
-            false
+            Going::Not
         }
     }
 }
 
-// The keyword or the sign of this number among those that may be offered, keywords first.
-fn word_or_sign<'t>(number: usize) -> Token<'t> {
-    match keywords().get(number) {
-        Some(word) => Token::Word(*word),
-        None => match signs().get(number.saturating_sub(KEYWORDS)) {
-            Some(sign) => Token::Symbol(*sign),
-            None => Token::Bad,
-        },
-    }
-}
-
-// The token of this number among those that may be offered: first those that stand for all of their kind.
+// The token of this number among those that may be offered: those that stand for all of their kind, keywords, and signs.
 fn candidate<'t>(alloc: Global, number: usize) -> Token<'t> {
     match number {
         0 => Token::Name(Name::new(b"a")),
         1 => Token::Number(Some(1)),
         2 => Token::Text(Txt::from_vec(Vec::new(alloc))),
-        _ => word_or_sign(number.saturating_sub(3)),
+        _ => match keywords().get(number.saturating_sub(3)) {
+            Some(word) => Token::Word(*word),
+            None => match signs().get(number.saturating_sub(3 + KEYWORDS)) {
+                Some(sign) => Token::Symbol(*sign),
+                None => Token::Bad,
+            },
+        },
     }
 }
 
@@ -158,6 +153,9 @@ fn last_as_offered(tokens: &[Token]) -> &'static [u8] {
 }
 
 fn push_offer(words: &mut Words, spelling: &[u8]) {
+    if words.is_empty() {
+        words.push(OFFERED);
+    }
     if words.as_slice().len().saturating_add(spelling.len()) <= ROOM {
         words.push(b"  ");
         words.push(spelling);
@@ -169,8 +167,9 @@ fn push_offer(words: &mut Words, spelling: &[u8]) {
 fn offer(alloc: Global, front: Front, tokens: &mut Vec<Token>, number: usize, words: &mut Words) {
     match tokens.push(candidate(alloc, number)) {
         Ok(()) => {
-            if goes(alloc, front, tokens.as_slice(), words) {
-                push_offer(words, last_as_offered(tokens.as_slice()));
+            match how_far(alloc, front, tokens.as_slice(), words) {
+                Going::Not => {}
+                _ => push_offer(words, last_as_offered(tokens.as_slice())),
             }
             drop(tokens.pop());
         }
@@ -178,65 +177,25 @@ fn offer(alloc: Global, front: Front, tokens: &mut Vec<Token>, number: usize, wo
     }
 }
 
-// Offers all tokens that could stand behind these.
-fn offer_tokens(alloc: Global, front: Front, tokens: &mut Vec<Token>, words: &mut Words) {
+// Gives a line of what could stand behind these tokens, the end where they are a line, where anything could.
+fn push_offers(alloc: Global, words: &mut Words, front: Front, tokens: &mut Vec<Token>) {
     for number in 0..CANDIDATES {
         offer(alloc, front, tokens, number, words);
     }
-}
-
-// Offers the end where the tokens are a line.
-fn offer_end(alloc: Global, front: Front, tokens: &[Token], words: &mut Words) {
-    match read_on(alloc, front, tokens) {
-        Going::Whole => push_offer(words, b"the end"),
-        Going::CutShort => words.cut_short(),
-        _ => {}
+    if let Going::Whole = how_far(alloc, front, tokens.as_slice(), words) {
+        push_offer(words, b"the end");
     }
-}
-
-// Ends a line of offers, or takes it away where nothing is offered.
-fn end_offers(words: &mut Words) {
-    if OFFERED.len() < words.as_slice().len() {
+    if !words.is_empty() {
         words.push(b"\n");
-    } else {
-        words.clear();
     }
-}
-
-// Gives a line of what could stand behind these tokens.
-fn push_offers(alloc: Global, words: &mut Words, front: Front, tokens: &mut Vec<Token>) {
-    words.push(OFFERED);
-    offer_tokens(alloc, front, tokens, words);
-    offer_end(alloc, front, tokens.as_slice(), words);
-    end_offers(words);
 }
 
 // Whether a fault may be one of the grammar.
 fn is_of_tokens(fault: LineFault) -> bool {
     match fault {
         LineFault::Syntax => true,
-        LineFault::TooMany(Limit::Segments) => true,
-        LineFault::TooMany(Limit::Name) => true,
-        LineFault::TooMany(Limit::Text) => true,
-        LineFault::TooMany(Limit::Depth) => true,
+        LineFault::TooMany(Limit::Segments | Limit::Name | Limit::Text | Limit::Depth) => true,
         _ => false,
-    }
-}
-
-// What a token is by itself that can't stand at its place.
-fn stray_of(token: &Token) -> Stray {
-    match token {
-        Token::Word(_) => Stray::Keyword,
-        Token::Bad => Stray::Bad,
-        _ => Stray::Other,
-    }
-}
-
-// The same where it is known whether a name could stand there, behind others.
-fn stray_where(named: bool, stray: Stray) -> Stray {
-    match stray {
-        Stray::Keyword => { if named { stray } else { Stray::Other } }
-        other => other,
     }
 }
 
@@ -249,11 +208,15 @@ fn stray_at(
     words: &mut Words,
 ) -> Stray {
     if tokens.len() <= place {
-        Stray::Other
-    } else if goes(alloc, front, &tokens[..place + 1], words) {
-        Stray::Fitting
-    } else {
-        stray_of(&tokens[place])
+        return Stray::Other;
+    }
+    match how_far(alloc, front, &tokens[..place + 1], words) {
+        Going::Not => match &tokens[place] {
+            Token::Word(_) => Stray::Keyword,
+            Token::Bad => Stray::Bad,
+            _ => Stray::Other,
+        },
+        _ => Stray::Fitting,
     }
 }
 
@@ -268,15 +231,13 @@ fn push_offers_at(
 ) -> Stray {
     let stray = stray_at(alloc, front, tokens.as_slice(), place, words);
     tokens.truncate(place);
+    if let Stray::Fitting = stray {
+        return stray;
+    }
+    push_offers(alloc, words, front, tokens);
     match stray {
-        Stray::Fitting => stray,
-        _ => {
-            push_offers(alloc, words, front, tokens);
-            stray_where(
-                words.as_slice().starts_with(NAMED) && !tokens.is_empty(),
-                stray,
-            )
-        }
+        Stray::Keyword if tokens.is_empty() || !words.as_slice().starts_with(NAMED) => Stray::Other,
+        _ => stray,
     }
 }
 
@@ -317,9 +278,10 @@ pub fn words_on(
 ) -> Mem<Vec<u8>> {
     let mut words = Words::new(alloc);
     let stray = stray_behind(alloc, &mut words, front, fault, tokens, place);
-    push_hint(
-        &mut words,
-        hint(fault, stray, front_name(front), tokens.as_slice(), tail),
-    );
+    if let Some(hint) = hint(fault, stray, front_name(front), tokens.as_slice(), tail) {
+        words.push(b"  hint: ");
+        words.push(hint);
+        words.push(b"\n");
+    }
     words.finish()
 }

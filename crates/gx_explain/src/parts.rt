@@ -1,7 +1,5 @@
 // Where the parts of a statement stand among the tokens of its line.
-ghost use Rattle.std.specs.Prelude.{◌≡◌, ◌≤◌, ◌<◌, ◌+◌, [], false, true, not, length, drop, IfOk};
-ghost use Rattle.std.specs.List.{prefix_len};
-ghost use Rattle.gx_grammar.specs.Tokens as tokens_of;
+ghost use Rattle.std.specs.Prelude.{◌≡◌, ◌≤◌, ◌<◌, ◌+◌, [], false, true, length, drop, IfOk};
 ghost use Rattle.gx_explain.specs.Parts as of;
 
 use gx_grammar::{is_sign, is_word};
@@ -29,23 +27,16 @@ pub fn is_table_word(token: &Token) -> bool
         || is_word(Word::Table, token)
 }
 
-fn before_table_word(tokens: &[Token]) -> usize
-    ensures value { result ≡ prefix_len (λ y. not (of.is_table_word y)) tokens.now }
-    ensures within { result ≤ length tokens.now }
-{
-    for count in 0..tokens.len() {
-        if is_table_word(&tokens[count]) {
-            return count;
-        }
-    }
-    tokens.len()
-}
-
 /// How many tokens stand before the name of the table.
 pub fn before_table(tokens: &[Token]) -> usize
     ensures { result ≡ of.before_table tokens.now }
 {
-    before_table_word(tokens) + 1
+    for count in 0..tokens.len() {
+        if is_table_word(&tokens[count]) {
+            return count + 1;
+        }
+    }
+    tokens.len() + 1
 }
 
 /// The tokens behind so many.
@@ -57,12 +48,6 @@ pub fn behind<'a, 't>(count: usize, tokens: &'a [Token<'t>]) -> &'a [Token<'t>]
     } else {
         &[]
     }
-}
-
-pub fn is_comma(token: &Token) -> bool
-    ensures { result ≡ tokens_of.is_comma token.now }
-{
-    is_sign(Symbol::Comma, token)
 }
 
 fn depth_behind(depth: usize, token: &Token) -> usize
@@ -82,7 +67,7 @@ fn depth_behind(depth: usize, token: &Token) -> usize
 fn parts_behind(parts: usize, depth: usize, token: &Token) -> usize
     ensures { result ≡ of.parts_behind parts depth token.now }
 {
-    if depth == 0 && is_comma(token) {
+    if depth == 0 && is_sign(Symbol::Comma, token) {
         parts.saturating_sub(1)
     } else {
         parts

@@ -3,36 +3,21 @@ ghost use Rattle.std.specs.Prelude.{◌≡◌, ◌≤◌, ◌+◌, ◌-◌, List
 ghost use Rattle.std.specs.Option.{option_map, ForSome};
 ghost use Rattle.gx_lines.specs.Heads.{head_line, segments as segments_line, session_line};
 ghost use Rattle.gx_sql.specs.Held.{AreTables, IsHeld, named, progress_of, schemas};
-ghost use Rattle.gx_sql.specs.Script.{the_limits};
 ghost use Rattle.gx_explain.specs.Places as of;
 
 use crate::grouped::told_place;
 use crate::kinds::{key_update_place, mismatch_place};
 use crate::names::{before_repeated, before_unknown};
 use crate::parts::{before_table, before_word, behind};
-use gx_grammar::{Limits, ReadError};
+use gx_grammar::ReadError;
 use gx_ids::{Mem, OutOfMemory, Table};
 use gx_lex::{Token, Word};
 use gx_lines::{LineSyn, StmtSyn, read_head_line, read_segments_line, read_session_line};
-use gx_sql::Limit;
-use gx_sql::progress::{Progress, find_table};
+use gx_sql::progress::{Progress, find_table, forget_line};
 use gx_sql::refusal::LineFault;
+use gx_sql::{Limit, limits};
 use gx_tree::Schema;
 use std::alloc::Global;
-use std::mem;
-
-/// The limits of lines.
-pub fn limits() -> Limits
-    ensures { result ≡ the_limits }
-{
-    Limits {
-        segments: 16,
-        name: 63,
-        text: 1000,
-        depth: 100,
-        operators: 1000,
-    }
-}
 
 // The place at which a count is passed.
 fn counted(fault: LineFault) -> Option<usize>
@@ -139,8 +124,7 @@ fn place_in(
     ensures { IfOk result (λ found. IfSome found (λ place. place ≡ of.written_place progress.now.groups.items (named progress.now.members.entries) (schemas progress.now.tables.entries) line.entry fault tokens.now)) }
 {
     let place = written_place(alloc, progress, &line, fault, tokens);
-    // The process ends soon, and the memory of what was read with it.
-    mem::forget(line);
+    forget_line(line);
     Ok(Some(place?))
 }
 

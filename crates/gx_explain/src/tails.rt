@@ -7,26 +7,7 @@ ghost use Rattle.gx_explain.specs.Tails as of;
 
 use gx_lex::byte::{is_blank, is_digit, is_letter, is_word_byte};
 use gx_lex::lone_symbol;
-
-fn blanks_len(line: &[u8]) -> usize
-    ensures value { result ≡ prefix_len lexing.is_blank line.now }
-    ensures within { result ≤ length line.now }
-{
-    for count in 0..line.len() {
-        if !is_blank(line[count]) {
-            return count;
-        }
-    }
-    line.len()
-}
-
-fn behind_blanks(line: &[u8]) -> &[u8]
-    ensures value { result.now ≡ lines.behind_blanks line.now }
-    ensures within { length result.now ≤ length line.now }
-{
-    let (_blanks, rest) = line.split_at(blanks_len(line));
-    rest
-}
+use gx_sql::behind_blanks;
 
 fn word_len(bytes: &[u8]) -> usize
     ensures value { result ≡ prefix_len lexing.is_word_byte bytes.now }

@@ -37,9 +37,9 @@ impl Words {
         self.bytes.as_slice()
     }
 
-    /// Takes all words away.
-    pub fn clear(&mut self) {
-        self.bytes.clear();
+    /// Whether there are none.
+    pub fn is_empty(&self) -> bool {
+        self.bytes.is_empty()
     }
 
     /// The words, where all of them stand there.

@@ -18,6 +18,7 @@ pub use columns::find_column;
 pub use expression::type_expression;
 pub use fault::{NameFault, ResolveError};
 pub use parts::{Written, where_as};
+pub use select::is_grouped;
 pub use statement::{named_table, resolve_stmt};
 pub use table::resolve_table;
 pub use typed::Typed;

@@ -161,7 +161,12 @@ fn is_aggregate(item: &ItemSyn) -> bool
 fn any_aggregate(items: &[ItemSyn]) -> bool
     ensures { result ≡ list_any of.is_aggregate items.now }
 {
-    items.iter().any(|item| is_aggregate(item))
+    for item in items {
+        if is_aggregate(item) {
+            return true;
+        }
+    }
+    false
 }
 
 fn has_aggregate(items: &ItemsSyn) -> bool
@@ -173,7 +178,8 @@ fn has_aggregate(items: &ItemsSyn) -> bool
     }
 }
 
-fn is_grouped(select: &SelectSyn) -> bool
+/// Whether a query is of groups.
+pub fn is_grouped(select: &SelectSyn) -> bool
     ensures { result ≡ of.is_grouped select.now }
 {
     has_aggregate(&select.items) || select.group.is_some()

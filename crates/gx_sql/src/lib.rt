@@ -11,4 +11,5 @@ mod told;
 
 pub use refusal::{Limit, Refusal};
 pub use script::parse_script;
-pub use split::{first_line, is_skipped};
+pub use split::{behind_blanks, first_line, is_skipped};
+pub use told::limits;

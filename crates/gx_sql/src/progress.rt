@@ -17,6 +17,7 @@ use gx_script::{Line, LinkFault};
 use gx_tree::{Schema, Stmt, Txt};
 use indexmap::{IndexMap, IndexSet};
 use std::alloc::Global;
+use std::mem;
 
 /// What the lines of a script have said so far.
 #[derive(Drop)]
@@ -253,7 +254,22 @@ fn push_line(
     }
 }
 
+/// Gives back the memory of a line that was read.
+pub fn drop_line(line: LineSyn) {
+    drop(line);
+}
+
+/// Lets go of a line that was read, and leaves its memory to the end of the process.
+pub fn forget_line(line: LineSyn) {
+    mem::forget(line);
+}
+
 impl Progress {
+    /// Lets go of what lines have said, and leaves its memory to the end of the process.
+    pub fn forget(self) {
+        mem::forget(self);
+    }
+
     /// At the front of a script.
     pub fn new(alloc: Global) -> Progress
         ensures said { progress_of result ≡ said.start }

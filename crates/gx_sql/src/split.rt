@@ -52,11 +52,18 @@ fn blanks_len(line: &[u8]) -> usize
     ensures value { result ≡ prefix_len lexing.is_blank line.now }
     ensures within { result ≤ length line.now }
 {
-    line.iter().take_while(|byte| is_blank(**byte)).count()
+    for count in 0..line.len() {
+        if !is_blank(line[count]) {
+            return count;
+        }
+    }
+    line.len()
 }
 
-fn behind_blanks(line: &[u8]) -> &[u8]
-    ensures { result.now ≡ of.behind_blanks line.now }
+/// The line without blanks at its front.
+pub fn behind_blanks(line: &[u8]) -> &[u8]
+    ensures value { result.now ≡ of.behind_blanks line.now }
+    ensures within { length result.now ≤ length line.now }
 {
     let (_blanks, rest) = line.split_at(blanks_len(line));
     rest

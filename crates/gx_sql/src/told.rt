@@ -19,7 +19,8 @@ use gx_script::Line;
 use indexmap::IndexMap;
 use std::alloc::Global;
 
-fn limits() -> Limits
+/// The limits of lines.
+pub fn limits() -> Limits
     ensures { result ≡ the_limits }
 {
     Limits {
