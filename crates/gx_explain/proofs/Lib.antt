@@ -4,4 +4,5 @@ pub mod Chars
 pub mod Reports
 pub mod Shown
 pub mod Readings
+pub mod Repeats
 pub mod Stopped
