@@ -88,4 +88,14 @@ pub nodes-behind : (network : Network) (nodes : Nodes) → IsNetwork network →
     → AreNodesBehind network.script.value network.run.steps nodes
 nodes-behind network nodes is unspent same =
     let stands = is.stands unspent in
-    subst (AreNodesBehind network.script.value network.run.steps) (sym same) (record { coord = stands.coord; count = stands.count; segments = stands.segments; letters = stands.letters })
+    subst (AreNodesBehind network.script.value network.run.steps) (sym same) (record {
+      of = stands.of;
+      coord = stands.coord;
+      coord_script = stands.coord_script;
+      coord_usable = stands.coord_usable;
+      count = stands.count;
+      segments = stands.segments;
+      long = stands.long;
+      letters = stands.letters;
+      placed = stands.placed;
+    })

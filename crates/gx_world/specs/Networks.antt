@@ -54,12 +54,17 @@ pub record IsNetwork (network : Network) : Type 0 where
   pub reached : IsReached network.script.value network.run.steps
   pub stands : network.spent ≡ false → Stands network.script.value (world_behind network.script.value network.run.steps) network
 
--- nodes that stand where these steps lead the machine, with every message's place
+-- nodes of the script that can be used and stand where these steps lead the machine, with every message's place
 pub record AreNodesBehind (script : Script) (steps : List Step) (nodes : Nodes) : Type 0 where
+  pub of : nodes.script.value ≡ script
   pub coord : IsCoord nodes.coord (world_behind script steps).coord
+  pub coord_script : nodes.coord.script.value ≡ script
+  pub coord_usable : nodes.coord.spent ≡ false
   pub count : length nodes.segments.items ≡ script.segments
   pub segments : (k : ℕ) (segment : Segment) → slice_get nodes.segments.items k ≡ Some segment → IsAt script (world_behind script steps) (k + 1) segment
+  pub long : IsLong script.segments nodes.letters
   pub letters : ArePosted nodes.letters steps (world_behind script steps).sent
+  pub placed : ArePlaced nodes.letters steps
 
 -- no number lacks room: clocks, the numbers of messages and of rounds, and the next transaction's
 pub record HasRoom (network : Network) : Type 0 where
