@@ -9,9 +9,9 @@ use Rattle.gx_locks.proofs.book.Book.release_all.Goals as goal
 
 pub loop-hold-init : goal.loop-hold-init
 loop-hold-init c = (
-      IsEmptied-taken c.args.gxid c.args.self.now _ c.as_slice-hold-items.result.now c.requires.filed c.requires.once refl (c.as_slice-hold-items.ensures ∙ c.take_of-holds.ensures.taken) c.take_of-holds.ensures.there c.take_of-holds.ensures.elsewhere,
-      λ was. was,
-    )
+  IsEmptied-taken c.args.gxid c.args.self.now _ c.as_slice-hold-items.result.now c.requires.filed c.requires.once refl (c.as_slice-hold-items.ensures ∙ c.take_of-holds.ensures.taken) c.take_of-holds.ensures.there c.take_of-holds.ensures.elsewhere,
+  λ was. was,
+)
 
 pub loop-hold-preserved : goal.loop-hold-preserved
 loop-hold-preserved c =
