@@ -10,7 +10,7 @@ use Rattle.gx_script.specs.declared.Script.{Script}
 use Rattle.gx_trace.specs.declared.seen.Seen.{Seen}
 use Rattle.gx_trace.specs.declared.seen.SeenMark.{SeenMark}
 use Rattle.gx_trace.specs.declared.seen.SeenStep.{SeenStep}
-use Rattle.gx_story.specs.Names.{AreNames, ArePlaces, IsNamedBy, answer_session, first_named, is_commit, last_commit, line_session, marks_of, named_in, or_else, row_of, starts, commit_of}
+use Rattle.gx_story.specs.Names.{AreNames, ArePlaces, IsNamedBy, answer_session, first_named, commit_among, commit_in, first_commit, line_session, marks_of, named_in, or_else, row_of, starts, commit_of}
 use Rattle.gx_story.specs.declared.names.Names.{Names}
 
 or_else-none : {X : Type 0} (o : Option X) → o ≡ or_else o None
@@ -29,17 +29,15 @@ pub nothing_named : (names : Names) (at : ℕ) → IsNamedBy names names at []
 nothing_named names at = record {
   begun = sym (append-nil names.begun.items);
   rows = λ rid. or_else-none (row_of names.rows.entries rid);
-  commits = λ w. refl;
+  commits = λ w. or_else-none (commit_of names.commits.entries w);
   lines = refl;
   answers = refl;
   texts = refl;
 }
 
-both_written : (p q : Bool) (at : ℕ) (old : Option ℕ) → (if q then Some at else (if p then Some at else old)) ≡ (if p || q then Some at else old)
-both_written true true at old = refl
-both_written true false at old = refl
-both_written false true at old = refl
-both_written false false at old = refl
+commit_among-append : (w : Gxid) (at : ℕ) (xs ys : List SeenMark) → commit_among w at (xs ++ ys) ≡ or_else (commit_among w at xs) (commit_among w at ys)
+commit_among-append w at [] ys = refl
+commit_among-append w at (x ∷ xs) ys = ap (or_else (commit_in w at x)) (commit_among-append w at xs ys) ∙ sym (or_else-assoc (commit_in w at x) (commit_among w at xs) (commit_among w at ys))
 
 named_both : (a b c : Names) (at : ℕ) (xs ys : List SeenMark) → IsNamedBy a b at xs → IsNamedBy b c at ys → IsNamedBy a c at (xs ++ ys)
 named_both a b c at xs ys p q = record {
@@ -50,9 +48,8 @@ named_both a b c at xs ys p q = record {
       q.rows rid ∙ ap (λ o. or_else o (first_named rid ys)) (p.rows rid) ∙ or_else-assoc (row_of a.rows.entries rid) (first_named rid xs) (first_named rid ys)
       ∙ ap (or_else (row_of a.rows.entries rid)) (sym (first_named-append rid xs ys));
   commits = λ w.
-      q.commits w ∙ ap (λ o. if list_any (is_commit w) ys then Some at else o) (p.commits w)
-      ∙ both_written (list_any (is_commit w) xs) (list_any (is_commit w) ys) at (commit_of a.commits.entries w)
-      ∙ ap (λ t. if t then Some at else commit_of a.commits.entries w) (sym (list_any-append (is_commit w) xs ys));
+      q.commits w ∙ ap (λ o. or_else o (commit_among w at ys)) (p.commits w) ∙ or_else-assoc (commit_of a.commits.entries w) (commit_among w at xs) (commit_among w at ys)
+      ∙ ap (or_else (commit_of a.commits.entries w)) (sym (commit_among-append w at xs ys));
   lines = q.lines ∙ p.lines;
   answers = q.answers ∙ p.answers;
   texts = q.texts ∙ p.texts;
@@ -65,18 +62,14 @@ named-next a b c at marks i m inside is p q = rw (take_more marks i m inside ∙
 pub record AreNamed (names : Names) (steps : List SeenStep) : Type 0 where
   pub begun : names.begun.items ≡ flat_map starts (flat_map marks_of steps)
   pub rows : (rid : Rid) → row_of names.rows.entries rid ≡ first_named rid (flat_map marks_of steps)
-  pub commits : (w : Gxid) → commit_of names.commits.entries w ≡ last_commit w 0 steps
+  pub commits : (w : Gxid) → commit_of names.commits.entries w ≡ first_commit w 0 steps
 
-last_commit-last : (w : Gxid) (at : ℕ) (ss : List SeenStep) (s : SeenStep) → last_commit w at (ss ++ s ∷ []) ≡ (if list_any (is_commit w) s.marks then Some (at + length ss) else last_commit w at ss)
-last_commit-last w at [] s = ap (λ n. if list_any (is_commit w) s.marks then Some n else None) (omega arith)
-last_commit-last w at (x ∷ ss) s =
-    ap (λ o. or_else o (if list_any (is_commit w) x.marks then Some at else None)) (last_commit-last w (at + 1) ss s)
-    ∙ out (list_any (is_commit w) s.marks) (last_commit w (at + 1) ss) (if list_any (is_commit w) x.marks then Some at else None)
-    ∙ ap (λ n. if list_any (is_commit w) s.marks then Some n else last_commit w at (x ∷ ss)) (omega arith)
-  where
-    out : (b : Bool) (o r : Option ℕ) → or_else (if b then Some (at + 1 + length ss) else o) r ≡ (if b then Some (at + 1 + length ss) else or_else o r)
-    out true o r = refl
-    out false o r = refl
+first_commit-last : (w : Gxid) (at : ℕ) (ss : List SeenStep) (s : SeenStep) → first_commit w at (ss ++ s ∷ []) ≡ or_else (first_commit w at ss) (commit_among w (at + length ss) s.marks)
+first_commit-last w at [] s = sym (or_else-none (commit_among w at s.marks)) ∙ ap (λ n. commit_among w n s.marks) (omega arith)
+first_commit-last w at (x ∷ ss) s =
+    ap (or_else (commit_among w at x.marks)) (first_commit-last w (at + 1) ss s)
+    ∙ sym (or_else-assoc (commit_among w at x.marks) (first_commit w (at + 1) ss) (commit_among w (at + 1 + length ss) s.marks))
+    ∙ ap (λ n. or_else (first_commit w at (x ∷ ss)) (commit_among w n s.marks)) (omega arith)
 
 pub named_steps_next : (old new : Names) (steps : List SeenStep) (i : ℕ) (s : SeenStep) → i < length steps → s ≡ get_or steps i s → AreNamed old (take i steps) → IsNamedBy old new i s.marks → AreNamed new (take (i + 1) steps)
 named_steps_next old new steps i s inside is a p = rw (take_more steps i s inside ∙ ap (λ y. take i steps ++ y ∷ []) (sym is)) all
@@ -95,8 +88,8 @@ named_steps_next old new steps i s inside is a p = rw (take_more steps i s insid
           p.rows rid ∙ ap (λ o. or_else o (first_named rid s.marks)) (a.rows rid) ∙ sym (first_named-append rid (flat_map marks_of (take i steps)) s.marks)
           ∙ ap (first_named rid) (sym marks);
       commits = λ w.
-          p.commits w ∙ ap (λ o. if list_any (is_commit w) s.marks then Some i else o) (a.commits w)
-          ∙ ap (λ n. if list_any (is_commit w) s.marks then Some n else last_commit w 0 (take i steps)) (sym count) ∙ sym (last_commit-last w 0 (take i steps) s);
+          p.commits w ∙ ap (λ o. or_else o (commit_among w i s.marks)) (a.commits w)
+          ∙ ap (λ n. or_else (first_commit w 0 (take i steps)) (commit_among w n s.marks)) (sym count) ∙ sym (first_commit-last w 0 (take i steps) s);
     }
 
 pub none_named : (names : Names) (steps : List SeenStep) → names.begun.items ≡ [] → names.rows.entries ≡ [] → names.commits.entries ≡ [] → AreNamed names (take 0 steps)

@@ -46,9 +46,15 @@ nth-replicate zero s = refl
 nth-replicate (suc n) zero = refl
 nth-replicate (suc n) (suc s) = nth-replicate n s
 
+none : List ℕ
+none = []
+
+length-none : (n : ℕ) → length (replicate n none) ≡ n
+length-none n = length-replicate n none
+
 none_of : {X : Type 0} (of : X → SessionId) (index : List (List ℕ)) → index ≡ replicate 256 [] → ArePlaces of [] index
 none_of of index is = record {
-  whole = ap length is ∙ length-replicate 256 [];
+  whole = ap length is ∙ length-none 256;
   places = λ s low. ap (λ l. nth_places l s) is ∙ nth-replicate 256 s;
 }
 

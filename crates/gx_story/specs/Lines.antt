@@ -48,7 +48,7 @@ over_row script names None = []
 over_row script names (Some rid) = codes ", over " ++ row_text script names rid
 
 abbrev pub over_table : Script → Table → List ℕ
-over_table script table = codes ", over " ++ codes "table " ++ table_name script table
+over_table script table = codes ", over table " ++ table_name script table
 
 abbrev pub over_text : Script → Names → Object → Option Rid → List ℕ
 over_text script names (Relation table) row = over_table script table

@@ -59,15 +59,23 @@ first_named rid (m ∷ ms) = or_else (named_in rid m) (first_named rid ms)
 abbrev pub commit_of : List (Gxid × ℕ) → Gxid → Option ℕ
 commit_of commits gxid = lookup (is_at (gxid_cmp gxid)) commits
 
--- whether a mark is the transaction's commit
-abbrev pub is_commit : Gxid → SeenMark → Bool
-is_commit gxid (Whole (mark.Commit other)) = is_at (gxid_cmp gxid) other
-is_commit gxid _ = false
+abbrev pub committed_as : Gxid → ℕ → Gxid → Option ℕ
+committed_as other at gxid = if is_at (gxid_cmp gxid) other then Some at else None
 
--- the last step that has it, where the first is of this place
-abbrev pub last_commit : Gxid → ℕ → List SeenStep → Option ℕ
-last_commit gxid at [] = None
-last_commit gxid at (s ∷ ss) = or_else (last_commit gxid (at + 1) ss) (if list_any (is_commit gxid) s.marks then Some at else None)
+-- where a transaction commits, if the mark of an event at this place is its commit
+abbrev pub commit_in : Gxid → ℕ → SeenMark → Option ℕ
+commit_in gxid at (Whole (mark.Commit other)) = committed_as other at gxid
+commit_in gxid at _ = None
+
+-- and where the first mark is that is
+abbrev pub commit_among : Gxid → ℕ → List SeenMark → Option ℕ
+commit_among gxid at [] = None
+commit_among gxid at (m ∷ ms) = or_else (commit_in gxid at m) (commit_among gxid at ms)
+
+-- the same of steps, where the first is of this place
+abbrev pub first_commit : Gxid → ℕ → List SeenStep → Option ℕ
+first_commit gxid at [] = None
+first_commit gxid at (s ∷ ss) = or_else (commit_among gxid at s.marks) (first_commit gxid (at + 1) ss)
 
 -- LINES AND ANSWERS
 abbrev pub line_session : Line → SessionId
@@ -94,7 +102,7 @@ pub record ArePlaces {X : Type 0} (of : X → SessionId) (xs : List X) (index : 
 pub record IsNamedBy (old new : Names) (at : ℕ) (marks : List SeenMark) : Type 0 where
   pub begun : new.begun.items ≡ old.begun.items ++ flat_map starts marks
   pub rows : (rid : Rid) → row_of new.rows.entries rid ≡ or_else (row_of old.rows.entries rid) (first_named rid marks)
-  pub commits : (gxid : Gxid) → commit_of new.commits.entries gxid ≡ (if list_any (is_commit gxid) marks then Some at else commit_of old.commits.entries gxid)
+  pub commits : (gxid : Gxid) → commit_of new.commits.entries gxid ≡ or_else (commit_of old.commits.entries gxid) (commit_among gxid at marks)
   pub lines : new.lines ≡ old.lines
   pub answers : new.answers ≡ old.answers
   pub texts : new.texts ≡ old.texts
@@ -102,7 +110,7 @@ pub record IsNamedBy (old new : Names) (at : ℕ) (marks : List SeenMark) : Type
 pub record AreNames (script : Script) (seen : Seen) (printed : List (List ℕ)) (names : Names) : Type 0 where
   pub begun : names.begun.items ≡ flat_map starts (flat_map marks_of seen.steps)
   pub rows : (rid : Rid) → row_of names.rows.entries rid ≡ first_named rid (flat_map marks_of seen.steps)
-  pub commits : (gxid : Gxid) → commit_of names.commits.entries gxid ≡ last_commit gxid 0 seen.steps
+  pub commits : (gxid : Gxid) → commit_of names.commits.entries gxid ≡ first_commit gxid 0 seen.steps
   pub lines : ArePlaces line_session script.lines names.lines.items
   pub answers : ArePlaces answer_session seen.answers names.answers.items
   pub texts : names.texts.items ≡ printed

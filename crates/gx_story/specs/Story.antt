@@ -93,12 +93,6 @@ row_waited claims node gxid (Transaction other) = row_claimed (find (is_row_of n
 abbrev pub is_other : Gxid → Gxid → Bool
 is_other gxid other = not (other.0 == gxid.0)
 
-abbrev pub what_waits : List Past → Mark → Option What
-what_waits past (mark.Wait node gxid object mode) =
-    Some (what.Waited (by past gxid) node object (row_waited (claims past) node gxid object) (whom past node (claim_on gxid object mode)))
-what_waits past (mark.Recheck round own verdict) = Some (what.Judged round (edges past ++ map (reported own.node) own.edges) verdict)
-what_waits past _ = None
-
 -- nothing is told of locks that are granted or given back, of a segment's own commit, nor of a segment's report, which its round tells
 abbrev pub what_of : List Past → Mark → Option What
 what_of past (mark.Start gxid session) = Some (what.Began (by past gxid))
@@ -111,7 +105,10 @@ what_of past (mark.Decided gxid) = Some (what.Decided (by past gxid))
 what_of past (mark.Commit gxid) = Some (what.Committed (by past gxid) (desk_of past gxid).nodes (desk_of past gxid).decided)
 what_of past (mark.Abort gxid) = Some (what.Aborted (by past gxid))
 what_of past (mark.JournalFailed node gxid) = Some (what.JournalFailed (by past gxid) node)
-what_of past other = what_waits past other
+what_of past (mark.Wait node gxid object mode) =
+    Some (what.Waited (by past gxid) node object (row_waited (claims past) node gxid object) (whom past node (claim_on gxid object mode)))
+what_of past (mark.Recheck round own verdict) = Some (what.Judged round (edges past ++ map (reported own.node) own.edges) verdict)
+what_of past _ = None
 
 -- of a mark of an event at this node
 abbrev pub what_made : Script → List Past → Node → SeenMark → Option What

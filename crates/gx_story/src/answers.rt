@@ -4,7 +4,7 @@ ghost use Rattle.std.specs.List.{flat_map};
 ghost use Rattle.gx_store.specs.declared.answer.Refused.TheVariants.{Serialization};
 ghost use Rattle.gx_report.specs.Text.{behind_bar, cell_text, cells_text};
 ghost use Rattle.gx_story.specs.Answers as of;
-ghost use Rattle.gx_story.specs.Naming.{counted, node_text};
+ghost use Rattle.gx_story.specs.Naming.{at_text, counted, node_text};
 
 use crate::names::{Names, answer_at};
 use crate::words::{push_at, push_counted, push_node, push_row, push_statement, push_who};
@@ -91,6 +91,22 @@ fn push_node_behind(text: &mut Vec<u8>, before: &[u8], node: Node) -> Mem<()>
     push_node(text, node)
 }
 
+fn push_at_behind(text: &mut Vec<u8>, before: &[u8], at: usize) -> Mem<()>
+    ensures { OnOk result (text.new.items ≡ text.old.items ++ before.now ++ at_text at) }
+{
+    push_bytes(text, before)?;
+    push_at(text, at)
+}
+
+fn push_ended(text: &mut Vec<u8>, ended: Option<usize>) -> Mem<()>
+    ensures { OnOk result (text.new.items ≡ text.old.items ++ of.ended_at ended) }
+{
+    match ended {
+        Some(at) => push_at_behind(text, b", who committed at ", at),
+        None => Ok(()),
+    }
+}
+
 fn push_changed(
     text: &mut Vec<u8>,
     script: &Script,
@@ -104,13 +120,8 @@ fn push_changed(
     push_row(text, script, names, rid)?;
     push_bytes(text, b" was changed behind its snapshot by ")?;
     push_who(text, script, names, newer)?;
-    match names.commits.get(&newer) {
-        Some(at) => {
-            push_bytes(text, b", who committed at ")?;
-            push_at(text, *at)
-        }
-        None => Ok(()),
-    }
+    let ended = names.commits.get(&newer).copied();
+    push_ended(text, ended)
 }
 
 fn push_refused(text: &mut Vec<u8>, script: &Script, names: &Names, refused: Refused) -> Mem<()>

@@ -61,8 +61,13 @@ fn push_edge_end(text: &mut Vec<u8>, dotted: bool) -> Mem<()>
     }
 }
 
-fn push_edge_line(text: &mut Vec<u8>, script: &Script, names: &Names, reported: Reported) -> Mem<()>
-    ensures { OnOk result (text.new.items ≡ text.old.items ++ of.edge_line script.now names.now reported) }
+fn push_edge_line(
+    text: &mut Vec<u8>,
+    script: &Script,
+    names: &Names,
+    reported: &Reported,
+) -> Mem<()>
+    ensures { OnOk result (text.new.items ≡ text.old.items ++ of.edge_line script.now names.now reported.now) }
 {
     push_bytes(text, b"  ")?;
     push_quoted_who(text, script, names, reported.edge.waiter)?;
@@ -82,7 +87,7 @@ fn push_edge_lines(
     ensures { OnOk result (text.new.items ≡ text.old.items ++ flat_map (of.edge_line script.now names.now) edges.now) }
 {
     for reported in edges {
-        push_edge_line(text, script, names, *reported)?;
+        push_edge_line(text, script, names, reported)?;
     }
     Ok(())
 }

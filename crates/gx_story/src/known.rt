@@ -32,31 +32,37 @@ pub struct Known {
 }
 
 /// What is known before anything has happened.
-#[tactic(auto, using(crate::proofs::Turning::none_known))]
 pub(crate) fn new_known(alloc: Global) -> Mem<Known>
     ensures { IfOk result (λ known. Knows known []) }
 {
+    let begun = Vec::new(alloc);
+    let claims = Vec::new(alloc);
+    let edges = Vec::new(alloc);
     let desks = no_desks(alloc)?;
     Ok(Known {
-        begun: Vec::new(alloc),
-        claims: Vec::new(alloc),
-        edges: Vec::new(alloc),
+        begun,
+        claims,
+        edges,
         desks,
     })
 }
 
-/// The session of a transaction, by those of the transactions in the order in which they began.
-pub(crate) fn session_of(begun: &[SessionId], gxid: Gxid) -> Option<SessionId>
-    ensures { result ≡ slice_get begun.now (gxid.0 - 1) }
+/// The session of a transaction.
+fn session_of(known: &Known, gxid: Gxid) -> Option<SessionId>
+    ensures { result ≡ slice_get known.now.begun.items (gxid.0 - 1) }
 {
-    begun.get((gxid.0 as usize).saturating_sub(1)).copied()
+    known
+        .begun
+        .as_slice()
+        .get((gxid.0 as usize).saturating_sub(1))
+        .copied()
 }
 
 /// The desk of a transaction's session.
 pub(crate) fn desk_of(known: &Known, gxid: Gxid) -> Option<&Desk>
     ensures { (past : List Past) → Knows known.now past → unwrap_or (option_copied result) of.no_line ≡ desk_of_past past gxid }
 {
-    match session_of(known.begun.as_slice(), gxid) {
+    match session_of(known, gxid) {
         Some(session) => known.desks.as_slice().get(usize::from(session.0)),
         None => None,
     }
@@ -102,7 +108,7 @@ fn note_resume(alloc: Global, known: &mut Known, at: usize, node: Node, gxid: Gx
     ensures whole { OnOk result (length known.new.desks.items ≡ 256) }
     ensures known { OnOk result ((past : List Past) → Knows known.old past → Knows known.new (Happened at (Resume node gxid) ∷ past)) }
 {
-    let session = session_of(known.begun.as_slice(), gxid);
+    let session = session_of(known, gxid);
     let resumed = Resumed { at, node, gxid };
     note_turn(alloc, known, session, Change::GoesOn(resumed))?;
     Ok(())
@@ -133,7 +139,7 @@ pub(crate) fn note_event(alloc: Global, known: &mut Known, at: usize, event: Eve
     }
 }
 
-fn claim_of(gxid: Gxid, object: Object, mode: Mode) -> Claim
+pub(crate) fn claim_of(gxid: Gxid, object: Object, mode: Mode) -> Claim
     ensures { result ≡ claim_on gxid object mode }
 {
     Claim { gxid, object, mode }
@@ -170,7 +176,7 @@ fn note_report(known: &mut Known, at: usize, node: Node, round: u64, graph: &Loc
     ensures whole { OnOk result (length known.new.desks.items ≡ 256) }
     ensures known { OnOk result ((past : List Past) → Knows known.old past → Knows known.new (Made at (Whole (mark.Report node round graph.now)) ∷ past)) }
 {
-    note_edges(&mut known.edges, node, graph.edges.as_slice())?;
+    note_graph(&mut known.edges, node, graph)?;
     Ok(())
 }
 
@@ -179,7 +185,7 @@ fn note_decided(alloc: Global, known: &mut Known, at: usize, gxid: Gxid) -> Mem<
     ensures whole { OnOk result (length known.new.desks.items ≡ 256) }
     ensures known { OnOk result ((past : List Past) → Knows known.old past → Knows known.new (Made at (Whole (mark.Decided gxid)) ∷ past)) }
 {
-    let session = session_of(known.begun.as_slice(), gxid);
+    let session = session_of(known, gxid);
     note_turn(alloc, known, session, Change::IsDecided)?;
     Ok(())
 }
@@ -189,7 +195,7 @@ fn note_local(alloc: Global, known: &mut Known, at: usize, node: Node, gxid: Gxi
     ensures whole { OnOk result (length known.new.desks.items ≡ 256) }
     ensures known { OnOk result ((past : List Past) → Knows known.old past → Knows known.new (Made at (Whole (mark.LocalCommit node gxid)) ∷ past)) }
 {
-    let session = session_of(known.begun.as_slice(), gxid);
+    let session = session_of(known, gxid);
     note_turn(alloc, known, session, Change::IsCommitted(node))?;
     Ok(())
 }
@@ -200,7 +206,7 @@ fn note_wait(alloc: Global, known: &mut Known, at: usize, node: Node, claim: Cla
     ensures known { OnOk result ((past : List Past) → Knows known.old past → Knows known.new (Made at (Whole (mark.Wait node claim.gxid claim.object claim.mode)) ∷ past)) }
 {
     let whom = whom(alloc, known.claims.as_slice(), node, claim)?;
-    let session = session_of(known.begun.as_slice(), claim.gxid);
+    let session = session_of(known, claim.gxid);
     let waiting = Waiting {
         since: at,
         node,
@@ -262,6 +268,12 @@ fn note_whole(alloc: Global, known: &mut Known, at: usize, mark: &Mark) -> Mem<(
         }
         _ => Ok(()),
     }
+}
+
+fn note_graph(edges: &mut Vec<Reported>, node: Node, graph: &LocalGraph) -> Mem<()>
+    ensures { OnOk result (edges.new.items ≡ edges.old.items ++ map (of.reported node) graph.now.edges) }
+{
+    note_edges(edges, node, graph.edges.as_slice())
 }
 
 /// Adds the edges of a node.

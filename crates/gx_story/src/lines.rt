@@ -2,6 +2,7 @@
 ghost use Rattle.std.specs.Prelude.{◌≡◌, ◌++◌, codes, OnOk};
 ghost use Rattle.std.specs.List.{flat_map};
 ghost use Rattle.gx_story.specs.declared.told.What.TheVariants.{Wrote};
+ghost use Rattle.gx_report.specs.Words.{table_name};
 ghost use Rattle.gx_story.specs.Answers.{line_at as line_there};
 ghost use Rattle.gx_story.specs.Lines as of;
 ghost use Rattle.gx_story.specs.Naming.{by_text, counted, node_text, row_text, statement};
@@ -182,8 +183,8 @@ fn push_of_row(
     push_bytes(text, behind)
 }
 
-fn push_claimed(text: &mut Vec<u8>, script: &Script, names: &Names, claimed: Claimed) -> Mem<()>
-    ensures { OnOk result (text.new.items ≡ text.old.items ++ of.claimed_text script.now names.now claimed) }
+fn push_claimed(text: &mut Vec<u8>, script: &Script, names: &Names, claimed: &Claimed) -> Mem<()>
+    ensures { OnOk result (text.new.items ≡ text.old.items ++ of.claimed_text script.now names.now claimed.now) }
 {
     push_bytes(text, b", for ")?;
     push_who(text, script, names, claimed.claim.gxid)?;
@@ -200,7 +201,7 @@ fn push_whom(text: &mut Vec<u8>, script: &Script, names: &Names, whom: &[Claimed
     ensures { OnOk result (text.new.items ≡ text.old.items ++ flat_map (of.claimed_text script.now names.now) whom.now) }
 {
     for claimed in whom {
-        push_claimed(text, script, names, *claimed)?;
+        push_claimed(text, script, names, claimed)?;
     }
     Ok(())
 }
@@ -217,11 +218,10 @@ fn push_over_row(text: &mut Vec<u8>, script: &Script, names: &Names, row: Option
     }
 }
 
-fn push_over_table(text: &mut Vec<u8>, script: &Script, table: Table) -> Mem<()>
-    ensures { OnOk result (text.new.items ≡ text.old.items ++ of.over_table script.now table) }
+fn push_table_behind(text: &mut Vec<u8>, script: &Script, before: &[u8], table: Table) -> Mem<()>
+    ensures { OnOk result (text.new.items ≡ text.old.items ++ before.now ++ table_name script.now table) }
 {
-    push_bytes(text, b", over ")?;
-    push_bytes(text, b"table ")?;
+    push_bytes(text, before)?;
     push_table(text, script, table)
 }
 
@@ -235,7 +235,7 @@ fn push_over(
     ensures { OnOk result (text.new.items ≡ text.old.items ++ of.over_text script.now names.now object row) }
 {
     match object {
-        Object::Relation(table) => push_over_table(text, script, table),
+        Object::Relation(table) => push_table_behind(text, script, b", over table ", table),
         _ => push_over_row(text, script, names, row),
     }
 }
@@ -302,8 +302,8 @@ fn push_committed(
     push_nodes(text, nodes)
 }
 
-fn push_edge(text: &mut Vec<u8>, script: &Script, names: &Names, reported: Reported) -> Mem<()>
-    ensures { OnOk result (text.new.items ≡ text.old.items ++ of.edge_text script.now names.now reported) }
+fn push_edge(text: &mut Vec<u8>, script: &Script, names: &Names, reported: &Reported) -> Mem<()>
+    ensures { OnOk result (text.new.items ≡ text.old.items ++ of.edge_text script.now names.now reported.now) }
 {
     push_bytes(text, b" (")?;
     push_who(text, script, names, reported.edge.waiter)?;
@@ -318,7 +318,7 @@ fn push_edges(text: &mut Vec<u8>, script: &Script, names: &Names, edges: &[Repor
     ensures { OnOk result (text.new.items ≡ text.old.items ++ flat_map (of.edge_text script.now names.now) edges.now) }
 {
     for reported in edges {
-        push_edge(text, script, names, *reported)?;
+        push_edge(text, script, names, reported)?;
     }
     Ok(())
 }

@@ -1,5 +1,5 @@
 // The log of a run: a line for each told thing, and at the end how long each statement waited.
-ghost use Rattle.std.specs.Prelude.{◌≡◌, ◌++◌, OnOk};
+ghost use Rattle.std.specs.Prelude.{◌≡◌, ◌++◌, find, OnOk};
 ghost use Rattle.std.specs.List.{flat_map};
 ghost use Rattle.gx_story.specs.Lines.{told_line};
 ghost use Rattle.gx_story.specs.Log as of;
@@ -34,18 +34,33 @@ fn ends_wait(wait: &Waiting, resumed: &Resumed) -> bool
     resumed.node == wait.node && resumed.gxid == wait.gxid && wait.since <= resumed.at
 }
 
-// The end of a wait: where its transaction went on at the node, or else where the line was answered.
-fn end_of(wait: &Waiting, resumes: &[Resumed], answered: usize) -> usize
-    ensures { result ≡ of.end_of resumes.now answered wait.now }
+fn first_end(wait: &Waiting, resumes: &[Resumed]) -> Option<Resumed>
+    ensures { result ≡ find (of.ends_wait wait.now) resumes.now }
 {
-    match resumes.iter().find(|resumed| ends_wait(wait, resumed)) {
+    resumes
+        .iter()
+        .copied()
+        .find(|resumed| ends_wait(wait, resumed))
+}
+
+fn ended_at(answered: usize, end: Option<Resumed>) -> usize
+    ensures { result ≡ of.ended_at answered end }
+{
+    match end {
         Some(resumed) => resumed.at,
         None => answered,
     }
 }
 
-fn push_for(text: &mut Vec<u8>, script: &Script, names: &Names, claimed: Claimed) -> Mem<()>
-    ensures { OnOk result (text.new.items ≡ text.old.items ++ of.for_whom script.now names.now claimed) }
+// The end of a wait: where its transaction went on at the node, or else where the line was answered.
+fn end_of(wait: &Waiting, resumes: &[Resumed], answered: usize) -> usize
+    ensures { result ≡ of.end_of resumes.now answered wait.now }
+{
+    ended_at(answered, first_end(wait, resumes))
+}
+
+fn push_for(text: &mut Vec<u8>, script: &Script, names: &Names, claimed: &Claimed) -> Mem<()>
+    ensures { OnOk result (text.new.items ≡ text.old.items ++ of.for_whom script.now names.now claimed.now) }
 {
     push_bytes(text, b", for ")?;
     push_who(text, script, names, claimed.claim.gxid)
@@ -55,7 +70,7 @@ fn push_names_of(text: &mut Vec<u8>, script: &Script, names: &Names, whom: &[Cla
     ensures { OnOk result (text.new.items ≡ text.old.items ++ flat_map (of.for_whom script.now names.now) whom.now) }
 {
     for claimed in whom {
-        push_for(text, script, names, *claimed)?;
+        push_for(text, script, names, claimed)?;
     }
     Ok(())
 }

@@ -1,8 +1,6 @@
 // Who and what the numbers of a trace stand for.
-ghost use Rattle.std.specs.Prelude.{◌≡◌, ◌++◌, ◌∷◌, [], ℕ, nat_eq, false, if◌then◌else◌, length, replicate, Some, IfOk, OnOk};
-ghost use Rattle.std.specs.BTreeMap.{is_at};
+ghost use Rattle.std.specs.Prelude.{◌≡◌, ◌++◌, ◌∷◌, [], ℕ, nat_eq, false, length, replicate, IfOk, OnOk};
 ghost use Rattle.std.specs.Option.{option_copied};
-ghost use Rattle.gx_dsnap.specs.Gxids.{gxid_cmp};
 ghost use Rattle.gx_ids.specs.declared.ids.Gxid.{Gxid as OneGxid};
 ghost use Rattle.gx_ids.specs.declared.rid.Rid.{Rid as OneRid};
 ghost use Rattle.gx_story.specs.Answers as answers;
@@ -94,9 +92,13 @@ fn name_row(
     Ok(())
 }
 
+// Keeps where a transaction commits, unless it has before.
 fn note_commit(commits: &mut BTreeMap<Gxid, usize>, gxid: Gxid, at: usize) -> Mem<()>
-    ensures { OnOk result ((q : OneGxid) → of.commit_of commits.new.entries q ≡ (if is_at (gxid_cmp q) gxid then Some at else of.commit_of commits.old.entries q)) }
+    ensures { OnOk result ((q : OneGxid) → of.commit_of commits.new.entries q ≡ of.or_else (of.commit_of commits.old.entries q) (of.committed_as gxid at q)) }
 {
+    if commits.contains_key(&gxid) {
+        return Ok(());
+    }
     commits.insert(gxid, at)?;
     Ok(())
 }
@@ -132,7 +134,7 @@ fn note_names(alloc: Global, names: &mut Names, at: usize, marks: &[SeenMark]) -
 }
 
 /// The names of what was seen of a script.
-#[tactic(auto, using(crate::proofs::NamedBy::none_named, crate::proofs::NamedBy::named_steps_next))]
+#[tactic(auto, using(crate::proofs::NamedBy::none_named))]
 pub fn names_of(alloc: Global, script: &Script, seen: &Seen, texts: Vec<Txt>) -> Mem<Names>
     ensures { IfOk result (of.AreNames script.now seen.now texts.items) }
 {

@@ -12,7 +12,7 @@ ghost use Rattle.gx_script.specs.declared.Script.{Script as OneScript};
 
 use crate::claims::{row_waited, whom};
 use crate::desk::Desk;
-use crate::known::{Known, by, desk_of, note_edges};
+use crate::known::{Known, by, claim_of, desk_of, note_edges};
 use crate::told::What;
 use gx_dsnap::Snapshot;
 use gx_ids::{Duplicate, Gxid, Mem, Node, Seq, SessionId};
@@ -20,7 +20,7 @@ use gx_script::{LinkFault, Script};
 use gx_store::{Event, Mark};
 use gx_trace::SeenMark;
 use gx_tree::Txt;
-use gx_waits::{Claim, LocalGraph, Object, Verdict};
+use gx_waits::{Claim, LocalGraph, Verdict};
 use std::alloc::Global;
 
 /// What is told of an event.
@@ -190,27 +190,12 @@ fn tell_whole(alloc: Global, known: &Known, mark: &Mark) -> Mem<Option<What>>
         Mark::JournalFailed { node, gxid } => {
             Ok(Some(What::JournalFailed(by(known, *gxid), *node)))
         }
-        _ => tell_waiting(alloc, known, mark),
-    }
-}
-
-fn tell_waiting(alloc: Global, known: &Known, mark: &Mark) -> Mem<Option<What>>
-    ensures { (past : List Past) → Knows known.now past → IfOk result (λ what. what ≡ of.what_waits past mark.now) }
-{
-    match mark {
         Mark::Wait {
             node,
             gxid,
             object,
             mode,
-        } => {
-            let claim = Claim {
-                gxid: *gxid,
-                object: *object,
-                mode: *mode,
-            };
-            tell_wait(alloc, known, *node, claim)
-        }
+        } => tell_wait(alloc, known, *node, claim_of(*gxid, *object, *mode)),
         Mark::Recheck {
             round,
             own,
@@ -247,7 +232,7 @@ fn tell_commit(alloc: Global, known: &Known, gxid: Gxid) -> Mem<Option<What>>
 }
 
 fn tell_wait(alloc: Global, known: &Known, node: Node, claim: Claim) -> Mem<Option<What>>
-    ensures { (past : List Past) → Knows known.now past → IfOk result (λ what. what ≡ of.what_waits past (Wait node claim.gxid claim.object claim.mode)) }
+    ensures { (past : List Past) → Knows known.now past → IfOk result (λ what. what ≡ of.what_of past (Wait node claim.gxid claim.object claim.mode)) }
 {
     let whom = whom(alloc, known.claims.as_slice(), node, claim)?;
     let row = row_waited(known.claims.as_slice(), node, claim.gxid, claim.object);
@@ -261,7 +246,7 @@ fn tell_round(
     own: &LocalGraph,
     verdict: &Verdict,
 ) -> Mem<Option<What>>
-    ensures { (past : List Past) → Knows known.now past → IfOk result (λ what. what ≡ of.what_waits past (Recheck round own.now verdict.now)) }
+    ensures { (past : List Past) → Knows known.now past → IfOk result (λ what. what ≡ of.what_of past (Recheck round own.now verdict.now)) }
 {
     let mut edges = gx_ids::copies(alloc, known.edges.as_slice())?;
     note_edges(&mut edges, own.node, own.edges.as_slice())?;

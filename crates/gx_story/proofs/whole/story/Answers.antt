@@ -4,5 +4,5 @@ use Rattle.gx_story.proofs.whole.story.Goals as goal
 
 pub loop-at-preserved : goal.loop-at-preserved
 loop-at-preserved c =
-    steps-next c.args.script.now _ _ _ _ c.args.seen.now.steps c.loop-at.at c.index-step-items-at.result (search rules) c.index-step-items-at.is c.loop-at.invariant
+    steps-next c.args.script.now _ _ _ _ c.args.seen.now.steps c.loop-at.at c.step-item.result (search rules) c.step-item.is c.loop-at.invariant
     c.in_ok-add_step.ensures.whole c.in_ok-add_step.ensures.known c.in_ok-add_step.ensures.told
