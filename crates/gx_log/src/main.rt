@@ -1,19 +1,23 @@
 //! `gx_log`
 #![tactic(auto)]
 
+mod picture;
+
 use gx_copies::mark_copy;
 use gx_drive::{empty_journals, run_ordered, run_seeded};
 use gx_ids::{Duplicate, Mem, Seq};
 use gx_outside::{PassGate, Source, StdinSource, StdoutSink, write_whole};
+use gx_print::print_stmt;
 use gx_script::Script;
 use gx_sql::{Refusal, parse_script};
 use gx_store::{Event, Mark, Run, StmtAnswer};
-use gx_print::print_stmt;
 use gx_story::{names_of, push_graphs, push_log, story};
+use gx_text::push_bytes;
 use gx_trace::{Seen, SeenAnswer, SeenMark, SeenStep};
 use gx_tree::Txt;
 use gx_words::{NoBytes, WordsFault, read_words, script_bytes};
 use gx_world::World;
+use picture::{frame, push_picture};
 use std::alloc::Global;
 use std::process::ExitCode;
 use std::{env, io};
@@ -21,7 +25,9 @@ use std::{env, io};
 fn seen_mark(alloc: Global, mark: &Mark) -> Mem<SeenMark> {
     match mark {
         Mark::Answer {
-            session, number, ..
+            session,
+            number,
+            ..
         } => Ok(SeenMark::Answer {
             session: *session,
             number: *number,
@@ -65,11 +71,13 @@ fn seen_of(alloc: Global, script: &Script, run: &Run) -> Mem<Seen> {
                 } = mark
                 {
                     if usize::from(s.0) == session {
-                        if let Ok(Mark::Answer {
-                            session,
-                            number,
-                            answer,
-                        }) = mark_copy(alloc, mark)
+                        if let Ok(
+                            Mark::Answer {
+                                session,
+                                number,
+                                answer,
+                            },
+                        ) = mark_copy(alloc, mark)
                         {
                             answers.push(SeenAnswer {
                                 session,
@@ -139,6 +147,19 @@ fn log<S: Source>(alloc: Global, words: &[String], source: &mut S) -> Mem<Vec<u8
     let names = names_of(alloc, world.script(), &seen, texts)?;
     push_log(&mut text, world.script(), &seen, &names, told.as_slice())?;
     push_graphs(&mut text, world.script(), &names, told.as_slice())?;
+    push_bytes(&mut text, b"=====\n")?;
+    let last = seen.steps.len().saturating_sub(1);
+    let last = if last > 99 { 99 } else { last };
+    let frame = frame(world.script(), &seen, 0, last);
+    push_picture(
+        alloc,
+        &mut text,
+        frame,
+        world.script(),
+        &seen,
+        &names,
+        told.as_slice(),
+    )?;
     Ok(text)
 }
 
