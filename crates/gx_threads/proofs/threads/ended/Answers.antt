@@ -9,7 +9,7 @@ pub returns-clause-finished : goal.returns-clause-finished
 returns-clause-finished g c =
     let e = c.in_ok-closed.ensures in
     let merge = subst (λ xs. IsMergeOf (map (λ h. h.steps) xs) c.in_ok-run.run'.steps) c.as_slice.ensures.value c.in_ok-run.ensures.merge in
-    ended-over c.args.cells.coord c.args.cells.segments c.args.script.now c.requires.language c.requires.of _ e.histories e.fit c.in_ok-run.run'.steps merge e.holds (c.requires.done e.unspent)
+    ended-over c.args.cells.coord c.args.cells.segments c.args.script.now c.requires.language c.requires.of _ e.histories e.fit c.in_ok-run.run'.steps merge e.holds (c.requires.done e.unspent.0)
 
 pub returns-clause-held : goal.returns-clause-held
 returns-clause-held g c =
