@@ -1,7 +1,10 @@
 -- What all cells leave when their links are closed.
 use Rattle.std.proofs.Common.{◌≡◌, ◌≤◌, ◌+◌, ◌∙◌, List, ◌∷◌, ℕ, Some, ap, sym, subst}
 use Rattle.std.specs.Prelude.{map, slice_get}
+use Rattle.gx_coord.specs.Steps.{IsCoord}
+use Rattle.gx_coord.specs.declared.coord.Coord.{Coord}
 use Rattle.gx_ids.specs.declared.ids.Node.{Node}
+use Rattle.gx_segment.specs.declared.segment.Segment.{Segment}
 use Rattle.gx_links.specs.Ends.{OutEnd}
 use Rattle.gx_outside.specs.Shelves.{Shelf}
 use Rattle.gx_store.specs.Points.{marks_in}
@@ -9,13 +12,14 @@ use Rattle.gx_store.specs.Refusals.{the_coordinator}
 use Rattle.gx_law_runs.specs.Failures.{failures_in}
 use Rattle.gx_law_merge.specs.Merge.{DoFit, coordinator_in}
 use Rattle.gx_merge.specs.declared.merging.NodeHistory.{NodeHistory}
-use Rattle.gx_cells.specs.Closed.{AreBegun, AreClosed, AreFailuresCounted, DoHoldItems, IsCoordKept, IsSegmentKept, histories_of, inbox_of, out_of}
+use Rattle.gx_cells.specs.Closed.{AreBegun, AreClosed, AreFailuresCounted, AreNodesOf, AreUnspent, DoHoldItems, IsCoordKept, IsSegmentKept, histories_of, inbox_of, out_of}
 use Rattle.gx_cells.specs.CoordActs.{links_of}
 use Rattle.gx_cells.specs.CoordReceipts.{links_in}
 use Rattle.gx_cells.specs.CoordViews.{CoordView, coord_data}
 use Rattle.gx_cells.specs.Views.{SegmentView}
 use Rattle.gx_cells.specs.declared.inbox.Inbox.{Inbox}
 use Rattle.gx_cells.proofs.Fitting.{fits, hold-items, holds-here}
+use Rattle.gx_cells.proofs.HeldNodes.{AreHeld, nodes-of}
 use Rattle.gx_cells.proofs.LinkPairs.{AreTaken}
 
 module _ (coord : CoordView) (segments given : List SegmentView) (histories : List NodeHistory) (shelves : List Shelf) (outs : List OutEnd) (inboxes : List Inbox) (closed : AreClosed coord segments) (taken : AreTaken coord given histories shelves outs inboxes) (whole : segments ≡ given) where
@@ -50,8 +54,14 @@ module _ (coord : CoordView) (segments given : List SegmentView) (histories : Li
     pub ended-items : DoHoldItems coord.script (histories_of coord segments) shelves
     ended-items = hold-items coord segments closed kept all-kept forth-there back-there shelves ended-shelves
 
+    pub ended-nodes-of : (held : Coord) (nodes : List Segment) → held.script.value ≡ coord.script → IsCoord held (coord_data coord) → AreHeld given nodes → AreNodesOf coord.script (histories_of coord segments) held nodes
+    ended-nodes-of held nodes of is taken-out = nodes-of coord segments closed kept all-kept forth-there back-there held nodes of is (subst (λ vs. AreHeld vs nodes) (sym whole) taken-out)
+
     pub ended-holds : coordinator_in coord.script (histories_of coord segments) ≡ coord_data coord
     ended-holds = holds-here coord segments closed kept all-kept back-there
+
+  pub ended-unspent : IsCoordKept coord → AreUnspent coord segments
+  ended-unspent kept = (kept.unspent, λ k s at. (all-kept k s at).unspent)
 
   pub ended-counted : IsCoordKept coord → AreFailuresCounted coord segments
   ended-counted kept = (

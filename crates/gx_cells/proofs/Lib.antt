@@ -12,4 +12,8 @@ pub mod MadeCells
 pub mod LinkPairs
 pub mod Staying
 pub mod Fitting
+pub mod HeldNodes
 pub mod Ended
+pub mod Last
+pub mod Leaving
+pub mod Failures

@@ -1,12 +1,13 @@
 // The cells of all nodes of a script.
-ghost use Rattle.std.specs.Prelude.{◌≡◌, ◌∷◌, [], false, IfOk, OnOk, length, map};
+ghost use Rattle.std.specs.Prelude.{◌≡◌, ◌∷◌, [], IfOk, OnErr, OnOk, length, map};
 ghost use Rattle.gx_law_merge.specs.Merge.{DoFit, coordinator_in};
 ghost use Rattle.gx_outside.specs.Shelves.{AreEmpty};
+ghost use Rattle.gx_store.specs.Groups.{AreStartsLet};
 ghost use Rattle.gx_store.specs.Language.{IsScript};
 ghost use Rattle.gx_store.specs.Refusals.{the_coordinator};
-ghost use Rattle.gx_cells.specs.Closed.{AreClosed, AreFailuresCounted, AreNew, DoHoldItems, histories_of};
+ghost use Rattle.gx_cells.specs.Closed.{AreClosed, AreFailuresCounted, AreNew, AreNodesOf, AreUnspent, DoHoldItems, histories_of};
 ghost use Rattle.gx_cells.specs.CoordViews.{coord_data};
-ghost use Rattle.gx_cells.specs.Done.{HasDoneAt};
+ghost use Rattle.gx_cells.specs.Done.{AreSameCells, HasDoneAt, IsSpentAt};
 
 use crate::action::Action;
 use crate::closing::{ClosedCells, close_cells};
@@ -87,8 +88,9 @@ impl<J: Journal> Cells<J> {
         action: Action,
         gate: &G,
     ) -> Mem<Looked>
-        ensures script { self.new.coord.script ≡ self.old.coord.script }
+        ensures same { AreSameCells self.old self.new }
         ensures done { IfOk result (HasDoneAt action node.0 self.old self.new) }
+        ensures err { OnErr result (IsSpentAt node.0 self.old self.new) }
     {
         let Cells { coord, segments } = self;
         if node.0 == 0 {
@@ -119,14 +121,17 @@ impl<J: Journal> Cells<J> {
         Cells { coord, segments }
     }
 
-    /// Ends the links, and hands back the histories and the journals. Where a cell is spent it answers `OutOfMemory` too.
+    /// Ends the links, and hands back the nodes, their histories and their journals. Where a cell is spent, whosever it is, it answers
+    /// `OutOfMemory` too.
     pub fn close<R: Wait>(self, rt: &R, alloc: Global) -> Mem<ClosedCells<J>>
         ensures histories { IfOk result (λ closed. map (λ h. h.steps) closed.histories.items ≡ histories_of self.coord self.segments) }
         ensures nodes { IfOk result (λ closed. map (λ h. h.node) closed.histories.items ≡ the_coordinator ∷ map (λ s. s.node) self.segments) }
         ensures fit { IfOk result (λ closed. DoFit self.coord.script (map (λ h. h.steps) closed.histories.items)) }
         ensures journals { IfOk result (λ closed. map J.shelf closed.journals.items ≡ self.coord.shelf ∷ map (λ s. s.shelf) self.segments) }
         ensures items { IfOk result (λ closed. DoHoldItems self.coord.script (histories_of self.coord self.segments) (map J.shelf closed.journals.items)) }
-        ensures unspent { OnOk result (self.coord.spent ≡ false) }
+        ensures unspent { OnOk result (AreUnspent self.coord self.segments) }
+        ensures starts { OnOk result (AreStartsLet self.coord.script self.coord.steps) }
+        ensures left { IfOk result (λ closed. AreNodesOf self.coord.script (histories_of self.coord self.segments) closed.coord closed.segments.items) }
         ensures holds { OnOk result (coordinator_in self.coord.script (histories_of self.coord self.segments) ≡ coord_data self.coord) }
         ensures failures { OnOk result (AreFailuresCounted self.coord self.segments) }
     {

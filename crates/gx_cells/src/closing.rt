@@ -1,8 +1,9 @@
 // The links of cells are closed, and their histories and journals handed back.
-ghost use Rattle.std.specs.Prelude.{◌≡◌, ◌∷◌, false, IfOk, OnOk, map};
+ghost use Rattle.std.specs.Prelude.{◌≡◌, ◌∷◌, IfOk, OnOk, map};
 ghost use Rattle.gx_law_merge.specs.Merge.{DoFit, coordinator_in};
+ghost use Rattle.gx_store.specs.Groups.{AreStartsLet};
 ghost use Rattle.gx_store.specs.Refusals.{the_coordinator};
-ghost use Rattle.gx_cells.specs.Closed.{AreBegun, AreClosed, AreFailuresCounted, DoHoldItems, IsBegun, histories_of};
+ghost use Rattle.gx_cells.specs.Closed.{AreBegun, AreClosed, AreFailuresCounted, AreNodesOf, AreUnspent, DoHoldItems, IsBegun, histories_of};
 ghost use Rattle.gx_cells.specs.CoordActs.{links_of};
 ghost use Rattle.gx_cells.specs.CoordReceipts.{links_in};
 ghost use Rattle.gx_cells.specs.CoordViews.{coord_data};
@@ -10,16 +11,20 @@ ghost use Rattle.gx_cells.specs.CoordViews.{coord_data};
 use crate::coord_cell::CoordCell;
 use crate::inbox::Inbox;
 use crate::segment_cell::SegmentCell;
+use gx_coord::Coord;
 use gx_ids::{Mem, Node};
 use gx_links::{LinkOut, close};
 use gx_merge::NodeHistory;
 use gx_outside::Journal;
+use gx_segment::Segment;
 use std::alloc::Global;
 use std::sync::Wait;
 
-/// What the cells of all nodes leave: the history and the journal of each, from node 0 on.
+/// What the cells of all nodes leave: the nodes, and the history and the journal of each, from node 0 on.
 #[derive(Drop)]
 pub struct ClosedCells<J: Journal> {
+    pub coord: Coord,
+    pub segments: Vec<Segment>,
     pub histories: Vec<NodeHistory>,
     pub journals: Vec<J>,
 }
@@ -37,7 +42,9 @@ pub(crate) fn close_cells<R: Wait, J: Journal>(
     ensures fit { IfOk result (λ closed. DoFit coord.script (map (λ h. h.steps) closed.histories.items)) }
     ensures journals { IfOk result (λ closed. map J.shelf closed.journals.items ≡ coord.shelf ∷ map (λ s. s.shelf) segments.items) }
     ensures items { IfOk result (λ closed. DoHoldItems coord.script (histories_of coord segments.items) (map J.shelf closed.journals.items)) }
-    ensures unspent { OnOk result (coord.spent ≡ false) }
+    ensures unspent { OnOk result (AreUnspent coord segments.items) }
+    ensures starts { OnOk result (AreStartsLet coord.script coord.steps) }
+    ensures left { IfOk result (λ closed. AreNodesOf coord.script (histories_of coord segments.items) closed.coord closed.segments.items) }
     ensures holds { OnOk result (coordinator_in coord.script (histories_of coord segments.items) ≡ coord_data coord) }
     ensures failures { OnOk result (AreFailuresCounted coord segments.items) }
 {
@@ -50,6 +57,7 @@ pub(crate) fn close_cells<R: Wait, J: Journal>(
     journals.push(parts.journal)?;
     let mut outs = Vec::new(alloc);
     let mut inboxes = Vec::new(alloc);
+    let mut nodes = Vec::new(alloc);
     for segment in segments {
         let own = segment.into_parts()?;
         let node = own.node;
@@ -58,10 +66,13 @@ pub(crate) fn close_cells<R: Wait, J: Journal>(
         journals.push(own.journal)?;
         outs.push(own.out)?;
         inboxes.push(own.inbox)?;
+        nodes.push(own.segment)?;
     }
     close_links(rt, parts.outs, inboxes);
     close_links(rt, outs, parts.inboxes);
     Ok(ClosedCells {
+        coord: parts.coord,
+        segments: nodes,
         histories,
         journals,
     })

@@ -1,6 +1,7 @@
 ghost use Rattle.std.specs.Prelude.{◌≡◌, [], true, false, None, IfOk, IsErr, OnErr, OnOk};
 ghost use Rattle.gx_locks.specs.Locks.{next_ready};
 ghost use Rattle.gx_segment.specs.Room.{has_room};
+ghost use Rattle.gx_segment.specs.Steps.{IsSegment};
 ghost use Rattle.gx_store.specs.Ordered.{IsSegment as IsPlace};
 ghost use Rattle.gx_store.specs.Refusals.{the_coordinator};
 ghost use Rattle.gx_cells.specs.Closed.{IsSegmentKept, inbox_of};
@@ -42,6 +43,7 @@ pub struct SegmentCell<J: Journal> {
 pub(crate) struct SegmentParts<J: Journal> {
     pub node: Node,
     pub steps: Steps,
+    pub segment: Segment,
     pub out: LinkOut,
     pub inbox: Inbox,
     pub journal: J,
@@ -194,6 +196,7 @@ impl<J: Journal> SegmentCell<J> {
     // What it has, unless it is spent.
     pub(crate) fn into_parts(self) -> Mem<SegmentParts<J>>
         ensures kept { OnOk result (IsSegmentKept self) }
+        ensures held { IfOk result (λ parts. IsSegment parts.segment (data_of self)) }
         ensures node { IfOk result (λ parts. parts.node ≡ self.node) }
         ensures steps { IfOk result (λ parts. parts.steps ≡ self.steps) }
         ensures out { IfOk result (λ parts. parts.out ≡ self.out) }
@@ -206,7 +209,7 @@ impl<J: Journal> SegmentCell<J> {
         let SegmentCell {
             history,
             inbox,
-            segment: _,
+            segment,
             faults: _,
             journal,
             spent: _,
@@ -214,6 +217,7 @@ impl<J: Journal> SegmentCell<J> {
         Ok(SegmentParts {
             node: history.node,
             steps: history.steps,
+            segment,
             out: history.out,
             inbox,
             journal,

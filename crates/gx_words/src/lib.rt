@@ -18,5 +18,5 @@ pub use bytes::{NoBytes, script_bytes};
 pub use command::WordsFault;
 pub use options::Options;
 pub use transfer::Transfer;
-pub use words::read_words;
+pub use words::{ask_for_threads, read_words};
 pub use work::generate;

@@ -1,5 +1,6 @@
 -- What the laws of every run say of a network's run.
-use Rattle.std.proofs.Common.{◌≡◌, List, [], false, subst, sym}
+use Rattle.std.proofs.Common.{◌≡◌, List, [], Some, false, length, subst, sym}
+use Rattle.std.specs.Prelude.{slice_get}
 use Rattle.gx_script.specs.declared.Script.{Script}
 use Rattle.gx_store.specs.Language.{IsScript}
 use Rattle.gx_store.specs.Ordered.{AreOrdered}
@@ -22,22 +23,16 @@ use Rattle.gx_law_writes.proofs.Stands.{world-stands}
 use Rattle.gx_law_answers.proofs.Snaps.{snapshots-one}
 use Rattle.gx_law_answers.proofs.Whole.{filled, keyed}
 use Rattle.gx_law_runs.specs.Reached.{IsReached}
-use Rattle.gx_law_answers.proofs.AtHome.{at-home}
-use Rattle.gx_law_reads.proofs.Seeing.{world-tables}
-use Rattle.gx_law_reads.specs.Sights.{AreRowsOfAll}
 use Rattle.gx_store.specs.Points.{marks_in}
-use Rattle.gx_store.specs.View.{AreFinalFrom}
-use Rattle.gx_tree.specs.declared.row.KeyedRow.{KeyedRow}
-use Rattle.gx_rules.specs.Machine.{world_of}
-use Rattle.std.specs.declared.alloc.Global.{Global}
-use Rattle.std.specs.declared.vec.Vec.{Vec}
 use Rattle.gx_law_runs.specs.Replays.{world_behind}
-use Rattle.gx_law_runs.proofs.Reaching.{by-events, replayed, rows-of-all}
+use Rattle.gx_law_runs.proofs.Reaching.{by-events}
 use Rattle.gx_law_locks.specs.Legal.{AreRoundsLegal}
 use Rattle.gx_law_locks.proofs.EachVictim.{world-cancels, world-legal}
 use Rattle.gx_law_locks.proofs.Whole.{world-rounds}
 use Rattle.gx_world.specs.declared.network.Network.{Network}
 use Rattle.gx_world.specs.declared.network.Nodes.{Nodes}
+use Rattle.gx_segment.specs.declared.segment.Segment.{Segment}
+use Rattle.gx_tables.specs.Left.{AreLeftBy}
 use Rattle.gx_world.specs.Networks.{AreNodesBehind, IsNetwork}
 
 module _ (script : Script) (network : Network) (is : IsNetwork network) (of : network.script.value ≡ script) where
@@ -76,16 +71,20 @@ module _ (script : Script) (network : Network) (is : IsNetwork network) (of : ne
       by-events script network.run.steps reached (λ ss. IsLegalHistory script (record { steps = ss }))
       (legal script language.some_segments language.numbers (keyed script inserts) (snapshots-one script language.some_segments) (filled script inserts) (world-cancels script language.some_segments (world-rounds script language.some_segments)))
 
-  pub run-tables : (tables : List (Vec KeyedRow Global)) → AreRowsOfAll 0 (world_behind script network.run.steps) tables → AreFinalFrom 0 (marks_in network.run.steps) tables
-  run-tables tables rows =
-      let is : IsReached script network.run.steps = reached in
-      subst (λ ss. AreFinalFrom 0 (marks_in ss) tables) is.is
-      (world-tables script language.some_segments is.events tables 0 (at-home script language.some_segments language.numbers is.events)
-      (rows-of-all script network.run.steps (world_of script is.events) (replayed script network.run.steps is) is.is 0 tables rows))
-
 -- its nodes stand where its run leads the machine
 pub nodes-behind : (network : Network) (nodes : Nodes) → IsNetwork network → network.spent ≡ false → nodes ≡ record { script = network.script; coord = network.coord; segments = network.segments; letters = network.letters }
     → AreNodesBehind network.script.value network.run.steps nodes
 nodes-behind network nodes is unspent same =
     let stands = is.stands unspent in
     subst (AreNodesBehind network.script.value network.run.steps) (sym same) (record { coord = stands.coord; count = stands.count; segments = stands.segments; letters = stands.letters })
+
+pub nodes-left : (network : Network) (segments : List Segment) → segments ≡ network.segments.items → IsNetwork network → network.spent ≡ false → AreLeftBy network.script.value network.run.steps network.coord segments
+nodes-left network segments same is unspent =
+    let stands = is.stands unspent in
+    record {
+      language = is.language;
+      reached = is.reached;
+      coordinator = stands.coord;
+      count = subst (λ xs. length xs ≡ network.script.value.segments) (sym same) stands.count;
+      each = λ k segment at. (stands.segments k segment (subst (λ xs. slice_get xs k ≡ Some segment) same at)).is;
+    }

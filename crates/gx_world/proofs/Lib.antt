@@ -4,7 +4,6 @@ pub mod Coming
 pub mod Doing
 pub mod Events
 pub mod EachNode
-pub mod Gathered
 pub mod Journals
 pub mod Laws
 pub mod Links
@@ -12,7 +11,6 @@ pub mod Posted
 pub mod Receipts
 pub mod Room
 pub mod Segs
-pub mod Shows
 pub mod Starting
 pub mod Turned
 pub mod Places

@@ -2,7 +2,6 @@ pub mod Worlds
 pub mod Networks
 pub mod Made
 pub mod Turns
-pub mod Tables
 pub mod Links
 pub mod Waiting
 pub mod Coming

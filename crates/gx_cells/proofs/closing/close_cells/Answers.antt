@@ -3,7 +3,8 @@ use Rattle.std.specs.Prelude.{map}
 use Rattle.std.specs.Vec.Iter.{into_iter_items}
 use Rattle.std.proofs.lemmas.List.{map-append, nil_from_length}
 use Rattle.gx_cells.specs.Closed.{AreClosed}
-use Rattle.gx_cells.proofs.Ended.{ended-back, ended-fit, ended-forth, ended-histories, ended-counted, ended-holds, ended-items, ended-nodes, ended-shelves}
+use Rattle.gx_cells.proofs.Ended.{ended-back, ended-fit, ended-forth, ended-histories, ended-counted, ended-holds, ended-items, ended-nodes, ended-nodes-of, ended-shelves, ended-unspent}
+use Rattle.gx_cells.proofs.HeldNodes.{held-next}
 use Rattle.gx_cells.proofs.LinkPairs.{taken-next}
 use Rattle.gx_cells.proofs.closing.close_cells.Goals as goal
 
@@ -18,9 +19,10 @@ loop-segment-preserved g c =
       tt,
       tt,
       c.loop-segment.invariant.2 ∙ ap (λ l. given ++ l) c.in-Some.ensures.steps.0 ∙ sym (append_assoc given (s ∷ []) (into_iter_items c.next.new.self)),
-      taken-next c.args.coord given c.loop-segment.histories.items _ (map shelf journals) _ c.loop-segment.outs.items _ c.loop-segment.inboxes.items _ s (record { node = own.node; steps = own.steps }) c.loop-segment.invariant.3 is.kept is.steps is.node
+      taken-next c.args.coord given c.loop-segment.histories.items _ (map shelf journals) _ c.loop-segment.outs.items _ c.loop-segment.inboxes.items _ s (record { node = own.node; steps = own.steps }) c.loop-segment.invariant.3.0 is.kept is.steps is.node
           c.in_ok-push-3.ensures.items (ap (map shelf) c.in_ok-push-4.ensures.items ∙ map-append shelf journals (own.journal ∷ []) ∙ ap (λ h. map shelf journals ++ h ∷ []) is.shelf)
           (c.in_ok-push-5.ensures.items ∙ ap (λ o. c.loop-segment.outs.items ++ o ∷ []) is.out) (c.in_ok-push-6.ensures.items ∙ ap (λ i. c.loop-segment.inboxes.items ++ i ∷ []) is.inbox),
+      held-next given c.loop-segment.nodes.items _ s own.segment c.loop-segment.invariant.3.1 is.held c.in_ok-push-7.ensures.items,
     )
 
 pub close_links-requires : goal.close_links-requires
@@ -30,7 +32,7 @@ close_links-requires g c =
     let none : left ≡ [] = nil_from_length left (sym c.loop-segment.segment-iterator.rest.ok.0 ∙ c.in-None.ensures.steps.0) in
     let whole : c.args.segments.items ≡ given = c.loop-segment.invariant.2 ∙ ap (λ l. given ++ l) none ∙ append-nil given in
     let closed : AreClosed c.args.coord c.args.segments.items = search rules in
-    ended-forth c.args.coord c.args.segments.items given c.loop-segment.histories.items (map g.J.Journal.shelf c.loop-segment.journals.items) c.loop-segment.outs.items c.loop-segment.inboxes.items closed c.loop-segment.invariant.3 whole c.in_ok-parts.parts.outs.items c.in_ok-parts.ensures.outs
+    ended-forth c.args.coord c.args.segments.items given c.loop-segment.histories.items (map g.J.Journal.shelf c.loop-segment.journals.items) c.loop-segment.outs.items c.loop-segment.inboxes.items closed c.loop-segment.invariant.3.0 whole c.in_ok-parts.parts.outs.items c.in_ok-parts.ensures.outs
 
 pub close_links-requires-2 : goal.close_links-requires-2
 close_links-requires-2 g c =
@@ -39,7 +41,7 @@ close_links-requires-2 g c =
     let none : left ≡ [] = nil_from_length left (sym c.loop-segment.segment-iterator.rest.ok.0 ∙ c.in-None.ensures.steps.0) in
     let whole : c.args.segments.items ≡ given = c.loop-segment.invariant.2 ∙ ap (λ l. given ++ l) none ∙ append-nil given in
     let closed : AreClosed c.args.coord c.args.segments.items = search rules in
-    ended-back c.args.coord c.args.segments.items given c.loop-segment.histories.items (map g.J.Journal.shelf c.loop-segment.journals.items) c.loop-segment.outs.items c.loop-segment.inboxes.items closed c.loop-segment.invariant.3 whole c.in_ok-parts.parts.inboxes.items c.in_ok-parts.ensures.inboxes
+    ended-back c.args.coord c.args.segments.items given c.loop-segment.histories.items (map g.J.Journal.shelf c.loop-segment.journals.items) c.loop-segment.outs.items c.loop-segment.inboxes.items closed c.loop-segment.invariant.3.0 whole c.in_ok-parts.parts.inboxes.items c.in_ok-parts.ensures.inboxes
 
 pub returns-clause-histories : goal.returns-clause-histories
 returns-clause-histories g c =
@@ -48,7 +50,7 @@ returns-clause-histories g c =
     let none : left ≡ [] = nil_from_length left (sym c.loop-segment.segment-iterator.rest.ok.0 ∙ c.in-None.ensures.steps.0) in
     let whole : c.args.segments.items ≡ given = c.loop-segment.invariant.2 ∙ ap (λ l. given ++ l) none ∙ append-nil given in
     let closed : AreClosed c.args.coord c.args.segments.items = search rules in
-    ended-histories c.args.coord c.args.segments.items given c.loop-segment.histories.items (map g.J.Journal.shelf c.loop-segment.journals.items) c.loop-segment.outs.items c.loop-segment.inboxes.items closed c.loop-segment.invariant.3 whole
+    ended-histories c.args.coord c.args.segments.items given c.loop-segment.histories.items (map g.J.Journal.shelf c.loop-segment.journals.items) c.loop-segment.outs.items c.loop-segment.inboxes.items closed c.loop-segment.invariant.3.0 whole
 
 pub returns-clause-nodes : goal.returns-clause-nodes
 returns-clause-nodes g c =
@@ -57,7 +59,7 @@ returns-clause-nodes g c =
     let none : left ≡ [] = nil_from_length left (sym c.loop-segment.segment-iterator.rest.ok.0 ∙ c.in-None.ensures.steps.0) in
     let whole : c.args.segments.items ≡ given = c.loop-segment.invariant.2 ∙ ap (λ l. given ++ l) none ∙ append-nil given in
     let closed : AreClosed c.args.coord c.args.segments.items = search rules in
-    ended-nodes c.args.coord c.args.segments.items given c.loop-segment.histories.items (map g.J.Journal.shelf c.loop-segment.journals.items) c.loop-segment.outs.items c.loop-segment.inboxes.items closed c.loop-segment.invariant.3 whole
+    ended-nodes c.args.coord c.args.segments.items given c.loop-segment.histories.items (map g.J.Journal.shelf c.loop-segment.journals.items) c.loop-segment.outs.items c.loop-segment.inboxes.items closed c.loop-segment.invariant.3.0 whole
 
 pub returns-clause-fit : goal.returns-clause-fit
 returns-clause-fit g c =
@@ -66,7 +68,7 @@ returns-clause-fit g c =
     let none : left ≡ [] = nil_from_length left (sym c.loop-segment.segment-iterator.rest.ok.0 ∙ c.in-None.ensures.steps.0) in
     let whole : c.args.segments.items ≡ given = c.loop-segment.invariant.2 ∙ ap (λ l. given ++ l) none ∙ append-nil given in
     let closed : AreClosed c.args.coord c.args.segments.items = search rules in
-    ended-fit c.args.coord c.args.segments.items given c.loop-segment.histories.items (map g.J.Journal.shelf c.loop-segment.journals.items) c.loop-segment.outs.items c.loop-segment.inboxes.items closed c.loop-segment.invariant.3 whole c.in_ok-parts.ensures.kept c.in_ok-parts.parts.outs.items c.in_ok-parts.ensures.outs c.close_links.ensures c.in_ok-parts.parts.inboxes.items c.in_ok-parts.ensures.inboxes c.close_links-2.ensures
+    ended-fit c.args.coord c.args.segments.items given c.loop-segment.histories.items (map g.J.Journal.shelf c.loop-segment.journals.items) c.loop-segment.outs.items c.loop-segment.inboxes.items closed c.loop-segment.invariant.3.0 whole c.in_ok-parts.ensures.kept c.in_ok-parts.parts.outs.items c.in_ok-parts.ensures.outs c.close_links.ensures c.in_ok-parts.parts.inboxes.items c.in_ok-parts.ensures.inboxes c.close_links-2.ensures
 
 pub returns-clause-journals : goal.returns-clause-journals
 returns-clause-journals g c =
@@ -75,7 +77,7 @@ returns-clause-journals g c =
     let none : left ≡ [] = nil_from_length left (sym c.loop-segment.segment-iterator.rest.ok.0 ∙ c.in-None.ensures.steps.0) in
     let whole : c.args.segments.items ≡ given = c.loop-segment.invariant.2 ∙ ap (λ l. given ++ l) none ∙ append-nil given in
     let closed : AreClosed c.args.coord c.args.segments.items = search rules in
-    ended-shelves c.args.coord c.args.segments.items given c.loop-segment.histories.items (map g.J.Journal.shelf c.loop-segment.journals.items) c.loop-segment.outs.items c.loop-segment.inboxes.items closed c.loop-segment.invariant.3 whole
+    ended-shelves c.args.coord c.args.segments.items given c.loop-segment.histories.items (map g.J.Journal.shelf c.loop-segment.journals.items) c.loop-segment.outs.items c.loop-segment.inboxes.items closed c.loop-segment.invariant.3.0 whole
 
 pub returns-clause-items : goal.returns-clause-items
 returns-clause-items g c =
@@ -84,7 +86,7 @@ returns-clause-items g c =
     let none : left ≡ [] = nil_from_length left (sym c.loop-segment.segment-iterator.rest.ok.0 ∙ c.in-None.ensures.steps.0) in
     let whole : c.args.segments.items ≡ given = c.loop-segment.invariant.2 ∙ ap (λ l. given ++ l) none ∙ append-nil given in
     let closed : AreClosed c.args.coord c.args.segments.items = search rules in
-    ended-items c.args.coord c.args.segments.items given c.loop-segment.histories.items (map g.J.Journal.shelf c.loop-segment.journals.items) c.loop-segment.outs.items c.loop-segment.inboxes.items closed c.loop-segment.invariant.3 whole c.in_ok-parts.ensures.kept c.in_ok-parts.parts.outs.items c.in_ok-parts.ensures.outs c.close_links.ensures c.in_ok-parts.parts.inboxes.items c.in_ok-parts.ensures.inboxes c.close_links-2.ensures
+    ended-items c.args.coord c.args.segments.items given c.loop-segment.histories.items (map g.J.Journal.shelf c.loop-segment.journals.items) c.loop-segment.outs.items c.loop-segment.inboxes.items closed c.loop-segment.invariant.3.0 whole c.in_ok-parts.ensures.kept c.in_ok-parts.parts.outs.items c.in_ok-parts.ensures.outs c.close_links.ensures c.in_ok-parts.parts.inboxes.items c.in_ok-parts.ensures.inboxes c.close_links-2.ensures
 
 pub returns-clause-holds : goal.returns-clause-holds
 returns-clause-holds g c =
@@ -93,7 +95,7 @@ returns-clause-holds g c =
     let none : left ≡ [] = nil_from_length left (sym c.loop-segment.segment-iterator.rest.ok.0 ∙ c.in-None.ensures.steps.0) in
     let whole : c.args.segments.items ≡ given = c.loop-segment.invariant.2 ∙ ap (λ l. given ++ l) none ∙ append-nil given in
     let closed : AreClosed c.args.coord c.args.segments.items = search rules in
-    ended-holds c.args.coord c.args.segments.items given c.loop-segment.histories.items (map g.J.Journal.shelf c.loop-segment.journals.items) c.loop-segment.outs.items c.loop-segment.inboxes.items closed c.loop-segment.invariant.3 whole c.in_ok-parts.ensures.kept c.in_ok-parts.parts.outs.items c.in_ok-parts.ensures.outs c.close_links.ensures c.in_ok-parts.parts.inboxes.items c.in_ok-parts.ensures.inboxes c.close_links-2.ensures
+    ended-holds c.args.coord c.args.segments.items given c.loop-segment.histories.items (map g.J.Journal.shelf c.loop-segment.journals.items) c.loop-segment.outs.items c.loop-segment.inboxes.items closed c.loop-segment.invariant.3.0 whole c.in_ok-parts.ensures.kept c.in_ok-parts.parts.outs.items c.in_ok-parts.ensures.outs c.close_links.ensures c.in_ok-parts.parts.inboxes.items c.in_ok-parts.ensures.inboxes c.close_links-2.ensures
 
 pub returns-clause-failures : goal.returns-clause-failures
 returns-clause-failures g c =
@@ -102,4 +104,26 @@ returns-clause-failures g c =
     let none : left ≡ [] = nil_from_length left (sym c.loop-segment.segment-iterator.rest.ok.0 ∙ c.in-None.ensures.steps.0) in
     let whole : c.args.segments.items ≡ given = c.loop-segment.invariant.2 ∙ ap (λ l. given ++ l) none ∙ append-nil given in
     let closed : AreClosed c.args.coord c.args.segments.items = search rules in
-    ended-counted c.args.coord c.args.segments.items given c.loop-segment.histories.items (map g.J.Journal.shelf c.loop-segment.journals.items) c.loop-segment.outs.items c.loop-segment.inboxes.items closed c.loop-segment.invariant.3 whole c.in_ok-parts.ensures.kept
+    ended-counted c.args.coord c.args.segments.items given c.loop-segment.histories.items (map g.J.Journal.shelf c.loop-segment.journals.items) c.loop-segment.outs.items c.loop-segment.inboxes.items closed c.loop-segment.invariant.3.0 whole c.in_ok-parts.ensures.kept
+
+pub returns-clause-unspent : goal.returns-clause-unspent
+returns-clause-unspent g c =
+    let given = c.loop-segment.yielded in
+    let left = into_iter_items c.loop-segment.segment-iterator in
+    let none : left ≡ [] = nil_from_length left (sym c.loop-segment.segment-iterator.rest.ok.0 ∙ c.in-None.ensures.steps.0) in
+    let whole : c.args.segments.items ≡ given = c.loop-segment.invariant.2 ∙ ap (λ l. given ++ l) none ∙ append-nil given in
+    let closed : AreClosed c.args.coord c.args.segments.items = search rules in
+    ended-unspent c.args.coord c.args.segments.items given c.loop-segment.histories.items (map g.J.Journal.shelf c.loop-segment.journals.items) c.loop-segment.outs.items c.loop-segment.inboxes.items closed c.loop-segment.invariant.3.0 whole c.in_ok-parts.ensures.kept
+
+pub returns-clause-starts : goal.returns-clause-starts
+returns-clause-starts g c = c.in_ok-parts.ensures.kept.starts
+
+pub returns-clause-left : goal.returns-clause-left
+returns-clause-left g c =
+    let given = c.loop-segment.yielded in
+    let left = into_iter_items c.loop-segment.segment-iterator in
+    let none : left ≡ [] = nil_from_length left (sym c.loop-segment.segment-iterator.rest.ok.0 ∙ c.in-None.ensures.steps.0) in
+    let whole : c.args.segments.items ≡ given = c.loop-segment.invariant.2 ∙ ap (λ l. given ++ l) none ∙ append-nil given in
+    let closed : AreClosed c.args.coord c.args.segments.items = search rules in
+    ended-nodes-of c.args.coord c.args.segments.items given c.loop-segment.histories.items (map g.J.Journal.shelf c.loop-segment.journals.items) c.loop-segment.outs.items c.loop-segment.inboxes.items closed c.loop-segment.invariant.3.0 whole c.in_ok-parts.ensures.kept c.in_ok-parts.parts.outs.items c.in_ok-parts.ensures.outs c.close_links.ensures c.in_ok-parts.parts.inboxes.items c.in_ok-parts.ensures.inboxes c.close_links-2.ensures
+    c.in_ok-parts.parts.coord c.loop-segment.nodes.items c.in_ok-parts.ensures.of c.in_ok-parts.ensures.held c.loop-segment.invariant.3.1

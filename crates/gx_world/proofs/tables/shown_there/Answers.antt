@@ -1,7 +1,0 @@
-use Rattle.std.proofs.Common.{refl}
-use Rattle.std.proofs.lemmas.Option.{slice_get_read}
-use Rattle.gx_world.proofs.tables.shown_there.Goals as goal
-
-pub final_rows-requires : goal.final_rows-requires
-final_rows-requires g c =
-    c.requires.1 c.index.result.now (slice_get_read c.args.network.now.segments.items _ c.args.place c.index.result.now refl c.requires.0 c.index.ensures)

@@ -1,4 +1,0 @@
-use Rattle.gx_world.proofs.tables.snapshot_there.Given as goal
-
-abbrev pub ghost-final_snapshot : goal.ghost-final_snapshot
-ghost-final_snapshot g a = g.c
