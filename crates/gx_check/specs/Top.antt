@@ -34,7 +34,7 @@ pub record IsRead (left after : Option (List ℕ)) (bytes : List ℕ) : Type 0 w
 abbrev pub IsFront : List ℕ → List ℕ → Type 0
 IsFront bytes front = ((trace : List ℕ) × IsSplit bytes front trace) ⊎ (IsUnsplit bytes × (front ≡ bytes))
 
--- a script, and the text and trace of a run, which show this
+-- a script, and the text of what may be shown of its runs, which is this
 pub record ShowRun (bytes : List ℕ) (script : Script) (seen : Seen) : Type 0 where
   pub front : List ℕ
   pub trace : List ℕ

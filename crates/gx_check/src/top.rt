@@ -34,8 +34,8 @@ fn told_of<K: Sink>(attempt: Attempt, sink: &mut K) -> u8
 
 /// Reads a script, a line `trace:` and the text and trace of a run of it, and says whether these show a legal history: `legal`, or the
 /// least of the definitions that they don't meet. The status is 0 for a legal one, 2 for words, which it takes none of, 3 where the script
-/// is refused, 4 at a read fault, 5 at a write fault, 6 for want of memory, 9 for too many bytes, 11 where what stands behind `trace:` is no
-/// text of a run, and 12 where the history isn't legal.
+/// is refused, 4 at a read fault, 5 at a write fault, 6 for want of memory, 9 for too many bytes, 11 where what stands behind `trace:` isn't
+/// the text of what may be shown of a run, and 12 where the history isn't legal.
 pub fn run_check<S: Source, K: Sink>(
     alloc: Global,
     words: &[String],
@@ -65,7 +65,7 @@ pub fn run_check<S: Source, K: Sink>(
 
     ensures too_large { result ≡ 9 → IsWritten (IsTooLarge (S.left source.old) (S.left source.new)) (K.written sink.old) (K.written sink.new) }
 
-    // What stands behind `trace:` is no text of a run, and the first line is told with which none goes on; or no trace begins.
+    // What stands behind `trace:` isn't the text of what may be shown, and the first line is told with which none goes on; or no trace begins.
     ensures no_trace { result ≡ 11 → IsWritten (IsNoTrace (S.left source.old) (S.left source.new)) (K.written sink.old) (K.written sink.new) }
 
     // The least definition is told that what is shown doesn't meet.
