@@ -3,7 +3,7 @@ use Rattle.gx_script.specs.declared.Script.{Script}
 use Rattle.gx_sql.specs.Answering.{Answers}
 use Rattle.gx_sql.specs.declared.refusal.Refusal.{Refusal}
 use Rattle.gx_sql.specs.declared.refusal.Refusal.TheVariants as refusal
-use Rattle.gx.specs.Refused.{refusal_text}
+use Rattle.gx_refusals.specs.Refused.{refusal_text}
 
 -- a refusal that has a text is what the bytes are read as
 pub read_as : (may : Result Script Refusal → Type 0) (e : Refusal) (text : List ℕ) → Answers may (Err e) → refusal_text e ≡ Some text → may (Err e)

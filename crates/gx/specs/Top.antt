@@ -46,7 +46,7 @@ use Rattle.gx_store.specs.declared.attempt.Attempt.TheVariants.{Done, Stopped, S
 use Rattle.gx_report.specs.Stops.{stuck_lines, turns_spent}
 use Rattle.gx_report.specs.Summary.{summary_of}
 use Rattle.gx_report.specs.Text.{answers_text, text_of}
-use Rattle.gx.specs.Refused.{refusal_text}
+use Rattle.gx_refusals.specs.Refused.{refusal_text}
 
 -- the run's text, where it is asked for
 abbrev pub traced : Bool → Script → Run → List ℕ

@@ -5,9 +5,9 @@ ghost use Rattle.gx.specs.Top.{AreKept, IsAttempt, IsOfBytes, IsRefusedFor};
 ghost use Rattle.gx_words.specs.Asked.{IsForSource, limit};
 ghost use Rattle.gx_store.specs.Told.{is_over, run_in};
 
-use crate::refused::refusal_text;
 use crate::running::run_script;
 use gx_outside::{Gate, Journal, Source};
+use gx_refusals::refusal_text;
 use gx_sql::{Refusal, parse_script};
 use gx_store::{Attempt, Run};
 use gx_words::{NoBytes, Options, WordsFault, read_words, script_bytes};

@@ -4,7 +4,6 @@
 
 mod attempt;
 mod driving;
-mod refused;
 mod running;
 mod telling;
 mod top;

@@ -162,7 +162,8 @@ IsAttempt w OutOfMemory = w.now ≡ w.before
 -- the text that is due at some end
 abbrev pub IsDue : {A : Type 0} → Work A → List ℕ → Type 0
 IsDue w text =
-    (((((IsLegal w.left w.after text ⊎ IsUsage w.words text) ⊎ IsRefused w.left w.after text) ⊎ IsReadFault w.before w.now text) ⊎ IsTooLarge w.left w.after text) ⊎ IsNoTrace w.left w.after text) ⊎ IsNotLegal w.left w.after text
+    (((((IsLegal w.left w.after text ⊎ IsUsage w.words text) ⊎ IsRefused w.left w.after text) ⊎ IsReadFault w.before w.now text)
+    ⊎ IsTooLarge w.left w.after text) ⊎ IsNoTrace w.left w.after text) ⊎ IsNotLegal w.left w.after text
 
 -- the status that tells what the work came to, and the text; none where memory ran out
 abbrev pub status_in : Attempt → ℕ
