@@ -1,4 +1,5 @@
 pub mod Adds
+pub mod Decided
 pub mod Edges
 pub mod Emptied
 pub mod Entered
@@ -12,6 +13,7 @@ pub mod Ready
 pub mod Risen
 pub mod Runs
 pub mod Slots
+pub mod Tidy
 pub mod Ways
 pub mod Whole
 pub mod Written

@@ -16,7 +16,7 @@ use Rattle.gx_locks.specs.Book.{IsFiled, IsWhole, claims_in, HasSameHolds, HasSa
 use Rattle.gx_waits.specs.Claim.{meets, same_claim}
 use Rattle.gx_waits.specs.Claims.{is_free, is_of, without}
 use Rattle.gx_locks.specs.Holds.{is_under, claims_of}
-use Rattle.gx_locks.specs.Index.{places_at}
+use Rattle.gx_locks.specs.Index.{IsTidy, places_at}
 use Rattle.gx_locks.specs.Kept.{AreExclusive, AreOnce, WaitOnce}
 use Rattle.gx_locks.specs.Locks.{Locks, is_ready}
 use Rattle.gx_locks.specs.Room.{bit, awaited}
@@ -71,19 +71,20 @@ length-without g ws w once found =
     ap (λ (xs : List Claim). length xs + 1) (sym (filter_true (without g ws))) ∙ count-without (λ _. true) g ws w once found ∙ ap length (filter_true ws)
 
 -- some claims less
-pub IsWhole-fewer : (p : Claim → Bool) (b b' : Book) (ws : List Claim) → IsWhole b ws → IsFiled b' → claims_in b' ≡ filter p (claims_in b) → b'.ledger.places ≡ b.ledger.places → ((k : Key) → places_at b'.index k ≡ awaited k ws) → IsWhole b' ws
-IsWhole-fewer p b b' ws whole filed e places room = record {
+pub IsWhole-fewer : (p : Claim → Bool) (b b' : Book) (ws : List Claim) → IsWhole b ws → IsFiled b' → claims_in b' ≡ filter p (claims_in b) → b'.ledger.places ≡ b.ledger.places → ((k : Key) → places_at b'.index k ≡ awaited k ws) → (IsTidy b.index → IsTidy b'.index) → IsWhole b' ws
+IsWhole-fewer p b b' ws whole filed e places room tidy = record {
   filed = filed;
   exclusive = subst (λ (cs : List Claim). AreExclusive cs) (sym e) (AllPairs-filter (λ earlier later. meets later earlier ≡ false) p (claims_in b) whole.exclusive);
   held_once = subst (λ (cs : List Claim). AreOnce cs) (sym e) (AllPairs-filter (λ earlier later. same_claim later earlier ≡ false) p (claims_in b) whole.held_once);
   once = whole.once;
   places = places ∙ whole.places;
   room = room;
+  tidy = tidy whole.tidy;
 }
 
 -- one more, which meets none and isn't held
-pub IsWhole-held : (b b' : Book) (ws ws' : List Claim) (c : Claim) → IsWhole b ws → WaitOnce ws' → is_free (claims_in b) c ≡ true → list_any (same_claim c) (claims_in b) ≡ false → IsFiled b' → claims_in b' ≡ claims_in b ++ c ∷ [] → b'.ledger.places ≡ length ws' → ((k : Key) → places_at b'.index k ≡ awaited k ws') → IsWhole b' ws'
-IsWhole-held b b' ws ws' c whole once free new filed e places room =
+pub IsWhole-held : (b b' : Book) (ws ws' : List Claim) (c : Claim) → IsWhole b ws → WaitOnce ws' → is_free (claims_in b) c ≡ true → list_any (same_claim c) (claims_in b) ≡ false → IsFiled b' → claims_in b' ≡ claims_in b ++ c ∷ [] → b'.ledger.places ≡ length ws' → ((k : Key) → places_at b'.index k ≡ awaited k ws') → (IsTidy b.index → IsTidy b'.index) → IsWhole b' ws'
+IsWhole-held b b' ws ws' c whole once free new filed e places room tidy =
     let none : list_any (meets c) (claims_in b) ≡ false = free_is (list_any (meets c) (claims_in b)) free in
     record {
       filed = filed;
@@ -92,18 +93,19 @@ IsWhole-held b b' ws ws' c whole once free new filed e places room =
       once = once;
       places = places;
       room = room;
+      tidy = tidy whole.tidy;
     }
 
 -- a hold beside the places
-pub IsWhole-added : (b b' : Book) (ws : List Claim) (c : Claim) → IsWhole b ws → is_free (claims_in b) c ≡ true → list_any (same_claim c) (claims_in b) ≡ false → IsFiled b' → claims_in b' ≡ claims_in b ++ c ∷ [] → HasSamePlaces b b' → IsWhole b' ws
-IsWhole-added b b' ws c whole free new filed e same =
-    IsWhole-held b b' ws ws c whole whole.once free new filed e (same.ledger ∙ whole.places) (λ k. same.index k ∙ whole.room k)
+pub IsWhole-added : (b b' : Book) (ws : List Claim) (c : Claim) → IsWhole b ws → is_free (claims_in b) c ≡ true → list_any (same_claim c) (claims_in b) ≡ false → IsFiled b' → claims_in b' ≡ claims_in b ++ c ∷ [] → HasSamePlaces b b' → (IsTidy b.index → IsTidy b'.index) → IsWhole b' ws
+IsWhole-added b b' ws c whole free new filed e same tidy =
+    IsWhole-held b b' ws ws c whole whole.once free new filed e (same.ledger ∙ whole.places) (λ k. same.index k ∙ whole.room k) tidy
 
 -- the waits without a transaction's
 once-without : (g : Gxid) (ws ws' : List Claim) → WaitOnce ws → ws' ≡ without g ws → WaitOnce ws'
 once-without g ws ws' once e = subst (λ (xs : List Claim). WaitOnce xs) (sym e) (AllPairs-filter (λ a b. is_of a.gxid b ≡ false) (λ c. not (is_of g c)) ws once)
 
-module _ (b b' : Book) (ws ws' : List Claim) (g : Gxid) (w : Claim) (whole : IsWhole b ws) (e : ws' ≡ without g ws) (found : find (is_of g) ws ≡ Some w) (less : HasPlaceLess b b' w) where
+module _ (b b' : Book) (ws ws' : List Claim) (g : Gxid) (w : Claim) (whole : IsWhole b ws) (e : ws' ≡ without g ws) (found : find (is_of g) ws ≡ Some w) (less : HasPlaceLess b b' w) (tidy : (IsTidy b.index → IsTidy b'.index)) where
   places_left : b'.ledger.places ≡ length ws'
   places_left = omega (arith, length-without g ws w whole.once found, ap length e, whole.places, less.ledger)
 
@@ -121,11 +123,12 @@ module _ (b b' : Book) (ws ws' : List Claim) (g : Gxid) (w : Claim) (whole : IsW
         once = once-without g ws ws' whole.once e;
         places = places_left;
         room = room_left;
+        tidy = tidy whole.tidy;
       }
 
   -- or held in its place
   pub IsWhole-resumed : is_free (claims_in b) w ≡ true → list_any (same_claim w) (claims_in b) ≡ false → IsFiled b' → claims_in b' ≡ claims_in b ++ w ∷ [] → IsWhole b' ws'
-  IsWhole-resumed free new filed claims = IsWhole-held b b' ws ws' w whole (once-without g ws ws' whole.once e) free new filed claims places_left room_left
+  IsWhole-resumed free new filed claims = IsWhole-held b b' ws ws' w whole (once-without g ws ws' whole.once e) free new filed claims places_left room_left tidy
 
 -- each wait has a place
 pub HasPlace-found : (b : Book) (ws : List Claim) (g : Gxid) (w : Claim) → IsWhole b ws → find (is_of g) ws ≡ Some w → HasPlace b w
@@ -150,9 +153,9 @@ key_cases g (Of h) = ⊎_elim (λ (same : h ≡ g). inl (ap Of same)) (λ (other
     gxids a b = grind (arith, nat_tests)
 
 -- all claims of a transaction that doesn't wait are given back
-pub IsWhole-emptied : (g : Gxid) (b b' : Book) (ws ws0 : List Claim) → IsWhole b ws → ws ≡ without g ws0 → IsFiled b' → claims_in b' ≡ without g (claims_in b) → b'.ledger.places ≡ b.ledger.places → places_at b'.index (Of g) ≡ 0 → ((k : Key) → k ≢ Of g → places_at b'.index k ≡ places_at b.index k) → IsWhole b' ws
-IsWhole-emptied g b b' ws ws0 whole e filed claims places none room =
-    IsWhole-fewer (λ c. not (is_of g c)) b b' ws whole filed claims places (λ k. ⊎_elim (λ (same : k ≡ Of g). its k same) (λ (other : k ≢ Of g). room k other ∙ whole.room k) (key_cases g k))
+pub IsWhole-emptied : (g : Gxid) (b b' : Book) (ws ws0 : List Claim) → IsWhole b ws → ws ≡ without g ws0 → IsFiled b' → claims_in b' ≡ without g (claims_in b) → b'.ledger.places ≡ b.ledger.places → places_at b'.index (Of g) ≡ 0 → ((k : Key) → k ≢ Of g → places_at b'.index k ≡ places_at b.index k) → (IsTidy b.index → IsTidy b'.index) → IsWhole b' ws
+IsWhole-emptied g b b' ws ws0 whole e filed claims places none room tidy =
+    IsWhole-fewer (λ c. not (is_of g c)) b b' ws whole filed claims places (λ k. ⊎_elim (λ (same : k ≡ Of g). its k same) (λ (other : k ≢ Of g). room k other ∙ whole.room k) (key_cases g k)) tidy
   where
     its : (k : Key) → k ≡ Of g → places_at b'.index k ≡ awaited k ws
     its k same = subst (λ l. places_at b'.index l ≡ awaited l ws) (sym same) (none ∙ sym (ap length (ap (filter (is_of g)) e ∙ none_of g ws0)))

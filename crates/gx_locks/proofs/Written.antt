@@ -5,21 +5,21 @@ use Rattle.std.specs.HashMap.{get}
 use Rattle.std.specs.Prelude.{Option, Some, None, OnSome, OnOk, OnErr, Result, Ok, Err, unwrap_or}
 use Rattle.gx_ids.specs.declared.ids.Gxid.{Gxid}
 use Rattle.gx_ids.specs.declared.ids.Table.{Table}
+use Rattle.gx_ids.specs.declared.rid.Rid.{Rid}
 use Rattle.gx_locks.specs.contracts.key.KeyPartialEq.TheImpl as block
 use Rattle.gx_locks.specs.declared.hold.Hold.{Hold}
 use Rattle.gx_locks.specs.declared.index.Index.{Index}
 use Rattle.gx_locks.specs.declared.owner.Owner.{Owner}
 use Rattle.gx_locks.specs.declared.key.Key.{Key}
 use Rattle.gx_locks.specs.declared.key.Key.TheVariants.{On, Of}
-use Rattle.gx_locks.specs.Index.{shelf_at}
+use Rattle.gx_locks.specs.Index.{IsLeftElse, IsTidy, IsTidyBut, is_idle_there, shelf_at}
 use Rattle.gx_locks.specs.Owners.{end_of, holds_of, is_idle, is_owner, owner_in}
 use Rattle.gx_locks.specs.Rack.{Rack, no_shelf}
 use Rattle.gx_locks.specs.Shelves.{IsWritten}
-use Rattle.gx_waits.specs.Claim.{same_object}
-use Rattle.gx_waits.specs.declared.object.Object.{Object}
 use Rattle.gx_waits.specs.declared.object.Object.TheVariants.{Relation, Tuple, Transaction}
 use Rattle.gx_locks.proofs.Owned.{found, found-past, found-set, its}
-use Rattle.gx_locks.proofs.Meets.{same_object-same, same_object-itself}
+use Rattle.gx_locks.proofs.Decided.{key_decides, key_itself, other_key}
+use Rattle.gx_locks.proofs.Tidy.{but_then, others_left, owners_left, tidy_there}
 
 pub ok_then : {A E P Q : Type 0} (r : Result A E) → (P → Q) → OnOk r P → OnOk r Q
 ok_then (Ok a) f p = f p
@@ -32,45 +32,6 @@ err_then (Err e) f p = f p
 pub some_then : {A P : Type 0} (o : Option A) (x : A) → o ≡ Some x → OnSome o P → P
 some_then (Some y) x is p = p
 some_then None x is p = absurd (cc)
-
--- the derived test tells keys apart
-eq_is : (a b : Object) → block.ghosts.eq (On a) (On b) ≡ same_object a b
-eq_is (Relation t) (Relation u) = refl
-eq_is (Relation t) (Tuple q) = refl
-eq_is (Relation t) (Transaction h) = refl
-eq_is (Tuple r) (Relation u) = refl
-eq_is (Tuple r) (Tuple q) = refl
-eq_is (Tuple r) (Transaction h) = refl
-eq_is (Transaction g) (Relation u) = refl
-eq_is (Transaction g) (Tuple q) = refl
-eq_is (Transaction g) (Transaction h) = refl
-
-pub same_key : (k l : Key) → block.ghosts.eq k l ≡ true → k ≡ l
-same_key (On a) (On b) e = ap On (same_object-same a b (sym (eq_is a b) ∙ e))
-same_key (Of g) (Of h) e = grind (arith, nat_tests)
-same_key (On a) (Of h) e = absurd (cc)
-same_key (Of g) (On b) e = absurd (cc)
-
-key_itself : (k : Key) → block.ghosts.eq k k ≡ true
-key_itself (On a) = eq_is a a ∙ same_object-itself a
-key_itself (Of g) = grind (arith, nat_tests)
-
-pub other_key : (k l : Key) → l ≢ k → block.ghosts.eq k l ≡ false
-other_key k l other = by_test (block.ghosts.eq k l) refl
-  where
-    by_test : (b : Bool) → block.ghosts.eq k l ≡ b → b ≡ false
-    by_test true e = absurd (other (sym (same_key k l e)))
-    by_test false e = refl
-
-key_decides : (k l : Key) → (k ≡ l) ⊎ (k ≢ l)
-key_decides k l = by_test (block.ghosts.eq k l) refl
-  where
-    apart : (b : Bool) → b ≡ true → b ≡ false → ⊥
-    apart b is isnt = cc
-
-    by_test : (b : Bool) → block.ghosts.eq k l ≡ b → (k ≡ l) ⊎ (k ≢ l)
-    by_test true e = inl (same_key k l e)
-    by_test false e = inr (λ same. apart (block.ghosts.eq k l) (subst (λ m. block.ghosts.eq k m ≡ true) same (key_itself k)) e)
 
 -- what the write keeps at its key it keeps everywhere
 pub kept : {A : Type 0} (f : Rack → A) (key : Key) (old new : Index) (rack : Rack) → IsWritten key old rack new → f rack ≡ f (shelf_at old key) → (k : Key) → f (shelf_at new k) ≡ f (shelf_at old k)
@@ -119,6 +80,14 @@ module _ {A : Type 0} (f : Rack → A) (old new : Index) (tables : new.tables �
       (λ (other : k ≢ key). ap f (others_else key old new tables owners (λ l apart. updates l ∙ ap (λ b. cond b None (get block.ghosts.eq old.others l)) (other_key key l apart)) k other))
       (key_decides k key)
 
+-- a row's shelf goes
+pub dropped_tidy : (rid : Rid) (old new : Index) → new.owners ≡ old.owners → ((k : Key) → get block.ghosts.eq new.others k ≡ cond (block.ghosts.eq (On (Tuple rid)) k) None (get block.ghosts.eq old.others k)) → IsTidyBut (On (Tuple rid)) old → IsTidy new
+dropped_tidy rid old new owners updates but =
+    let key : Key = On (Tuple rid) in
+    tidy_there key new
+    (but_then key old new (others_left key old new owners (λ l apart. updates l ∙ ap (λ b. cond b None (get block.ghosts.eq old.others l)) (other_key key l apart))) but)
+    (ap is_idle_there (updates key ∙ ap (λ b. cond b None (get block.ghosts.eq old.others key)) (key_itself key)))
+
 -- an empty shelf is put where there was none
 module _ (old new : Index) (tables : new.tables ≡ old.tables) (owners : new.owners ≡ old.owners) where
   made_at : (key : Key) → get block.ghosts.eq new.others key ≡ Some no_shelf → get block.ghosts.eq old.others key ≡ None → shelf_at new key ≡ shelf_at old key
@@ -133,6 +102,10 @@ module _ (old new : Index) (tables : new.tables ≡ old.tables) (owners : new.ow
       (λ (e : k ≡ key). subst (λ l. shelf_at new l ≡ shelf_at old l) (sym e) (made_at key (updates key ∙ ap (λ b. cond b (Some rack) (get block.ghosts.eq old.others key)) (key_itself key) ∙ ap (λ r. Some r) empty) none))
       (λ (other : k ≢ key). others_else key old new tables owners (λ l apart. updates l ∙ ap (λ b. cond b (Some rack) (get block.ghosts.eq old.others l)) (other_key key l apart)) k other)
       (key_decides k key)
+
+pub other_made_left : (key : Key) (rack : Rack) (old new : Index) → new.owners ≡ old.owners → ((k : Key) → get block.ghosts.eq new.others k ≡ cond (block.ghosts.eq key k) (Some rack) (get block.ghosts.eq old.others k)) → IsLeftElse key old new
+other_made_left key rack old new owners updates =
+    others_left key old new owners (λ l apart. updates l ∙ ap (λ b. cond b (Some rack) (get block.ghosts.eq old.others l)) (other_key key l apart))
 
 -- one transaction's record alone is changed, added or dropped
 gxid_decides : (g h : Gxid) → (g ≡ h) ⊎ (g ≢ h)
@@ -203,6 +176,7 @@ module _ (g : Gxid) (old new : Index) (i : ℕ) (d : Owner) (rack : Rack) (at : 
       record {
         there = ap holds_of (there o is items);
         elsewhere = but_holds g old new tables others (apart o is items) (ap end_of (there o is items) ∙ sym (ap end_of (found old.owners.items g i at d)));
+        left = owners_left g old new others (apart o is items);
       }
 
   pub written_end : new.owners.items ≡ slice_set old.owners.items i (record held { end = rack }) → IsWritten (On (Transaction g)) old rack new
@@ -212,6 +186,7 @@ module _ (g : Gxid) (old new : Index) (i : ℕ) (d : Owner) (rack : Rack) (at : 
       record {
         there = ap end_of (there o is items);
         elsewhere = but_end g old new tables others (apart o is items) (ap holds_of (there o is items) ∙ sym (ap holds_of (found old.owners.items g i at d)));
+        left = owners_left g old new others (apart o is items);
       }
 
 -- a record that a transaction takes is empty

@@ -4,7 +4,7 @@ use Rattle.gx_waits.specs.declared.claim.Claim.{Claim}
 use Rattle.gx_locks.specs.declared.key.Key.{Key}
 use Rattle.gx_locks.specs.declared.book.Book.{Book}
 use Rattle.gx_locks.specs.Holds.{is_under, claims_of}
-use Rattle.gx_locks.specs.Index.{holds_at, places_at}
+use Rattle.gx_locks.specs.Index.{IsTidy, holds_at, places_at}
 use Rattle.gx_locks.specs.Kept.{AreExclusive, AreOnce, WaitOnce}
 use Rattle.gx_locks.specs.Room.{bit, awaited}
 
@@ -42,7 +42,7 @@ pub record HasPlace (book : Book) (claim : Claim) : Type 0 where
   pub index : (k : Key) → bit (is_under k claim) ≤ places_at book.index k
 
 -- the book is filed, the claims exclude one another and are held once, the waits are of different transactions, and
--- each wait has a place, and nobody else
+-- each wait has a place, and nobody else; no shelf or record is kept in which nothing is held and nothing may come
 pub record IsWhole (book : Book) (waits : List Claim) : Type 0 where
   pub filed : IsFiled book
   pub exclusive : AreExclusive (claims_in book)
@@ -50,3 +50,4 @@ pub record IsWhole (book : Book) (waits : List Claim) : Type 0 where
   pub once : WaitOnce waits
   pub places : book.ledger.places ≡ length waits
   pub room : (k : Key) → places_at book.index k ≡ awaited k waits
+  pub tidy : IsTidy book.index

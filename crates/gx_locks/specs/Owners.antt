@@ -1,5 +1,5 @@
 -- The records of transactions, and free ones.
-use Rattle.std.specs.Prelude.{Bool, List, Option, Some, None, ◌==◌, ◌&&◌, find, length}
+use Rattle.std.specs.Prelude.{Bool, false, List, Option, Some, None, ◌==◌, ◌&&◌, find, length}
 use Rattle.gx_ids.specs.declared.ids.Gxid.{Gxid}
 use Rattle.gx_locks.specs.declared.owner.Owner.{Owner}
 use Rattle.gx_locks.specs.Rack.{Rack, no_shelf}
@@ -25,3 +25,8 @@ end_of (Some owner) = owner.end
 -- whether nothing is held and nothing may come
 abbrev pub is_idle : Rack → Bool
 is_idle rack = (length rack.holds == 0) && (rack.places == 0)
+
+-- whether the record is kept for nothing
+abbrev pub is_spent : Option Owner → Bool
+is_spent None = false
+is_spent (Some owner) = is_idle owner.holds && is_idle owner.end

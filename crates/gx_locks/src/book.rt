@@ -38,13 +38,14 @@ pub struct Book {
 impl Book {
     ghost use Rattle.gx_locks.specs.declared.key.Key.{Key};
     ghost use Rattle.gx_locks.specs.declared.key.Key.TheVariants.{On, Of};
-    ghost use Rattle.gx_locks.specs.Index.{holds_at, places_at};
+    ghost use Rattle.gx_locks.specs.Index.{IsTidy, holds_at, places_at};
     ghost use Rattle.gx_locks.specs.Book.{IsFiled, claims_in, HasSameHolds, HasSamePlaces, HasPlaceMore, HasPlaceLess, HasPlace};
 
     pub fn new(alloc: Global) -> Book
         ensures empty { result.ledger ≡ record { holds = []; places = 0 } }
         ensures filed { IsFiled result }
         ensures places { (k : Key) → places_at result.index k ≡ 0 }
+        ensures tidy { IsTidy result.index }
     {
         Book {
             ledger: Ledger::new(alloc),
@@ -139,6 +140,7 @@ impl Book {
         ensures holds { HasSameHolds self.old self.new }
         ensures ok { OnOk result (HasPlaceMore self.old self.new claim.now) }
         ensures err { OnErr result (HasSamePlaces self.old self.new) }
+        ensures tidy { IsTidy self.old.index → IsTidy self.new.index }
     {
         self.ledger.reserve()?;
         if let Err(error) = self.index.expect(claim) {
@@ -152,6 +154,7 @@ impl Book {
     pub fn forget(&mut self, claim: &Claim)
         ensures holds { HasSameHolds self.old self.new }
         ensures places { HasPlaceLess self.old self.new claim.now }
+        ensures tidy { IsTidy self.old.index → IsTidy self.new.index }
     {
         self.ledger.cancel();
         self.index.forget(claim);
@@ -164,6 +167,7 @@ impl Book {
         ensures filed { IsFiled self.new }
         ensures claims { claims_in self.new ≡ claims_in self.old ++ claim ∷ [] }
         ensures places { HasPlaceLess self.old self.new claim }
+        ensures tidy { IsTidy self.old.index → IsTidy self.new.index }
     {
         let hold = self.ledger.fill(claim);
         self.index.file(hold);
@@ -176,6 +180,7 @@ impl Book {
         ensures ok { OnOk result (claims_in self.new ≡ claims_in self.old ++ claim ∷ []) }
         ensures err { OnErr result (claims_in self.new ≡ claims_in self.old) }
         ensures places { HasSamePlaces self.old self.new }
+        ensures tidy { IsTidy self.old.index → IsTidy self.new.index }
     {
         let hold = self.ledger.add(claim)?;
         if let Err(error) = self.index.enter(hold) {
@@ -192,6 +197,7 @@ impl Book {
         ensures filed { IsFiled self.new }
         ensures claims { claims_in self.new ≡ filter (λ other. not (same_claim claim.now other)) (claims_in self.old) }
         ensures places { HasSamePlaces self.old self.new }
+        ensures tidy { IsTidy self.old.index → IsTidy self.new.index }
     {
         if let Some(hold) = find_same(self.on(claim.object), claim) {
             self.ledger.strike(&hold);
@@ -209,6 +215,7 @@ impl Book {
         ensures places { self.new.ledger.places ≡ self.old.ledger.places }
         ensures none { places_at self.new.index (Of gxid) ≡ 0 }
         ensures room { (k : Key) → k ≢ Of gxid → places_at self.new.index k ≡ places_at self.old.index k }
+        ensures tidy { IsTidy self.old.index → IsTidy self.new.index }
     {
         let holds = self.index.take_of(gxid);
         for hold in holds.as_slice() {

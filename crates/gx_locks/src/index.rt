@@ -10,7 +10,7 @@ use crate::hold_list::HoldList;
 use crate::key::Key;
 use crate::owner::{Owner, free, free_place, place_of};
 use crate::shelf::Shelf;
-use gx_ids::{Gxid, Mem, Table};
+use gx_ids::{Gxid, Mem, Rid, Table};
 use gx_waits::{Claim, Object};
 use std::alloc::Global;
 use std::collections::HashMap;
@@ -41,16 +41,18 @@ fn make_shelves(shelves: &mut Vec<Shelf>, count: usize) -> Mem<()>
 impl Index {
     ghost use Rattle.gx_locks.specs.declared.key.Key.{Key};
     ghost use Rattle.gx_locks.specs.declared.key.Key.TheVariants.{On, Of};
-    ghost use Rattle.gx_waits.specs.declared.object.Object.TheVariants.{Relation, Transaction};
-    ghost use Rattle.gx_locks.specs.Index.{holds_at, places_at, shelf_at, IsThere};
+    ghost use Rattle.gx_waits.specs.declared.object.Object.TheVariants.{Relation, Transaction, Tuple};
+    ghost use Rattle.gx_locks.specs.Index.{holds_at, keeper, places_at, shelf_at, IsLeftElse, IsThere, IsTidy, IsTidyBut};
     ghost use Rattle.gx_locks.specs.Owners.{end_of, holds_of, owner_in};
     ghost use Rattle.std.specs.HashMap.{get};
     ghost use Rattle.gx_locks.specs.contracts.key.KeyPartialEq.TheImpl as block;
     ghost use Rattle.gx_locks.specs.Shelves.{LendsShelf};
 
+    #[tactic(auto, unfolding(crate::specs::Index::IsTidy))]
     pub fn new(alloc: Global) -> Index
         ensures holds { (k : Key) → holds_at result k ≡ [] }
         ensures places { (k : Key) → places_at result k ≡ 0 }
+        ensures tidy { IsTidy result }
     {
         Index {
             alloc,
@@ -162,6 +164,21 @@ impl Index {
         ensures there { OnOk result (places_at self.new key ≡ places_at self.old key + 1) }
         ensures elsewhere { (k : Key) → k ≢ key → places_at self.new k ≡ places_at self.old k }
         ensures err { OnErr result (places_at self.new key ≡ places_at self.old key) }
+        ensures tidy { IsTidy self.old → IsTidy self.new }
+    {
+        if let Err(error) = self.reserve_there(key) {
+            self.tidy(key);
+            return Err(error);
+        }
+        Ok(())
+    }
+
+    fn reserve_there(&mut self, key: Key) -> Mem<()>
+        ensures holds { (k : Key) → holds_at self.new k ≡ holds_at self.old k }
+        ensures there { OnOk result (places_at self.new key ≡ places_at self.old key + 1) }
+        ensures elsewhere { (k : Key) → k ≢ key → places_at self.new k ≡ places_at self.old k }
+        ensures err { OnErr result (places_at self.new key ≡ places_at self.old key) }
+        ensures left { IsLeftElse key self.old self.new }
     {
         let alloc = self.alloc;
         self.make(key)?;
@@ -176,6 +193,7 @@ impl Index {
         ensures holds { (k : Key) → holds_at self.new k ≡ holds_at self.old k }
         ensures there { places_at self.new key ≡ places_at self.old key - 1 }
         ensures elsewhere { (k : Key) → k ≢ key → places_at self.new k ≡ places_at self.old k }
+        ensures tidy { IsTidy self.old → IsTidy self.new }
     {
         self.cancel_there(key);
         self.tidy(key);
@@ -185,6 +203,7 @@ impl Index {
         ensures holds { (k : Key) → holds_at self.new k ≡ holds_at self.old k }
         ensures there { places_at self.new key ≡ places_at self.old key - 1 }
         ensures elsewhere { (k : Key) → k ≢ key → places_at self.new k ≡ places_at self.old k }
+        ensures left { IsLeftElse key self.old self.new }
     {
         if let Some(shelf) = self.shelf_mut(key) {
             shelf.cancel();
@@ -198,6 +217,7 @@ impl Index {
         ensures places_there { places_at self.new key + 1 ≡ places_at self.old key }
         ensures elsewhere { (k : Key) → k ≢ key → holds_at self.new k ≡ holds_at self.old k }
         ensures places_elsewhere { (k : Key) → k ≢ key → places_at self.new k ≡ places_at self.old k }
+        ensures tidy { IsTidy self.old → IsTidy self.new }
     {
         match self.shelf_mut(key) {
             Some(shelf) => shelf.fill(hold),
@@ -212,6 +232,22 @@ impl Index {
         ensures err { OnErr result (holds_at self.new key ≡ holds_at self.old key) }
         ensures places_there { places_at self.new key ≡ places_at self.old key }
         ensures places_elsewhere { (k : Key) → k ≢ key → places_at self.new k ≡ places_at self.old k }
+        ensures tidy { IsTidy self.old → IsTidy self.new }
+    {
+        if let Err(error) = self.add_there(key, hold) {
+            self.tidy(key);
+            return Err(error);
+        }
+        Ok(())
+    }
+
+    fn add_there(&mut self, key: Key, hold: Hold) -> Mem<()>
+        ensures there { OnOk result (holds_at self.new key ≡ holds_at self.old key ++ hold ∷ []) }
+        ensures elsewhere { (k : Key) → k ≢ key → holds_at self.new k ≡ holds_at self.old k }
+        ensures err { OnErr result (holds_at self.new key ≡ holds_at self.old key) }
+        ensures places_there { places_at self.new key ≡ places_at self.old key }
+        ensures places_elsewhere { (k : Key) → k ≢ key → places_at self.new k ≡ places_at self.old k }
+        ensures left { IsLeftElse key self.old self.new }
     {
         let alloc = self.alloc;
         self.make(key)?;
@@ -225,6 +261,7 @@ impl Index {
     fn make(&mut self, key: Key) -> Mem<()>
         ensures same { (k : Key) → shelf_at self.new k ≡ shelf_at self.old k }
         ensures there { OnOk result (IsThere self.new key) }
+        ensures left { IsLeftElse key self.old self.new }
     {
         match key {
             Key::On(Object::Relation(table)) => self.make_table(table),
@@ -237,6 +274,7 @@ impl Index {
     fn make_table(&mut self, table: Table) -> Mem<()>
         ensures same { (k : Key) → shelf_at self.new k ≡ shelf_at self.old k }
         ensures there { OnOk result (IsThere self.new (On (Relation table))) }
+        ensures left { IsLeftElse (On (Relation table)) self.old self.new }
     {
         make_shelves(&mut self.tables, usize::from(table.0) + 1)
     }
@@ -244,6 +282,7 @@ impl Index {
     fn make_other(&mut self, key: Key) -> Mem<()>
         ensures same { (k : Key) → shelf_at self.new k ≡ shelf_at self.old k }
         ensures there { OnOk result (is_some (get block.ghosts.eq self.new.others key) ≡ true) }
+        ensures left { IsLeftElse key self.old self.new }
     {
         if !self.others.contains_key(&key) {
             drop(self.others.insert(key, Shelf::new())?);
@@ -254,6 +293,7 @@ impl Index {
     fn make_owner(&mut self, gxid: Gxid) -> Mem<()>
         ensures same { (k : Key) → shelf_at self.new k ≡ shelf_at self.old k }
         ensures there { OnOk result (is_some (owner_in self.new.owners.items gxid) ≡ true) }
+        ensures left { IsLeftElse (Of gxid) self.old self.new }
     {
         match place_of(self.owners.as_slice(), gxid) {
             Some(_) => Ok(()),
@@ -266,6 +306,7 @@ impl Index {
         requires { owner_in self.old.owners.items gxid ≡ None }
         ensures same { (k : Key) → shelf_at self.new k ≡ shelf_at self.old k }
         ensures there { OnOk result (is_some (owner_in self.new.owners.items gxid) ≡ true) }
+        ensures left { IsLeftElse (Of gxid) self.old self.new }
     {
         match free_place(self.owners.as_slice()) {
             Some(place) => self.owners[place] = Owner::new(gxid),
@@ -279,6 +320,7 @@ impl Index {
         ensures there { holds_at self.new key ≡ filter (λ other. not (same_hold hold.now other)) (holds_at self.old key) }
         ensures elsewhere { (k : Key) → k ≢ key → holds_at self.new k ≡ holds_at self.old k }
         ensures places { (k : Key) → places_at self.new k ≡ places_at self.old k }
+        ensures tidy { IsTidy self.old → IsTidy self.new }
     {
         self.strike_there(key, hold);
         self.tidy(key);
@@ -288,6 +330,7 @@ impl Index {
         ensures there { holds_at self.new key ≡ filter (λ other. not (same_hold hold.now other)) (holds_at self.old key) }
         ensures elsewhere { (k : Key) → k ≢ key → holds_at self.new k ≡ holds_at self.old k }
         ensures places { (k : Key) → places_at self.new k ≡ places_at self.old k }
+        ensures left { IsLeftElse key self.old self.new }
     {
         if let Some(shelf) = self.shelf_mut(key) {
             shelf.strike(hold);
@@ -295,13 +338,15 @@ impl Index {
     }
 
     // Drops what nobody needs, but a table's shelf, to which the next command on it comes.
+    #[tactic(auto, using(crate::proofs::Tidy::tidy_table))]
     fn tidy(&mut self, key: Key)
         ensures holds { (k : Key) → holds_at self.new k ≡ holds_at self.old k }
         ensures places { (k : Key) → places_at self.new k ≡ places_at self.old k }
+        ensures tidy { IsTidyBut (keeper key) self.old → IsTidy self.new }
     {
         match key {
             Key::On(Object::Relation(_)) => {}
-            Key::On(Object::Tuple(_)) => self.drop_idle(key),
+            Key::On(Object::Tuple(rid)) => self.drop_idle(rid),
             Key::On(Object::Transaction(gxid)) => self.free_idle(gxid),
             Key::Of(gxid) => self.free_idle(gxid),
         }
@@ -309,7 +354,8 @@ impl Index {
 
     // Frees a transaction's record that nobody needs.
     fn free_idle(&mut self, gxid: Gxid)
-        ensures { (k : Key) → shelf_at self.new k ≡ shelf_at self.old k }
+        ensures same { (k : Key) → shelf_at self.new k ≡ shelf_at self.old k }
+        ensures tidy { IsTidyBut (Of gxid) self.old → IsTidy self.new }
     {
         if let Some(place) = place_of(self.owners.as_slice(), gxid) {
             if self.owners[place].is_idle() {
@@ -318,10 +364,13 @@ impl Index {
         }
     }
 
-    fn drop_idle(&mut self, key: Key)
+    // Drops a row's shelf that nobody needs.
+    fn drop_idle(&mut self, rid: Rid)
         ensures holds { (k : Key) → holds_at self.new k ≡ holds_at self.old k }
         ensures places { (k : Key) → places_at self.new k ≡ places_at self.old k }
+        ensures tidy { IsTidyBut (On (Tuple rid)) self.old → IsTidy self.new }
     {
+        let key = Key::On(Object::Tuple(rid));
         if self.is_idle(key) {
             drop(self.others.remove(&key));
         }
@@ -343,6 +392,7 @@ impl Index {
         ensures elsewhere { (k : Key) → k ≢ Of gxid → holds_at self.new k ≡ holds_at self.old k }
         ensures places_there { places_at self.new (Of gxid) ≡ 0 }
         ensures places_elsewhere { (k : Key) → k ≢ Of gxid → places_at self.new k ≡ places_at self.old k }
+        ensures tidy { IsTidy self.old → IsTidy self.new }
     {
         let holds = self.take_there(Key::Of(gxid));
         self.free_idle(gxid);
@@ -353,6 +403,7 @@ impl Index {
         ensures taken { held result ≡ holds_at self.old key }
         ensures there { shelf_at self.new key ≡ no_shelf }
         ensures elsewhere { (k : Key) → k ≢ key → shelf_at self.new k ≡ shelf_at self.old k }
+        ensures left { IsLeftElse key self.old self.new }
     {
         match self.shelf_mut(key) {
             Some(shelf) => shelf.take(),
@@ -365,6 +416,7 @@ impl Index {
         ensures holds { (k : Key) → holds_at self.new k ≡ holds_at self.old k }
         ensures ok { OnOk result ((k : Key) → places_at self.new k ≡ places_at self.old k + bit (is_under k claim.now)) }
         ensures err { OnErr result ((k : Key) → places_at self.new k ≡ places_at self.old k) }
+        ensures tidy { IsTidy self.old → IsTidy self.new }
     {
         self.reserve(Key::On(claim.object))?;
         if let Err(error) = self.reserve(Key::Of(claim.gxid)) {
@@ -378,6 +430,7 @@ impl Index {
     pub fn forget(&mut self, claim: &Claim)
         ensures holds { (k : Key) → holds_at self.new k ≡ holds_at self.old k }
         ensures places { (k : Key) → places_at self.new k ≡ places_at self.old k - bit (is_under k claim.now) }
+        ensures tidy { IsTidy self.old → IsTidy self.new }
     {
         self.cancel(Key::On(claim.object));
         self.cancel(Key::Of(claim.gxid));
@@ -389,6 +442,7 @@ impl Index {
         ensures there { (k : Key) → is_under k hold.claim ≡ true → holds_at self.new k ≡ holds_at self.old k ++ hold ∷ [] }
         ensures elsewhere { (k : Key) → is_under k hold.claim ≡ false → holds_at self.new k ≡ holds_at self.old k }
         ensures places { (k : Key) → places_at self.new k ≡ places_at self.old k - bit (is_under k hold.claim) }
+        ensures tidy { IsTidy self.old → IsTidy self.new }
     {
         self.fill(Key::On(hold.claim.object), hold);
         self.fill(Key::Of(hold.claim.gxid), hold);
@@ -401,6 +455,7 @@ impl Index {
         ensures elsewhere { OnOk result ((k : Key) → is_under k hold.claim ≡ false → holds_at self.new k ≡ holds_at self.old k) }
         ensures err { OnErr result ((k : Key) → holds_at self.new k ≡ holds_at self.old k) }
         ensures places { (k : Key) → places_at self.new k ≡ places_at self.old k }
+        ensures tidy { IsTidy self.old → IsTidy self.new }
     {
         self.add(Key::On(hold.claim.object), hold)?;
         if let Err(error) = self.add(Key::Of(hold.claim.gxid), hold) {
@@ -415,6 +470,7 @@ impl Index {
         ensures there { (k : Key) → is_under k hold.now.claim ≡ true → holds_at self.new k ≡ filter (λ other. not (same_hold hold.now other)) (holds_at self.old k) }
         ensures elsewhere { (k : Key) → is_under k hold.now.claim ≡ false → holds_at self.new k ≡ holds_at self.old k }
         ensures places { (k : Key) → places_at self.new k ≡ places_at self.old k }
+        ensures tidy { IsTidy self.old → IsTidy self.new }
     {
         self.strike(Key::On(hold.claim.object), hold);
         self.strike(Key::Of(hold.claim.gxid), hold);

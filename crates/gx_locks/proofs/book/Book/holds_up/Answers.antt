@@ -1,4 +1,4 @@
-use Rattle.std.proofs.Common.{◌∙◌, ap, sym, not, ◌&&◌, Bool, false, true}
+use Rattle.std.proofs.Common.{◌∙◌, ap, sym, not, ◌&&◌}
 use Rattle.gx_locks.specs.declared.key.Key.TheVariants.{On}
 use Rattle.gx_waits.specs.Claim.{is_ahead}
 use Rattle.gx_locks.specs.Book.{claims_in}

@@ -1,23 +1,13 @@
-use Rattle.std.proofs.Common.{◌∙◌, ◌++◌, ◌∷◌, [], ap}
-use Rattle.gx_locks.proofs.Written.{err_then, ok_then, some_then}
+use Rattle.gx_locks.proofs.Tidy.{tidy_but, tidy_used, used_by_hold}
+use Rattle.gx_locks.specs.Index.{holds_at, shelf_at}
 use Rattle.gx_locks.proofs.index.Index.add.Goals as goal
 
-pub returns-clause-there : goal.returns-clause-there
-returns-clause-there c =
-    ok_then c.add.result (λ added. ap (λ rack. rack.holds) (some_then c.shelf_mut.result c.in-Some.shelf c.in-Some.is (c.shelf_mut.follows.holds c.add.new.self)).there ∙ added ∙ ap (λ rack. rack.holds ++ c.args.hold ∷ []) (c.in-Some.ensures.found ∙ c.in_ok-make.ensures.same c.args.key)) c.add.ensures.ok
+pub returns-in-Err-clause-tidy : goal.returns-in-Err-clause-tidy
+returns-in-Err-clause-tidy c = λ was. c.tidy.ensures.tidy (tidy_but c.args.key c.args.self.now c.add_there.new.self c.add_there.ensures.left was)
 
-pub returns-clause-err : goal.returns-clause-err
-returns-clause-err c =
-    err_then c.add.result (λ same. ap (λ rack. rack.holds) (some_then c.shelf_mut.result c.in-Some.shelf c.in-Some.is (c.shelf_mut.follows.holds c.add.new.self)).there ∙ same ∙ ap (λ rack. rack.holds) (c.in-Some.ensures.found ∙ c.in_ok-make.ensures.same c.args.key)) c.add.ensures.err
-
-pub returns-clause-places_there : goal.returns-clause-places_there
-returns-clause-places_there c =
-    ap (λ rack. rack.places) (some_then c.shelf_mut.result c.in-Some.shelf c.in-Some.is (c.shelf_mut.follows.holds c.add.new.self)).there ∙ c.add.ensures.places ∙ ap (λ rack. rack.places) (c.in-Some.ensures.found ∙ c.in_ok-make.ensures.same c.args.key)
-
-pub returns-clause-elsewhere : goal.returns-clause-elsewhere
-returns-clause-elsewhere c = λ k other.
-    ap (λ rack. rack.holds) ((some_then c.shelf_mut.result c.in-Some.shelf c.in-Some.is (c.shelf_mut.follows.holds c.add.new.self)).elsewhere k other ∙ c.in_ok-make.ensures.same k)
-
-pub returns-clause-places_elsewhere : goal.returns-clause-places_elsewhere
-returns-clause-places_elsewhere c = λ k other.
-    ap (λ rack. rack.places) ((some_then c.shelf_mut.result c.in-Some.shelf c.in-Some.is (c.shelf_mut.follows.holds c.add.new.self)).elsewhere k other ∙ c.in_ok-make.ensures.same k)
+pub returns-clause-tidy : goal.returns-clause-tidy
+returns-clause-tidy c = λ was.
+    let key = c.args.key in
+    let old = c.args.self.now in
+    let new = c.add_there.new.self in
+    tidy_used key new (tidy_but key old new c.add_there.ensures.left was) (used_by_hold (shelf_at new key) (holds_at old key) c.args.hold c.in_default.ensures.there)

@@ -14,3 +14,6 @@ returns-in-Some-clause-elsewhere c = λ k other.
 pub returns-in-Some-clause-places : goal.returns-in-Some-clause-places
 returns-in-Some-clause-places c =
     kept (λ rack. rack.places) c.args.key c.args.self.now (c.shelf_mut.follows.lender c.strike.new.self) c.strike.new.self (some_then c.shelf_mut.result c.in-Some.shelf c.in-Some.is (c.shelf_mut.follows.holds c.strike.new.self)) (c.strike.ensures.places ∙ ap (λ rack. rack.places) c.in-Some.ensures.found)
+
+pub returns-in-Some-clause-left : goal.returns-in-Some-clause-left
+returns-in-Some-clause-left c = (some_then c.shelf_mut.result c.in-Some.shelf c.in-Some.is (c.shelf_mut.follows.holds c.strike.new.self)).left

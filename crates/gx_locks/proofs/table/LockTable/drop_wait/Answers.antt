@@ -10,7 +10,7 @@ use Rattle.gx_locks.proofs.table.LockTable.drop_wait.Goals as goal
 pub invariant_of-self : goal.invariant_of-self
 invariant_of-self c =
     let found : find (is_of c.args.gxid) c.self.inside.waits.items ≡ Some c.in-Some.wait = sym (c.in-Some.ensures ∙ ap (find (is_of c.args.gxid)) c.as_slice.ensures.value) in
-    IsWhole-dropped c.self.inside.book c.forget.new.self c.self.inside.waits.items c.take_out.new.claims.items c.args.gxid c.in-Some.wait c.self.invariant c.take_out.ensures found c.forget.ensures.places c.forget.ensures.holds
+    IsWhole-dropped c.self.inside.book c.forget.new.self c.self.inside.waits.items c.take_out.new.claims.items c.args.gxid c.in-Some.wait c.self.invariant c.take_out.ensures found c.forget.ensures.places c.forget.ensures.tidy c.forget.ensures.holds
 
 pub returns-in_default : goal.returns-in_default
 returns-in_default c =

@@ -1,4 +1,4 @@
-use Rattle.std.proofs.Common.{◌≡◌, ◌∙◌, ◌++◌, ◌∷◌, [], List, Bool, true, false, refl, sym, ap, subst, cond}
+use Rattle.std.proofs.Common.{◌≡◌, ◌∙◌, ◌++◌, ◌∷◌, [], List, Bool, true, false, sym, ap, subst, cond}
 use Rattle.std.specs.List.{list_any}
 use Rattle.gx_waits.specs.declared.claim.Claim.{Claim}
 use Rattle.gx_waits.specs.Claim.{ahead, same_claim}
@@ -37,7 +37,7 @@ pub invariant_of-self-2 : goal.invariant_of-self-2
 invariant_of-self-2 c =
     let claim : Claim = record { gxid = c.args.gxid; object = c.args.object; mode = c.args.mode } in
     let e = c.in_ok-add.ensures in
-    IsWhole-added c.self.inside.book c.add.new.self c.self.inside.waits.items claim c.self.invariant (sym c.standing-standing.ensures.free ∙ not_false c.standing-standing.result.is_free c.if-not-standing.false) (sym c.standing-standing.ensures.held ∙ c.if-standing.false) e.filed e.ok e.places
+    IsWhole-added c.self.inside.book c.add.new.self c.self.inside.waits.items claim c.self.invariant (sym c.standing-standing.ensures.free ∙ not_false c.standing-standing.result.is_free c.if-not-standing.false) (sym c.standing-standing.ensures.held ∙ c.if-standing.false) e.filed e.ok e.places e.tidy
 
 pub returns-clause-ok : goal.returns-clause-ok
 returns-clause-ok c =

@@ -1,0 +1,5 @@
+use Rattle.gx_locks.proofs.Tidy.{tidy_but}
+use Rattle.gx_locks.proofs.index.Index.cancel.Goals as goal
+
+pub returns-clause-tidy : goal.returns-clause-tidy
+returns-clause-tidy c = λ was. c.tidy.ensures.tidy (tidy_but c.args.key c.args.self.now c.cancel_there.new.self c.cancel_there.ensures.left was)
