@@ -29,3 +29,4 @@ pub mod Placing
 pub mod LetStarts
 pub mod TakenSlots
 pub mod Unanswered
+pub mod Telling

@@ -13,3 +13,4 @@ pub mod Awaited
 pub mod Following
 pub mod Quiet
 pub mod Slotted
+pub mod OwnSlots

@@ -209,7 +209,7 @@ fn their_mark(
     }
 }
 
-fn answered_session(mark: &Mark) -> Option<SessionId>
+pub(crate) fn answered_session(mark: &Mark) -> Option<SessionId>
     ensures { result ≡ session_answered mark.now }
 {
     match mark {
