@@ -11,3 +11,4 @@ pub mod Laws
 pub mod Shown
 pub mod MergeRuns
 pub mod OneMerge
+pub mod Slotting

@@ -4,3 +4,4 @@
 
 pub mod apart;
 pub mod merged;
+pub mod slots;
