@@ -1,5 +1,5 @@
 -- What holds where a call answers Ok.
-use Rattle.std.specs.Prelude.{IfOk, OnOk}
+use Rattle.std.specs.Prelude.{IfOk, OnErr, OnOk}
 use Rattle.std.specs.declared.result.Result.{Result}
 use Rattle.std.proofs.Common.{Ok, Err}
 
@@ -26,3 +26,7 @@ three_ok (Err e) P Q S T p q s f = tt
 pub two_ok : {A E : Type 0} (r : Result A E) (P Q T : A → Type 0) → IfOk r P → IfOk r Q → ((a : A) → P a → Q a → T a) → IfOk r T
 two_ok (Ok a) P Q T p q f = f a p q
 two_ok (Err e) P Q T p q f = tt
+
+pub on_err : {A E : Type 0} (r : Result A E) (P Q : Type 0) → OnErr r P → (P → Q) → OnErr r Q
+on_err (Ok a) P Q h f = tt
+on_err (Err e) P Q h f = f h

@@ -2,11 +2,13 @@
 use Rattle.std.proofs.Common.{◌≡◌, ◌≤◌, ◌<◌, ℕ, zero, suc, ◌+◌, ◌∙◌, List, [], ◌∷◌, ◌++◌, Some, Bool, true, cond, ◌^◌, All, refl, sym, subst, ap, arith, append-nil, length}
 use Rattle.std.specs.Prelude.{nat_lt, slice_get}
 use Rattle.std.specs.List.{list_all}
-use Rattle.std.proofs.lemmas.List.{length-map}
+use Rattle.std.proofs.lemmas.List.{append_assoc, length-map}
 use Rattle.gx_lemmas.proofs.Numbers.{lt-of}
 use Rattle.gx_lemmas.proofs.Tests.{and-first, and-second}
 use Rattle.std.specs.declared.alloc.Global.{Global}
 use Rattle.std.specs.declared.vec.Vec.{Vec}
+use Rattle.gx_agenda.specs.OwnSlots.{AreOwnSlots}
+use Rattle.gx_agenda.specs.declared.own_slots.OwnSlots.{OwnSlots}
 use Rattle.gx_ids.specs.declared.ids.Gxid.{Gxid}
 use Rattle.gx_ids.specs.declared.ids.Node.{Node}
 use Rattle.gx_coord.proofs.Counts.{read-all}
@@ -22,6 +24,8 @@ use Rattle.gx_store.specs.declared.mark.Mark.{Mark}
 use Rattle.gx_store.specs.declared.node.NodeEvent.{NodeEvent}
 use Rattle.gx_store.specs.declared.node.NodeEvent.TheVariants as node
 use Rattle.gx_store.specs.declared.run.Step.{Step}
+use Rattle.gx_store.specs.Groups.{AreLetBehind, lets}
+use Rattle.gx_store.specs.Language.{IsScript}
 use Rattle.gx_store.specs.Refusals.{the_coordinator}
 use Rattle.gx_rules.specs.AtCoordinator.{and_cancels, cancels, coord_can, coord_rule, coord_turn}
 use Rattle.gx_rules.specs.Coordinators.{Coord, CoordTurn, new_coordinator}
@@ -68,6 +72,11 @@ next-early script c x fails early =
   where
     still : (a b k l m : ℕ) → a ≤ b + 1 → b ≤ k + 1 → k < l → m ≡ l → a ≤ m + 1
     still a b k l m f g h e = omega (arith, f, g, h, e)
+
+-- WHAT THE GROUPS LET
+starts-next : (script : Script) (before steps : List Step) (step : Step) → AreLetBehind script before steps → lets script (before ++ steps) step.event ≡ true → AreLetBehind script before (steps ++ step ∷ [])
+starts-next script before [] step starts is = (subst (λ ss. lets script ss step.event ≡ true) (append-nil before) is, tt)
+starts-next script before (s ∷ ss) step starts is = (starts.0, starts-next script (before ++ s ∷ []) ss step starts.1 (subst (λ xs. lets script xs step.event ≡ true) (sym (append_assoc before (s ∷ []) ss)) is))
 
 -- ONE STEP MORE
 module _ (history : CoordHistory) (inboxes : List Inbox) (old new : CoordNode) (here : NodeEvent) (before after : Shelf) (marks : List Mark) (event : Event) (apart : IsCoordApart history inboxes old before) where
@@ -118,14 +127,14 @@ module _ (history : CoordHistory) (inboxes : List Inbox) (old new : CoordNode) (
     leads : coordinator_by script (history.steps ++ step ∷ []) inboxes ≡ (coord_rule script c here h.fails).coord
     leads = holds-next (coordinators_rule script) the_coordinator post new_coordinator history.steps step ∙ ap (λ o. holds_by (coordinators_rule script) c o (has_failed marks)) is ∙ ap (λ (t : CoordTurn). t.coord) same-turn
 
-    module _ (outs : Vec OutEnd Global) (all : AreSentOn new.clock marks history.outs.items outs.items) (same : links_of outs.items ≡ links_of history.outs.items) where
+    module _ (outs : Vec OutEnd Global) (slots : OwnSlots) (let-there : lets script history.steps event ≡ true) (told-slots : AreOwnSlots script (history.steps ++ step ∷ []) slots) (all : AreSentOn new.clock marks history.outs.items outs.items) (same : links_of outs.items ≡ links_of history.outs.items) where
       sent-now : (k : ℕ) (out : OutEnd) → slice_get outs.items k ≡ Some out → out.sent ≡ sent_to (record { 0 = k + 1 }) (history.steps ++ step ∷ [])
       sent-now k out at =
           let was = all k out at in
           let to : Node = record { 0 = k + 1 } in
           was.2 ∙ ap (λ es. es ++ sent_in_step to new.clock marks) (apart.sent k was.0 was.1) ∙ ap (λ es. sent_to to history.steps ++ es) (sym (append-nil (sent_in_step to new.clock marks))) ∙ sym (sent-append to history.steps (step ∷ []))
 
-      gone-on : IsCoordApart (record history { steps = history.steps ++ step ∷ []; outs = outs }) inboxes new after
+      gone-on : IsCoordApart (record history { steps = history.steps ++ step ∷ []; outs = outs; slots = slots }) inboxes new after
       gone-on =
           record {
             of = ap (λ a. a.value) h.script ∙ apart.of;
@@ -137,11 +146,15 @@ module _ (history : CoordHistory) (inboxes : List Inbox) (old new : CoordNode) (
             ins = apart.ins;
             sent = sent-now;
             again = apart.again;
+            starts = starts-next script [] history.steps step apart.starts let-there;
+            slots = told-slots;
           }
 
-    pub coord-next : (history' : CoordHistory) → HasCoordGoneOn history history' → AreSentOn new.clock marks history.outs.items history'.outs.items → history'.steps ≡ history.steps ++ step ∷ [] → IsCoordApart history' inboxes new after
-    coord-next history' gone all steps =
-        subst (λ x. IsCoordApart x inboxes new after) (sym (gone.0 ∙ ap (λ ss. record history { steps = ss; outs = history'.outs }) steps)) (gone-on history'.outs all gone.1)
+    pub coord-next : (history' : CoordHistory) → HasCoordGoneOn history history' → AreSentOn new.clock marks history.outs.items history'.outs.items → history'.steps ≡ history.steps ++ step ∷ [] → lets script history.steps event ≡ true
+        → (AreOwnSlots script history.steps history.slots → AreOwnSlots script history'.steps history'.slots) → IsCoordApart history' inboxes new after
+    coord-next history' gone all steps lets-it slots =
+        subst (λ x. IsCoordApart x inboxes new after) (sym (gone.0 ∙ ap (λ ss. record history { steps = ss; outs = history'.outs; slots = history'.slots }) steps))
+        (gone-on history'.outs history'.slots lets-it (subst (λ ss. AreOwnSlots script ss history'.slots) steps (slots apart.slots)) all gone.1)
 
 -- NUMBERS THAT ARE LEFT
 all-low : (xs : List ℕ) → list_all (λ n. nat_lt n (2 ^ 62)) xs ≡ true → All (λ n. n < 2 ^ 62) xs
@@ -207,3 +220,7 @@ own-heard (node.Start s) own = omega arith
 own-heard (node.End s) own = omega arith
 own-heard (node.Resend i g) own = omega arith
 own-heard node.Round own = omega arith
+
+-- the coordinator's script is one of the language
+pub apart-language : (history : CoordHistory) (inboxes : List Inbox) (coord : CoordNode) (shelf : Shelf) → IsCoordApart history inboxes coord shelf → IsScript history.script.value
+apart-language history inboxes coord shelf apart = subst IsScript apart.of apart.holds.language

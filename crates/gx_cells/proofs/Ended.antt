@@ -7,15 +7,15 @@ use Rattle.gx_outside.specs.Shelves.{Shelf}
 use Rattle.gx_store.specs.Points.{marks_in}
 use Rattle.gx_store.specs.Refusals.{the_coordinator}
 use Rattle.gx_law_runs.specs.Failures.{failures_in}
-use Rattle.gx_law_merge.specs.Merge.{DoFit, coordinator_in}
+use Rattle.gx_law_merge.specs.Merge.{DoFit}
 use Rattle.gx_merge.specs.declared.merging.NodeHistory.{NodeHistory}
-use Rattle.gx_cells.specs.Closed.{AreBegun, AreClosed, AreFailuresCounted, DoHoldItems, IsCoordKept, IsSegmentKept, histories_of, inbox_of, out_of}
+use Rattle.gx_cells.specs.Closed.{AreBegun, AreClosed, AreFailuresCounted, AreHeldThere, AreUnspent, DoHoldItems, IsCoordKept, IsSegmentKept, histories_of, inbox_of, out_of}
 use Rattle.gx_cells.specs.CoordActs.{links_of}
 use Rattle.gx_cells.specs.CoordReceipts.{links_in}
-use Rattle.gx_cells.specs.CoordViews.{CoordView, coord_data}
+use Rattle.gx_cells.specs.CoordViews.{CoordView}
 use Rattle.gx_cells.specs.Views.{SegmentView}
 use Rattle.gx_cells.specs.declared.inbox.Inbox.{Inbox}
-use Rattle.gx_cells.proofs.Fitting.{fits, hold-items, holds-here}
+use Rattle.gx_cells.proofs.Fitting.{fits, hold-items, holds-here, holds-there}
 use Rattle.gx_cells.proofs.LinkPairs.{AreTaken}
 
 module _ (coord : CoordView) (segments given : List SegmentView) (histories : List NodeHistory) (shelves : List Shelf) (outs : List OutEnd) (inboxes : List Inbox) (closed : AreClosed coord segments) (taken : AreTaken coord given histories shelves outs inboxes) (whole : segments ≡ given) where
@@ -50,8 +50,16 @@ module _ (coord : CoordView) (segments given : List SegmentView) (histories : Li
     pub ended-items : DoHoldItems coord.script (histories_of coord segments) shelves
     ended-items = hold-items coord segments closed kept all-kept forth-there back-there shelves ended-shelves
 
-    pub ended-holds : coordinator_in coord.script (histories_of coord segments) ≡ coord_data coord
-    ended-holds = holds-here coord segments closed kept all-kept back-there
+    pub ended-holds : AreHeldThere coord segments
+    ended-holds =
+        record {
+          coordinator = holds-here coord segments closed kept all-kept back-there;
+          count = closed.count;
+          each = holds-there coord segments closed kept all-kept forth-there;
+        }
+
+  pub ended-unspent : IsCoordKept coord → AreUnspent coord segments
+  ended-unspent kept = (kept.unspent, λ k s at. (all-kept k s at).unspent)
 
   pub ended-counted : IsCoordKept coord → AreFailuresCounted coord segments
   ended-counted kept = (

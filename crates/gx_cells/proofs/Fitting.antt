@@ -19,13 +19,13 @@ use Rattle.gx_rules.specs.Coordinators.{new_coordinator}
 use Rattle.gx_rules.specs.Segments.{new_segment}
 use Rattle.gx_law_merge.proofs.Longer.{same-by}
 use Rattle.gx_law_merge.proofs.Places.{place-kept}
-use Rattle.gx_law_merge.specs.Apart.{DoesFollow, HasMore, IsSameBy, at_place, coordinators_rule, segments_rule, sent_to, takes_in}
-use Rattle.gx_law_merge.specs.Merge.{DoFit, coordinator_in, history_of, posted_in, segments_items}
+use Rattle.gx_law_merge.specs.Apart.{DoesFollow, HasMore, IsSameBy, at_place, coordinators_rule, holds_after, segments_rule, sent_to, takes_in}
+use Rattle.gx_law_merge.specs.Merge.{DoFit, coordinator_in, history_of, posted_in, segment_in, segments_items}
 use Rattle.gx_cells.specs.Closed.{AreBegun, AreClosed, DoHoldItems, IsBegun, IsCoordKept, IsSegmentKept, histories_of, inbox_of, items_at, out_of}
 use Rattle.gx_cells.specs.CoordKept.{from_segment, heard_in, post_at_coordinator}
 use Rattle.gx_cells.specs.CoordViews.{CoordView, coord_data}
 use Rattle.gx_cells.specs.Kept.{post_at_segment}
-use Rattle.gx_cells.specs.Views.{SegmentView}
+use Rattle.gx_cells.specs.Views.{SegmentView, data_of}
 use Rattle.gx_cells.specs.declared.inbox.Inbox.{Inbox}
 use Rattle.gx_cells.proofs.Inboxes.{add-one}
 
@@ -123,6 +123,13 @@ module _ (coord : CoordView) (segments : List SegmentView) (closed : AreClosed c
     follows-there =
         subst (λ ss. DoesFollow (segments_rule coord.script) s.node (posted_in histories) (new_segment s.node) ss) (sym (history-at k s at))
         (subst (λ (x : Script). DoesFollow (segments_rule x) s.node (posted_in histories) (new_segment s.node) s.steps) (closed.each k s at).0 same-there.follows)
+
+    pub holds-there : segment_in coord.script histories (record { 0 = k + 1 }) ≡ data_of s
+    holds-there =
+        same-so coord.script s.script (record { 0 = k + 1 }) s.node (get_or histories (k + 1) []) s.steps (sym (closed.each k s at).0) (sym the-node) (ap (λ i. get_or histories i []) (add-one k) ∙ history-at k s at) ∙ same-there.holds
+      where
+        same-so : (x y : Script) (n m : Node) (ss ts : List Step) → x ≡ y → n ≡ m → ss ≡ ts → holds_after (segments_rule x) (posted_in histories) (new_segment n) ss ≡ holds_after (segments_rule y) (posted_in histories) (new_segment m) ts
+        same-so x y n m ss ts a b c = cc
 
     items-there : s.shelf.items ≡ map bytes_of_item (items_at coord.script histories (suc k))
     items-there =

@@ -13,3 +13,6 @@ pub mod LinkPairs
 pub mod Staying
 pub mod Fitting
 pub mod Ended
+pub mod Last
+pub mod Tables
+pub mod Failures

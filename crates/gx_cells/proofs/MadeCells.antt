@@ -88,5 +88,5 @@ module _ (script : Script) (shelves : List Shelf) (outs : List OutEnd) (inboxes 
         back = m.back ∙ ap links_in (sym is);
       }
 
-  pub made-new : coord.spent ≡ false → coord.steps ≡ [] → coord.first ≡ coord.shelf.faults → AreNew script coord segments
-  made-new unspent steps first = record { of = of; unspent = unspent; steps = steps; first = first; inboxes = subst AreBlank (sym is) m.received; each = m.each }
+  pub made-new : coord.outs ≡ outs → coord.spent ≡ false → coord.steps ≡ [] → coord.first ≡ coord.shelf.faults → AreNew script coord segments
+  made-new os unspent steps first = record { of = of; unspent = unspent; steps = steps; first = first; inboxes = subst AreBlank (sym is) m.received; outs = subst AreUnsent (sym os) m.sent; each = m.each }

@@ -11,6 +11,8 @@ use Rattle.gx_links.specs.Ends.{InEnd, OutEnd}
 use Rattle.gx_msg.specs.declared.message.Envelope.{Envelope}
 use Rattle.gx_outside.specs.Shelves.{Shelf}
 use Rattle.gx_script.specs.declared.Script.{Script}
+use Rattle.gx_agenda.specs.OwnSlots.{AreOwnSlots}
+use Rattle.gx_store.specs.Groups.{AreStartsLet}
 use Rattle.gx_store.specs.Refusals.{the_coordinator}
 use Rattle.gx_store.specs.declared.node.NodeEvent.TheVariants.{Deliver}
 use Rattle.gx_rules.specs.AtCoordinator.{coord_can}
@@ -42,6 +44,8 @@ put-more history there old new more held shelf is last a =
         ins = length-put there.inboxes there.place old new ∙ a.ins;
         sent = a.sent;
         again = each-put (λ x. IsToCome x.source.received x.again) there.inboxes there.place old new a.again last;
+        starts = a.starts;
+        slots = a.slots;
       },
       longer.1,
     )
@@ -76,8 +80,8 @@ heard-by script c from old new looked place was number at h = subst (HasHeard sc
 -- AT THE BEGINNING
 pub new-coord : (history : CoordHistory) (inboxes : List Inbox) (held : CoordNode) (shelf : Shelf) → held.script.value ≡ history.script.value → held.spent ≡ false → IsCoord held new_coordinator → history.steps ≡ [] → shelf.items ≡ [] → history.first ≡ shelf.faults
     → length history.outs.items ≡ history.script.value.segments → length inboxes ≡ history.script.value.segments → ((k : ℕ) (out : OutEnd) → slice_get history.outs.items k ≡ Some out → out.sent ≡ []) → AreBlank inboxes
-    → IsCoordApart history inboxes held shelf
-new-coord history inboxes held shelf of usable is none blank first outs ins sent blanks =
+    → AreOwnSlots history.script.value [] history.slots → IsCoordApart history inboxes held shelf
+new-coord history inboxes held shelf of usable is none blank first outs ins sent blanks slots =
     record {
       of = of;
       usable = usable;
@@ -89,6 +93,8 @@ new-coord history inboxes held shelf of usable is none blank first outs ins sent
       ins = ins;
       sent = λ k out at. sent k out at ∙ sym (ap (sent_to (record { 0 = k + 1 })) none);
       again = λ k inbox at. subst (IsToCome inbox.source.received) (sym (blanks k inbox at).1) tt;
+      starts = subst (AreStartsLet history.script.value) (sym none) tt;
+      slots = subst (λ ss. AreOwnSlots history.script.value ss history.slots) (sym none) slots;
     }
   where
     new : coordinator_apart history inboxes ≡ new_coordinator

@@ -7,6 +7,7 @@ use Rattle.std.proofs.option.Option.TheSendSync as option
 use Rattle.std.proofs.sync.Arc.TheSendSync as arc
 use Rattle.std.proofs.vec.Vec.TheSendSync as vec
 use Rattle.gx_agenda.proofs.link.LinkMessage.TheSendSync as link_message
+use Rattle.gx_agenda.proofs.own_slots.OwnSlots.TheSendSync as own_slots
 use Rattle.gx_agenda.specs.contracts.faults.Faults as Faults
 use Rattle.gx_ids.proofs.ids.Node.TheSendSync as node
 use Rattle.gx_script.proofs.Sent.{script_send, script_sync}
@@ -27,4 +28,4 @@ pub history_field_send : IsSend History.the_field.row
 history_field_send = search (sendable, heap.the_field_send, heap.the_field_sync, frees, arc.the_send, script_send, script_sync, node.the_field_send, steps_send, out_send) depth 20
 
 pub coord_history_field_send : IsSend CoordHistory.the_field.row
-coord_history_field_send = search (sendable, heap.the_field_send, heap.the_field_sync, frees, arc.the_send, vec.the_send, script_send, script_sync, steps_send, out_send) depth 20
+coord_history_field_send = search (sendable, heap.the_field_send, heap.the_field_sync, frees, arc.the_send, vec.the_send, script_send, script_sync, steps_send, out_send, own_slots.the_field_send) depth 20

@@ -3,11 +3,11 @@ use Rattle.std.proofs.Common.{◌≡◌, ℕ, zero, suc, ◌+◌, List, [], ◌�
 use Rattle.std.specs.Prelude.{map, slice_get, slice_set}
 use Rattle.gx_lemmas.proofs.Lists.{length-set}
 use Rattle.gx_lemmas.proofs.Options.{some-same}
-use Rattle.gx_cells.specs.Closed.{AreClosed, inbox_of, out_of}
+use Rattle.gx_cells.specs.Closed.{AreClosed, firsts_of, inbox_of, out_of}
 use Rattle.gx_cells.specs.CoordActs.{links_of}
 use Rattle.gx_cells.specs.CoordReceipts.{links_in}
 use Rattle.gx_cells.specs.CoordViews.{CoordView, IsSameCoord, IsSameNode}
-use Rattle.gx_cells.specs.Done.{CellsView, HasDoneAt, HasDoneBy}
+use Rattle.gx_cells.specs.Done.{CellsView, HasDoneAt, HasDoneBy, IsSpentAt, IsSpentBy}
 use Rattle.gx_cells.specs.Views.{IsSameCell, SegmentView}
 use Rattle.gx_cells.specs.declared.action.Action.{Action}
 use Rattle.gx_cells.specs.declared.looked.Looked.{Looked}
@@ -56,3 +56,16 @@ closed-there coord segments k was is c at s =
 -- the segment of a node's number does it
 pub done-by : (action : Action) (n place : ℕ) (old new : CellsView) (looked : Looked) (was : SegmentView) → n ≡ place + 1 → slice_get old.segments place ≡ Some was → HasDoneBy action place old new looked (Some was) → HasDoneAt action n old new looked
 done-by action n place old new looked was number at h = subst (λ k. HasDoneAt action k old new looked) (sym (number ∙ add-one place)) (subst (HasDoneBy action place old new looked) (sym at) h)
+
+-- or is spent by it
+pub spent-by : (n place : ℕ) (old new : CellsView) (was : SegmentView) → n ≡ place + 1 → slice_get old.segments place ≡ Some was → IsSpentBy place old new (Some was) → IsSpentAt n old new
+spent-by n place old new was number at h = subst (λ k. IsSpentAt k old new) (sym (number ∙ add-one place)) (subst (IsSpentBy place old new) (sym at) h)
+
+-- how often journals had failed at first stays
+pub same-firsts : (coord : CoordView) (xs : List SegmentView) (p : ℕ) (was is : SegmentView) → slice_get xs p ≡ Some was → is.first ≡ was.first → firsts_of coord (slice_set xs p is) ≡ firsts_of coord xs
+same-firsts coord xs p was is at same = ap (λ ns. coord.first ∷ ns) (put xs p at)
+  where
+    put : (ys : List SegmentView) (k : ℕ) → slice_get ys k ≡ Some was → map (λ s. s.first) (slice_set ys k is) ≡ map (λ s. s.first) ys
+    put [] k there = refl
+    put (y ∷ ys) zero there = ap (λ n. n ∷ map (λ (s : SegmentView). s.first) ys) (same ∙ ap (λ (s : SegmentView). s.first) (sym (some-same y was there)))
+    put (y ∷ ys) (suc k) there = ap (λ ns. y.first ∷ ns) (put ys k there)

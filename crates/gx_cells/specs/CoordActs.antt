@@ -19,4 +19,4 @@ links_of outs = map (λ out. out.link) outs
 
 -- the history has gone on, on the same links
 abbrev pub HasCoordGoneOn : CoordHistory → CoordHistory → Type 0
-HasCoordGoneOn old new = (new ≡ record old { steps = new.steps; outs = new.outs }) × (links_of new.outs.items ≡ links_of old.outs.items)
+HasCoordGoneOn old new = (new ≡ record old { steps = new.steps; outs = new.outs; slots = new.slots }) × (links_of new.outs.items ≡ links_of old.outs.items)

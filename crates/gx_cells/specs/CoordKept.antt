@@ -1,12 +1,14 @@
 -- What a coordinator apart keeps of its history.
 use Rattle.std.specs.Prelude.{◌≡◌, ℕ, zero, suc, ◌+◌, ◌≤◌, false, List, [], Some, None, length, slice_get}
 use Rattle.std.specs.declared.option.Option.{Option}
+use Rattle.gx_agenda.specs.OwnSlots.{AreOwnSlots}
 use Rattle.gx_coord.specs.Steps.{IsCoord}
 use Rattle.gx_coord.specs.declared.coord.Coord.{Coord}
 use Rattle.gx_links.specs.Ends.{OutEnd}
 use Rattle.gx_msg.specs.declared.message.Envelope.{Envelope}
 use Rattle.gx_outside.specs.Shelves.{Shelf}
 use Rattle.gx_script.specs.declared.Script.{Script}
+use Rattle.gx_store.specs.Groups.{AreStartsLet}
 use Rattle.gx_store.specs.Refusals.{the_coordinator}
 use Rattle.gx_store.specs.declared.run.Step.{Step}
 use Rattle.gx_rules.specs.Coordinators as rule
@@ -40,7 +42,8 @@ coordinator_by script steps inboxes = holds_after (coordinators_rule script) (po
 abbrev pub coordinator_apart : CoordHistory → List Inbox → rule.Coord
 coordinator_apart history inboxes = coordinator_by history.script.value history.steps inboxes
 
--- The coordinator holds what its history leads to, and the link to each segment has just what the history's marks have sent it.
+-- The coordinator holds what its history leads to, the link to each segment has just what the history's marks have sent it, the groups let
+-- each line start that was started, and the slots are those that the history tells.
 pub record IsCoordApart (history : CoordHistory) (inboxes : List Inbox) (held : Coord) (shelf : Shelf) : Type 0 where
   pub of : held.script.value ≡ history.script.value
   pub usable : held.spent ≡ false
@@ -51,3 +54,5 @@ pub record IsCoordApart (history : CoordHistory) (inboxes : List Inbox) (held : 
   pub ins : length inboxes ≡ history.script.value.segments
   pub sent : (k : ℕ) (out : OutEnd) → slice_get history.outs.items k ≡ Some out → out.sent ≡ sent_to (record { 0 = k + 1 }) history.steps
   pub again : (k : ℕ) (inbox : Inbox) → slice_get inboxes k ≡ Some inbox → IsToCome inbox.source.received inbox.again
+  pub starts : AreStartsLet history.script.value history.steps
+  pub slots : AreOwnSlots history.script.value history.steps history.slots

@@ -8,6 +8,7 @@ use Rattle.gx_store.specs.declared.node.NodeEvent.{NodeEvent}
 use Rattle.gx_store.specs.declared.node.NodeEvent.TheVariants as node
 use Rattle.gx_coord.specs.Room as coordinator
 use Rattle.gx_segment.specs.Room as segment
+use Rattle.gx_cells.specs.Closed.{firsts_of}
 use Rattle.gx_cells.specs.CoordAnswers.{HasActed}
 use Rattle.gx_cells.specs.CoordReceipts.{HasHeardFrom}
 use Rattle.gx_cells.specs.CoordViews.{CoordView, IsSameNode, coord_data, coord_sight}
@@ -60,3 +61,16 @@ HasDoneBy action place old new looked (Some was) =
 abbrev pub HasDoneAt : Action → ℕ → CellsView → CellsView → Looked → Type 0
 HasDoneAt action zero old new looked = (new.segments ≡ old.segments) × IsSameNode old.coord new.coord × HasDoneHere action old.coord new.coord looked
 HasDoneAt action (suc place) old new looked = HasDoneBy action place old new looked (slice_get old.segments place)
+
+-- the node of this number is spent, and the others are as before
+abbrev pub IsSpentBy : ℕ → CellsView → CellsView → Option SegmentView → Type 0
+IsSpentBy place old new None = ⊥
+IsSpentBy place old new (Some was) = (is : SegmentView) × (new ≡ record { coord = old.coord; segments = slice_set old.segments place is }) × IsSameCell was is × (is.spent ≡ true)
+
+abbrev pub IsSpentAt : ℕ → CellsView → CellsView → Type 0
+IsSpentAt zero old new = (new.segments ≡ old.segments) × IsSameNode old.coord new.coord × (new.coord.spent ≡ true)
+IsSpentAt (suc place) old new = IsSpentBy place old new (slice_get old.segments place)
+
+-- what no node's action changes: the script, and how often the journals had failed at first
+abbrev pub AreSameCells : CellsView → CellsView → Type 0
+AreSameCells old new = (new.coord.script ≡ old.coord.script) × (firsts_of new.coord new.segments ≡ firsts_of old.coord old.segments)

@@ -5,6 +5,8 @@ ghost use Rattle.gx_rules.specs.AtCoordinator.{coord_can};
 ghost use Rattle.gx_rules.specs.Coordinators.{Coord as RuleCoord};
 ghost use Rattle.gx_coord.specs.Room.{has_room};
 ghost use Rattle.gx_coord.specs.Steps.{IsCoord};
+ghost use Rattle.gx_agenda.specs.OwnSlots.{AreOwnSlots};
+ghost use Rattle.gx_store.specs.Groups.{lets};
 ghost use Rattle.gx_store.specs.Refusals.{the_coordinator};
 ghost use Rattle.gx_cells.specs.CoordActs.{HasCoordGoneOn};
 ghost use Rattle.gx_cells.specs.CoordAnswers.{HasActed, event_of as event_for, is_own};
@@ -52,6 +54,7 @@ fn do_own<R: Wait, J: Journal>(
     requires apart { IsCoordApart history.old inboxes.now coord.old (J.shelf journal.old) }
     requires is { c ≡ coordinator_apart history.old inboxes.now }
     requires own { is_own here ≡ true }
+    requires start { lets history.old.script.value history.old.steps (event_for here) ≡ true }
     requires may { coord_can history.old.script.value c here ≡ true }
     requires room { has_room history.old.script.value c ≡ true }
     ensures apart { OnOk result (IsCoordApart history.new inboxes.now coord.new (J.shelf journal.new)) }
@@ -64,7 +67,18 @@ fn do_own<R: Wait, J: Journal>(
     tell_all(rt, history, coord.clock, event, marks)
 }
 
-// An event by itself, if it admits it now.
+// Whether the groups let an event: where it starts a line, its session may have to wait for a slot.
+fn is_let(history: &CoordHistory, here: &NodeEvent) -> bool
+    requires { AreOwnSlots history.now.script.value history.now.steps history.now.slots }
+    ensures { result ≡ lets history.now.script.value history.now.steps (event_for here.now) }
+{
+    match here {
+        NodeEvent::Start(session) => history.slots.lets(*session),
+        _ => true,
+    }
+}
+
+// An event by itself, if the groups let it and the coordinator admits it now.
 pub(crate) fn act_own<R: Wait, J: Journal>(
     rt: &R,
     history: &mut CoordHistory,
@@ -81,7 +95,7 @@ pub(crate) fn act_own<R: Wait, J: Journal>(
     ensures gone { HasCoordGoneOn history.old history.new }
     ensures acted { IfOk result (HasActed history.old.script.value c here history.old.steps history.new.steps) }
 {
-    if !coord.can(&here) {
+    if !is_let(history, &here) || !coord.can(&here) {
         drop(here);
         return Ok(Looked::NotNow);
     }

@@ -1,12 +1,16 @@
 // The cells of all nodes of a script.
-ghost use Rattle.std.specs.Prelude.{◌≡◌, ◌∷◌, [], false, IfOk, OnOk, length, map};
-ghost use Rattle.gx_law_merge.specs.Merge.{DoFit, coordinator_in};
+ghost use Rattle.std.specs.Prelude.{◌≡◌, ◌∷◌, [], IfOk, OnErr, OnOk, length, map};
+ghost use Rattle.gx_law_merge.specs.Merge.{DoFit};
 ghost use Rattle.gx_outside.specs.Shelves.{AreEmpty};
+ghost use Rattle.gx_rules.specs.Snapshots.{snapshot_of};
+ghost use Rattle.gx_store.specs.Groups.{AreStartsLet};
 ghost use Rattle.gx_store.specs.Language.{IsScript};
 ghost use Rattle.gx_store.specs.Refusals.{the_coordinator};
-ghost use Rattle.gx_cells.specs.Closed.{AreClosed, AreFailuresCounted, AreNew, DoHoldItems, histories_of};
+ghost use Rattle.gx_tables.specs.Tables.{AreTablesOf};
+ghost use Rattle.gx_cells.specs.Closed.{AreClosed, AreFailuresCounted, AreHeldThere, AreNew, AreUnspent, DoHoldItems, histories_of};
 ghost use Rattle.gx_cells.specs.CoordViews.{coord_data};
-ghost use Rattle.gx_cells.specs.Done.{HasDoneAt};
+ghost use Rattle.gx_cells.specs.Views.{data_of};
+ghost use Rattle.gx_cells.specs.Done.{AreSameCells, HasDoneAt, IsSpentAt};
 
 use crate::action::Action;
 use crate::closing::{ClosedCells, close_cells};
@@ -14,9 +18,11 @@ use crate::coord_cell::CoordCell;
 use crate::looked::Looked;
 use crate::making::new_cells;
 use crate::segment_cell::SegmentCell;
+use crate::showing::tables_by;
 use gx_ids::{Mem, Node};
 use gx_outside::{Gate, Journal};
 use gx_script::Script;
+use gx_tree::KeyedRow;
 use std::alloc::Global;
 use std::marker::Model;
 use std::sync::{Arc, Wait};
@@ -87,8 +93,9 @@ impl<J: Journal> Cells<J> {
         action: Action,
         gate: &G,
     ) -> Mem<Looked>
-        ensures script { self.new.coord.script ≡ self.old.coord.script }
+        ensures same { AreSameCells self.old self.new }
         ensures done { IfOk result (HasDoneAt action node.0 self.old self.new) }
+        ensures err { OnErr result (IsSpentAt node.0 self.old self.new) }
     {
         let Cells { coord, segments } = self;
         if node.0 == 0 {
@@ -119,15 +126,27 @@ impl<J: Journal> Cells<J> {
         Cells { coord, segments }
     }
 
-    /// Ends the links, and hands back the histories and the journals. Where a cell is spent it answers `OutOfMemory` too.
+    /// The rows of each table in the order of the script, as all segments show them to a snapshot that is taken now. Where a cell is spent,
+    /// whosever it is, it answers `OutOfMemory` too.
+    pub fn tables(&self, alloc: Global) -> Mem<Vec<Vec<KeyedRow>>>
+        ensures all { IfOk result (λ tables. length tables.items ≡ length self.now.coord.script.tables) }
+        ensures rows { IfOk result (λ tables. AreTablesOf (map data_of self.now.segments) (snapshot_of (coord_data self.now.coord).table) 0 tables.items) }
+    {
+        let snapshot = self.coord.snapshot()?;
+        let count = self.coord.table_count();
+        tables_by(alloc, self.segments.as_slice(), &snapshot, count)
+    }
+
+    /// Ends the links, and hands back the histories and the journals. Where a cell is spent, whosever it is, it answers `OutOfMemory` too.
     pub fn close<R: Wait>(self, rt: &R, alloc: Global) -> Mem<ClosedCells<J>>
         ensures histories { IfOk result (λ closed. map (λ h. h.steps) closed.histories.items ≡ histories_of self.coord self.segments) }
         ensures nodes { IfOk result (λ closed. map (λ h. h.node) closed.histories.items ≡ the_coordinator ∷ map (λ s. s.node) self.segments) }
         ensures fit { IfOk result (λ closed. DoFit self.coord.script (map (λ h. h.steps) closed.histories.items)) }
         ensures journals { IfOk result (λ closed. map J.shelf closed.journals.items ≡ self.coord.shelf ∷ map (λ s. s.shelf) self.segments) }
         ensures items { IfOk result (λ closed. DoHoldItems self.coord.script (histories_of self.coord self.segments) (map J.shelf closed.journals.items)) }
-        ensures unspent { OnOk result (self.coord.spent ≡ false) }
-        ensures holds { OnOk result (coordinator_in self.coord.script (histories_of self.coord self.segments) ≡ coord_data self.coord) }
+        ensures unspent { OnOk result (AreUnspent self.coord self.segments) }
+        ensures starts { OnOk result (AreStartsLet self.coord.script self.coord.steps) }
+        ensures holds { OnOk result (AreHeldThere self.coord self.segments) }
         ensures failures { OnOk result (AreFailuresCounted self.coord self.segments) }
     {
         let Cells { coord, segments } = self;

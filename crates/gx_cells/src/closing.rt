@@ -1,11 +1,11 @@
 // The links of cells are closed, and their histories and journals handed back.
-ghost use Rattle.std.specs.Prelude.{◌≡◌, ◌∷◌, false, IfOk, OnOk, map};
-ghost use Rattle.gx_law_merge.specs.Merge.{DoFit, coordinator_in};
+ghost use Rattle.std.specs.Prelude.{◌≡◌, ◌∷◌, IfOk, OnOk, map};
+ghost use Rattle.gx_law_merge.specs.Merge.{DoFit};
+ghost use Rattle.gx_store.specs.Groups.{AreStartsLet};
 ghost use Rattle.gx_store.specs.Refusals.{the_coordinator};
-ghost use Rattle.gx_cells.specs.Closed.{AreBegun, AreClosed, AreFailuresCounted, DoHoldItems, IsBegun, histories_of};
+ghost use Rattle.gx_cells.specs.Closed.{AreBegun, AreClosed, AreFailuresCounted, AreHeldThere, AreUnspent, DoHoldItems, IsBegun, histories_of};
 ghost use Rattle.gx_cells.specs.CoordActs.{links_of};
 ghost use Rattle.gx_cells.specs.CoordReceipts.{links_in};
-ghost use Rattle.gx_cells.specs.CoordViews.{coord_data};
 
 use crate::coord_cell::CoordCell;
 use crate::inbox::Inbox;
@@ -37,8 +37,9 @@ pub(crate) fn close_cells<R: Wait, J: Journal>(
     ensures fit { IfOk result (λ closed. DoFit coord.script (map (λ h. h.steps) closed.histories.items)) }
     ensures journals { IfOk result (λ closed. map J.shelf closed.journals.items ≡ coord.shelf ∷ map (λ s. s.shelf) segments.items) }
     ensures items { IfOk result (λ closed. DoHoldItems coord.script (histories_of coord segments.items) (map J.shelf closed.journals.items)) }
-    ensures unspent { OnOk result (coord.spent ≡ false) }
-    ensures holds { OnOk result (coordinator_in coord.script (histories_of coord segments.items) ≡ coord_data coord) }
+    ensures unspent { OnOk result (AreUnspent coord segments.items) }
+    ensures starts { OnOk result (AreStartsLet coord.script coord.steps) }
+    ensures holds { OnOk result (AreHeldThere coord segments.items) }
     ensures failures { OnOk result (AreFailuresCounted coord segments.items) }
 {
     let parts = coord.into_parts()?;

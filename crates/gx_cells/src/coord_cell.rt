@@ -16,7 +16,7 @@ use crate::coord_history::CoordHistory;
 use crate::hearing::receive_from;
 use crate::inbox::Inbox;
 use crate::looked::Looked;
-use gx_agenda::Faults;
+use gx_agenda::{Faults, OwnSlots};
 use gx_coord::Coord;
 use gx_ids::{Gxid, Mem, Node, OutOfMemory, SessionId};
 use gx_links::LinkOut;
@@ -29,7 +29,7 @@ use std::sync::{Arc, Wait};
 
 /// The coordinator with its history, its links and its journal. Unless it is spent, its history follows its rule to what it holds, each
 /// link has just what its marks have sent there, and its journal holds the items of its steps. Once memory has run out in a call it is
-/// spent, and answers the same from then on.
+/// spent, and answers the same from then on. It keeps the slots of groups, told by its own steps.
 #[derive(Drop)]
 pub struct CoordCell<J: Journal> {
     pub(crate) history: CoordHistory,
@@ -104,6 +104,7 @@ impl<J: Journal> CoordCell<J> {
     {
         let faults = Faults::new(alloc, script.faults.as_slice())?;
         let coord = Coord::new(alloc, script.clone()?)?;
+        let slots = OwnSlots::new(alloc, &script)?;
         let first = journal.faults();
         let history = CoordHistory {
             alloc,
@@ -111,6 +112,7 @@ impl<J: Journal> CoordCell<J> {
             first,
             steps: Steps::new(alloc),
             outs,
+            slots,
         };
         Ok(CoordCell {
             history,
@@ -170,7 +172,7 @@ impl<J: Journal> CoordCell<J> {
         looked
     }
 
-    /// Starts a session's next line.
+    /// Starts a session's next line, where its group lets it.
     pub fn start<R: Wait>(&mut self, rt: &R, session: SessionId) -> Mem<Looked>
         ensures same { IsSameCoord self.old self.new }
         ensures acted { IfOk result (HasActed self.old.script (coord_data self.old) (node.Start session) self.old.steps self.new.steps) }
@@ -217,7 +219,6 @@ impl<J: Journal> CoordCell<J> {
     // What it has, unless it is spent.
     pub(crate) fn into_parts(self) -> Mem<CoordParts<J>>
         ensures kept { OnOk result (IsCoordKept self) }
-        ensures unspent { OnOk result (self.spent ≡ false) }
         ensures steps { IfOk result (λ parts. parts.steps ≡ self.steps) }
         ensures outs { IfOk result (λ parts. parts.outs.items ≡ self.outs) }
         ensures inboxes { IfOk result (λ parts. parts.inboxes.items ≡ self.inboxes) }

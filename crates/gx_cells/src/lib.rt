@@ -20,6 +20,7 @@ mod receiving;
 mod resuming;
 pub mod segment_cell;
 mod sending;
+mod showing;
 mod spreading;
 
 pub use action::Action;

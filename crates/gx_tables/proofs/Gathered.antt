@@ -1,6 +1,6 @@
--- A table's rows of all segments, by their identities.
-use Rattle.std.proofs.Common.{◌≡◌, ◌≤◌, ◌<◌, ℕ, zero, suc, ◌+◌, Bool, true, false, cond, eqb, leb, List, [], ◌∷◌, ◌++◌, Option, Some, None, map, length, refl, sym, ap, ◌∙◌, subst, arith}
-use Rattle.std.proofs.lemmas.Bool.{eqb-true}
+-- A table's rows of all segments, by their identities, and what they are of a run that has left the segments so.
+use Rattle.std.proofs.Common.{◌≡◌, ◌≤◌, ◌<◌, ℕ, zero, suc, ◌+◌, Bool, true, false, cond, eqb, List, [], ◌∷◌, ◌++◌, Option, Some, None, map, length, refl, sym, ap, ◌∙◌, subst, arith}
+use Rattle.std.specs.Prelude.{◌-◌, flat_map, slice_get}
 use Rattle.std.proofs.lemmas.Bool.Decides.{nat_tests}
 use Rattle.std.specs.BTreeMap.{is_at}
 use Rattle.std.specs.List.Sorted.{IsStrictlySortedBy}
@@ -9,8 +9,8 @@ use Rattle.std.specs.Option.{option_or}
 use Rattle.std.specs.Ordering.{eq_by_cmp, is_eq}
 use Rattle.std.specs.declared.alloc.Global.{Global}
 use Rattle.std.specs.declared.vec.Vec.{Vec}
-use Rattle.gx_lemmas.proofs.Options.{option_or-none}
-use Rattle.gx_lemmas.proofs.Numbers.{plus-none}
+use Rattle.gx_lemmas.proofs.Lists.{place-below}
+use Rattle.gx_lemmas.proofs.Options.{option_or-none, some-same}
 use Rattle.gx_ids.specs.declared.ids.Node.{Node}
 use Rattle.gx_ids.specs.declared.ids.Table.{Table}
 use Rattle.gx_ids.specs.declared.rid.Rid.{Rid}
@@ -25,8 +25,8 @@ use Rattle.gx_store.specs.Marks.{is_same_rid}
 use Rattle.gx_store.specs.Ordered.{AreOrdered}
 use Rattle.gx_store.specs.Points.{marks_in}
 use Rattle.gx_store.specs.Rows.{row_at}
-use Rattle.gx_rules.specs.Machine as machine
 use Rattle.gx_rules.specs.Machine.{world_of}
+use Rattle.gx_rules.specs.Coordinators.{Coord}
 use Rattle.gx_rules.specs.Segments.{Seg}
 use Rattle.gx_rules.specs.Shown.{shown}
 use Rattle.gx_rules.specs.Snapshots.{snapshot_of}
@@ -34,56 +34,41 @@ use Rattle.gx_law_order.proofs.Ordered.{world_well}
 use Rattle.gx_law_order.proofs.SegItems.{writes_at}
 use Rattle.gx_law_order.proofs.Journals.{world-hold}
 use Rattle.gx_law_reads.specs.Sights.{AreRowsOf, AreRowsOfAll, IsOnlyAt, shown_to_all}
-use Rattle.gx_law_runs.specs.Reached.{IsReached}
-use Rattle.gx_law_runs.specs.Replays.{AreReplayed, coordinator_after, segment_after, world_behind}
+use Rattle.gx_law_runs.specs.Replays.{AreReplayed, segment_after, world_behind}
 use Rattle.gx_law_runs.proofs.Reaching.{by-events, replayed}
 use Rattle.gx_segment.specs.Steps.{nobody, no_command}
-use Rattle.gx_tables.specs.Tables.{entry_row, last_at, shown_by}
+use Rattle.gx_tables.specs.Left.{AreLeftBy}
+use Rattle.gx_tables.specs.Tables.{AreLastOf, AreTablesOf, entry_row, last_at, shown_by}
 use Rattle.gx_tables.proofs.Shows.{last_at-append, last_at-rising, shown-elsewhere, shown-past, shown-rising, shown-to-all}
 
-positive : (n : ℕ) → 1 ≤ n + 1
-positive n = omega arith
-
 -- PARTS
--- one segment more
-pub shown-more : (script : Script) (steps : List Step) (x : Snapshot) (table : Table) (n : ℕ) → shown_by script steps x table n ++ shown (segment_after script (record { 0 = n + 1 }) steps) x nobody no_command table ≡ shown_by script steps x table (n + 1)
-shown-more script steps x table n = sym (ap (shown_by script steps x table) (next n))
-  where
-    next : (k : ℕ) → k + 1 ≡ suc k
-    next k = omega arith
+-- of rows that stand one behind the other, list by list
+module _ (part : Seg → List KeyedRow) (q : Rid) where
+  all-none : (segments : List Seg) → ((k : ℕ) (s : Seg) → slice_get segments k ≡ Some s → last_at (part s) q ≡ None) → last_at (flat_map part segments) q ≡ None
+  all-none [] h = refl
+  all-none (s ∷ ss) h =
+      last_at-append (part s) (flat_map part ss) q ∙ ap (option_or (last_at (flat_map part ss) q)) (h 0 s refl) ∙ option_or-none (last_at (flat_map part ss) q)
+      ∙ all-none ss (λ k t at. h (suc k) t at)
 
-module _ (script : Script) (steps : List Step) (x : Snapshot) (table : Table) (q : Rid) where
-  abbrev part : ℕ → List KeyedRow
-  part i = shown (segment_after script (record { 0 = i }) steps) x nobody no_command table
-
-  all-none : (n : ℕ) → ((i : ℕ) → 1 ≤ i → i ≤ n → last_at (part i) q ≡ None) → last_at (shown_by script steps x table n) q ≡ None
-  all-none zero h = refl
-  all-none (suc n) h =
-      last_at-append (shown_by script steps x table n) (part (n + 1)) q
-      ∙ ap (λ o. option_or o (last_at (shown_by script steps x table n) q)) (h (n + 1) (positive n) (last n))
-      ∙ all-none n (λ i one few. h i one (omega (arith, few)))
+  one-shows : (segments : List Seg) (k : ℕ) (s : Seg) → slice_get segments k ≡ Some s → ((i : ℕ) (t : Seg) → slice_get segments i ≡ Some t → (i ≡ k → ⊥) → last_at (part t) q ≡ None)
+      → last_at (flat_map part segments) q ≡ last_at (part s) q
+  one-shows [] k s at h = absurd (cc)
+  one-shows (x ∷ xs) zero s at h =
+      last_at-append (part x) (flat_map part xs) q
+      ∙ ap (λ o. option_or o (last_at (part x) q)) (all-none xs (λ k t there. h (suc k) t there (later k)))
+      ∙ ap (λ y. last_at (part y) q) (some-same x s at)
     where
-      last : (k : ℕ) → k + 1 ≤ suc k
-      last k = omega arith
-
-  one-shows : (n k : ℕ) → 1 ≤ k → k ≤ n → ((i : ℕ) → 1 ≤ i → (i ≡ k → ⊥) → last_at (part i) q ≡ None) → last_at (shown_by script steps x table n) q ≡ last_at (part k) q
-  one-shows zero k one few h = absurd (omega (arith, one, few))
-  one-shows (suc n) k one few h = last_at-append (shown_by script steps x table n) (part (n + 1)) q ∙ by_last (eqb k (n + 1)) refl (λ few. one-shows n k one few h)
+      later : (k : ℕ) → suc k ≡ 0 → ⊥
+      later k e = omega (arith, e)
+  one-shows (x ∷ xs) (suc k) s at h =
+      last_at-append (part x) (flat_map part xs) q ∙ ap (option_or (last_at (flat_map part xs) q)) (h 0 x refl (first k)) ∙ option_or-none (last_at (flat_map part xs) q)
+      ∙ one-shows xs k s at (λ i t there apart. h (suc i) t there (λ e. apart (down i k e)))
     where
-      not-later : (i : ℕ) → k ≡ n + 1 → i ≤ n → i ≡ k → ⊥
-      not-later i e l same = omega (arith, e, l, same)
+      first : (k : ℕ) → 0 ≡ suc k → ⊥
+      first k e = omega (arith, e)
 
-      differ : eqb k (n + 1) ≡ false → n + 1 ≡ k → ⊥
-      differ e same = grind (arith, nat_tests)
-
-      earlier : eqb k (n + 1) ≡ false → k ≤ n
-      earlier e = grind (arith, nat_tests)
-
-      by_last : (b : Bool) → eqb k (n + 1) ≡ b → (k ≤ n → last_at (shown_by script steps x table n) q ≡ last_at (part k) q) → option_or (last_at (part (n + 1)) q) (last_at (shown_by script steps x table n) q) ≡ last_at (part k) q
-      by_last true e before =
-          ap (option_or (last_at (part (n + 1)) q)) (all-none n (λ i first l. h i first (not-later i (eqb-true k (n + 1) e) l)))
-          ∙ option_or-none (last_at (part (n + 1)) q) ∙ ap (λ i. last_at (part i) q) (sym (eqb-true k (n + 1) e))
-      by_last false e before = ap (λ o. option_or o (last_at (shown_by script steps x table n) q)) (h (n + 1) (positive n) (differ e)) ∙ before (earlier e)
+      down : (i k : ℕ) → suc i ≡ suc k → i ≡ k
+      down i k e = omega (arith, e)
 
 -- ENTRIES
 keys-rows : (es : List (Rid × List Value)) → map (λ row. row.rid) (map entry_row es) ≡ keys_of es
@@ -116,63 +101,97 @@ updated (r ∷ rs) f q =
 pub updated-last : (rows : List KeyedRow) (q : Rid) → update_all (eq_by_cmp rid_order) (λ _. None) (map (λ r. (r.rid, r.row)) rows) q ≡ last_at rows q
 updated-last rows q = updated rows (λ _. None) q ∙ option_or-none (last_at rows q)
 
+pub last-of : (all rows : List KeyedRow) (es : List (Rid × List Value)) → rows ≡ map entry_row es → IsStrictlySortedBy rid_order (keys_of es) → ((q : Rid) → lookup (is_at (rid_order q)) es ≡ last_at all q) → AreLastOf all rows
+last-of all rows es listed sorted found =
+    record {
+      rising = subst AreRising (sym listed) (subst (IsStrictlySortedBy rid_order) (sym (keys-rows es)) sorted);
+      last = λ q. ap (λ rs. row_at rs q) listed ∙ row_at-entries es q ∙ found q;
+    }
+
+none-there : (segments : List Seg) (k : ℕ) → slice_get segments k ≡ None → length segments ≤ k
+none-there [] k e = omega arith
+none-there (s ∷ ss) zero e = absurd (cc)
+none-there (s ∷ ss) (suc k) e = more (length ss) k (none-there ss k e)
+  where
+    more : (n k : ℕ) → n ≤ k → suc n ≤ suc k
+    more n k l = omega (arith, l)
+
 -- THE ROWS OF A TABLE
-module _ (script : Script) (some : 1 ≤ script.segments) (steps : List Step) (is : IsReached script steps) (table : Table) (x : Snapshot) where
+module _ (script : Script) (some : 1 ≤ script.segments) (steps : List Step) (coord : Coord) (segments : List Seg) (left : AreLeftBy script steps coord segments) (table : Table) where
+  abbrev x : Snapshot
+  x = snapshot_of coord.table
+
   abbrev seg : ℕ → Seg
   seg i = segment_after script (record { 0 = i }) steps
+
+  abbrev part : Seg → List KeyedRow
+  part s = shown s x nobody no_command table
 
   versions-are : (i : ℕ) → 1 ≤ i → (seg i).versions ≡ writes_at (record { 0 = i }) (marks_in steps)
   versions-are i one =
       subst (λ (s : Seg). s.versions ≡ writes_at (record { 0 = i }) (marks_in steps)) (r.segments i one)
-      (subst (λ ss. ((world_of script is.events).segs i).versions ≡ writes_at (record { 0 = i }) (marks_in ss)) is.is (world-hold script some is.events i one).versions)
+      (subst (λ ss. ((world_of script left.reached.events).segs i).versions ≡ writes_at (record { 0 = i }) (marks_in ss)) left.reached.is (world-hold script some left.reached.events i one).versions)
     where
-      r : AreReplayed script steps (world_of script is.events)
-      r = replayed script steps is
+      r : AreReplayed script steps (world_of script left.reached.events)
+      r = replayed script steps left.reached
 
   ordered : AreOrdered script [] steps
-  ordered = by-events script steps is (AreOrdered script []) (λ es. (world_well script some es).steps)
+  ordered = by-events script steps left.reached (AreOrdered script []) (λ es. (world_well script some es).steps)
 
-  last-part : (i : ℕ) (q : Rid) → last_at (shown (seg i) x nobody no_command table) q ≡ row_at (shown (seg i) x nobody no_command table) q
-  last-part i q = last_at-rising (shown (seg i) x nobody no_command table) q (shown-rising (seg i) x table)
+  last-part : (s : Seg) (q : Rid) → last_at (part s) q ≡ row_at (part s) q
+  last-part s q = last_at-rising (part s) q (shown-rising s x table)
 
-  elsewhere : (node : Node) (q : Rid) → IsOnlyAt node q (marks_in steps) → (i : ℕ) → 1 ≤ i → (i ≡ node.0 → ⊥) → last_at (shown (seg i) x nobody no_command table) q ≡ None
-  elsewhere node q only i one apart =
-      last-part i q ∙ shown-elsewhere (seg i) x table node (record { 0 = i }) q (marks_in steps) (versions-are i one) only (not-same node.0 i apart)
+  positive : (k : ℕ) → 1 ≤ k + 1
+  positive k = omega arith
+
+  -- a segment where the row isn't written doesn't show it
+  elsewhere : (node : Node) (q : Rid) → IsOnlyAt node q (marks_in steps) → (k : ℕ) (s : Seg) → slice_get segments k ≡ Some s → (k + 1 ≡ node.0 → ⊥) → last_at (part s) q ≡ None
+  elsewhere node q only k s at apart =
+      last-part s q ∙ ap (λ t. row_at (part t) q) (sym (left.each k s at))
+      ∙ shown-elsewhere (seg (k + 1)) x table node (record { 0 = k + 1 }) q (marks_in steps) (versions-are (k + 1) (positive k)) only (not-same node.0 (k + 1) apart)
     where
       not-same : (a b : ℕ) → (b ≡ a → ⊥) → eqb a b ≡ false
       not-same a b h = grind (arith, nat_tests)
 
-  all-show : (node : Node) (q : Rid) → 1 ≤ node.0 → IsOnlyAt node q (marks_in steps) → last_at (shown_by script steps x table script.segments) q ≡ row_at (shown (seg node.0) x nobody no_command table) q
-  all-show node q one only = by_place (leb node.0 script.segments) refl
+  all-show : (node : Node) (q : Rid) (k : ℕ) → k + 1 ≡ node.0 → IsOnlyAt node q (marks_in steps) → last_at (flat_map part segments) q ≡ row_at (part (seg node.0)) q
+  all-show node q k number only = by_place (slice_get segments k) refl
     where
-      within : (a b : ℕ) → leb a b ≡ true → a ≤ b
-      within a b e = grind (arith, nat_tests)
+      other : (i j n : ℕ) → j + 1 ≡ n → (i ≡ j → ⊥) → i + 1 ≡ n → ⊥
+      other i j n e apart f = apart (omega (arith, e, f))
 
-      past : (a b : ℕ) → leb a b ≡ false → b < a
-      past a b e = grind (arith, nat_tests)
+      within : (i n j a : ℕ) → i < n → n ≤ j → j + 1 ≡ a → i + 1 ≡ a → ⊥
+      within i n j a h l e f = omega (arith, h, l, e, f)
 
-      not-it : (a b i : ℕ) → b < a → i ≤ b → i ≡ a → ⊥
-      not-it a b i l m e = omega (arith, l, m, e)
+      beyond : (n k a : ℕ) → n ≤ k → k + 1 ≡ a → n < a
+      beyond n k a l e = omega (arith, l, e)
 
-      by_place : (b : Bool) → leb node.0 script.segments ≡ b → last_at (shown_by script steps x table script.segments) q ≡ row_at (shown (seg node.0) x nobody no_command table) q
-      by_place true e = one-shows script steps x table q script.segments node.0 one (within node.0 script.segments e) (elsewhere node q only) ∙ last-part node.0 q
-      by_place false e =
-          all-none script steps x table q script.segments (λ i first few. elsewhere node q only i first (not-it node.0 script.segments i (past node.0 script.segments e) few))
-          ∙ sym (shown-past script (seg node.0) x table node q steps ordered (versions-are node.0 one) (past node.0 script.segments e))
+      at-least : (k a : ℕ) → k + 1 ≡ a → 1 ≤ a
+      at-least k a e = omega (arith, e)
 
-  pub rows-of : x ≡ snapshot_of (coordinator_after script steps).table → (count : ℕ) → count ≡ script.segments → (rows : List KeyedRow) (es : List (Rid × List Value)) → rows ≡ map entry_row es → IsStrictlySortedBy rid_order (keys_of es) → ((q : Rid) → lookup (is_at (rid_order q)) es ≡ last_at (shown_by script steps x table count) q) → AreRowsOf (world_behind script steps) table rows
-  rows-of taken count all rows es listed sorted found =
+      by_place : (o : Option Seg) → slice_get segments k ≡ o → last_at (flat_map part segments) q ≡ row_at (part (seg node.0)) q
+      by_place (Some s) at =
+          one-shows part q segments k s at (λ i t there apart. elsewhere node q only i t there (other i k node.0 number apart))
+          ∙ last-part s q ∙ ap (λ t. row_at (part t) q) (sym (left.each k s at)) ∙ ap (λ i. row_at (part (seg i)) q) number
+      by_place None at =
+          let past : length segments ≤ k = none-there segments k at in
+          all-none part q segments (λ i s there. elsewhere node q only i s there (within i (length segments) k node.0 (place-below segments i s there) past number))
+          ∙ sym (shown-past script (seg node.0) x table node q steps ordered (versions-are node.0 (at-least k node.0 number)) (beyond script.segments k node.0 (subst (λ n. n ≤ k) left.count past) number))
+
+  pub rows-of : (rows : List KeyedRow) → AreLastOf (shown_by segments x table) rows → AreRowsOf (world_behind script steps) table rows
+  rows-of rows are =
       record {
-        rising = subst AreRising (sym listed) (subst (IsStrictlySortedBy rid_order) (sym (keys-rows es)) sorted);
+        rising = are.rising;
         shown = λ node q one only.
-            ap (λ rs. row_at rs q) listed ∙ row_at-entries es q ∙ found q ∙ ap (λ n. last_at (shown_by script steps x table n) q) all ∙ all-show node q one only
-            ∙ ap (λ rs. row_at rs q) (shown-to-all (seg node.0) x table) ∙ ap (λ y. row_at (shown_to_all (seg node.0) y table) q) taken;
+            are.last q ∙ all-show node q (node.0 - 1) (number node.0 one) only
+            ∙ ap (λ rs. row_at rs q) (shown-to-all (seg node.0) x table) ∙ ap (λ (c : Coord). row_at (shown_to_all (seg node.0) (snapshot_of c.table) table) q) (sym left.coordinator);
       }
+    where
+      number : (n : ℕ) → 1 ≤ n → n - 1 + 1 ≡ n
+      number n one = omega (arith, one)
 
--- one table more
-pub tables-more : (w : machine.World) (k n : ℕ) (ts : List (Vec KeyedRow Global)) (rows : Vec KeyedRow Global) → AreRowsOfAll k w ts → n ≡ k + length ts → AreRowsOf w (record { 0 = n }) rows.items → AreRowsOfAll k w (ts ++ rows ∷ [])
-tables-more w k n [] rows all e more = (subst (λ i. AreRowsOf w (record { 0 = i }) rows.items) (e ∙ plus-none k) more, tt)
-tables-more w k n (t ∷ ts) rows all e more = (all.0, tables-more w (k + 1) n ts rows all.1 (e ∙ next k (length ts)) more)
-  where
-    next : (a b : ℕ) → a + suc b ≡ a + 1 + b
-    next a b = omega arith
+-- all tables
+pub rows-of-tables : (script : Script) → 1 ≤ script.segments → (steps : List Step) (coord : Coord) (segments : List Seg) → AreLeftBy script steps coord segments → (k : ℕ) (tables : List (Vec KeyedRow Global)) → AreTablesOf segments (snapshot_of coord.table) k tables
+    → AreRowsOfAll k (world_behind script steps) tables
+rows-of-tables script some steps coord segments left k [] are = tt
+rows-of-tables script some steps coord segments left k (rows ∷ tables) are =
+    (rows-of script some steps coord segments left (record { 0 = k }) rows.items are.0, rows-of-tables script some steps coord segments left (k + 1) tables are.1)

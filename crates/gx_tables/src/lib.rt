@@ -1,6 +1,7 @@
 //! The tables that nodes show, wherever they stand: in one world, or each apart.
 #![tactic(auto)]
 
-pub mod tables;
+pub mod laws;
+pub mod rows;
 
-pub use tables::final_tables;
+pub use rows::last_rows;

@@ -3,7 +3,7 @@ use Rattle.std.specs.Prelude.{map}
 use Rattle.std.specs.Vec.Iter.{into_iter_items}
 use Rattle.std.proofs.lemmas.List.{map-append, nil_from_length}
 use Rattle.gx_cells.specs.Closed.{AreClosed}
-use Rattle.gx_cells.proofs.Ended.{ended-back, ended-fit, ended-forth, ended-histories, ended-counted, ended-holds, ended-items, ended-nodes, ended-shelves}
+use Rattle.gx_cells.proofs.Ended.{ended-back, ended-fit, ended-forth, ended-histories, ended-counted, ended-holds, ended-items, ended-nodes, ended-shelves, ended-unspent}
 use Rattle.gx_cells.proofs.LinkPairs.{taken-next}
 use Rattle.gx_cells.proofs.closing.close_cells.Goals as goal
 
@@ -103,3 +103,15 @@ returns-clause-failures g c =
     let whole : c.args.segments.items ≡ given = c.loop-segment.invariant.2 ∙ ap (λ l. given ++ l) none ∙ append-nil given in
     let closed : AreClosed c.args.coord c.args.segments.items = search rules in
     ended-counted c.args.coord c.args.segments.items given c.loop-segment.histories.items (map g.J.Journal.shelf c.loop-segment.journals.items) c.loop-segment.outs.items c.loop-segment.inboxes.items closed c.loop-segment.invariant.3 whole c.in_ok-parts.ensures.kept
+
+pub returns-clause-unspent : goal.returns-clause-unspent
+returns-clause-unspent g c =
+    let given = c.loop-segment.yielded in
+    let left = into_iter_items c.loop-segment.segment-iterator in
+    let none : left ≡ [] = nil_from_length left (sym c.loop-segment.segment-iterator.rest.ok.0 ∙ c.in-None.ensures.steps.0) in
+    let whole : c.args.segments.items ≡ given = c.loop-segment.invariant.2 ∙ ap (λ l. given ++ l) none ∙ append-nil given in
+    let closed : AreClosed c.args.coord c.args.segments.items = search rules in
+    ended-unspent c.args.coord c.args.segments.items given c.loop-segment.histories.items (map g.J.Journal.shelf c.loop-segment.journals.items) c.loop-segment.outs.items c.loop-segment.inboxes.items closed c.loop-segment.invariant.3 whole c.in_ok-parts.ensures.kept
+
+pub returns-clause-starts : goal.returns-clause-starts
+returns-clause-starts g c = c.in_ok-parts.ensures.kept.starts

@@ -4,6 +4,7 @@ use Rattle.gx_coord.specs.Steps.{HasStepped, IsCoord}
 use Rattle.gx_rules.specs.AtCoordinator.{coord_can}
 use Rattle.gx_rules.specs.Coordinators.{Coord}
 use Rattle.gx_script.specs.declared.Script.{Script}
+use Rattle.gx_agenda.specs.OwnSlots.{AreOwnSlots}
 use Rattle.gx_store.specs.Refusals.{the_coordinator}
 use Rattle.gx_store.specs.declared.event.Event.TheVariants.{Receive}
 use Rattle.gx_store.specs.declared.node.NodeEvent.TheVariants.{Deliver}
@@ -11,7 +12,7 @@ use Rattle.gx_store.specs.declared.run.Step.{Step}
 use Rattle.gx_cells.specs.CoordKept.{coordinator_apart}
 use Rattle.gx_cells.specs.CoordReceipts.{inboxes_with}
 use Rattle.gx_cells.proofs.Answers.{both_ok, on_ok}
-use Rattle.gx_cells.proofs.AtCoordinators.{coord-next, few-links, numbers-left}
+use Rattle.gx_cells.proofs.AtCoordinators.{apart-language, coord-next, few-links, numbers-left}
 use Rattle.gx_cells.proofs.AtSegments.{told}
 use Rattle.gx_cells.proofs.MoreHeard.{among-all, may-hear}
 use Rattle.gx_cells.proofs.Inboxes.{takes-there}
@@ -41,10 +42,11 @@ receive-requires g c κs within =
       ),
     )
 
-pub tell_all-requires : goal.tell_all-requires
-tell_all-requires g c =
-    let apart = c.requires.1.1.0 in
-    few-links c.args.history.now (inboxes_with g.there c.args.inbox.now) c.args.coord.now (g.J.Journal.shelf c.args.journal.now) apart
+pub tell_all-requires-clause-few : goal.tell_all-requires-clause-few
+tell_all-requires-clause-few g c = few-links c.args.history.now (inboxes_with g.there c.args.inbox.now) c.args.coord.now (g.J.Journal.shelf c.args.journal.now) c.requires.1.1.0
+
+pub tell_all-requires-clause-language : goal.tell_all-requires-clause-language
+tell_all-requires-clause-language g c = apart-language c.args.history.now (inboxes_with g.there c.args.inbox.now) c.args.coord.now (g.J.Journal.shelf c.args.journal.now) c.requires.1.1.0
 
 pub returns-clause-apart : goal.returns-clause-apart
 returns-clause-apart g c =
@@ -61,8 +63,9 @@ returns-clause-apart g c =
     let is = c.requires.1.1.1.0 in
     let from = c.requires.1.1.1.1.0 in
     let may = may-hear history.script.value (coordinator_apart history inboxes) c.args.from c.args.envelope.now g.there.place (length g.there.inboxes) from.0 from.1 (among-all g.there inbox ∙ apart.ins) in
-    on_ok c.tell_all.result _ _ (both_ok c.tell_all.result _ _ c.tell_all.ensures.sent c.tell_all.ensures.steps)
+    on_ok c.tell_all.result _ _ (both_ok c.tell_all.result _ _ c.tell_all.ensures.sent (both_ok c.tell_all.result _ _ c.tell_all.ensures.steps c.tell_all.ensures.slots))
     (λ e.
     coord-next history inboxes c.args.coord.now new here before after marks event apart may refl (takes-there g.there.inboxes g.there.place inbox c.args.from c.count.result c.args.envelope.now from.0 from.1 c.count.ensures c.requires.1.1.1.1.1.0)
     (subst (λ (x : Coord). HasStepped c.args.coord.now new x here before after marks) is c.in_ok-receive.ensures.stepped) c.tell_all.new.history c.tell_all.ensures.gone e.0
-    (e.1 ∙ ap (λ (ss : List Step). ss ++ told new.clock the_coordinator event marks ∷ []) c.blank-marks.ensures.steps))
+    (e.1.0 ∙ ap (λ (ss : List Step). ss ++ told new.clock the_coordinator event marks ∷ []) c.blank-marks.ensures.steps) refl
+    (subst (λ (ss : List Step). AreOwnSlots history.script.value ss history.slots → AreOwnSlots history.script.value c.tell_all.new.history.steps c.tell_all.new.history.slots) c.blank-marks.ensures.steps e.1.1))

@@ -61,6 +61,7 @@ loop-own-preserved g c =
         ap (λ (v : SegmentView). v.first) is ∙ sym (ap (λ (v : SegmentView). v.shelf.faults) is),
         ap (λ (v : SegmentView). v.source.received) is ∙ c.in_ok-out.ensures.received,
         ap (λ (v : SegmentView). v.again) is,
+        ap (λ (v : SegmentView). v.out.sent) is ∙ c.in_ok-back.ensures.sent,
       )
           (c.in_ok-out.ensures.link ∙ sym (ap (λ (v : SegmentView). v.source.link) is)) (ap (λ (v : SegmentView). v.out.link) is ∙ c.in_ok-back.ensures.link) c.in_ok-out.ensures.sent c.in_ok-back.ensures.received refl
           c.in_ok-push-2.ensures.items c.in_ok-push-3.ensures.items c.in_ok-push.ensures.items (map-append shelf given (own ∷ []) ∙ ap (λ h. map shelf given ++ h ∷ []) (sym (ap (λ (v : SegmentView). v.shelf) is))),
@@ -93,7 +94,7 @@ pub returns-clause-new : goal.returns-clause-new
 returns-clause-new g c =
     let is = c.in_ok-coord.ensures in
     made-new c.args.script.value (map g.J.Journal.shelf c.loop-own.yielded) c.loop-own.outs.items c.loop-own.inboxes.items c.loop-own.segments.items c.in_ok-coord.coord c.loop-own.invariant.3 (ap (λ (v : CoordView). v.script) is) (ap (λ (v : CoordView). v.inboxes) is)
-    (ap (λ (v : CoordView). v.spent) is) (ap (λ (v : CoordView). v.steps) is) (ap (λ (v : CoordView). v.first) is ∙ sym (ap (λ (v : CoordView). v.shelf.faults) is))
+    (ap (λ (v : CoordView). v.outs) is) (ap (λ (v : CoordView). v.spent) is) (ap (λ (v : CoordView). v.steps) is) (ap (λ (v : CoordView). v.first) is ∙ sym (ap (λ (v : CoordView). v.shelf.faults) is))
 
 pub returns-clause-segments_journals : goal.returns-clause-segments_journals
 returns-clause-segments_journals g c =

@@ -5,7 +5,7 @@ use Rattle.std.specs.Map.{update_all}
 use Rattle.std.specs.Ordering.{eq_by_cmp}
 use Rattle.gx_meaning.specs.Order.{rid_order}
 use Rattle.gx_tables.proofs.Gathered.{updated-last}
-use Rattle.gx_tables.proofs.tables.by_rid.Goals as goal
+use Rattle.gx_tables.proofs.rows.by_rid.Goals as goal
 
 pub returns : goal.returns
 returns c = λ q.

@@ -1,4 +1,0 @@
-use Rattle.gx_tables.proofs.tables.shown_there.Given as goal
-
-abbrev pub ghost-final_rows : goal.ghost-final_rows
-ghost-final_rows g a = g.s
