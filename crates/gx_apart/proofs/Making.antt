@@ -1,21 +1,23 @@
 -- What closed cells tell of the merge of their histories.
-use Rattle.std.proofs.Common.{◌≡◌, ◌<◌, ◌≤◌, ◌∙◌, ℕ, zero, suc, Bool, true, false, List, ap, arith, length, refl, subst, sym}
+use Rattle.std.proofs.Common.{◌≡◌, ◌<◌, ◌≤◌, ◌∙◌, ◌∷◌, ℕ, zero, suc, Bool, true, false, List, ap, arith, length, refl, subst, sym}
 use Rattle.std.specs.Prelude.{map, not, slice_get, Some}
+use Rattle.std.proofs.lemmas.List.{length-map}
 use Rattle.gx_ids.specs.declared.ids.Node.{Node}
 use Rattle.gx_ids.specs.declared.ids.SessionId.{SessionId}
 use Rattle.gx_msg.specs.ItemBytes.{bytes_of_item}
 use Rattle.gx_outside.specs.Shelves.{Shelf}
 use Rattle.gx_script.specs.declared.Script.{Script}
+use Rattle.gx_store.specs.Groups.{AreStartsLet}
 use Rattle.gx_store.specs.Journals.{items_of}
 use Rattle.gx_store.specs.Language.{IsScript}
 use Rattle.gx_store.specs.Points.{marks_in}
-use Rattle.gx_store.specs.Refusals.{the_coordinator}
 use Rattle.gx_store.specs.Schedule.{is_any_unfinished}
 use Rattle.gx_store.specs.declared.run.Step.{Step}
 use Rattle.gx_rules.specs.AtCoordinator.{is_unfinished_there}
 use Rattle.gx_rules.specs.Coordinators.{Coord}
 use Rattle.gx_law_merge.specs.Merge.{DoFit, IsMergeOf, coordinator_in}
 use Rattle.gx_law_merge.proofs.Merging.{coordinator-at-end, coordinators-items-at-end, segments-items-at-end}
+use Rattle.gx_law_merge.proofs.Slotting.{queued-merged, slots-merged, starts-merged}
 use Rattle.gx_law_runs.specs.Reached.{IsReached}
 use Rattle.gx_law_runs.specs.Replays.{coordinator_after}
 use Rattle.gx_cells.specs.Closed.{DoHoldItems, histories_of}
@@ -54,22 +56,6 @@ module _ (script : Script) (language : IsScript script) (histories : List (List 
     whole-by true none some =
         ap not (sym (unfinished-some script language steps reached (subst (λ (d : Coord). (id : SessionId) × (id.0 < length script.sessions) × (is_unfinished_there script d id ≡ true)) coordinator-is (some refl))))
 
-module _ (coord : CoordView) (segments : List SegmentView) (language : IsScript coord.script) (fit : DoFit coord.script (histories_of coord segments)) (steps : List Step) (merge : IsMergeOf (histories_of coord segments) steps) where
-  pub made : IsReached coord.script steps → coord.spent ≡ false → coordinator_in coord.script (histories_of coord segments) ≡ coord_data coord
-      → (shelves : List Shelf) → DoHoldItems coord.script (histories_of coord segments) shelves → (b : Bool)
-      → (coord.spent ≡ false → b ≡ false → (id : SessionId) → id.0 < length coord.script.sessions → is_unfinished_there coord.script (coord_data coord) id ≡ false)
-      → (coord.spent ≡ false → b ≡ true → (id : SessionId) × (id.0 < length coord.script.sessions) × (is_unfinished_there coord.script (coord_data coord) id ≡ true))
-      → IsMade coord.script steps (not b) shelves
-  made reached unspent holds shelves items b none some =
-      record {
-        histories = histories_of coord segments;
-        fit = fit;
-        merge = merge;
-        reached = reached;
-        held = does-hold coord.script language (histories_of coord segments) fit steps merge shelves items;
-        whole = whole-by coord.script language (histories_of coord segments) fit steps merge reached (coord_data coord) holds b (none unspent) (some unspent);
-      }
-
 -- whether some session is unfinished, as the coordinator's cell tells it while it isn't spent
 abbrev pub TellsNone : CoordView → Bool → Type 0
 TellsNone coord b = coord.spent ≡ false → b ≡ false → (id : SessionId) → id.0 < length coord.script.sessions → is_unfinished_there coord.script (coord_data coord) id ≡ false
@@ -77,13 +63,33 @@ TellsNone coord b = coord.spent ≡ false → b ≡ false → (id : SessionId) �
 abbrev pub TellsSome : CoordView → Bool → Type 0
 TellsSome coord b = coord.spent ≡ false → b ≡ true → (id : SessionId) × (id.0 < length coord.script.sessions) × (is_unfinished_there coord.script (coord_data coord) id ≡ true)
 
-pub made-of : (script : Script) → IsScript script → (coord : CoordView) (segments : List SegmentView) → coord.script ≡ script
-    → (histories merged : List (List Step)) → histories ≡ histories_of coord segments → merged ≡ histories → DoFit coord.script histories
-    → (steps : List Step) → IsMergeOf merged steps → IsReached script steps
-    → coord.spent ≡ false → coordinator_in coord.script (histories_of coord segments) ≡ coord_data coord
-    → (shelves : List Shelf) → DoHoldItems coord.script (histories_of coord segments) shelves
-    → (b : Bool) → TellsNone coord b → TellsSome coord b → IsMade script steps (not b) shelves
-made-of script language coord segments of histories merged are same fit steps merge reached unspent holds shelves items b none some =
-    subst (λ (s : Script). IsMade s steps (not b) shelves) of
-    (made coord segments (subst IsScript (sym of) language) (subst (DoFit coord.script) are fit) steps (subst (λ (hs : List (List Step)). IsMergeOf hs steps) (same ∙ are) merge)
-    (subst (λ (s : Script). IsReached s steps) (sym of) reached) unspent holds shelves items b none some)
+-- what the cells have told when they were closed, and their merge
+pub record IsClosed (script : Script) (coord : CoordView) (segments : List SegmentView) (steps : List Step) (shelves : List Shelf) (b : Bool) : Type 0 where
+  pub fit : DoFit script (histories_of coord segments)
+  pub merge : IsMergeOf (histories_of coord segments) steps
+  pub reached : IsReached script steps
+  pub holds : coordinator_in script (histories_of coord segments) ≡ coord_data coord
+  pub shelved : shelves ≡ coord.shelf ∷ map (λ s. s.shelf) segments
+  pub items : DoHoldItems script (histories_of coord segments) shelves
+  pub starts : AreStartsLet script coord.steps
+  pub none : b ≡ false → (id : SessionId) → id.0 < length script.sessions → is_unfinished_there script (coord_data coord) id ≡ false
+  pub some : b ≡ true → (id : SessionId) × (id.0 < length script.sessions) × (is_unfinished_there script (coord_data coord) id ≡ true)
+
+pub made : (script : Script) → IsScript script → (coord : CoordView) (segments : List SegmentView) (steps : List Step) (shelves : List Shelf) (b : Bool) → IsClosed script coord segments steps shelves b → IsMade script steps (not b) shelves
+made script language coord segments steps shelves b is =
+    record {
+      histories = histories_of coord segments;
+      fit = is.fit;
+      merge = is.merge;
+      reached = is.reached;
+      nodes = ap length is.shelved ∙ ap suc (length-map segments (λ (s : SegmentView). s.shelf) ∙ sym (length-map segments (λ (s : SegmentView). s.steps))) ∙ is.fit.count;
+      held = does-hold script language (histories_of coord segments) is.fit steps is.merge shelves is.items;
+      whole = whole-by script language (histories_of coord segments) is.fit steps is.merge is.reached (coord_data coord) is.holds b is.none is.some;
+      starts = starts-merged script language.some_segments (histories_of coord segments) is.fit steps is.merge is.starts;
+      slots = λ inserts. slots-merged script language inserts (histories_of coord segments) is.fit steps is.merge is.starts;
+      queued = λ inserts. queued-merged script language inserts (histories_of coord segments) is.fit steps is.merge is.starts;
+    }
+
+-- of cells whose script is this one
+pub made-of : (script : Script) → IsScript script → (coord : CoordView) (segments : List SegmentView) → coord.script ≡ script → (steps : List Step) (shelves : List Shelf) (b : Bool) → IsClosed coord.script coord segments steps shelves b → IsMade script steps (not b) shelves
+made-of script language coord segments of steps shelves b is = made script language coord segments steps shelves b (subst (λ (x : Script). IsClosed x coord segments steps shelves b) of is)

@@ -1,6 +1,6 @@
 // Drives nodes apart, turn by turn.
-ghost use Rattle.std.specs.Prelude.{◌≡◌};
 ghost use Rattle.gx_store.specs.Language.{IsScript};
+ghost use Rattle.gx_cells.specs.Done.{AreSameCells};
 
 use crate::seen::Seen;
 use crate::trying::{end_first, move_first, resend_first, round, start_first};
@@ -21,7 +21,7 @@ pub(crate) fn drive<R: Wait, J: Journal, G: Gate>(
     turns: u64,
 ) -> Mem<()>
     requires { IsScript script.now }
-    ensures { cells.new.coord.script ≡ cells.old.coord.script }
+    ensures { AreSameCells cells.old cells.new }
 {
     let mut seen = Seen::new(alloc, script)?;
     for _turn in 0..turns {
@@ -45,7 +45,7 @@ fn turn<R: Wait, J: Journal, G: Gate>(
     seen: &mut Seen,
 ) -> Mem<bool>
     requires { IsScript script.now }
-    ensures { cells.new.coord.script ≡ cells.old.coord.script }
+    ensures { AreSameCells cells.old cells.new }
 {
     if move_first(rt, cells, gate, script.segments)?
         || resend_first(rt, cells, gate, seen, script.segments)?

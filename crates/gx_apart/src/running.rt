@@ -1,8 +1,11 @@
 // A run of nodes apart, from a script to the one run that their histories make.
-ghost use Rattle.std.specs.Prelude.{◌≡◌, [], IfOk, length, map};
+ghost use Rattle.std.specs.Prelude.{◌≡◌, ◌∷◌, [], IfOk, length, map};
 ghost use Rattle.gx_outside.specs.Shelves.{AreEmpty};
 ghost use Rattle.gx_store.specs.Language.{IsScript};
+ghost use Rattle.gx_store.specs.Points.{marks_in};
+ghost use Rattle.gx_store.specs.View.{AreFinalFrom};
 ghost use Rattle.gx_apart.specs.Made.{IsMade};
+ghost use Rattle.gx_cells.specs.Closed.{AreFailuresFew};
 
 use crate::driving::drive;
 use gx_cells::Cells;
@@ -11,14 +14,17 @@ use gx_merge::merge;
 use gx_outside::{Gate, Journal};
 use gx_script::Script;
 use gx_store::Run;
+use gx_tree::KeyedRow;
 use std::alloc::Global;
 use std::sync::{Arc, Wait};
 
-/// What nodes apart have made: one run, whether it is whole, and the journals of all nodes, from the coordinator's on.
+/// What nodes apart have made: one run, whether it is whole, the tables that the nodes show, and the journals of all nodes, from the
+/// coordinator's on.
 #[derive(Drop)]
 pub struct ApartRun<J: Journal> {
     pub run: Run,
     pub is_whole: bool,
+    pub tables: Vec<Vec<KeyedRow>>,
     pub journals: Vec<J>,
 }
 
@@ -37,16 +43,21 @@ pub fn run_apart<R: Wait, J: Journal, G: Gate>(
     requires count { length journals.items ≡ script.now.value.segments }
     requires blank { (J.shelf journal).items ≡ [] }
     requires blanks { AreEmpty (map J.shelf journals.items) }
-    ensures { IfOk result (λ apart. IsMade script.now.value apart.run.steps apart.is_whole (map J.shelf apart.journals.items)) }
+    ensures made { IfOk result (λ apart. IsMade script.now.value apart.run.steps apart.is_whole (map J.shelf apart.journals.items)) }
+    ensures failures { IfOk result (λ apart. AreFailuresFew apart.run.steps ((J.shelf journal).faults ∷ map (λ j. (J.shelf j).faults) journals.items) (map J.shelf apart.journals.items)) }
+    ensures all { IfOk result (λ apart. length apart.tables.items ≡ length script.now.value.tables) }
+    ensures rows { IfOk result (λ apart. AreFinalFrom 0 (marks_in apart.run.steps) apart.tables.items) }
 {
     let mut cells = Cells::new(alloc, script.clone()?, journal, journals)?;
     drive(rt, alloc, script, &mut cells, gate, turns)?;
     let unfinished = cells.coord().unfinished();
+    let tables = cells.tables(alloc)?;
     let closed = cells.close(rt, alloc)?;
     let run = merge(alloc, script, closed.histories.as_slice())?;
     Ok(ApartRun {
         run,
         is_whole: !unfinished,
+        tables,
         journals: closed.journals,
     })
 }

@@ -1,7 +1,7 @@
 // What nodes are asked for, kind by kind, in the order of the schedule: each does the first thing that is to be done now, and says
 // whether it was done.
-ghost use Rattle.std.specs.Prelude.{◌≡◌};
 ghost use Rattle.gx_store.specs.Language.{IsScript};
+ghost use Rattle.gx_cells.specs.Done.{AreSameCells};
 
 use crate::seen::Seen;
 use gx_cells::{Action, Cells, Looked};
@@ -18,7 +18,7 @@ fn does<R: Wait, J: Journal, G: Gate>(
     node: Node,
     action: Action,
 ) -> Mem<bool>
-    ensures { cells.new.coord.script ≡ cells.old.coord.script }
+    ensures { AreSameCells cells.old cells.new }
 {
     match cells.act(rt, node, action, gate)? {
         Looked::Stepped | Looked::Lost => Ok(true),
@@ -33,7 +33,7 @@ pub(crate) fn move_first<R: Wait, J: Journal, G: Gate>(
     gate: &G,
     segments: u8,
 ) -> Mem<bool>
-    ensures { cells.new.coord.script ≡ cells.old.coord.script }
+    ensures { AreSameCells cells.old cells.new }
 {
     Ok(
         hear_first(rt, cells, gate, segments)?
@@ -48,7 +48,7 @@ fn hear_first<R: Wait, J: Journal, G: Gate>(
     gate: &G,
     segments: u8,
 ) -> Mem<bool>
-    ensures { cells.new.coord.script ≡ cells.old.coord.script }
+    ensures { AreSameCells cells.old cells.new }
 {
     for before in 0..segments {
         let from = Node(before + 1);
@@ -65,7 +65,7 @@ fn work_first<R: Wait, J: Journal, G: Gate>(
     gate: &G,
     segments: u8,
 ) -> Mem<bool>
-    ensures { cells.new.coord.script ≡ cells.old.coord.script }
+    ensures { AreSameCells cells.old cells.new }
 {
     for before in 0..segments {
         let node = Node(before + 1);
@@ -86,7 +86,7 @@ pub(crate) fn resend_first<R: Wait, J: Journal, G: Gate>(
     seen: &Seen,
     segments: u8,
 ) -> Mem<bool>
-    ensures { cells.new.coord.script ≡ cells.old.coord.script }
+    ensures { AreSameCells cells.old cells.new }
 {
     for before in 0..segments {
         let segment = Node(before + 1);
@@ -106,7 +106,7 @@ fn resend_to<R: Wait, J: Journal, G: Gate>(
     seen: &Seen,
     segment: Node,
 ) -> Mem<bool>
-    ensures { cells.new.coord.script ≡ cells.old.coord.script }
+    ensures { AreSameCells cells.old cells.new }
 {
     for place in 0..seen.open_count() {
         if let Some(gxid) = seen.open_at(place)
@@ -144,7 +144,7 @@ pub(crate) fn start_first<R: Wait, J: Journal, G: Gate>(
     seen: &mut Seen,
     script: &Script,
 ) -> Mem<bool>
-    ensures { cells.new.coord.script ≡ cells.old.coord.script }
+    ensures { AreSameCells cells.old cells.new }
 {
     let lines = script.lines.as_slice();
     for place in seen.front(lines)..lines.len() {
@@ -165,7 +165,7 @@ pub(crate) fn end_first<R: Wait, J: Journal, G: Gate>(
     script: &Script,
 ) -> Mem<bool>
     requires { IsScript script.now }
-    ensures { cells.new.coord.script ≡ cells.old.coord.script }
+    ensures { AreSameCells cells.old cells.new }
 {
     for place in 0..script.sessions.len() {
         let session = SessionId(place as u8);
@@ -182,7 +182,7 @@ pub(crate) fn round<R: Wait, J: Journal, G: Gate>(
     cells: &mut Cells<J>,
     gate: &G,
 ) -> Mem<bool>
-    ensures { cells.new.coord.script ≡ cells.old.coord.script }
+    ensures { AreSameCells cells.old cells.new }
 {
     does(rt, cells, gate, Node(0), Action::Round)
 }

@@ -1,5 +1,4 @@
 mod Answered
 mod AnsweredApart
 mod Below
-mod Finals
 mod Words

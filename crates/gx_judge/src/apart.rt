@@ -81,7 +81,14 @@ fn judge_script_apart<R: Wait>(
         options.turns,
     )?;
     let is_legal = legal(alloc, &script, &apart.run)?;
-    let text = text_apart(alloc, &script, options, &apart.run, apart.is_whole)?;
+    let text = text_apart(
+        alloc,
+        &script,
+        options,
+        &apart.run,
+        apart.is_whole,
+        apart.tables.as_slice(),
+    )?;
     if is_legal {
         Ok(Verdict::Legal(text))
     } else {

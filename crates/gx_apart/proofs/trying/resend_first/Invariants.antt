@@ -1,5 +1,5 @@
-use Rattle.std.proofs.Common.{◌≡◌}
+use Rattle.gx_cells.specs.Done.{AreSameCells}
 use Rattle.gx_apart.proofs.trying.resend_first.Given as goal
 
 abbrev pub invariant-loop-before : goal.invariant-loop-before
-invariant-loop-before g l = l.cells.coord.script ≡ l.fn.cells.coord.script
+invariant-loop-before g l = AreSameCells l.fn.cells l.cells

@@ -1,5 +1,5 @@
-use Rattle.std.proofs.Common.{◌≡◌}
+use Rattle.gx_cells.specs.Done.{AreSameCells}
 use Rattle.gx_apart.proofs.trying.resend_to.Given as goal
 
 abbrev pub invariant-loop-place : goal.invariant-loop-place
-invariant-loop-place g l = l.cells.coord.script ≡ l.fn.cells.coord.script
+invariant-loop-place g l = AreSameCells l.fn.cells l.cells
