@@ -7,7 +7,12 @@ use Rattle.gx_links.specs.Ends.{InEnd, OutEnd}
 use Rattle.gx_outside.specs.Shelves.{Shelf}
 use Rattle.gx_script.specs.declared.Script.{Script}
 use Rattle.gx_store.specs.declared.run.Step.{Step}
+use Rattle.gx_ids.specs.declared.ids.Table.{Table}
+use Rattle.gx_tree.specs.declared.row.KeyedRow.{KeyedRow}
+use Rattle.gx_dsnap.specs.declared.snapshot.Snapshot.{Snapshot}
 use Rattle.gx_rules.specs.Segments.{Seg}
+use Rattle.gx_rules.specs.Shown.{shown}
+use Rattle.gx_segment.specs.Steps.{nobody, no_command}
 use Rattle.gx_cells.specs.Kept.{segment_by}
 use Rattle.gx_cells.specs.Receipts.{Sight}
 
@@ -27,6 +32,10 @@ pub record SegmentView : Type 0 where
 -- the rule's data at the end of its history
 abbrev pub data_of : SegmentView → Seg
 data_of v = segment_by v.script v.node v.steps v.source.received
+
+-- the rows of a table that it shows to nobody's transaction
+abbrev pub rows_of : Snapshot → Table → SegmentView → List KeyedRow
+rows_of snapshot table v = shown (data_of v) snapshot nobody no_command table
 
 abbrev pub sight_of : SegmentView → Sight
 sight_of v = record { heard = v.source.received; again = v.again; steps = v.steps }

@@ -1,5 +1,5 @@
 // What the nodes apart show: the rows of each table.
-ghost use Rattle.std.specs.Prelude.{◌≡◌, ◌≤◌, IfOk, OnOk, flat_map, length, map};
+ghost use Rattle.std.specs.Prelude.{◌≡◌, ◌≤◌, IfOk, OnOk, length, map};
 ghost use Rattle.gx_outside.specs.Shelves.{Shelf};
 ghost use Rattle.gx_rules.specs.Coordinators.{Coord as RuleCoord};
 ghost use Rattle.gx_rules.specs.Segments.{Seg};
@@ -10,7 +10,7 @@ ghost use Rattle.gx_tables.specs.Tables.{AreTablesOf, shown_by};
 ghost use Rattle.gx_cells.specs.CoordKept.{IsCoordApart, coordinator_apart};
 ghost use Rattle.gx_cells.specs.CoordViews.{coord_data};
 ghost use Rattle.gx_cells.specs.Kept.{segment_apart};
-ghost use Rattle.gx_cells.specs.Views.{data_of};
+ghost use Rattle.gx_cells.specs.Views.{data_of, rows_of};
 
 use crate::coord_cell::CoordCell;
 use crate::coord_history::CoordHistory;
@@ -58,7 +58,7 @@ fn snapshot_there(history: &CoordHistory, inboxes: &[Inbox], coord: &Coord) -> M
 impl<J: Journal> SegmentCell<J> {
     // The rows of a table that a reader without a transaction is shown, unless it is spent.
     pub(crate) fn rows(&self, snapshot: &Snapshot, table: Table) -> Mem<Vec<KeyedRow>>
-        ensures { IfOk result (λ rows. rows.items ≡ shown (data_of self.now) snapshot.now nobody no_command table) }
+        ensures { IfOk result (λ rows. rows.items ≡ rows_of snapshot.now table self.now) }
     {
         if self.spent {
             return Err(OutOfMemory);
@@ -96,7 +96,8 @@ pub(crate) fn tables_by<J: Journal>(
     let mut tables = Vec::with_capacity(alloc, count)?;
     for number in 0..count {
         let rows = rows_by(alloc, segments, snapshot, Table(number as u8))?;
-        tables.push(last_rows(alloc, rows)?)?;
+        let list = last_rows(alloc, rows)?;
+        tables.push(list)?;
     }
     Ok(tables)
 }

@@ -1,3 +1,4 @@
 pub mod Finals
 pub mod Gathered
 pub mod Shows
+pub mod Tables
