@@ -126,8 +126,8 @@ impl<J: Journal> Cells<J> {
         Cells { coord, segments }
     }
 
-    /// The rows of each table in the order of the script, as all segments show them to a snapshot that is taken now. Where a cell is spent,
-    /// whosever it is, it answers `OutOfMemory` too.
+    /// The rows of each table in the order of the script, as all segments show them to a snapshot that is taken now. Where it meets a spent
+    /// cell it answers `OutOfMemory` too.
     pub fn tables(&self, alloc: Global) -> Mem<Vec<Vec<KeyedRow>>>
         ensures all { IfOk result (λ tables. length tables.items ≡ length self.now.coord.script.tables) }
         ensures rows { IfOk result (λ tables. AreTablesOf (map data_of self.now.segments) (snapshot_of (coord_data self.now.coord).table) 0 tables.items) }
