@@ -1,12 +1,11 @@
 -- Histories of cells that are closed fit together.
-use Rattle.std.proofs.Common.{◌≡◌, ◌≤◌, ◌<◌, ℕ, zero, suc, ◌+◌, List, [], ◌∷◌, ◌++◌, Option, Some, None, Bool, true, false, if◌then◌else◌, refl, sym, subst, ap, ◌∙◌, arith, length, get_or}
+use Rattle.std.proofs.Common.{◌≡◌, ◌≤◌, ◌<◌, ℕ, zero, suc, ◌+◌, List, [], ◌∷◌, Option, Some, None, Bool, true, false, if◌then◌else◌, refl, sym, subst, ap, ◌∙◌, arith, length, get_or}
 use Rattle.std.specs.Prelude.{map, slice_get}
 use Rattle.std.proofs.lemmas.List.{length-map}
 use Rattle.gx_lemmas.proofs.Lists.{place-below}
 use Rattle.gx_lemmas.proofs.Numbers.{same-of}
 use Rattle.gx_lemmas.proofs.Options.{some-same}
 use Rattle.gx_ids.specs.declared.ids.Node.{Node}
-use Rattle.gx_links.specs.Ends.{OutEnd}
 use Rattle.gx_msg.specs.ItemBytes.{bytes_of_item}
 use Rattle.gx_msg.specs.declared.message.Envelope.{Envelope}
 use Rattle.gx_outside.specs.Shelves.{Shelf}
@@ -20,7 +19,7 @@ use Rattle.gx_rules.specs.Segments.{new_segment}
 use Rattle.gx_law_merge.proofs.Longer.{same-by}
 use Rattle.gx_law_merge.proofs.Places.{place-kept}
 use Rattle.gx_law_merge.specs.Apart.{DoesFollow, HasMore, IsSameBy, at_place, coordinators_rule, holds_after, segments_rule, sent_to, takes_in}
-use Rattle.gx_law_merge.specs.Merge.{DoFit, coordinator_in, history_of, posted_in, segment_in, segments_items}
+use Rattle.gx_law_merge.specs.Merge.{DoFit, coordinator_in, history_of, posted_in, segment_in}
 use Rattle.gx_cells.specs.Closed.{AreBegun, AreClosed, DoHoldItems, IsBegun, IsCoordKept, IsSegmentKept, histories_of, inbox_of, items_at, out_of}
 use Rattle.gx_cells.specs.CoordKept.{from_segment, heard_in, post_at_coordinator}
 use Rattle.gx_cells.specs.CoordViews.{CoordView, coord_data}

@@ -1,7 +1,6 @@
 -- What comes of an action, at each node.
-use Rattle.std.specs.Prelude.{◌≡◌, ℕ, zero, suc, ◌==◌, Bool, true, false, if◌then◌else◌, List, slice_get, slice_set, Some, None}
+use Rattle.std.specs.Prelude.{◌≡◌, ℕ, zero, suc, ◌==◌, Bool, true, false, List, slice_get, slice_set, Some, None}
 use Rattle.std.specs.declared.option.Option.{Option}
-use Rattle.gx_ids.specs.declared.ids.Node.{Node}
 use Rattle.gx_locks.specs.Locks.{next_ready}
 use Rattle.gx_store.specs.Refusals.{the_coordinator}
 use Rattle.gx_store.specs.declared.node.NodeEvent.{NodeEvent}

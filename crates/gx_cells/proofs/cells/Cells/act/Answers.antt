@@ -1,5 +1,5 @@
-use Rattle.std.proofs.Common.{◌≡◌, ◌<◌, ◌+◌, Some, arith, refl, length, subst}
-use Rattle.std.specs.Prelude.{◌-◌, IfOk, OnErr, slice_get, slice_set}
+use Rattle.std.proofs.Common.{◌≡◌, ◌<◌, ◌+◌, arith, refl, length, subst}
+use Rattle.std.specs.Prelude.{◌-◌, IfOk, OnErr, slice_set}
 use Rattle.std.proofs.lemmas.Option.{slice_get_read}
 use Rattle.gx_cells.specs.Done.{AreSameCells, CellsView, HasDoneAt, IsSpentAt}
 use Rattle.gx_cells.proofs.Answers.{if_ok, on_err}
