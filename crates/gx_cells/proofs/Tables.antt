@@ -1,7 +1,8 @@
 -- The tables that nodes apart show are the final tables of the merge of their histories.
 use Rattle.std.proofs.Common.{◌≡◌, ◌≤◌, ◌+◌, ◌∙◌, ℕ, zero, suc, List, [], ◌∷◌, Some, arith, refl, subst, sym}
-use Rattle.std.specs.Prelude.{map, slice_get}
+use Rattle.std.specs.Prelude.{flat_map, map, slice_get}
 use Rattle.std.proofs.lemmas.List.{length-map}
+use Rattle.std.proofs.lemmas.List.Folds.{flat_map-map}
 use Rattle.std.specs.declared.alloc.Global.{Global}
 use Rattle.std.specs.declared.vec.Vec.{Vec}
 use Rattle.gx_lemmas.proofs.Options.{some-same}
@@ -11,16 +12,24 @@ use Rattle.gx_store.specs.Points.{marks_in}
 use Rattle.gx_store.specs.View.{AreFinalFrom}
 use Rattle.gx_store.specs.declared.run.Step.{Step}
 use Rattle.gx_rules.specs.Segments.{Seg}
+use Rattle.gx_rules.specs.Shown.{shown}
 use Rattle.gx_rules.specs.Snapshots.{snapshot_of}
+use Rattle.gx_segment.specs.Steps.{nobody, no_command}
+use Rattle.gx_ids.specs.declared.ids.Table.{Table}
+use Rattle.gx_dsnap.specs.declared.snapshot.Snapshot.{Snapshot}
 use Rattle.gx_tree.specs.declared.row.KeyedRow.{KeyedRow}
 use Rattle.gx_law_merge.proofs.Merging.{coordinator-at-end, merge-reached, segment-at-end}
 use Rattle.gx_law_merge.specs.Merge.{DoFit, IsMergeOf}
 use Rattle.gx_tables.proofs.Finals.{tables-are-final}
 use Rattle.gx_tables.specs.Left.{AreLeftBy}
-use Rattle.gx_tables.specs.Tables.{AreTablesOf}
+use Rattle.gx_tables.specs.Tables.{AreTablesOf, shown_by}
 use Rattle.gx_cells.specs.Closed.{AreHeldThere, histories_of}
 use Rattle.gx_cells.specs.CoordViews.{CoordView, coord_data}
-use Rattle.gx_cells.specs.Views.{SegmentView, data_of}
+use Rattle.gx_cells.specs.Views.{SegmentView, data_of, rows_of}
+
+-- what the cells show of a table, one behind the other
+pub rows-shown : (segments : List SegmentView) (snapshot : Snapshot) (table : Table) → flat_map (rows_of snapshot table) segments ≡ shown_by (map data_of segments) snapshot table
+rows-shown segments snapshot table = sym (flat_map-map (λ s. shown s snapshot nobody no_command table) data_of segments)
 
 one : (k : ℕ) → 1 ≤ k + 1
 one k = omega arith

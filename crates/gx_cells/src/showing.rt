@@ -1,12 +1,12 @@
 // What the nodes apart show: the rows of each table.
-ghost use Rattle.std.specs.Prelude.{◌≡◌, ◌≤◌, IfOk, OnOk, length, map};
+ghost use Rattle.std.specs.Prelude.{◌≡◌, ◌≤◌, IfOk, OnOk, flat_map, length, map};
 ghost use Rattle.gx_outside.specs.Shelves.{Shelf};
 ghost use Rattle.gx_rules.specs.Coordinators.{Coord as RuleCoord};
 ghost use Rattle.gx_rules.specs.Segments.{Seg};
 ghost use Rattle.gx_rules.specs.Shown.{shown};
 ghost use Rattle.gx_rules.specs.Snapshots.{snapshot_of};
 ghost use Rattle.gx_segment.specs.Steps.{IsSegment, nobody, no_command};
-ghost use Rattle.gx_tables.specs.Tables.{AreTablesOf, shown_by};
+ghost use Rattle.gx_tables.specs.Tables.{AreTablesOf};
 ghost use Rattle.gx_cells.specs.CoordKept.{IsCoordApart, coordinator_apart};
 ghost use Rattle.gx_cells.specs.CoordViews.{coord_data};
 ghost use Rattle.gx_cells.specs.Kept.{segment_apart};
@@ -109,7 +109,7 @@ fn rows_by<J: Journal>(
     snapshot: &Snapshot,
     table: Table,
 ) -> Mem<Vec<KeyedRow>>
-    ensures { IfOk result (λ rows. rows.items ≡ shown_by (map data_of segments.now) snapshot.now table) }
+    ensures { IfOk result (λ rows. rows.items ≡ flat_map (rows_of snapshot.now table) segments.now) }
 {
     let mut rows = Vec::new(alloc);
     for segment in segments {
