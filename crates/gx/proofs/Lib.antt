@@ -1,5 +1,6 @@
 pub mod Attempts
 pub mod Kept
+pub mod Lent
 pub mod Refusals
 pub mod Reports
 pub mod Runs

@@ -54,10 +54,17 @@ pub driven-let : (script : Script) (seed : Option ℕ) (steps : List Step) → A
 driven-let script None steps driven = first-let script steps driven
 driven-let script (Some seed) steps driven = drawn-let script seed steps driven
 
-pub run-of : (script : Script) (options : Options) (run : Run) → IsScript script → AreInsertsWhole script.tables script.lines → IsReached script run.steps → AreDriven options.seed script run.steps → length run.steps ≤ options.turns → IsRunOf script options run
-run-of script options run language inserts is driven within =
+history : (script : Script) (run : Run) → IsScript script → AreInsertsWhole script.tables script.lines → IsReached script run.steps → IsLegalHistory script run
+history script run language inserts is =
+    by-events script run.steps is (λ ss. IsLegalHistory script (record { steps = ss }))
+    (legal script language.some_segments language.numbers (keyed script inserts) (snapshots-one script language.some_segments) (filled script inserts) (world-cancels script language.some_segments (world-rounds script language.some_segments)))
+
+-- what is reached, and whose starts the groups let, is a run, whoever has made it
+pub run-reached : (script : Script) (options : Options) (run : Run) → IsScript script → AreInsertsWhole script.tables script.lines → IsReached script run.steps → AreStartsLet script run.steps
+    → (options.threads ≡ false → IsByDriver script options run) → IsRunOf script options run
+run-reached script options run language inserts is starts made =
     record {
-      legal = history;
+      legal = history script run language inserts is;
       ordered = by-events script run.steps is (AreOrdered script []) (λ es. (world_well script language.some_segments es).steps);
       system = by-events script run.steps is (λ ss. IsSystemRun script (record { steps = ss })) (world_follows script language.some_segments);
       protocol = by-events script run.steps is (DoStepsFollow script []) (world-follows script language.some_segments);
@@ -67,24 +74,22 @@ run-of script options run language inserts is driven within =
       locks = by-events script run.steps is (AreLocksLegal script) (locks-legal script language.some_segments language.numbers);
       blocked = by-events script run.steps is (λ ss. DoStayBlocked (marks_in ss)) (run-stays-blocked script language.some_segments);
       rounds = by-events script run.steps is (AreRoundsLegal script) (world-legal script language.some_segments (world-rounds script language.some_segments));
+      slots = keeps-slots script language run.steps (history script run language inserts is) starts;
+      queued = begin-as-asked script language run.steps (history script run language inserts is) starts;
+      alone = made;
+    }
+
+pub run-of : (script : Script) (options : Options) (run : Run) → IsScript script → AreInsertsWhole script.tables script.lines → IsReached script run.steps → AreDriven options.seed script run.steps → length run.steps ≤ options.turns → IsRunOf script options run
+run-of script options run language inserts is driven within =
+    run-reached script options run language inserts is (starts-let script run.steps let_in) (λ _. record {
+      driven = driven;
       lone = grouped-victims script language inserts run.steps is let_in;
       few = grouped-few script language inserts run.steps is let_in;
-      slots = keeps-slots script language run.steps history starts;
-      queued = begin-as-asked script language run.steps history starts;
-      driven = driven;
       within = within;
-    }
+    })
   where
-    history : IsLegalHistory script run
-    history =
-        by-events script run.steps is (λ ss. IsLegalHistory script (record { steps = ss }))
-        (legal script language.some_segments language.numbers (keyed script inserts) (snapshots-one script language.some_segments) (filled script inserts) (world-cancels script language.some_segments (world-rounds script language.some_segments)))
-
     let_in : AreLet script (lets script) [] run.steps
     let_in = driven-let script options.seed run.steps driven
-
-    starts : AreStartsLet script run.steps
-    starts = starts-let script run.steps let_in
 
 -- so is the run of a world that has the script
 pub run-in : (script : Script) (options : Options) (world : WorldState) (run : Run) → world.script ≡ script → run ≡ world.run → IsScript script → AreInsertsWhole script.tables script.lines → IsReached world.script world.run.steps → AreDriven options.seed script world.run.steps → length world.run.steps ≤ options.turns → IsRunOf script options run

@@ -3,17 +3,22 @@ ghost use Rattle.std.specs.Prelude.{◌≡◌, ◌≢◌, length, map};
 ghost use Rattle.gx_drive.specs.Ordered.{AreFailuresFew, AreHeld, AreHeldSoFar};
 ghost use Rattle.gx_outside.specs.Shelves.{AreEmpty};
 ghost use Rattle.gx_words.specs.Asked.{IsForSource};
-ghost use Rattle.gx.specs.Top.{IsCutShort, IsDone, IsDue, IsOfLanguage, IsPartRun, IsReadFault, IsRefused, IsStatus, IsStopped, IsStuck, IsTooLarge, IsUsage, IsWritten};
+ghost use Rattle.gx.specs.Top.{IsCutShort, IsDone, IsDue, IsForThreads, IsOfLanguage, IsPartRun, IsReadFault, IsRefused, IsStatus, IsStopped, IsStuck, IsTooLarge, IsUsage, IsWritten};
 
-use crate::attempt::make_attempt;
+use crate::alone::run_alone;
+use crate::attempt::make_attempt_in_threads;
 use gx_outside::{Gate, Journal, Sink, Source};
 use gx_store::{Report, told_of};
+use gx_words::ask_for_threads;
 use std::alloc::Global;
+use std::sync::Wait;
+use std::thread::Threads;
 
 /// Reads a script from the source, or generates the one of the number that the words give, runs it, and writes the text of its run to
 /// the sink, which is built whole before the first write. The words are those of the command line behind the program's name. The journals are those of the coordinator and of 16
 /// segments, by their numbers, and hold nothing. The gate is entered by each slice.
-pub fn run_gx<S: Source, K: Sink, J: Journal, G: Gate>(
+pub fn run_gx<R: Threads + Wait + Sync, S: Source, K: Sink, J: Journal + Send, G: Gate + Sync>(
+    rt: &R,
     alloc: Global,
     words: &[String],
     source: &mut S,
@@ -63,8 +68,11 @@ pub fn run_gx<S: Source, K: Sink, J: Journal, G: Gate>(
     // the limit of bytes.
     ensures language { IsOfLanguage (S.left source.old) (S.left source.new) }
 
-    // All journals come back.
-    ensures count { length journals.new.items ≡ 17 }
+    // Words that ask for threads get neither of these two.
+    ensures threads { IsForThreads words.now → (result.status ≢ 7) × (result.status ≢ 8) }
+
+    // All journals come back, unless memory ran out in threads.
+    ensures count { (IsForThreads words.now → result.status ≢ 6) → length journals.new.items ≡ 17 }
 
     // Each journal holds the items that the marks of its node stand for, and nothing else.
     ensures held { result.status ≢ 6 → AreHeld result.run.steps (map J.shelf journals.new.items) }
@@ -75,6 +83,9 @@ pub fn run_gx<S: Source, K: Sink, J: Journal, G: Gate>(
     // No node has more JournalFailed marks than its journal's count has risen.
     ensures failures { AreFailuresFew result.run.steps (map J.shelf journals.old.items) (map J.shelf journals.new.items) }
 {
-    let attempt = make_attempt(alloc, words, source, journals, gate);
+    if !ask_for_threads(words) {
+        return run_alone(alloc, words, source, sink, journals, gate);
+    }
+    let attempt = make_attempt_in_threads(rt, alloc, words, source, journals, gate);
     told_of(alloc, attempt, sink)
 }
