@@ -1,6 +1,7 @@
 -- What is known of the merge of histories, by what the cells told that they were taken from.
-use Rattle.std.proofs.Common.{◌≡◌, ◌≤◌, ◌<◌, ℕ, zero, suc, List, Bool, false, refl, sym, ap, ◌∙◌, subst, arith, length, get_or}
+use Rattle.std.proofs.Common.{◌≡◌, ◌≤◌, ◌<◌, ◌+◌, ◌∷◌, [], ℕ, zero, suc, List, Bool, false, refl, sym, ap, ◌∙◌, subst, arith, length, get_or}
 use Rattle.std.specs.Prelude.{map}
+use Rattle.std.proofs.lemmas.List.{length-map}
 use Rattle.std.proofs.lemmas.List.Elements.{All-from_get_or}
 use Rattle.std.proofs.lemmas.List.Folds.{list_any_none}
 use Rattle.std.proofs.lemmas.List.FromFn.{get_or-map-range_with_len, length-map-range_with_len}
@@ -24,11 +25,30 @@ use Rattle.gx_law_runs.proofs.Reaching.{by-events}
 use Rattle.gx_law_runs.specs.Reached.{IsReached}
 use Rattle.gx_law_runs.specs.Replays.{coordinator_after}
 use Rattle.gx_law_merge.proofs.Merging.{coordinator-at-end, coordinators-items-at-end, merge-reached, segments-items-at-end}
-use Rattle.gx_law_merge.specs.Merge.{DoFit, IsMergeOf, coordinator_in, segments_items}
-use Rattle.gx_cells.specs.Closed.{DoHoldItems, histories_of, items_at}
+use Rattle.gx_rules.specs.Segments.{new_segment}
+use Rattle.gx_law_runs.specs.Failures.{failures_in}
+use Rattle.gx_law_merge.proofs.Slotting.{queued-merged, slots-merged, starts-merged}
+use Rattle.gx_law_merge.specs.Apart.{segments_rule, takes_in}
+use Rattle.gx_law_merge.specs.Merge.{DoFit, IsMergeOf, coordinator_in, history_of, posted_in, segments_items}
+use Rattle.gx_store.specs.Groups.{AlwaysKeepsSlots, AreStartsLet, BeginAsAsked}
+use Rattle.gx_store.specs.Whole.{AreInsertsWhole}
+use Rattle.gx_coord.specs.declared.coord.Coord.{Coord as HeldCoord}
+use Rattle.gx_segment.specs.declared.segment.Segment.{Segment as HeldSegment}
+use Rattle.gx_tables.specs.Left.{AreLeftBy}
+use Rattle.gx_cells.proofs.Failures.{failures-own}
+use Rattle.gx_cells.proofs.Leaving.{left-by}
+use Rattle.gx_cells.specs.Closed.{AreNodesOf, DoHoldItems, histories_of, items_at}
 use Rattle.gx_cells.specs.CoordViews.{CoordView, coord_data}
 use Rattle.gx_cells.specs.Views.{SegmentView}
-use Rattle.gx_threads.specs.Ends.{AreHeld}
+use Rattle.gx_threads.specs.Ends.{AreHeld, HaveNoOthers}
+
+past : (histories : List (List Step)) (k : ℕ) → length histories ≤ k → get_or histories k [] ≡ []
+past [] k past-end = refl
+past (h ∷ hs) zero past-end = absurd (omega (arith, past-end))
+past (h ∷ hs) (suc k) past-end = past hs k (fewer (length hs) k past-end)
+  where
+    fewer : (n k : ℕ) → suc n ≤ suc k → n ≤ k
+    fewer n k h = omega (arith, h)
 
 abbrev ids : ℕ → ℕ → List SessionId
 ids k n = map (λ m. record { 0 = m }) (range_with_len k n)
@@ -70,6 +90,23 @@ module _ (script : Script) (language : IsScript script) (histories : List (List 
   pub all-held : (shelves : List Shelf) → DoHoldItems script histories shelves → AreHeld steps shelves
   all-held shelves held node shelf at = held node.0 shelf at ∙ ap (map bytes_of_item) (sym (items-merged node node.0 refl))
 
+  -- a node that the script doesn't have has no history
+  no-history : (node : Node) → script.segments < node.0 → history_of histories node ≡ []
+  no-history node beyond = past histories node.0 (ends (length histories) script.segments node.0 fit.count beyond)
+    where
+      ends : (n m k : ℕ) → n ≡ m + 1 → m < k → n ≤ k
+      ends n m k e h = omega (arith, e, h)
+
+  pub no-others : HaveNoOthers script steps
+  no-others node beyond = (
+    segments-items-at-end script language.some_segments histories fit steps merge node (positive script.segments node.0 beyond)
+        ∙ ap (takes_in (segments_rule script) (posted_in histories) (new_segment node)) (no-history node beyond),
+    failures-own script language histories fit steps merge node ∙ ap (λ (xs : List Step). failures_in node (marks_in xs)) (no-history node beyond),
+  )
+    where
+      positive : (m k : ℕ) → m < k → 1 ≤ k
+      positive m k h = omega (arith, h)
+
 pub reached-system : (script : Script) → IsScript script → (steps : List Step) → IsReached script steps → IsSystemRun script (record { steps = steps })
 reached-system script language steps reached = by-events script steps reached (λ ss. IsSystemRun script (record { steps = ss })) (world_follows script language.some_segments)
 
@@ -91,3 +128,33 @@ module _ (coord : CoordView) (segments : List SegmentView) (script : Script) (la
 
   pub ended-held : (shelves : List Shelf) → DoHoldItems coord.script (histories_of coord segments) shelves → AreHeld steps shelves
   ended-held shelves held = all-held coord.script its-language (histories_of coord segments) its-fit steps its-merge shelves held
+
+  pub ended-others : HaveNoOthers script steps
+  ended-others = subst (λ (x : Script). HaveNoOthers x steps) of (no-others coord.script its-language (histories_of coord segments) its-fit steps its-merge)
+
+  -- the groups let each start
+  pub ended-starts : AreStartsLet coord.script coord.steps → AreStartsLet script steps
+  ended-starts starts = subst (λ (x : Script). AreStartsLet x steps) of (starts-merged coord.script its-language.some_segments (histories_of coord segments) its-fit steps its-merge starts)
+
+  -- so each group keeps its slots, and its sessions begin as they asked
+  pub ended-slots : AreStartsLet coord.script coord.steps → AreInsertsWhole script.tables script.lines → AlwaysKeepsSlots script (marks_in steps)
+  ended-slots starts inserts =
+      subst (λ (x : Script). AlwaysKeepsSlots x (marks_in steps)) of
+      (slots-merged coord.script its-language (subst (λ (x : Script). AreInsertsWhole x.tables x.lines) (sym of) inserts) (histories_of coord segments) its-fit steps its-merge starts)
+
+  pub ended-queued : AreStartsLet coord.script coord.steps → AreInsertsWhole script.tables script.lines → BeginAsAsked script steps
+  ended-queued starts inserts =
+      subst (λ (x : Script). BeginAsAsked x steps) of
+      (queued-merged coord.script its-language (subst (λ (x : Script). AreInsertsWhole x.tables x.lines) (sym of) inserts) (histories_of coord segments) its-fit steps its-merge starts)
+
+  -- the nodes stand where the merge leads
+  pub ended-left : (held : HeldCoord) (nodes given : List HeldSegment) → given ≡ nodes → AreNodesOf coord.script (histories_of coord segments) held nodes → AreLeftBy script steps held given
+  ended-left held nodes given is left =
+      subst (AreLeftBy script steps held) (sym is)
+      (subst (λ s. AreLeftBy s steps held nodes) of (left-by coord.script its-language (histories_of coord segments) its-fit steps its-merge held nodes left))
+
+  -- there is a journal for each node
+  pub ended-count : (shelves : List Shelf) → shelves ≡ coord.shelf ∷ map (λ s. s.shelf) segments → length shelves ≡ script.segments + 1
+  ended-count shelves is =
+      ap length is ∙ ap suc (length-map segments (λ (s : SegmentView). s.shelf) ∙ sym (length-map segments (λ (s : SegmentView). s.steps))) ∙ its-fit.count
+      ∙ ap (λ (x : Script). x.segments + 1) of

@@ -1,15 +1,20 @@
 // Runs the nodes of a script in threads.
-ghost use Rattle.std.specs.Prelude.{◌≡◌, ◌<◌, ◌∷◌, [], true, false, IfOk, length, map};
+ghost use Rattle.std.specs.Prelude.{◌≡◌, ◌<◌, ◌+◌, ◌∷◌, [], true, false, IfOk, length, map};
 ghost use Rattle.gx_ids.specs.declared.ids.SessionId.{SessionId as Id};
 ghost use Rattle.gx_law_merge.specs.Merge.{DoFit, IsMergeOf};
 ghost use Rattle.gx_law_runs.specs.Reached.{IsReached};
 ghost use Rattle.gx_outside.specs.Shelves.{AreEmpty};
 ghost use Rattle.gx_rules.specs.AtCoordinator.{is_unfinished_there};
 ghost use Rattle.gx_rules.specs.System.{IsSystemRun};
+ghost use Rattle.gx_store.specs.Groups.{AlwaysKeepsSlots, AreStartsLet, BeginAsAsked};
 ghost use Rattle.gx_store.specs.Language.{IsScript};
+ghost use Rattle.gx_store.specs.Points.{marks_in};
 ghost use Rattle.gx_store.specs.Schedule.{is_any_unfinished};
+ghost use Rattle.gx_store.specs.View.{AreFinalFrom};
+ghost use Rattle.gx_store.specs.Whole.{AreInsertsWhole};
+ghost use Rattle.gx_cells.specs.Closed.{AreFailuresFew, firsts_of};
 ghost use Rattle.gx_cells.specs.CoordViews.{coord_data};
-ghost use Rattle.gx_threads.specs.Ends.{AreFailuresFew, AreHeld, firsts_of};
+ghost use Rattle.gx_threads.specs.Ends.{AreHeld, HaveNoOthers};
 ghost use Rattle.gx_threads.specs.Sets.{AreInOrder, IsSameSet};
 
 use crate::opening::{Work, opened};
@@ -19,16 +24,20 @@ use gx_merge::{NodeHistory, merge};
 use gx_outside::{Gate, Journal};
 use gx_script::Script;
 use gx_store::Run;
+use gx_tables::final_tables;
+use gx_tree::KeyedRow;
 use std::alloc::Global;
 use std::marker::Brand;
 use std::sync::{Arc, Wait};
 use std::thread::Threads;
 
-/// What a run in threads leaves: the nodes' histories, from the coordinator on, the one run that they make, and the nodes' journals.
+/// What a run in threads leaves: the nodes' histories, from the coordinator on, the one run that they make, the tables that the nodes
+/// show, and the nodes' journals.
 #[derive(Drop)]
 pub struct ThreadEnd<J: Journal> {
     pub histories: Vec<NodeHistory>,
     pub run: Run,
+    pub tables: Vec<Vec<KeyedRow>>,
     pub journals: Vec<J>,
 }
 
@@ -103,22 +112,36 @@ fn ended<R: Wait, J: Journal>(
     ensures merge { IfOk result (λ end. IsMergeOf (map (λ h. h.steps) end.histories.items) end.run.steps) }
     ensures reached { IfOk result (λ end. IsReached script.now end.run.steps) }
     ensures finished { IfOk result (λ end. is_any_unfinished script.now end.run.steps ≡ false) }
+    ensures starts { IfOk result (λ end. AreStartsLet script.now end.run.steps) }
+    ensures slots { IfOk result (λ end. AreInsertsWhole script.now.tables script.now.lines → AlwaysKeepsSlots script.now (marks_in end.run.steps)) }
+    ensures queued { IfOk result (λ end. AreInsertsWhole script.now.tables script.now.lines → BeginAsAsked script.now end.run.steps) }
+    ensures all { IfOk result (λ end. length end.tables.items ≡ length script.now.tables) }
+    ensures rows { IfOk result (λ end. AreFinalFrom 0 (marks_in end.run.steps) end.tables.items) }
+    ensures count { IfOk result (λ end. length end.journals.items ≡ script.now.segments + 1) }
+    ensures others { IfOk result (λ end. HaveNoOthers script.now end.run.steps) }
     ensures held { IfOk result (λ end. AreHeld end.run.steps (map J.shelf end.journals.items)) }
     ensures failures { IfOk result (λ end. AreFailuresFew end.run.steps (firsts_of cells.coord cells.segments) (map J.shelf end.journals.items)) }
 {
     let closed = cells.close(rt, alloc)?;
     let run = merge(alloc, script, closed.histories.as_slice())?;
+    let tables = final_tables(
+        alloc,
+        script,
+        &run,
+        &closed.coord,
+        closed.segments.as_slice(),
+    )?;
     Ok(ThreadEnd {
         histories: closed.histories,
         run,
+        tables,
         journals: closed.journals,
     })
 }
 
 /// Runs the nodes of a script in threads until no session is unfinished: each session, each segment and the detector in one of its own, and
 /// the calling one for the coordinator. What can't be started beside it the calling one does. The coordinator's journal and one for
-/// each segment are handed over, and hold no item. It may wait forever: without a detector for a session that is blocked. Limits
-/// of groups aren't kept.
+/// each segment are handed over, and hold no item. It may wait forever: without a detector for a session that is blocked.
 pub fn run_threads<J: Journal + Send, G: Gate + Sync, R: Threads + Wait + Sync>(
     rt: &R,
     alloc: Global,
@@ -136,6 +159,13 @@ pub fn run_threads<J: Journal + Send, G: Gate + Sync, R: Threads + Wait + Sync>(
     ensures reached { IfOk result (λ end. IsReached script.value end.run.steps) }
     ensures system { IfOk result (λ end. IsSystemRun script.value end.run) }
     ensures finished { IfOk result (λ end. is_any_unfinished script.value end.run.steps ≡ false) }
+    ensures starts { IfOk result (λ end. AreStartsLet script.value end.run.steps) }
+    ensures slots { IfOk result (λ end. AreInsertsWhole script.value.tables script.value.lines → AlwaysKeepsSlots script.value (marks_in end.run.steps)) }
+    ensures queued { IfOk result (λ end. AreInsertsWhole script.value.tables script.value.lines → BeginAsAsked script.value end.run.steps) }
+    ensures all { IfOk result (λ end. length end.tables.items ≡ length script.value.tables) }
+    ensures rows { IfOk result (λ end. AreFinalFrom 0 (marks_in end.run.steps) end.tables.items) }
+    ensures count { IfOk result (λ end. length end.journals.items ≡ script.value.segments + 1) }
+    ensures others { IfOk result (λ end. HaveNoOthers script.value end.run.steps) }
     ensures held { IfOk result (λ end. AreHeld end.run.steps (map J.shelf end.journals.items)) }
     ensures failures { IfOk result (λ end. AreFailuresFew end.run.steps ((J.shelf journal).faults ∷ map (λ j. (J.shelf j).faults) journals.items) (map J.shelf end.journals.items)) }
 {

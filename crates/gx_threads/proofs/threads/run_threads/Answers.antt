@@ -3,8 +3,9 @@ use Rattle.std.specs.Prelude.{map}
 use Rattle.std.proofs.lemmas.Result.{IfOk-weaker}
 use Rattle.gx_law_runs.specs.Reached.{IsReached}
 use Rattle.gx_threads.proofs.Ending.{reached-system}
-use Rattle.gx_threads.proofs.Failures.{new-firsts, same-firsts}
-use Rattle.gx_threads.specs.Ends.{AreFailuresFew}
+use Rattle.gx_cells.proofs.Failures.{new-firsts}
+use Rattle.gx_cells.specs.Closed.{AreFailuresFew}
+use Rattle.gx_threads.proofs.Failures.{same-firsts}
 use Rattle.gx_threads.proofs.threads.run_threads.Goals as goal
 
 pub returns-clause-system : goal.returns-clause-system
