@@ -1,9 +1,9 @@
 -- Journals that were lent to threads, one for each node, and those that weren't.
 use Rattle.std.proofs.Common.{◌≡◌, ◌≤◌, ◌<◌, ◌+◌, ◌-◌, ◌⊎◌, inl, inr, ℕ, zero, suc, List, [], ◌∷◌, ◌++◌, All, Some, Bool, false, true, length, take, drop, refl, sym, ap, ◌∙◌, subst, arith}
-use Rattle.std.proofs.lemmas.List.{length-map, map-append, take-append-drop}
+use Rattle.std.proofs.lemmas.List.{length-append, length-map, map-append}
 use Rattle.std.proofs.lemmas.List.Elements.{All-from_recursion, recursion_from_All}
-use Rattle.std.specs.Prelude.{map, slice_get, slice_index_or}
-use Rattle.std.specs.List.{AllByRecursion, remove}
+use Rattle.std.specs.Prelude.{map, slice_get}
+use Rattle.std.specs.List.{AllByRecursion}
 use Rattle.gx_ids.specs.declared.ids.Node.{Node}
 use Rattle.gx_msg.specs.ItemBytes.{bytes_of_item}
 use Rattle.gx_outside.specs.Shelves.{AreEmpty, Shelf}
@@ -18,32 +18,6 @@ use Rattle.gx_cells.specs.Closed as lent
 use Rattle.gx_threads.specs.Ends.{HaveNoOthers}
 use Rattle.gx.specs.Lent.{IsCut}
 use Rattle.gx.specs.Top.{AreKept}
-
--- CUTTING
-take-length : {A : Type 0} (n : ℕ) (xs : List A) → n ≤ length xs → length (take n xs) ≡ n
-take-length zero xs long = refl
-take-length (suc n) [] long = absurd (omega (arith, long))
-take-length (suc n) (x ∷ xs) long = ap suc (take-length n xs (omega (arith, long)))
-
--- the first goes out, and so many behind it stay
-pub cut : {A : Type 0} (all first own others : List A) (x : A) (n m : ℕ) → m ≡ n + 1 → m ≤ length all → first ≡ take m all → others ≡ drop m all → x ≡ slice_index_or first 0 x → own ≡ remove first 0
-    → IsCut all x own others n
-cut all first own others x n m next long front back value left = by all m (next ∙ one n) long front back
-  where
-    one : (n : ℕ) → n + 1 ≡ suc n
-    one n = omega arith
-
-    by : (js : List A) (k : ℕ) → k ≡ suc n → k ≤ length js → first ≡ take k js → others ≡ drop k js → IsCut js x own others n
-    by [] k is fits f b = absurd (omega (arith, is, fits))
-    by (j ∷ js) zero is fits f b = absurd (omega (arith, is))
-    by (j ∷ js) (suc k) is fits f b =
-        let same : k ≡ n = omega (arith, is) in
-        let x-is : x ≡ j = value ∙ ap (λ xs. slice_index_or xs 0 x) f in
-        let own-is : own ≡ take k js = left ∙ ap (λ xs. remove xs 0) f in
-        record {
-          whole = ap (λ xs. j ∷ xs) (sym (take-append-drop k js)) ∙ ap (λ y. y ∷ take k js ++ drop k js) (sym x-is) ∙ ap (λ xs. x ∷ xs ++ drop k js) (sym own-is) ∙ ap (λ xs. x ∷ own ++ xs) (sym b);
-          many = ap length own-is ∙ take-length k js (omega (arith, fits)) ∙ same;
-        }
 
 -- PLACES
 pub at-seam : {A : Type 0} (xs ys : List A) (k : ℕ) (v : A) → slice_get (xs ++ ys) k ≡ Some v → (slice_get xs k ≡ Some v) ⊎ ((length xs ≤ k) × (slice_get ys (k - length xs) ≡ Some v))
@@ -152,7 +126,7 @@ pub kept-journals : {A : Type 0} (f : A → Shelf) (script : Script) (steps : Li
 kept-journals f script steps all own others ends back x is empty count behind none held few over =
     subst (λ l. AreKept steps over l (map f back)) (sym (ap (map f) is.whole ∙ ap (λ l. f x ∷ l) (map-append f own others)))
     (subst (λ l. AreKept steps over ((f x ∷ map f own) ++ map f others) l) (sym (ap (map f) behind ∙ map-append f ends others))
-    (kept-lent script steps (f x ∷ map f own) (map f ends) (map f others) before (length-map ends f ∙ count) (lent-empty f all own others x script.segments is empty).1.1 none over held
+    (kept-lent script steps (f x ∷ map f own) (map f ends) (map f others) before (length-map ends f ∙ count) (lent-empty f all own others x script.segments is empty).2 none over held
     (subst (λ l. lent.AreFailuresFew steps l (map f ends)) (ap (λ l. (f x).faults ∷ l) (sym (map-faults f own))) few)))
   where
     before : length (f x ∷ map f own) ≡ script.segments + 1
@@ -164,14 +138,10 @@ kept-journals f script steps all own others ends back x is empty count behind no
 -- all come back
 pub lent-count : {A : Type 0} (all own others ends back : List A) (x : A) (n : ℕ) → IsCut all x own others n → length ends ≡ n + 1 → back ≡ ends ++ others → length back ≡ length all
 lent-count all own others ends back x n is count behind =
-    ap length behind ∙ length-both ends others ∙ sums (length ends) (length own) (length others) n count is.many ∙ ap suc (sym (length-both own others)) ∙ ap length (sym is.whole)
+    ap length behind ∙ length-append ends others ∙ sums (length ends) (length own) (length others) n count is.many ∙ ap suc (sym (length-append own others)) ∙ ap length (sym is.whole)
   where
     sums : (e o r n : ℕ) → e ≡ n + 1 → o ≡ n → e + r ≡ suc (o + r)
     sums e o r n a b = omega (arith, a, b)
-
-    length-both : (xs ys : List A) → length (xs ++ ys) ≡ length xs + length ys
-    length-both [] ys = refl
-    length-both (x ∷ xs) ys = ap suc (length-both xs ys)
 
 -- none came back, of a run that was never made
 pub none-back : (before : List Shelf) → AreKept [] false before []
