@@ -32,12 +32,8 @@ use Rattle.gx_law_merge.specs.Apart.{segments_rule, takes_in}
 use Rattle.gx_law_merge.specs.Merge.{DoFit, IsMergeOf, coordinator_in, history_of, posted_in, segments_items}
 use Rattle.gx_store.specs.Groups.{AlwaysKeepsSlots, AreStartsLet, BeginAsAsked}
 use Rattle.gx_store.specs.Whole.{AreInsertsWhole}
-use Rattle.gx_coord.specs.declared.coord.Coord.{Coord as HeldCoord}
-use Rattle.gx_segment.specs.declared.segment.Segment.{Segment as HeldSegment}
-use Rattle.gx_tables.specs.Left.{AreLeftBy}
 use Rattle.gx_cells.proofs.Failures.{failures-own}
-use Rattle.gx_cells.proofs.Leaving.{left-by}
-use Rattle.gx_cells.specs.Closed.{AreNodesOf, DoHoldItems, histories_of, items_at}
+use Rattle.gx_cells.specs.Closed.{DoHoldItems, histories_of, items_at}
 use Rattle.gx_cells.specs.CoordViews.{CoordView, coord_data}
 use Rattle.gx_cells.specs.Views.{SegmentView}
 use Rattle.gx_threads.specs.Ends.{AreHeld, HaveNoOthers}
@@ -146,12 +142,6 @@ module _ (coord : CoordView) (segments : List SegmentView) (script : Script) (la
   ended-queued starts inserts =
       subst (λ (x : Script). BeginAsAsked x steps) of
       (queued-merged coord.script its-language (subst (λ (x : Script). AreInsertsWhole x.tables x.lines) (sym of) inserts) (histories_of coord segments) its-fit steps its-merge starts)
-
-  -- the nodes stand where the merge leads
-  pub ended-left : (held : HeldCoord) (nodes given : List HeldSegment) → given ≡ nodes → AreNodesOf coord.script (histories_of coord segments) held nodes → AreLeftBy script steps held given
-  ended-left held nodes given is left =
-      subst (AreLeftBy script steps held) (sym is)
-      (subst (λ s. AreLeftBy s steps held nodes) of (left-by coord.script its-language (histories_of coord segments) its-fit steps its-merge held nodes left))
 
   -- there is a journal for each node
   pub ended-count : (shelves : List Shelf) → shelves ≡ coord.shelf ∷ map (λ s. s.shelf) segments → length shelves ≡ script.segments + 1

@@ -19,12 +19,11 @@ ghost use Rattle.gx_threads.specs.Sets.{AreInOrder, IsSameSet};
 
 use crate::opening::{Work, opened};
 use gx_cells::{Cells, SegmentCell};
-use gx_ids::Mem;
+use gx_ids::{Mem, OutOfMemory};
 use gx_merge::{NodeHistory, merge};
 use gx_outside::{Gate, Journal};
 use gx_script::Script;
 use gx_store::Run;
-use gx_tables::final_tables;
 use gx_tree::KeyedRow;
 use std::alloc::Global;
 use std::marker::Brand;
@@ -98,7 +97,7 @@ fn run_cells<J: Journal + Send, G: Gate + Sync, R: Threads + Wait + Sync>(
     unreachable!()
 }
 
-// Ends the links of cells of which no session has anything left, and merges their histories.
+// Lists the tables of cells of which no session has anything left, ends their links, and merges their histories.
 fn ended<R: Wait, J: Journal>(
     rt: &R,
     alloc: Global,
@@ -122,15 +121,12 @@ fn ended<R: Wait, J: Journal>(
     ensures held { IfOk result (λ end. AreHeld end.run.steps (map J.shelf end.journals.items)) }
     ensures failures { IfOk result (λ end. AreFailuresFew end.run.steps (firsts_of cells.coord cells.segments) (map J.shelf end.journals.items)) }
 {
+    let Ok(tables) = cells.tables(alloc) else {
+        drop(cells);
+        return Err(OutOfMemory);
+    };
     let closed = cells.close(rt, alloc)?;
     let run = merge(alloc, script, closed.histories.as_slice())?;
-    let tables = final_tables(
-        alloc,
-        script,
-        &run,
-        &closed.coord,
-        closed.segments.as_slice(),
-    )?;
     Ok(ThreadEnd {
         histories: closed.histories,
         run,

@@ -3,21 +3,14 @@ use Rattle.std.proofs.lemmas.List.{length-map}
 use Rattle.std.specs.Prelude.{map}
 use Rattle.gx_law_merge.specs.Merge.{IsMergeOf}
 use Rattle.gx_cells.proofs.Failures.{ended-few}
-use Rattle.gx_threads.proofs.Ending.{ended-count, ended-held, ended-left, ended-others, ended-over, ended-queued, ended-slots, ended-starts}
+use Rattle.gx_threads.proofs.Ending.{ended-count, ended-held, ended-others, ended-over, ended-queued, ended-slots, ended-starts}
 use Rattle.gx_threads.proofs.threads.ended.Goals as goal
-
-pub final_tables-requires : goal.final_tables-requires
-final_tables-requires g c =
-    let e = c.in_ok-closed.ensures in
-    let merge = subst (λ xs. IsMergeOf (map (λ h. h.steps) xs) c.in_ok-run.run'.steps) c.as_slice.ensures.value c.in_ok-run.ensures.merge in
-    ended-left c.args.cells.coord c.args.cells.segments c.args.script.now c.requires.language c.requires.of _ e.histories e.fit c.in_ok-run.run'.steps merge
-    c.in_ok-closed.closed.coord c.in_ok-closed.closed.segments.items c.as_slice-2.result.now c.as_slice-2.ensures.value e.left
 
 pub returns-clause-finished : goal.returns-clause-finished
 returns-clause-finished g c =
     let e = c.in_ok-closed.ensures in
     let merge = subst (λ xs. IsMergeOf (map (λ h. h.steps) xs) c.in_ok-run.run'.steps) c.as_slice.ensures.value c.in_ok-run.ensures.merge in
-    ended-over c.args.cells.coord c.args.cells.segments c.args.script.now c.requires.language c.requires.of _ e.histories e.fit c.in_ok-run.run'.steps merge e.holds (c.requires.done e.unspent.0)
+    ended-over c.args.cells.coord c.args.cells.segments c.args.script.now c.requires.language c.requires.of _ e.histories e.fit c.in_ok-run.run'.steps merge e.holds.coordinator (c.requires.done e.unspent.0)
 
 pub returns-clause-starts : goal.returns-clause-starts
 returns-clause-starts g c =
