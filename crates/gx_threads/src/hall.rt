@@ -13,12 +13,13 @@ pub struct Post {
     pub flag: Flag,
 }
 
-/// Each node's cell behind its lock, and a post for each thread but the calling one.
+/// Each node's cell behind its lock, a post for each thread but the calling one, and whether there are resource groups.
 #[derive(Drop)]
 pub struct Hall<J: Journal, N: SetName> {
     pub coord: CoordLock<J, N>,
     pub segments: Vec<SegmentLock<J, N>>,
     pub posts: Vec<Post>,
+    pub grouped: bool,
     pub over: AtomicBool,
     pub failed: AtomicBool,
 }
@@ -52,12 +53,20 @@ impl<J: Journal, N: SetName> Hall<J, N> {
         }
     }
 
-    /// Wakes the segments' threads.
-    pub fn wake_segments<R: Wait>(&self, rt: &R) {
+    /// Wakes whom a step that the coordinator made by itself may concern: the segments' threads, and where there are groups those
+    /// of all sessions too, one of which may have got a slot.
+    pub fn wake_behind<R: Wait>(&self, rt: &R) {
         for post in &self.posts {
-            if let Part::Segment(_) = post.part {
+            if self.grouped || is_segment(post.part) {
                 post.flag.unpark(rt);
             }
         }
+    }
+}
+
+fn is_segment(part: Part) -> bool {
+    match part {
+        Part::Segment(_) => true,
+        _ => false,
     }
 }

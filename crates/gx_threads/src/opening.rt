@@ -17,11 +17,12 @@ use std::sync::atomic::AtomicBool;
 use std::thread;
 use std::thread::Threads;
 
-/// How many sessions a script has, and whether it has a detector.
+/// How many sessions a script has, and whether it has a detector and groups.
 #[derive(Clone, Copy)]
 pub struct Work {
     pub sessions: usize,
     pub detector: bool,
+    pub grouped: bool,
 }
 
 // A post for each segment, each session and the detector.
@@ -107,6 +108,7 @@ pub fn opened<
         coord: CoordLock::new(coord),
         segments: locked(alloc, segments)?,
         posts,
+        grouped: work.grouped,
         over: AtomicBool::new(false),
         failed: AtomicBool::new(false),
     };
@@ -130,6 +132,7 @@ fn open_hall<N: SetName, J: Journal>(
         coord,
         segments,
         posts: _,
+        grouped: _,
         over: _,
         failed: _,
     } = hall;

@@ -64,7 +64,7 @@ pub fn turn<N: SetName, J: Journal, G: Gate, R: Wait>(
     }
 }
 
-// The coordinator does something by itself, which may have sent to segments.
+// The coordinator does something by itself.
 fn own_turn<N: SetName, J: Journal, R: Wait>(
     rt: &R,
     hall: &Hall<J, N>,
@@ -72,7 +72,7 @@ fn own_turn<N: SetName, J: Journal, R: Wait>(
 ) -> Mem<Turned> {
     let moved = has_moved(hall.coord.act(rt, action)?);
     if moved {
-        hall.wake_segments(rt);
+        hall.wake_behind(rt);
     }
     Ok(turned_if(moved))
 }

@@ -168,6 +168,7 @@ pub fn run_threads<J: Journal + Send, G: Gate + Sync, R: Threads + Wait + Sync>(
     let work = Work {
         sessions: script.sessions.len(),
         detector: script.detector,
+        grouped: !script.groups.is_empty(),
     };
     let cells = Cells::new(alloc, script.clone()?, journal, journals)?;
     let cells = run_cells(rt, alloc, cells, work, gate)?;
