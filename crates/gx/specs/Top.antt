@@ -29,6 +29,7 @@ use Rattle.gx_store.specs.Stands.{DoRowsStand}
 use Rattle.gx_store.specs.View.{AreFinalFrom}
 use Rattle.gx_store.specs.Whole.{AreInsertsWhole}
 use Rattle.gx_rules.specs.System.{IsSystemRun}
+use Rattle.gx_law_merge.specs.Merge.{DoFit, IsMergeOf}
 use Rattle.gx_law_locks.specs.Blocked.{DoStayBlocked}
 use Rattle.gx_law_writes.specs.Legal.{AreLocksLegal}
 use Rattle.gx_law_runs.specs.Endings.{IsFinished}
@@ -67,13 +68,20 @@ pub record IsByDriver (script : Script) (options : Options) (run : Run) : Type 0
   pub few : AreLoneRoundsFew script (lets script) run.steps
   pub within : length run.steps ≤ options.turns
 
+-- How threads have made it: it is the merge, by clock and node, of histories that fit together, one of each node, which follows its rule
+-- there by what the others have sent it.
+pub record IsMerged (script : Script) (run : Run) : Type 0 where
+  pub histories : List (List Step)
+  pub fit : DoFit script histories
+  pub merge : IsMergeOf histories run.steps
+
 -- The run is a legal history of one store without segments. Its nodes follow their rules and the commit protocol, its messages are
 -- numbered, follow what they tell of, and arrive after they were sent, clocks rise, rows stand where it tells of them, no segment says
 -- of a command both that it is done and that it has failed, or two causes, its locks are legal, and who is blocked stays blocked until one of
 -- them aborts. Its rounds of the deadlock detector ask, report and decide as they are defined; where one names somebody the waits
 -- that it found stuck still stand, and whoever it names is the youngest of those who can't go on. No resource group ever has more open
 -- transactions than slots, and its sessions begin theirs in the order in which they asked. Where the words ask for no threads, a driver
--- has made the run.
+-- has made the run, and else threads.
 pub record IsRunOf (script : Script) (options : Options) (run : Run) : Type 0 where
   pub legal : IsLegalHistory script run
   pub ordered : AreOrdered script [] run.steps
@@ -88,6 +96,7 @@ pub record IsRunOf (script : Script) (options : Options) (run : Run) : Type 0 wh
   pub slots : AlwaysKeepsSlots script (marks_of run)
   pub queued : BeginAsAsked script run.steps
   pub alone : options.threads ≡ false → IsByDriver script options run
+  pub threads : options.threads ≡ true → IsMerged script run
 
 -- the tables of a script as they are behind a run
 pub record AreTables (script : Script) (run : Run) (tables : List (Vec KeyedRow Global)) : Type 0 where

@@ -8,7 +8,7 @@ ghost use Rattle.gx_store.specs.Schedule.{is_any_unfinished};
 ghost use Rattle.gx_store.specs.Told.{is_over, run_in};
 ghost use Rattle.gx_store.specs.Whole.{AreInsertsWhole};
 ghost use Rattle.gx.specs.Lent.{IsCut};
-ghost use Rattle.gx.specs.Top.{AreKept, AreTables, IsRan};
+ghost use Rattle.gx.specs.Top.{AreKept, AreTables, IsMerged, IsRan};
 
 use crate::telling::text_with;
 use gx_ids::Mem;
@@ -83,6 +83,7 @@ fn run_lent<J: Journal + Send, G: Gate + Sync, R: Threads + Wait + Sync>(
     requires journals { length journals.items ≡ 17 }
     requires empty { AreEmpty (map J.shelf journals.items) }
     ensures reached { IfOk result (λ made. IsReached script.now.value made.run.steps) }
+    ensures merged { IfOk result (λ made. IsMerged script.now.value made.run) }
     ensures starts { IfOk result (λ made. AreStartsLet script.now.value made.run.steps) }
     ensures done { IfOk result (λ made. is_any_unfinished script.now.value made.run.steps ≡ false) }
     ensures tables { IfOk result (λ made. AreTables script.now.value made.run made.tables.items) }
@@ -132,6 +133,7 @@ fn told(
     requires language { IsScript script.now }
     requires inserts { AreInsertsWhole script.now.tables script.now.lines }
     requires reached { IsReached script.now run.steps }
+    requires merged { IsMerged script.now run }
     requires starts { AreStartsLet script.now run.steps }
     requires done { is_any_unfinished script.now run.steps ≡ false }
     requires tables { AreTables script.now run tables.items }

@@ -71,6 +71,7 @@ fn ended(alloc: Global, world: World, options: Options, end: End) -> Attempt
 }
 
 fn finished(alloc: Global, world: World, options: Options) -> Attempt
+    requires alone { options.threads ≡ false }
     requires usable { world.spent ≡ false }
     requires language { IsScript world.script }
     requires inserts { AreInsertsWhole world.script.tables world.script.lines }
