@@ -142,7 +142,8 @@ fn made_in_threads<R: Threads + Wait + Sync>(
     ensures all { IfOk result (λ apart. length apart.tables.items ≡ length script.now.value.tables) }
     ensures rows { IfOk result (λ apart. AreFinalFrom 0 (marks_in apart.run.steps) apart.tables.items) }
 {
-    let end = run_threads(rt, alloc, script.clone()?, journal, journals, &PassGate)?;
+    let shared = script.clone()?;
+    let end = run_threads(rt, alloc, shared, journal, journals, &PassGate)?;
     Ok(ApartRun {
         run: end.run,
         is_whole: true,

@@ -1,4 +1,4 @@
-use Rattle.std.proofs.Common.{◌≡◌, ◌∙◌, ap, length, not, subst, sym}
+use Rattle.std.proofs.Common.{◌≡◌, ◌∙◌, ap, not, rules, subst, sym, true}
 use Rattle.std.proofs.lemmas.List.{length-map}
 use Rattle.std.specs.Prelude.{map}
 use Rattle.gx_outside.specs.Memory.{shelf_of}
@@ -10,7 +10,8 @@ pub returns-clause-made : goal.returns-clause-made
 returns-clause-made g c =
     let e = c.in_ok-end.ensures in
     let end = c.in_ok-end.end in
-    subst (λ (s : Script). IsMade s end.run.steps _ (map shelf_of end.journals.items)) _
+    let of : c.in_ok-shared.shared.value ≡ c.args.script.now.value = search rules in
+    subst (λ (s : Script). IsMade s end.run.steps true (map shelf_of end.journals.items)) of
     (record {
       histories = map (λ h. h.steps) end.histories.items;
       fit = e.fit;
