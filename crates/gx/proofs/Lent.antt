@@ -11,7 +11,9 @@ use Rattle.gx_script.specs.declared.Script.{Script}
 use Rattle.gx_store.specs.Journals.{items_of}
 use Rattle.gx_store.specs.Points.{marks_in}
 use Rattle.gx_store.specs.Refusals.{the_coordinator}
+use Rattle.gx_store.specs.declared.run.Run.{Run}
 use Rattle.gx_store.specs.declared.run.Step.{Step}
+use Rattle.gx_store.specs.Told.{no_run}
 use Rattle.gx_law_runs.specs.Failures.{failures_in}
 use Rattle.gx_drive.specs.Ordered.{AreFailuresFew, AreHeld, AreHeldSoFar}
 use Rattle.gx_cells.specs.Closed as lent
@@ -144,7 +146,7 @@ lent-count all own others ends back x n is count behind =
     sums e o r n a b = omega (arith, a, b)
 
 -- none came back, of a run that was never made
-pub none-back : (before : List Shelf) → AreKept [] false before []
+none-back : (before : List Shelf) → AreKept [] false before []
 none-back before = record {
   failures = λ node b a was now. absurd (nothing node.0 a now);
   so_far = record { last = the_coordinator; own = λ s there. absurd (nothing 0 s there); others = λ node s apart there. absurd (nothing node.0 s there) };
@@ -156,3 +158,13 @@ none-back before = record {
 
     false-true : false ≡ true → ⊥
     false-true e = cc
+
+pub none-kept : {A : Type 0} (f : A → Shelf) (old back : List A) (run : Run) → run ≡ no_run → back ≡ [] → AreKept run.steps false (map f old) (map f back)
+none-kept f old back run none empty =
+    subst (λ (r : Run). AreKept r.steps false (map f old) (map f back)) (sym none) (subst (λ js. AreKept [] false (map f old) (map f js)) (sym empty) (none-back (map f old)))
+
+-- what holds of a run that came to its end holds of what is told of it
+pub kept-told : {A : Type 0} (f : A → Shelf) (old lent back : List A) (run told : Run) (over : Bool) → lent ≡ old → told ≡ run → AreKept run.steps true (map f lent) (map f back) → AreKept told.steps over (map f old) (map f back)
+kept-told f old lent back run told over same is kept =
+    subst (λ (r : Run). AreKept r.steps over (map f old) (map f back)) (sym is)
+    (subst (λ js. AreKept run.steps over (map f js) (map f back)) same (record { failures = kept.failures; so_far = kept.so_far; held = λ _. kept.held refl }))
