@@ -6,7 +6,7 @@ use Rattle.gx.proofs.Lent.{kept-journals, lent-empty}
 use Rattle.gx.proofs.in_threads.run_lent.Goals as goal
 
 pub run_threads-requires-clause-blanks : goal.run_threads-requires-clause-blanks
-run_threads-requires-clause-blanks g c =
+run_threads-requires-clause-blanks g c κs within =
     let lent = c.in_ok-lent.lent in
     (lent-empty g.J.Journal.shelf c.args.journals.items lent.own.items lent.others.items lent.first _ c.in_ok-lent.ensures c.requires.empty).1
 
