@@ -68,7 +68,7 @@ pub record IsByDriver (script : Script) (options : Options) (run : Run) : Type 0
   pub few : AreLoneRoundsFew script (lets script) run.steps
   pub within : length run.steps ≤ options.turns
 
--- How threads have made it: it is the merge, by clock and node, of histories that fit together, one of each node, which follows its rule
+-- What is said of a run in threads: it is the merge, by clock and node, of histories that fit together, one of each node, which follows its rule
 -- there by what the others have sent it.
 pub record IsMerged (script : Script) (run : Run) : Type 0 where
   pub histories : List (List Step)
@@ -81,7 +81,7 @@ pub record IsMerged (script : Script) (run : Run) : Type 0 where
 -- them aborts. Its rounds of the deadlock detector ask, report and decide as they are defined; where one names somebody the waits
 -- that it found stuck still stand, and whoever it names is the youngest of those who can't go on. No resource group ever has more open
 -- transactions than slots, and its sessions begin theirs in the order in which they asked. Where the words ask for no threads, a driver
--- has made the run, and else threads.
+-- has made the run; else it is the merge of histories that fit, and that threads made it is no clause.
 pub record IsRunOf (script : Script) (options : Options) (run : Run) : Type 0 where
   pub legal : IsLegalHistory script run
   pub ordered : AreOrdered script [] run.steps

@@ -5,8 +5,8 @@ ghost use Rattle.gx_sql.specs.Script.{Reads};
 ghost use Rattle.gx_words.specs.Asked.{IsForSource};
 ghost use Rattle.gx_store.specs.Told.{no_run, run_in};
 
-use gx_refusals::refusal_text;
 use gx_outside::Source;
+use gx_refusals::refusal_text;
 use gx_script::Script;
 use gx_sql::{Refusal, parse_script};
 use gx_store::{Attempt, Run};

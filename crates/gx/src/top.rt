@@ -16,7 +16,7 @@ use std::thread::Threads;
 
 /// Reads a script from the source, or generates the one of the number that the words give, runs it, and writes the text of its run to
 /// the sink, which is built whole before the first write. The words are those of the command line behind the program's name. The journals are those of the coordinator and of 16
-/// segments, by their numbers, and hold nothing. The gate is entered by each slice.
+/// segments, by their numbers, and hold nothing. The gate is entered by each slice. Where the words ask for threads it may wait forever.
 pub fn run_gx<R: Threads + Wait + Sync, S: Source, K: Sink, J: Journal + Send, G: Gate + Sync>(
     rt: &R,
     alloc: Global,
@@ -31,8 +31,8 @@ pub fn run_gx<R: Threads + Wait + Sync, S: Source, K: Sink, J: Journal + Send, G
     ensures known { IsStatus result.status }
 
     // The source was read to its end and its bytes are a script, or those that were generated are; the run is a legal history of one store in which
-    // each line of it has its answer, made by the system of nodes in the fixed order or by the seed; and the text of that run and of the tables at its
-    // end was written, which for generated work is one line.
+    // each line of it has its answer, made by the system of nodes in the fixed order, by the seed, or in threads; and the text of that run and of the
+    // tables at its end was written, which for generated work is one line.
     ensures done { result.status ≡ 0 → IsWritten (IsDone words.now (S.left source.old) (S.left source.new) result.run) (K.written sink.old) (K.written sink.new) }
 
     // The words are not in the language, and the text says what is.
@@ -47,7 +47,8 @@ pub fn run_gx<R: Threads + Wait + Sync, S: Source, K: Sink, J: Journal + Send, G
     ensures write_fault { result.status ≡ 5 → IsCutShort (IsDue words.now (S.left source.old) (S.left source.new) (S.fault_count source.old) (S.fault_count source.new) result.run)
         (K.written sink.old) (K.written sink.new) (K.fault_count sink.old) (K.fault_count sink.new) }
 
-    // Nothing was written, source and sink have counted no fault, and what was run is a part of a legal history of the script, within its turns.
+    // Nothing was written, source and sink have counted no fault, and what was run is a part of a legal history of the
+    // script, within its turns where the words ask for no threads.
     ensures unfailed { result.status ≡ 6 → (S.fault_count source.new ≡ S.fault_count source.old) × (K.fault_count sink.new ≡ K.fault_count sink.old) }
     ensures memory { result.status ≡ 6 → (K.written sink.new ≡ K.written sink.old) × IsPartRun words.now (S.left source.old) (S.left source.new) result.run }
 
@@ -68,10 +69,10 @@ pub fn run_gx<R: Threads + Wait + Sync, S: Source, K: Sink, J: Journal + Send, G
     // the limit of bytes.
     ensures language { IsOfLanguage (S.left source.old) (S.left source.new) }
 
-    // Words that ask for threads get neither of these two.
+    // Where the words ask for threads, the status is neither 7 nor 8.
     ensures threads { IsForThreads words.now → (result.status ≢ 7) × (result.status ≢ 8) }
 
-    // All journals come back, unless memory ran out in threads.
+    // All journals come back, unless the words ask for threads and memory ran out.
     ensures count { (IsForThreads words.now → result.status ≢ 6) → length journals.new.items ≡ 17 }
 
     // Each journal holds the items that the marks of its node stand for, and nothing else.
