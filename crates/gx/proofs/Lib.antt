@@ -4,4 +4,4 @@ pub mod Lent
 pub mod Refusals
 pub mod Reports
 pub mod Runs
-pub mod Reading
+pub mod Language

@@ -1,4 +1,4 @@
-use Rattle.gx.proofs.Reading.{keeps_language}
+use Rattle.gx.proofs.Language.{keeps_language}
 use Rattle.gx.proofs.Reports.{at_status, cut_short, failures, held, known, memory, so_far, unfailed}
 use Rattle.gx.proofs.alone.run_alone.Goals as goal
 

@@ -1,7 +1,7 @@
 use Rattle.std.specs.Prelude.{map}
 use Rattle.gx.proofs.Attempts.{ran}
 use Rattle.gx.proofs.Kept.{none_ran}
-use Rattle.gx.proofs.Reading.{keeps_language}
+use Rattle.gx.proofs.Language.{keeps_language}
 use Rattle.gx.proofs.attempt.make_attempt.Goals as goal
 
 pub run_script-requires-clause-alone : goal.run_script-requires-clause-alone

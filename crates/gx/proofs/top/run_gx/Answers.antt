@@ -1,5 +1,5 @@
 use Rattle.std.proofs.Common.{◌∙◌, sym}
-use Rattle.gx.proofs.Reading.{keeps_language}
+use Rattle.gx.proofs.Language.{keeps_language}
 use Rattle.gx.proofs.Reports.{AreAllForThreads, at_status, cut_short, failures, held, known, memory, never-stopped, never-stuck, over, so_far, unfailed}
 use Rattle.gx.proofs.top.run_gx.Goals as goal
 
