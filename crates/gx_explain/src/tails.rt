@@ -1,6 +1,5 @@
 // Where a token of a line begins.
 ghost use Rattle.std.specs.Prelude.{◌≡◌, ◌≤◌, ◌∷◌, [], false, true, length, IfSome, MatchOption};
-ghost use Rattle.std.specs.List.{prefix_len};
 ghost use Rattle.gx_lex.specs.Lexing as lexing;
 ghost use Rattle.gx_sql.specs.Lines as lines;
 ghost use Rattle.gx_explain.specs.Tails as of;
@@ -9,37 +8,19 @@ use gx_lex::byte::{is_blank, is_digit, is_letter, is_word_byte};
 use gx_lex::lone_symbol;
 use gx_sql::behind_blanks;
 
-fn word_len(bytes: &[u8]) -> usize
-    ensures value { result ≡ prefix_len lexing.is_word_byte bytes.now }
-    ensures within { result ≤ length bytes.now }
-{
-    for count in 0..bytes.len() {
-        if !is_word_byte(bytes[count]) {
-            return count;
-        }
-    }
-    bytes.len()
-}
-
 fn behind_word(first: u8, behind: &[u8]) -> &[u8]
     requires { lexing.is_letter first ≡ true }
     ensures value { of.IsBehindFirst (first ∷ behind.now) result.now }
     ensures within { length result.now ≤ length behind.now }
 {
-    let (_word, rest) = behind.split_at(word_len(behind));
-    rest
-}
-
-fn digits_len(bytes: &[u8]) -> usize
-    ensures value { result ≡ prefix_len lexing.is_digit bytes.now }
-    ensures within { result ≤ length bytes.now }
-{
-    for count in 0..bytes.len() {
-        if !is_digit(bytes[count]) {
-            return count;
+    let mut rest = behind;
+    while let Some((byte, others)) = rest.split_first() {
+        if !is_word_byte(*byte) {
+            return rest;
         }
+        rest = others;
     }
-    bytes.len()
+    rest
 }
 
 fn behind_digits(first: u8, behind: &[u8]) -> &[u8]
@@ -47,7 +28,13 @@ fn behind_digits(first: u8, behind: &[u8]) -> &[u8]
     ensures value { of.IsBehindFirst (first ∷ behind.now) result.now }
     ensures within { length result.now ≤ length behind.now }
 {
-    let (_digits, rest) = behind.split_at(digits_len(behind));
+    let mut rest = behind;
+    while let Some((byte, others)) = rest.split_first() {
+        if !is_digit(*byte) {
+            return rest;
+        }
+        rest = others;
+    }
     rest
 }
 
