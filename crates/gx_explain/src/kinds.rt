@@ -9,7 +9,7 @@ use crate::parts::{before_listed, before_word};
 use gx_ids::{Mem, OutOfMemory, Seq};
 use gx_lex::{Token, Word};
 use gx_lines::{AssignSyn, ItemSyn, ItemsSyn, KeySyn, SelectSyn, Size, StmtSyn, TupleSyn};
-use gx_resolve::{ResolveError, Written, is_grouped};
+use gx_resolve::{ResolveError, Written, find_column, is_grouped};
 use gx_tree::{Column, Dist, Txt};
 use std::alloc::Global;
 
@@ -256,19 +256,20 @@ pub fn mismatch_place(
     }
 }
 
-// Whether an assignment sets the column at this place.
+// Whether an assignment is right and sets the column at this place.
 fn sets(alloc: Global, columns: &[Column], key: u8, assign: &AssignSyn) -> Mem<bool>
     requires { length columns.now ≤ 256 }
     ensures { IfOk result (λ sets. sets ≡ of.sets key (assign_as columns.now assign.now)) }
 {
-    match assign.resolve(alloc, columns) {
-        Ok(resolved) => {
-            let col = resolved.col;
-            drop(resolved);
-            Ok(col == key)
+    match find_column(columns, &assign.column) {
+        None => Ok(false),
+        Some((place, _)) => {
+            if place == key {
+                is_right(alloc, columns, assign)
+            } else {
+                Ok(false)
+            }
         }
-        Err(ResolveError::Fault(_)) => Ok(false),
-        Err(ResolveError::OutOfMemory) => Err(OutOfMemory),
     }
 }
 
