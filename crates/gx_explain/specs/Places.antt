@@ -1,5 +1,5 @@
 -- Where in a refused line its fault is.
-use Rattle.std.specs.Prelude.{◌≡◌, ◌⊎◌, ℕ, ◌+◌, ◌==◌, Bool, true, false, not, if◌then◌else◌, List, [], ◌∷◌, ◌++◌, length, drop, Option, Some, None, Ok, Err, is_ok, is_none}
+use Rattle.std.specs.Prelude.{◌≡◌, ◌⊎◌, ℕ, ◌+◌, ◌==◌, Bool, true, false, not, if◌then◌else◌, List, [], ◌∷◌, ◌++◌, length, drop, Option, Some, None, Result, Ok, Err, is_ok, is_none}
 use Rattle.std.specs.List.{prefix_len}
 use Rattle.std.specs.Option.{option_and_then}
 use Rattle.gx_ids.specs.declared.ids.Table.{Table}
@@ -7,6 +7,8 @@ use Rattle.gx_lex.specs.declared.token.Token.{Token}
 use Rattle.gx_lex.specs.declared.word.Word.TheVariants as word
 use Rattle.gx_grammar.specs.declared.fault.Limits.{Limits}
 use Rattle.gx_grammar.specs.declared.fault.Fault.{Fault}
+use Rattle.gx_grammar.specs.declared.fault.ReadError.{ReadError}
+use Rattle.gx_grammar.specs.declared.fault.ReadError.TheVariants as errors
 use Rattle.gx_grammar.specs.Rules.{Stops}
 use Rattle.gx_lines.specs.declared.classes.Size.{Size}
 use Rattle.gx_lines.specs.declared.syn.ItemSyn.{ItemSyn}
@@ -201,6 +203,12 @@ written_place groups members tables (line_syn.Table t) f ts = table_place f ts
 written_place groups members tables (line_syn.Link l) f ts = 0
 written_place groups members tables (line_syn.Group g) f ts = told_place groups members g ts
 written_place groups members tables (line_syn.Session name written) f ts = found_place (option_and_then (λ table. table_after 0 table tables) (table_named written)) written f ts
+
+-- of tokens that were read so: by what is wrong with the line, or before those that are left
+abbrev pub IsPlaceOf : List GroupHead → List (List ℕ × ℕ) → List Schema → LineFault → List Token → Result LineSyn ReadError → ℕ → Type 0
+IsPlaceOf groups members tables f ts (Ok x) place = place ≡ written_place groups members tables x f ts
+IsPlaceOf groups members tables f ts (Err (errors.Fault g left)) place = place + left ≡ length ts
+IsPlaceOf groups members tables f ts (Err errors.OutOfMemory) place = ⊥
 
 -- by the rule of a line, or by what is wrong with a line that is written by it
 abbrev pub IsPlaceBy : (Limits → LineSyn → List Token → Type 0) → List GroupHead → List (List ℕ × ℕ) → List Schema → LineFault → List Token → ℕ → Type 0

@@ -1,7 +1,7 @@
 // Where in a refused line its fault is.
 ghost use Rattle.std.specs.Prelude.{◌≡◌, ◌≤◌, ◌+◌, ◌-◌, List, IfOk, IfSome, length};
 ghost use Rattle.std.specs.Option.{option_map, ForSome};
-ghost use Rattle.gx_lines.specs.Heads.{head_line, segments as segments_line, session_line};
+ghost use Rattle.gx_lines.specs.Heads.{segments as segments_line};
 ghost use Rattle.gx_sql.specs.Held.{AreTables, IsHeld, named, progress_of, schemas};
 ghost use Rattle.gx_explain.specs.Places as of;
 
@@ -128,34 +128,18 @@ fn place_in(
     Ok(Some(place?))
 }
 
-fn head_place(
+// Where tokens are wrong of which this was read.
+fn place_of(
     alloc: Global,
     progress: &Progress,
-    segments: u64,
+    read: Result<LineSyn, ReadError>,
     fault: LineFault,
     tokens: &[Token],
 ) -> Mem<Option<usize>>
-    requires held { IsHeld progress.now }
-    requires some { 1 ≤ segments }
-    ensures { IfOk result (λ found. IfSome found (of.IsPlaceBy (head_line segments) progress.now.groups.items (named progress.now.members.entries) (schemas progress.now.tables.entries) fault tokens.now)) }
+    requires { IsHeld progress.now }
+    ensures { IfOk result (λ found. IfSome found (of.IsPlaceOf progress.now.groups.items (named progress.now.members.entries) (schemas progress.now.tables.entries) fault tokens.now read.entry)) }
 {
-    match read_head_line(alloc, segments, limits(), tokens) {
-        Ok(line) => place_in(alloc, progress, line, fault, tokens),
-        Err(ReadError::Fault(_, left)) => Ok(tokens.len().checked_sub(left)),
-        Err(ReadError::OutOfMemory) => Err(OutOfMemory),
-    }
-}
-
-fn line_place(
-    alloc: Global,
-    progress: &Progress,
-    fault: LineFault,
-    tokens: &[Token],
-) -> Mem<Option<usize>>
-    requires held { IsHeld progress.now }
-    ensures { IfOk result (λ found. IfSome found (of.IsPlaceBy session_line progress.now.groups.items (named progress.now.members.entries) (schemas progress.now.tables.entries) fault tokens.now)) }
-{
-    match read_session_line(alloc, limits(), tokens) {
+    match read {
         Ok(line) => place_in(alloc, progress, line, fault, tokens),
         Err(ReadError::Fault(_, left)) => Ok(tokens.len().checked_sub(left)),
         Err(ReadError::OutOfMemory) => Err(OutOfMemory),
@@ -176,9 +160,11 @@ fn read_place(
         None => segments_place(alloc, tokens),
         Some(segments) => {
             if progress.lines.is_empty() {
-                head_place(alloc, progress, segments, fault, tokens)
+                let read = read_head_line(alloc, segments, limits(), tokens);
+                place_of(alloc, progress, read, fault, tokens)
             } else {
-                line_place(alloc, progress, fault, tokens)
+                let read = read_session_line(alloc, limits(), tokens);
+                place_of(alloc, progress, read, fault, tokens)
             }
         }
     }

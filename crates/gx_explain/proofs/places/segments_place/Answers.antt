@@ -3,4 +3,6 @@ use Rattle.gx_explain.proofs.Stopped.{stopped-at}
 use Rattle.gx_explain.proofs.places.segments_place.Goals as goal
 
 pub returns-in-Err-Fault : goal.returns-in-Err-Fault
-returns-in-Err-Fault c = stopped-at segments c.limits.result c.args.tokens.now c.in-Err-Fault.field-0 c.in-Err-Fault.field-0-0 c.in-Err-Fault.left _ c.checked_sub.result c.in-Err-Fault.field-0-is c.in-Err-Fault.left-is c.limits.ensures c.in-Err-Fault.ensures.place c.checked_sub.ensures
+returns-in-Err-Fault c =
+    let here = c.in-Err-Fault in
+    stopped-at segments c.limits.result c.args.tokens.now here.field-0 here.field-0-0 here.left _ c.checked_sub.result here.field-0-is here.left-is c.limits.ensures here.ensures.place c.checked_sub.ensures
