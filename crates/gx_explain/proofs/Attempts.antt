@@ -51,8 +51,8 @@ of_text bytes (Ok text) h = h
 of_text bytes (Err e) h = tt
 
 -- a line that is refused, behind nothing
-pub of-line : {E : Type 0} (bytes : List ℕ) (p q : Progress) (rest : List (List ℕ)) (ts : List Token) (n : ℕ) (f : LineFault) (r : Result (Vec ℕ Global) E) → p ≡ start → IsUtf8 bytes → IsEnding p (lines_of bytes) q rest ts (ending.Refused n f)
-    → IfOk r (λ text. Says q n f rest text.items) → IsOfBytes bytes (refused_as r)
+pub of-line : {E : Type 0} (bytes : List ℕ) (p q : Progress) (rest : List (List ℕ)) (ts : List Token) (n : ℕ) (f : LineFault) (r : Result (Vec ℕ Global) E)
+    → p ≡ start → IsUtf8 bytes → IsEnding p (lines_of bytes) q rest ts (ending.Refused n f) → IfOk r (λ text. Says q n f rest text.items) → IsOfBytes bytes (refused_as r)
 of-line bytes p q rest ts n f r e utf8 is told =
     let is = subst (λ (p : Progress). IsEnding p (lines_of bytes) q rest ts (ending.Refused n f)) e is in
     of_text bytes r (IfOk-weaker r _ _ (λ text h. of_line bytes q rest n f text utf8 is.0 is.1 h) told)

@@ -1,5 +1,6 @@
 -- Characters of bytes, counted and left out; blanks that are pushed one after the other.
-use Rattle.std.proofs.Common.{◌≡◌, ℕ, zero, suc, ◌+◌, ◌-◌, ◌<◌, ◌≤◌, ◌==◌, nat_le, List, [], ◌∷◌, ◌++◌, Bool, true, false, not, cond, if◌then◌else◌, length, length-append, take, drop, arith, ap, sym, ◌∙◌, subst, refl}
+use Rattle.std.proofs.Common.{◌≡◌, ℕ, zero, suc, ◌+◌, ◌-◌, ◌<◌, ◌≤◌, ◌==◌, nat_le, Bool, true, false, not, cond, if◌then◌else◌}
+use Rattle.std.proofs.Common.{List, [], ◌∷◌, ◌++◌, length, length-append, take, drop, arith, ap, sym, ◌∙◌, subst, refl}
 use Rattle.std.specs.Prelude.{filter}
 use Rattle.std.proofs.lemmas.Bool.Decides.{nat_tests}
 use Rattle.std.proofs.lemmas.List.{length-drop, take-append-drop}
@@ -94,7 +95,10 @@ pub behind-near : (line : List ℕ) (near at out place gap count : ℕ) → near
     → behind_chars (count - gap) (take (length line - near) (drop near line)) ≡ behind_chars out line
 behind-near line near at out place gap count before stands counted left within few =
     ap (behind_chars (count - gap)) whole
-    ∙ sym (ap (λ (xs : List ℕ). behind_chars out xs) (sym (take-append-drop near line)) ∙ ap (λ (n : ℕ). behind_chars n (take near line ++ drop near line)) split ∙ behind-append (count - gap) (take near line) (drop near line))
+    ∙ sym (
+    ap (λ (xs : List ℕ). behind_chars out xs) (sym (take-append-drop near line))
+    ∙ ap (λ (n : ℕ). behind_chars n (take near line ++ drop near line)) split
+    ∙ behind-append (count - gap) (take near line) (drop near line))
   where
     whole : take (length line - near) (drop near line) ≡ drop near line
     whole = ap (λ (n : ℕ). take n (drop near line)) (sym (length-drop near line)) ∙ take-length (drop near line)

@@ -32,8 +32,8 @@ abbrev pub IsBehind : Progress → List (List ℕ) → ℕ → Progress → List
 IsBehind p lines n q rest = ((r : Result Script Refusal) → ReadsOn n q rest r → ReadsOn 1 p lines r) × ((m : ℕ) (s : Progress) (left : List (List ℕ)) → Comes n q rest m s left → Comes 1 p lines m s left)
 
 -- by a line that was read
-pub behind-line : (p q s : Progress) (lines : List (List ℕ)) (bytes line others : List ℕ) (ts : List Token) (n : ℕ) (f : Option LineFault) → n ≤ 100000 → lines_of bytes ≡ line ∷ lines_of others → f ≡ None → IsSaid line q s ts f → IsBehind p lines n q (lines_of bytes)
-    → IsBehind p lines (n + 1) s (lines_of others)
+pub behind-line : (p q s : Progress) (lines : List (List ℕ)) (bytes line others : List ℕ) (ts : List Token) (n : ℕ) (f : Option LineFault)
+    → n ≤ 100000 → lines_of bytes ≡ line ∷ lines_of others → f ≡ None → IsSaid line q s ts f → IsBehind p lines n q (lines_of bytes) → IsBehind p lines (n + 1) s (lines_of others)
 behind-line p q s lines bytes line others ts n f few e none said (reads, comes) =
     let w = subst (λ (f : Option LineFault). IsSaid line q s ts f) none said in (
       λ r h. reads r (subst (λ (ls : List (List ℕ)). ReadsOn n q ls r) (sym e) (step_read n q s line (lines_of others) r few w h)),
@@ -56,8 +56,8 @@ fault_reads : (n : ℕ) (q : Progress) (line : List ℕ) (ls : List (List ℕ)) 
 fault_reads n q line ls f few skip h = reads_fault n q line ls f (nat_lt 100000 n) (is_skipped line) (within n few) skip h
 
 -- at a line with a fault
-pub at-fault : (p q s : Progress) (lines : List (List ℕ)) (bytes line others : List ℕ) (ts : List Token) (n : ℕ) (o : Option LineFault) (f : LineFault) → n ≤ 100000 → lines_of bytes ≡ line ∷ lines_of others → o ≡ Some f → IsSaid line q s ts o → IsBehind p lines n q (lines_of bytes)
-    → IsEnding p lines s (lines_of bytes) ts (ending.Refused n f)
+pub at-fault : (p q s : Progress) (lines : List (List ℕ)) (bytes line others : List ℕ) (ts : List Token) (n : ℕ) (o : Option LineFault) (f : LineFault)
+    → n ≤ 100000 → lines_of bytes ≡ line ∷ lines_of others → o ≡ Some f → IsSaid line q s ts o → IsBehind p lines n q (lines_of bytes) → IsEnding p lines s (lines_of bytes) ts (ending.Refused n f)
 at-fault p q s lines bytes line others ts n o f few e some said (reads, comes) =
     let w = subst (λ (o : Option LineFault). IsSaid line q s ts o) some said in (
       reads (Err (refused n f)) (subst (λ (ls : List (List ℕ)). ReadsOn n q ls (Err (refused n f))) (sym e) (fault_reads n q line (lines_of others) f few w.0 w.2)),

@@ -5,7 +5,8 @@ use Rattle.gx_lex.specs.declared.token.Token.{Token}
 use Rattle.gx_explain.specs.Parts.{before_repeated, is_repeated, opens, with_name}
 
 -- behind a token that repeats nothing
-pub repeated-next : (assigned : Bool) (names more : List (List ℕ)) (opened after : Bool) (place n : ℕ) (ts : List Token) (y : Token) → place < length ts → y ≡ get_or ts place y → is_repeated names opened y ≡ false → more ≡ with_name names opened y → after ≡ opens assigned y
+pub repeated-next : (assigned : Bool) (names more : List (List ℕ)) (opened after : Bool) (place n : ℕ) (ts : List Token) (y : Token) → place < length ts → y ≡ get_or ts place y
+    → is_repeated names opened y ≡ false → more ≡ with_name names opened y → after ≡ opens assigned y
     → place + before_repeated assigned names opened (drop place ts) ≡ n → (place + 1) + before_repeated assigned more after (drop (place + 1) ts) ≡ n
 repeated-next assigned names more opened after place n ts y within here new named opening sum =
     let rest = drop (place + 1) ts in

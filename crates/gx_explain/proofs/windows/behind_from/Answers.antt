@@ -7,7 +7,8 @@ pub returns-then-shown-count : goal.returns-then-shown-count
 returns-then-shown-count c =
     let place = chars (take c.args.at c.args.line.now) in
     c.behind_chars.ensures
-    ∙ behind-near c.args.line.now c.saturating_sub-near.result c.args.at (place - c.args.shown) place c.args.shown c.chars-count.result (omega (arith, c.saturating_sub-near.ensures)) refl c.chars-count.ensures (back c.args.shown place c.requires.before) (less c.args.shown place) (omega (arith, c.if-shown-count.true))
+    ∙ behind-near c.args.line.now c.saturating_sub-near.result c.args.at (place - c.args.shown) place c.args.shown c.chars-count.result
+    (omega (arith, c.saturating_sub-near.ensures)) refl c.chars-count.ensures (back c.args.shown place c.requires.before) (less c.args.shown place) (omega (arith, c.if-shown-count.true))
   where
     back : (n m : ℕ) → n ≤ m → n ≡ m - (m - n)
     back n m h = omega (arith, h)
