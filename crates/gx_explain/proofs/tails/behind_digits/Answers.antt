@@ -4,12 +4,17 @@ use Rattle.gx_explain.proofs.Bytes.{behind-digits, run-ends, run-ended, run-next
 use Rattle.gx_explain.proofs.tails.behind_digits.Goals as goal
 
 pub loop-byte-preserved : goal.loop-byte-preserved
-loop-byte-preserved c = run-next is_digit c.args.behind.now c.loop-byte.rest.now c.in-Some.others.now c.in-Some.byte.now c.in-Some.ensures.cases.0 (sym c.is_digit.ensures ∙ c.if-not-is_digit.false) c.loop-byte.invariant
+loop-byte-preserved c =
+    let within = sym c.is_digit.ensures ∙ c.if-not-is_digit.false in
+    run-next is_digit c.args.behind.now c.loop-byte.rest.now c.in-Some.others.now c.in-Some.byte.now c.in-Some.ensures.cases.0 within c.loop-byte.invariant
 
 pub returns-then-not-is_digit-clause-value : goal.returns-then-not-is_digit-clause-value
 returns-then-not-is_digit-clause-value c =
+    let outside = sym c.is_digit.ensures ∙ c.if-not-is_digit.true in
     behind-digits c.args.first c.args.behind.now c.loop-byte.rest.now c.requires
-    (run-ends is_digit c.args.behind.now c.loop-byte.rest.now c.in-Some.others.now c.in-Some.byte.now c.in-Some.ensures.cases.0 (sym c.is_digit.ensures ∙ c.if-not-is_digit.true) c.loop-byte.invariant)
+    (run-ends is_digit c.args.behind.now c.loop-byte.rest.now c.in-Some.others.now c.in-Some.byte.now c.in-Some.ensures.cases.0 outside c.loop-byte.invariant)
 
 pub returns-clause-value : goal.returns-clause-value
-returns-clause-value c = behind-digits c.args.first c.args.behind.now c.loop-byte.rest.now c.requires (run-ended is_digit c.args.behind.now c.loop-byte.rest.now c.in_default.ensures.cases c.loop-byte.invariant)
+returns-clause-value c =
+    behind-digits c.args.first c.args.behind.now c.loop-byte.rest.now c.requires
+    (run-ended is_digit c.args.behind.now c.loop-byte.rest.now c.in_default.ensures.cases c.loop-byte.invariant)
