@@ -1,6 +1,7 @@
 // Hints for the usual mistakes. Nothing is proved of them.
 use crate::rules::{KINDS, NAMES, PLACES, WORDS};
 use crate::spelled::sign_text;
+use gx_grammar::begins_with_word;
 use gx_lex::byte::{is_capital, is_word_byte, small};
 use gx_lex::{Token, Word};
 use gx_sql::Limit;
@@ -115,11 +116,14 @@ fn clause_behind(tokens: &[Token], front: &'static [u8]) -> &'static [u8] {
 
 // The same. The head of a link and that of a group have no other clause.
 fn clause_of(tokens: &[Token], front: &'static [u8]) -> &'static [u8] {
-    match tokens.first() {
-        Some(Token::Word(Word::Group)) => b"groups",
-        Some(Token::Word(Word::Lose)) => b"lose",
-        Some(Token::Word(Word::Repeat)) => b"repeat",
-        _ => clause_behind(tokens, front),
+    if begins_with_word(Word::Group, tokens) {
+        b"groups"
+    } else if begins_with_word(Word::Lose, tokens) {
+        b"lose"
+    } else if begins_with_word(Word::Repeat, tokens) {
+        b"repeat"
+    } else {
+        clause_behind(tokens, front)
     }
 }
 

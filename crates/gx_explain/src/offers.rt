@@ -124,35 +124,28 @@ fn how_far(alloc: Global, front: Front, tokens: &[Token], words: &mut Words) -> 
     }
 }
 
-// The token of this number among those that may be offered: those that stand for all of their kind, keywords, and signs.
-fn candidate<'t>(alloc: Global, number: usize) -> Token<'t> {
+// The token of this number among those that may be offered, and how it is offered: those that stand for all of their kind,
+// keywords, and signs.
+fn candidate<'t>(alloc: Global, number: usize) -> (Token<'t>, &'static [u8]) {
     match number {
-        0 => Token::Name(Name::new(b"a")),
-        1 => Token::Number(Some(1)),
-        2 => Token::Text(Txt::from_vec(Vec::new(alloc))),
+        0 => (Token::Name(Name::new(b"a")), b"a name"),
+        1 => (Token::Number(Some(1)), b"a number"),
+        2 => (Token::Text(Txt::from_vec(Vec::new(alloc))), b"a text"),
         _ => match keywords().get(number.saturating_sub(3)) {
-            Some(word) => Token::Word(*word),
+            Some(word) => (Token::Word(*word), word.text()),
             None => match signs().get(number.saturating_sub(3 + KEYWORDS)) {
-                Some(sign) => Token::Symbol(*sign),
-                None => Token::Bad,
+                Some(sign) => (Token::Symbol(*sign), sign_text(*sign)),
+                None => (Token::Bad, b""),
             },
         },
     }
 }
 
-// How the last of tokens is offered.
-fn last_as_offered(tokens: &[Token]) -> &'static [u8] {
-    match tokens.last() {
-        Some(Token::Word(word)) => word.text(),
-        Some(Token::Symbol(sign)) => sign_text(*sign),
-        Some(Token::Name(_)) => b"a name",
-        Some(Token::Number(_)) => b"a number",
-        Some(Token::Text(_)) => b"a text",
-        _ => b"",
+// Adds a spelling to what is offered where the reading goes on behind what it stands for.
+fn push_offer(words: &mut Words, going: Going, spelling: &[u8]) {
+    if let Going::Not = going {
+        return;
     }
-}
-
-fn push_offer(words: &mut Words, spelling: &[u8]) {
     if words.is_empty() {
         words.push(OFFERED);
     }
@@ -165,16 +158,16 @@ fn push_offer(words: &mut Words, spelling: &[u8]) {
 // Adds the token of this number to what is offered where it lets the reading go on behind these tokens, which are the same
 // afterwards.
 fn offer(alloc: Global, front: Front, tokens: &mut Vec<Token>, number: usize, words: &mut Words) {
-    match tokens.push(candidate(alloc, number)) {
+    let place = tokens.len();
+    let (token, spelling) = candidate(alloc, number);
+    match tokens.push(token) {
         Ok(()) => {
-            match how_far(alloc, front, tokens.as_slice(), words) {
-                Going::Not => {}
-                _ => push_offer(words, last_as_offered(tokens.as_slice())),
-            }
-            drop(tokens.pop());
+            let going = how_far(alloc, front, tokens.as_slice(), words);
+            push_offer(words, going, spelling);
         }
         Err(_) => words.cut_short(),
     }
+    tokens.truncate(place);
 }
 
 // Gives a line of what could stand behind these tokens, the end where they are a line, where anything could.
@@ -183,7 +176,7 @@ fn push_offers(alloc: Global, words: &mut Words, front: Front, tokens: &mut Vec<
         offer(alloc, front, tokens, number, words);
     }
     if let Going::Whole = how_far(alloc, front, tokens.as_slice(), words) {
-        push_offer(words, b"the end");
+        push_offer(words, Going::Whole, b"the end");
     }
     if !words.is_empty() {
         words.push(b"\n");
@@ -236,7 +229,7 @@ fn push_offers_at(
     }
     push_offers(alloc, words, front, tokens);
     match stray {
-        Stray::Keyword if tokens.is_empty() || !words.as_slice().starts_with(NAMED) => Stray::Other,
+        Stray::Keyword if place == 0 || !words.as_slice().starts_with(NAMED) => Stray::Other,
         _ => stray,
     }
 }
