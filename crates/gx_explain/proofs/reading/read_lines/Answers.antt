@@ -1,4 +1,4 @@
-use Rattle.std.proofs.Common.{◌+◌, ◌≤◌, ◌≡◌, ap, arith}
+use Rattle.std.proofs.Common.{◌≤◌, ◌≡◌, ap, arith}
 use Rattle.gx_sql.specs.Held.{progress_of}
 use Rattle.gx_sql.specs.Lines.{lines_of}
 use Rattle.gx_explain.proofs.Readings.{behind-line, at-fault, at-end, at-limit}
