@@ -13,7 +13,7 @@ use Rattle.gx_threads.proofs.Failures.{same-firsts}
 use Rattle.gx_threads.proofs.threads.run_threads.Goals as goal
 
 pub returns-clause-system : goal.returns-clause-system
-returns-clause-system g c = IfOk-weaker c.ended.result _ _ (λ end reached. reached-system c.args.script.value c.requires.language end.run.steps (subst (λ x. IsReached x end.run.steps) c.deref-3.ensures reached)) c.ended.ensures.reached
+returns-clause-system g c = IfOk-weaker c.ended.result _ _ (λ end reached. reached-system c.args.script.value c.requires.language end.run.steps (subst (λ x. IsReached x end.run.steps) c.deref-4.ensures reached)) c.ended.ensures.reached
 
 pub returns-clause-failures : goal.returns-clause-failures
 returns-clause-failures g c =
@@ -25,8 +25,8 @@ returns-clause-failures g c =
 
 pub returns-clause-slots : goal.returns-clause-slots
 returns-clause-slots g c =
-    IfOk-weaker c.ended.result _ _ (λ end kept. subst (λ (x : Script). AreInsertsWhole x.tables x.lines → AlwaysKeepsSlots x (marks_in end.run.steps)) c.deref-3.ensures kept) c.ended.ensures.slots
+    IfOk-weaker c.ended.result _ _ (λ end kept. subst (λ (x : Script). AreInsertsWhole x.tables x.lines → AlwaysKeepsSlots x (marks_in end.run.steps)) c.deref-4.ensures kept) c.ended.ensures.slots
 
 pub returns-clause-queued : goal.returns-clause-queued
 returns-clause-queued g c =
-    IfOk-weaker c.ended.result _ _ (λ end kept. subst (λ (x : Script). AreInsertsWhole x.tables x.lines → BeginAsAsked x end.run.steps) c.deref-3.ensures kept) c.ended.ensures.queued
+    IfOk-weaker c.ended.result _ _ (λ end kept. subst (λ (x : Script). AreInsertsWhole x.tables x.lines → BeginAsAsked x end.run.steps) c.deref-4.ensures kept) c.ended.ensures.queued
