@@ -1,8 +1,10 @@
 -- A tally behind one more mark, and behind one more step.
 use Rattle.std.proofs.Common.{◌≡◌, ◌≢◌, ◌∙◌, ◌⊎◌, ◌≤◌, ◌<◌, ◌+◌, ◌^◌, ◌++◌, ◌||◌, if◌then◌else◌, ℕ, zero, suc, eqb, Bool, true, false, List, [], ◌∷◌, Some, None}
 use Rattle.std.proofs.Common.{inl, inr, length, take, get_or, slice_get, slice_set, refl, sym, subst, ap, arith, append_assoc}
+use Rattle.std.specs.BTreeMap.{BTreeMap, get}
 use Rattle.std.specs.BTreeSet.{contains}
 use Rattle.gx_dsnap.specs.Gxids.{gxid_cmp}
+use Rattle.gx_ids.specs.declared.ids.Gxid.{Gxid}
 use Rattle.gx_ids.specs.declared.ids.SessionId.{SessionId}
 use Rattle.gx_lemmas.proofs.Lists.{get-set, get-set-other, length-push, place-below}
 use Rattle.gx_lemmas.proofs.Numbers.{eqb-of, eqb-self}
@@ -18,7 +20,7 @@ use Rattle.gx_store.specs.declared.mark.Mark.TheVariants.{Answer, Start}
 use Rattle.gx_store.specs.declared.run.Step.{Step}
 use Rattle.gx_store.specs.Lines as lines
 use Rattle.gx_store.specs.Lines.{state_after_line, state_from, stmt_of}
-use Rattle.gx_store.specs.Marks.{answer_count, is_aborted, is_begun_after, is_committed, is_same_session, started_after}
+use Rattle.gx_store.specs.Marks.{answer_count, is_aborted, is_begun_after, is_committed, is_same_session, start_count, started_after}
 use Rattle.gx_store.specs.Points.{ends_by, ends_in, marks_in, starts_by, starts_in}
 use Rattle.gx_store.proofs.Lines.{state_from-append}
 use Rattle.gx_store.proofs.Marks.{answer_count-append, is_aborted-append, is_begun_after-append, is_committed-append, started_after-append}
@@ -28,8 +30,10 @@ use Rattle.gx_legal.specs.declared.standing.Block.TheVariants as block
 use Rattle.gx_legal.specs.declared.standing.Standing.{Standing}
 use Rattle.gx_legal.specs.declared.tally.Seat.{Seat}
 use Rattle.gx_legal.specs.declared.tally.Tally.{Tally}
+use Rattle.gx_legal.proofs.Own.{first-next}
+use Rattle.gx_legal.specs.Own.{AreFirsts, IsFirst, first_with}
 use Rattle.gx_legal.specs.Standings.{IsMoved, state_in}
-use Rattle.gx_legal.specs.Tallies.{AreSeats, CanMove, CanStep, IsCounted, IsSeat, IsSeatMoved, IsSeatStepped, IsStepped, IsTally, IsUnmoved, mover}
+use Rattle.gx_legal.specs.Tallies.{AreSeats, CanCount, CanMove, CanStep, IsCounted, IsSeat, IsSeatMoved, IsSeatStepped, IsStepped, IsTally, IsUnmoved, mover}
 
 -- SEATS
 get-push : {A : Type 0} (xs : List A) (y : A) (i : ℕ) (x : A) → slice_get (xs ++ y ∷ []) i ≡ Some x → (slice_get xs i ≡ Some x) ⊎ (x ≡ y)
@@ -80,6 +84,17 @@ module _ (P : SessionId → Seat → Seat → Type 0) (seats : List Seat) (s : S
     e,
     others session seat (λ same. let inside : session.0 < length seats = place-below seats session.0 seat e in absurd (omega (arith, same, inside, past))),
   )
+
+-- STARTS
+starts-append : (xs ys : List Mark) → start_count (xs ++ ys) ≡ start_count xs + start_count ys
+starts-append [] ys = refl
+starts-append (Start g s ∷ xs) ys = omega (arith, starts-append xs ys)
+starts-append (_ ∷ xs) ys = starts-append xs ys
+
+pub starts-fit : (ms : List Mark) → start_count ms ≤ length ms
+starts-fit [] = omega arith
+starts-fit (Start g s ∷ ms) = omega (arith, starts-fit ms)
+starts-fit (_ ∷ ms) = omega (arith, starts-fit ms)
 
 not-same : (s session other : SessionId) → s ≡ session → other.0 ≢ session.0 → is_same_session s other ≡ false
 not-same s session other e ne = by_test (is_same_session s other) refl
@@ -147,6 +162,9 @@ module _ (script : Script) where
       seats = λ session seat e. let was = m.seats session seat e in seat-next session steps marks was.0 seat (is.seats session was.0 was.1) was.2;
       committed = λ g. m.committed g ∙ ap (λ b. b || is_committed (mark ∷ []) g) (is.committed g) ∙ sym (is_committed-append marks (mark ∷ []) g);
       aborted = λ g. m.aborted g ∙ ap (λ b. b || is_aborted (mark ∷ []) g) (is.aborted g) ∙ sym (is_aborted-append marks (mark ∷ []) g);
+      count = omega (arith, m.count, is.count, length-push marks mark);
+      starts = omega (arith, m.starts, is.starts, starts-append marks (mark ∷ []));
+      firsts = λ g. subst (IsFirst g (marks ++ mark ∷ [])) (ap (λ n. first_with g mark n (get gxid_cmp old.firsts g)) (sym is.count) ∙ sym (m.firsts g)) (first-next g marks mark (get gxid_cmp old.firsts g) (is.firsts g));
     }
 
   pub tally-through : (steps : List Step) (before marks : List Mark) (k : ℕ) (mark : Mark) (old new : Tally) → slice_get marks k ≡ Some mark → IsTally script steps (before ++ take k marks) old
@@ -173,6 +191,9 @@ module _ (script : Script) where
       seats = λ session seat e. let was = m.seats session seat e in seat-step session steps marks was.0 seat (is.seats session was.0 was.1) was.2;
       committed = λ g. ap (λ s. contains gxid_cmp s g) m.committed ∙ is.committed g;
       aborted = λ g. ap (λ s. contains gxid_cmp s g) m.aborted ∙ is.aborted g;
+      count = m.count ∙ is.count;
+      starts = m.starts ∙ is.starts;
+      firsts = subst (AreFirsts marks) (sym m.firsts) is.firsts;
     }
 
     pub tally-steps : (steps : List Step) (k : ℕ) (old new : Tally) → slice_get steps k ≡ Some step → IsTally script (take k steps) (marks_in (take k steps) ++ step.marks) old
@@ -209,8 +230,11 @@ module _ (script : Script) where
   ends-inside session (s ∷ ss) = omega (arith, ends-one session s.event, ends-inside session ss)
 
   module _ (steps : List Step) (marks : List Mark) (tally : Tally) (is : IsTally script steps marks tally) where
-    pub can-move : length marks + 1 < 2 ^ 64 → CanMove tally.seats.items
+    can-move : length marks + 1 < 2 ^ 64 → CanMove tally.seats.items
     can-move room session seat e = let s = is.seats session seat e in (omega (arith, s.commands, room), omega (arith, s.answers, room))
+
+    pub can-count : length marks + 1 < 2 ^ 64 → CanCount tally
+    can-count room = (can-move room, omega (arith, is.count, room), let few = starts-fit marks in omega (arith, is.starts, few, room))
 
     pub can-step : length steps + 1 < 2 ^ 64 → CanStep tally.seats.items
     can-step room session seat e =

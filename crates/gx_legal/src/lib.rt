@@ -39,6 +39,7 @@ pub mod noted;
 mod orders;
 pub mod overtaken;
 pub mod overtaken_rows;
+pub mod own;
 pub mod parts;
 pub mod pieces;
 mod places;

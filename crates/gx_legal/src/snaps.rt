@@ -11,6 +11,7 @@ ghost use Rattle.gx_legal.specs.Snaps.{SeesCommits, SeesEnded};
 
 use crate::deed::{Act, Deed};
 use crate::moment::Moment;
+use crate::own::own_marks;
 use crate::seats::is_ended_at;
 use crate::working::is_by_command;
 use gx_dsnap::Snapshot;
@@ -71,6 +72,7 @@ pub fn is_legal_snap(
         gxid: command.0,
         cid: command.1,
         marks: moment.before,
+        own: own_marks(moment, command.0),
         act: Act::Snap,
     };
     is_by_command(alloc, moment, &deed)

@@ -4,14 +4,16 @@ ghost use Rattle.std.specs.BTreeSet.{contains};
 ghost use Rattle.gx_dsnap.specs.Gxids.{gxid_cmp};
 ghost use Rattle.gx_ids.specs.declared.ids.Gxid.{Gxid as OneGxid};
 ghost use Rattle.gx_store.specs.Marks.{is_aborted, is_committed};
-ghost use Rattle.gx_legal.specs.Tallies.{AreMoved, AreSeats, AreStepped, CanMove, CanStep, IsCounted, IsStepped, IsTally, IsUnmoved, mover as session_moved};
+ghost use Rattle.gx_legal.specs.Tallies.{AreMoved, AreSeats, AreStepped, CanCount, CanMove, CanStep, IsCounted, IsStepped, IsTally, IsUnmoved, mover as session_moved};
 
+use crate::counts::starts;
+use crate::own::note_mark;
 use crate::standing::{Standing, moved, no_standing};
 use gx_ids::{Gxid, Mem, SessionId};
 use gx_script::Script;
 use gx_store::{Event, Mark};
 use std::alloc::Global;
-use std::collections::BTreeSet;
+use std::collections::{BTreeMap, BTreeSet};
 
 /// A session: where it stands behind the marks so far, how many lines the steps so far have started, and how often they have ended it.
 #[derive(Clone, Copy)]
@@ -21,12 +23,16 @@ pub struct Seat {
     pub ended: usize,
 }
 
-/// The seats of a script's sessions, and the transactions that have committed and aborted.
+/// The seats of a script's sessions, the transactions that have committed and aborted, how many marks there are and how many of them start a
+/// transaction, and where the marks of each transaction's rows begin.
 #[derive(Drop)]
 pub struct Tally {
     pub seats: Vec<Seat>,
     pub committed: BTreeSet<Gxid>,
     pub aborted: BTreeSet<Gxid>,
+    pub count: usize,
+    pub starts: usize,
+    pub firsts: BTreeMap<Gxid, usize>,
 }
 
 fn seats_of(alloc: Global, script: &Script) -> Mem<Vec<Seat>>
@@ -51,6 +57,9 @@ pub fn no_tally(alloc: Global, script: &Script) -> Mem<Tally>
         seats: seats_of(alloc, script)?,
         committed: BTreeSet::new(alloc),
         aborted: BTreeSet::new(alloc),
+        count: 0,
+        starts: 0,
+        firsts: BTreeMap::new(alloc),
     })
 }
 
@@ -108,12 +117,15 @@ fn add_abort(aborted: &mut BTreeSet<Gxid>, mark: &Mark) -> Mem<()>
 
 /// Counts one more mark.
 pub fn count_mark(script: &Script, tally: &mut Tally, mark: &Mark) -> Mem<()>
-    requires { CanMove tally.old.seats.items }
+    requires { CanCount tally.old }
     ensures { OnOk result (IsCounted script.now mark.now tally.old tally.new) }
 {
     add_commit(&mut tally.committed, mark)?;
     add_abort(&mut tally.aborted, mark)?;
+    note_mark(&mut tally.firsts, mark, tally.count)?;
     move_seats(script, &mut tally.seats, mark);
+    tally.count += 1;
+    tally.starts += starts(mark);
     Ok(())
 }
 

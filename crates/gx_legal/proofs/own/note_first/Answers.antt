@@ -1,0 +1,6 @@
+use Rattle.std.proofs.Common.{◌≢◌}
+use Rattle.gx_legal.proofs.Own.{gxid-other}
+use Rattle.gx_legal.proofs.own.note_first.Goals as goal
+
+pub returns-clause-elsewhere : goal.returns-clause-elsewhere
+returns-clause-elsewhere c = λ g other. c.in_ok-insert.ensures.updates.2 g (gxid-other c.args.gxid g other)

@@ -1,0 +1,34 @@
+-- The marks that tell of a transaction's rows, and where they begin.
+use Rattle.std.specs.Prelude.{◌≡◌, ◌≤◌, ◌++◌, ◌||◌, ℕ, Bool, false, if◌then◌else◌, List, length, take, Some, None, unwrap_or}
+use Rattle.std.specs.BTreeMap.{BTreeMap, get}
+use Rattle.std.specs.List.{list_any}
+use Rattle.std.specs.declared.option.Option.{Option}
+use Rattle.gx_dsnap.specs.Gxids.{gxid_cmp}
+use Rattle.gx_ids.specs.declared.ids.Gxid.{Gxid}
+use Rattle.gx_store.specs.declared.mark.Mark.{Mark}
+use Rattle.gx_store.specs.declared.mark.Mark.TheVariants.{Skip, Write}
+use Rattle.gx_store.specs.Marks.{is_same_gxid}
+
+-- the transaction has written or skipped a row by this mark, or inserted the row that is written
+abbrev pub is_of : Gxid → Mark → Bool
+is_of g (Write h c node t rid image) = is_same_gxid h g || is_same_gxid rid.gxid g
+is_of g (Skip h c rid) = is_same_gxid h g
+is_of g _ = false
+
+-- all of these marks that tell of its rows are among its own, which are the last of them
+pub record IsOwn (g : Gxid) (marks own : List Mark) : Type 0 where
+  pub before : List Mark
+  pub whole : marks ≡ before ++ own
+  pub none : list_any (is_of g) before ≡ false
+
+-- before the place of the first, if there is one, nothing tells of its rows
+abbrev pub IsFirst : Gxid → List Mark → Option ℕ → Type 0
+IsFirst g marks None = list_any (is_of g) marks ≡ false
+IsFirst g marks (Some place) = (place ≤ length marks) × (list_any (is_of g) (take place marks) ≡ false)
+
+abbrev pub AreFirsts : List Mark → BTreeMap Gxid ℕ → Type 0
+AreFirsts marks firsts = (g : Gxid) → IsFirst g marks (get gxid_cmp firsts g)
+
+-- the place of the first with a mark more, which stands at this place
+abbrev pub first_with : Gxid → Mark → ℕ → Option ℕ → Option ℕ
+first_with g mark place first = if is_of g mark then Some (unwrap_or first place) else first

@@ -1,0 +1,48 @@
+// Where the marks that tell of a transaction's rows begin, so that no look for them goes further back.
+ghost use Rattle.std.specs.Prelude.{◌≡◌, ◌≢◌, ◌≤◌, length, Some, OnOk, unwrap_or};
+ghost use Rattle.std.specs.BTreeMap.{get};
+ghost use Rattle.gx_dsnap.specs.Gxids.{gxid_cmp};
+ghost use Rattle.gx_ids.specs.declared.ids.Gxid.{Gxid as OneGxid};
+ghost use Rattle.gx_legal.specs.Own.{IsOwn, first_with};
+
+use crate::moment::Moment;
+use gx_ids::{Gxid, Mem};
+use gx_store::Mark;
+use std::collections::BTreeMap;
+
+// Notes the place, where the transaction has none yet.
+fn note_first(firsts: &mut BTreeMap<Gxid, usize>, gxid: Gxid, place: usize) -> Mem<()>
+    ensures there { OnOk result (get gxid_cmp firsts.new gxid ≡ Some (unwrap_or (get gxid_cmp firsts.old gxid) place)) }
+    ensures elsewhere { OnOk result ((g : OneGxid) → g.0 ≢ gxid.0 → get gxid_cmp firsts.new g ≡ get gxid_cmp firsts.old g) }
+{
+    let first = match firsts.get(&gxid) {
+        Some(first) => *first,
+        None => place,
+    };
+    firsts.insert(gxid, first)?;
+    Ok(())
+}
+
+/// Notes a mark that stands at the place, behind all that were noted.
+pub(crate) fn note_mark(firsts: &mut BTreeMap<Gxid, usize>, mark: &Mark, place: usize) -> Mem<()>
+    ensures { OnOk result ((g : OneGxid) → get gxid_cmp firsts.new g ≡ first_with g mark.now place (get gxid_cmp firsts.old g)) }
+{
+    match mark {
+        Mark::Write { gxid, rid, .. } => {
+            note_first(firsts, *gxid, place)?;
+            note_first(firsts, rid.gxid, place)
+        }
+        Mark::Skip { gxid, .. } => note_first(firsts, *gxid, place),
+        _ => Ok(()),
+    }
+}
+
+/// The marks before the moment from the first on that tells of the transaction's rows.
+pub fn own_marks<'a>(moment: &Moment<'a, '_>, gxid: Gxid) -> &'a [Mark]
+    ensures { IsOwn gxid moment.now.before.now result.now }
+{
+    match moment.tally.firsts.get(&gxid) {
+        Some(first) => &moment.before[*first..],
+        None => &[],
+    }
+}
