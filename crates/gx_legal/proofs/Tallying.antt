@@ -30,7 +30,7 @@ use Rattle.gx_legal.specs.declared.standing.Block.TheVariants as block
 use Rattle.gx_legal.specs.declared.standing.Standing.{Standing}
 use Rattle.gx_legal.specs.declared.tally.Seat.{Seat}
 use Rattle.gx_legal.specs.declared.tally.Tally.{Tally}
-use Rattle.gx_legal.proofs.Own.{first-next}
+use Rattle.gx_legal.proofs.OwnRows.{first-next}
 use Rattle.gx_legal.specs.Own.{AreFirsts, IsFirst, first_with}
 use Rattle.gx_legal.specs.Standings.{IsMoved, state_in}
 use Rattle.gx_legal.specs.Tallies.{AreSeats, CanCount, CanMove, CanStep, IsCounted, IsSeat, IsSeatMoved, IsSeatStepped, IsStepped, IsTally, IsUnmoved, mover}

@@ -1,7 +1,7 @@
 use Rattle.std.proofs.Common.{◌∙◌}
 use Rattle.std.proofs.lemmas.Result.{IfOk-weaker}
 use Rattle.gx_legal.proofs.Gathered.{all-done}
-use Rattle.gx_legal.proofs.Own.{done-own}
+use Rattle.gx_legal.proofs.OwnRows.{done-own}
 use Rattle.gx_legal.proofs.changed.are_done.Goals as goal
 
 pub returns : goal.returns

@@ -1,5 +1,5 @@
 use Rattle.std.proofs.Common.{◌∙◌}
-use Rattle.gx_legal.proofs.Own.{counted-own}
+use Rattle.gx_legal.proofs.OwnRows.{counted-own}
 use Rattle.gx_legal.proofs.changed.own_count.Goals as goal
 
 pub returns : goal.returns

@@ -1,6 +1,6 @@
 use Rattle.std.proofs.Common.{◌∙◌}
 use Rattle.gx_legal.proofs.Gathered.{all-own}
-use Rattle.gx_legal.proofs.Own.{own-done-own}
+use Rattle.gx_legal.proofs.OwnRows.{own-done-own}
 use Rattle.gx_legal.proofs.inserted.are_own_done.Goals as goal
 
 pub returns : goal.returns

@@ -1,5 +1,5 @@
 use Rattle.std.proofs.Common.{◌≢◌}
-use Rattle.gx_legal.proofs.Own.{gxid-other}
+use Rattle.gx_legal.proofs.OwnRows.{gxid-other}
 use Rattle.gx_legal.proofs.own.note_first.Goals as goal
 
 pub returns-clause-elsewhere : goal.returns-clause-elsewhere

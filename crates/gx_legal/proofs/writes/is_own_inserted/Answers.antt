@@ -1,6 +1,6 @@
 use Rattle.std.proofs.Common.{◌∙◌}
 use Rattle.std.proofs.lemmas.Result.{IfOk-weaker}
-use Rattle.gx_legal.proofs.Own.{inserted-own}
+use Rattle.gx_legal.proofs.OwnRows.{inserted-own}
 use Rattle.gx_legal.proofs.writes.is_own_inserted.Goals as goal
 
 pub returns : goal.returns

@@ -1,5 +1,5 @@
 use Rattle.std.proofs.Common.{◌∙◌}
-use Rattle.gx_legal.proofs.Own.{processed-own}
+use Rattle.gx_legal.proofs.OwnRows.{processed-own}
 use Rattle.gx_legal.proofs.writes.is_own_processed.Goals as goal
 
 pub returns : goal.returns
