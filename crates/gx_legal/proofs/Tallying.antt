@@ -20,7 +20,7 @@ use Rattle.gx_store.specs.declared.mark.Mark.TheVariants.{Answer, Start}
 use Rattle.gx_store.specs.declared.run.Step.{Step}
 use Rattle.gx_store.specs.Lines as lines
 use Rattle.gx_store.specs.Lines.{state_after_line, state_from, stmt_of}
-use Rattle.gx_store.specs.Marks.{answer_count, is_aborted, is_begun_after, is_committed, is_same_session, start_count, started_after}
+use Rattle.gx_store.specs.Marks.{answer_count, is_aborted, is_begun_after, is_committed, is_ended, is_same_session, start_count, started_after}
 use Rattle.gx_store.specs.Points.{ends_by, ends_in, marks_in, starts_by, starts_in}
 use Rattle.gx_store.proofs.Lines.{state_from-append}
 use Rattle.gx_store.proofs.Marks.{answer_count-append, is_aborted-append, is_begun_after-append, is_committed-append, started_after-append}
@@ -33,7 +33,7 @@ use Rattle.gx_legal.specs.declared.tally.Tally.{Tally}
 use Rattle.gx_legal.proofs.OwnRows.{first-next}
 use Rattle.gx_legal.specs.Own.{AreFirsts, IsFirst, first_with}
 use Rattle.gx_legal.specs.Standings.{IsMoved, state_in}
-use Rattle.gx_legal.specs.Tallies.{AreSeats, CanCount, CanMove, CanStep, IsCounted, IsSeat, IsSeatMoved, IsSeatStepped, IsStepped, IsTally, IsUnmoved, mover}
+use Rattle.gx_legal.specs.Tallies.{AreSeats, CanCount, CanMove, CanStep, HasEndedIn, IsCounted, IsSeat, IsSeatMoved, IsSeatStepped, IsStepped, IsTally, IsUnmoved, mover}
 
 -- SEATS
 get-push : {A : Type 0} (xs : List A) (y : A) (i : ℕ) (x : A) → slice_get (xs ++ y ∷ []) i ≡ Some x → (slice_get xs i ≡ Some x) ⊎ (x ≡ y)
@@ -84,6 +84,13 @@ module _ (P : SessionId → Seat → Seat → Type 0) (seats : List Seat) (s : S
     e,
     others session seat (λ same. let inside : session.0 < length seats = place-below seats session.0 seat e in absurd (omega (arith, same, inside, past))),
   )
+
+-- ENDS
+or-more : (a b x y : Bool) → (a || b) ≡ true → ((a || x) || (b || y)) ≡ true
+or-more true b x y e = refl
+or-more false true true y e = refl
+or-more false true false y e = refl
+or-more false false x y e = absurd (cc)
 
 -- STARTS
 starts-append : (xs ys : List Mark) → start_count (xs ++ ys) ≡ start_count xs + start_count ys
@@ -157,11 +164,26 @@ module _ (script : Script) where
       ended = m.ended ∙ is.ended;
     }
 
+    -- who has ended by then, and at one mark more
+    kept-in : (marks : List Mark) (new : Tally) (g : Gxid) → contains gxid_cmp new.committed g ≡ is_committed marks g → contains gxid_cmp new.aborted g ≡ is_aborted marks g
+        → HasEndedIn new g → is_ended marks g ≡ true
+    kept-in marks new g c a h = sym (ap (λ b. b || contains gxid_cmp new.aborted g) c ∙ ap (λ b. is_committed marks g || b) a) ∙ h
+
+    ended-still : (marks : List Mark) (g : Gxid) → is_ended marks g ≡ true → is_ended (marks ++ mark ∷ []) g ≡ true
+    ended-still marks g e =
+        ap (λ b. b || is_aborted (marks ++ mark ∷ []) g) (is_committed-append marks (mark ∷ []) g) ∙ ap (λ b. (is_committed marks g || is_committed (mark ∷ []) g) || b) (is_aborted-append marks (mark ∷ []) g)
+        ∙ or-more (is_committed marks g) (is_aborted marks g) (is_committed (mark ∷ []) g) (is_aborted (mark ∷ []) g) e
+
     pub tally-next : (steps : List Step) (marks : List Mark) (old new : Tally) → IsTally script steps marks old → IsCounted script mark old new → IsTally script steps (marks ++ mark ∷ []) new
     tally-next steps marks old new is m = record {
       seats = λ session seat e. let was = m.seats session seat e in seat-next session steps marks was.0 seat (is.seats session was.0 was.1) was.2;
       committed = λ g. m.committed g ∙ ap (λ b. b || is_committed (mark ∷ []) g) (is.committed g) ∙ sym (is_committed-append marks (mark ∷ []) g);
       aborted = λ g. m.aborted g ∙ ap (λ b. b || is_aborted (mark ∷ []) g) (is.aborted g) ∙ sym (is_aborted-append marks (mark ∷ []) g);
+      unsettled = λ g one below. elim (m.unsettled g below) [
+        | inl before ↦ ended-still marks g (is.unsettled g one before)
+        | inr ended ↦ kept-in (marks ++ mark ∷ []) new g (m.committed g ∙ ap (λ b. b || is_committed (mark ∷ []) g) (is.committed g) ∙ sym (is_committed-append marks (mark ∷ []) g))
+            (m.aborted g ∙ ap (λ b. b || is_aborted (mark ∷ []) g) (is.aborted g) ∙ sym (is_aborted-append marks (mark ∷ []) g)) ended
+      ];
       count = omega (arith, m.count, is.count, length-push marks mark);
       starts = omega (arith, m.starts, is.starts, starts-append marks (mark ∷ []));
       firsts = λ g. subst (IsFirst g (marks ++ mark ∷ [])) (ap (λ n. first_with g mark n (get gxid_cmp old.firsts g)) (sym is.count) ∙ sym (m.firsts g)) (first-next g marks mark (get gxid_cmp old.firsts g) (is.firsts g));
@@ -194,6 +216,7 @@ module _ (script : Script) where
       count = m.count ∙ is.count;
       starts = m.starts ∙ is.starts;
       firsts = subst (AreFirsts marks) (sym m.firsts) is.firsts;
+      unsettled = λ g one below. is.unsettled g one (omega (arith, m.unsettled, below));
     }
 
     pub tally-steps : (steps : List Step) (k : ℕ) (old new : Tally) → slice_get steps k ≡ Some step → IsTally script (take k steps) (marks_in (take k steps) ++ step.marks) old

@@ -40,11 +40,11 @@ fn has_ended_if_seen(moment: &Moment<'_, '_>, snapshot: &Snapshot, gxid: Gxid) -
     !snapshot.sees(gxid) || is_ended_at(moment, gxid)
 }
 
-// Whether all that it sees have ended. The first that is seen and has not ends the loop, so it takes no longer than there are marks.
+// Whether all that it sees have ended. Those below a number have, and the first that is seen and has not ends the loop.
 fn sees_ended(moment: &Moment<'_, '_>, snapshot: &Snapshot) -> bool
     ensures { IsTrue result ↔ SeesEnded moment.now.before.now snapshot.now }
 {
-    for number in 1..snapshot.xmax.0 {
+    for number in moment.tally.unsettled..snapshot.xmax.0 {
         if !has_ended_if_seen(moment, snapshot, Gxid(number)) {
             return false;
         }

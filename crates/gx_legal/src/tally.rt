@@ -1,10 +1,10 @@
 // What the steps and marks of a run so far come to, kept from one mark to the next.
-ghost use Rattle.std.specs.Prelude.{◌≡◌, ◌||◌, ◌∷◌, [], IfOk, OnOk};
+ghost use Rattle.std.specs.Prelude.{◌≡◌, ◌||◌, ◌⊎◌, ◌<◌, ◌∷◌, [], IfOk, IsTrue, OnOk};
 ghost use Rattle.std.specs.BTreeSet.{contains};
 ghost use Rattle.gx_dsnap.specs.Gxids.{gxid_cmp};
 ghost use Rattle.gx_ids.specs.declared.ids.Gxid.{Gxid as OneGxid};
 ghost use Rattle.gx_store.specs.Marks.{is_aborted, is_committed};
-ghost use Rattle.gx_legal.specs.Tallies.{AreMoved, AreSeats, AreStepped, CanCount, CanMove, CanStep, IsCounted, IsStepped, IsTally, IsUnmoved, mover as session_moved};
+ghost use Rattle.gx_legal.specs.Tallies.{AreMoved, AreSeats, AreStepped, CanCount, CanMove, CanStep, HasEndedIn, IsCounted, IsStepped, IsTally, IsUnmoved, mover as session_moved};
 
 use crate::counts::starts;
 use crate::own::note_mark;
@@ -23,13 +23,14 @@ pub struct Seat {
     pub ended: usize,
 }
 
-/// The seats of a script's sessions, the transactions that have committed and aborted, how many marks there are and how many of them start a
-/// transaction, and where the marks of each transaction's rows begin.
+/// The seats of a script's sessions, the transactions that have committed and aborted, a number below which all have ended, how many marks
+/// there are and how many of them start a transaction, and where the marks of each transaction's rows begin.
 #[derive(Drop)]
 pub struct Tally {
     pub seats: Vec<Seat>,
     pub committed: BTreeSet<Gxid>,
     pub aborted: BTreeSet<Gxid>,
+    pub unsettled: u64,
     pub count: usize,
     pub starts: usize,
     pub firsts: BTreeMap<Gxid, usize>,
@@ -57,6 +58,7 @@ pub fn no_tally(alloc: Global, script: &Script) -> Mem<Tally>
         seats: seats_of(alloc, script)?,
         committed: BTreeSet::new(alloc),
         aborted: BTreeSet::new(alloc),
+        unsettled: 1,
         count: 0,
         starts: 0,
         firsts: BTreeMap::new(alloc),
@@ -115,6 +117,34 @@ fn add_abort(aborted: &mut BTreeSet<Gxid>, mark: &Mark) -> Mem<()>
     Ok(())
 }
 
+fn has_ended(tally: &Tally, number: u64) -> bool
+    ensures { IsTrue result → HasEndedIn tally.now (record { 0 = number }) }
+{
+    let gxid = Gxid(number);
+    tally.committed.contains(&gxid) || tally.aborted.contains(&gxid)
+}
+
+// The number, or the next one where the transaction of this number has ended.
+fn one_on(tally: &Tally, number: u64) -> u64
+    ensures { (g : OneGxid) → g.0 < result → (g.0 < number) ⊎ HasEndedIn tally.now g }
+{
+    if number < u64::MAX && has_ended(tally, number) {
+        number + 1
+    } else {
+        number
+    }
+}
+
+// Each end lets it go on by two, so that it comes up with those that ended out of their order.
+fn unsettled_with(tally: &Tally, mark: &Mark) -> u64
+    ensures { (g : OneGxid) → g.0 < result → (g.0 < tally.now.unsettled) ⊎ HasEndedIn tally.now g }
+{
+    match mark {
+        Mark::Commit { .. } | Mark::Abort { .. } => one_on(tally, one_on(tally, tally.unsettled)),
+        _ => tally.unsettled,
+    }
+}
+
 /// Counts one more mark.
 pub fn count_mark(script: &Script, tally: &mut Tally, mark: &Mark) -> Mem<()>
     requires { CanCount tally.old }
@@ -123,6 +153,7 @@ pub fn count_mark(script: &Script, tally: &mut Tally, mark: &Mark) -> Mem<()>
     add_commit(&mut tally.committed, mark)?;
     add_abort(&mut tally.aborted, mark)?;
     note_mark(&mut tally.firsts, mark, tally.count)?;
+    tally.unsettled = unsettled_with(tally, mark);
     move_seats(script, &mut tally.seats, mark);
     tally.count += 1;
     tally.starts += starts(mark);
