@@ -1,5 +1,5 @@
 -- A tally behind one more mark, and behind one more step.
-use Rattle.std.proofs.Common.{◌≡◌, ◌≢◌, ◌∙◌, ◌⊎◌, ◌≤◌, ◌<◌, ◌+◌, ◌^◌, ◌++◌, ◌||◌, if◌then◌else◌, ℕ, zero, suc, eqb, Bool, true, false, List, [], ◌∷◌, Some, None}
+use Rattle.std.proofs.Common.{◌≡◌, ◌≢◌, ◌∙◌, ◌⊎◌, ◌≤◌, ◌<◌, ◌+◌, ◌^◌, ◌++◌, ◌||◌, ◌==◌, if◌then◌else◌, ℕ, zero, suc, eqb, Bool, true, false, List, [], ◌∷◌, Some, None}
 use Rattle.std.proofs.Common.{inl, inr, length, take, get_or, slice_get, slice_set, refl, sym, subst, ap, arith, append_assoc}
 use Rattle.std.specs.BTreeMap.{BTreeMap, get}
 use Rattle.std.specs.BTreeSet.{contains}
@@ -11,6 +11,7 @@ use Rattle.gx_lemmas.proofs.Numbers.{eqb-of, eqb-self}
 use Rattle.gx_lemmas.proofs.Options.{some-same}
 use Rattle.gx_lemmas.proofs.Tests.{true-false}
 use Rattle.std.proofs.lemmas.Bool.{eqb-true}
+use Rattle.std.proofs.lemmas.Bool.Decides.{nat_tests}
 use Rattle.std.proofs.lemmas.Option.{get_or_from_slice_get, slice_get_read}
 use Rattle.gx_script.specs.declared.Script.{Script}
 use Rattle.gx_store.specs.declared.event.Event.{Event}
@@ -91,6 +92,20 @@ or-more true b x y e = refl
 or-more false true true y e = refl
 or-more false true false y e = refl
 or-more false false x y e = absurd (cc)
+
+below-next : (a n next : ℕ) → next ≤ n + 1 → a < next → (a == n) ≡ false → a < n
+below-next a n next few below other = grind (arith, nat_tests)
+
+pub next-ended : (tally : Tally) (n next : ℕ) → next ≤ n + 1 → HasEndedIn tally (record { 0 = n }) → (g : Gxid) → g.0 < next → (g.0 < n) ⊎ HasEndedIn tally g
+next-ended tally n next few ended g below = by_test (g.0 == n) refl
+  where
+    by_test : (b : Bool) → (g.0 == n) ≡ b → (g.0 < n) ⊎ HasEndedIn tally g
+    by_test true same = inr (subst (λ (k : ℕ). HasEndedIn tally (record { 0 = k })) (sym (eqb-true g.0 n same)) ended)
+    by_test false other = inl (below-next g.0 n next few below other)
+
+pub either-on : {A B C : Type 0} → (A → B ⊎ C) → A ⊎ C → B ⊎ C
+either-on f (inl a) = f a
+either-on f (inr c) = inr c
 
 -- STARTS
 starts-append : (xs ys : List Mark) → start_count (xs ++ ys) ≡ start_count xs + start_count ys

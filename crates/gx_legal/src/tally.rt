@@ -1,5 +1,5 @@
 // What the steps and marks of a run so far come to, kept from one mark to the next.
-ghost use Rattle.std.specs.Prelude.{◌≡◌, ◌||◌, ◌⊎◌, ◌<◌, ◌∷◌, [], IfOk, IsTrue, OnOk};
+ghost use Rattle.std.specs.Prelude.{◌≡◌, ◌||◌, ◌⊎◌, ◌<◌, ◌≤◌, ◌+◌, ◌∷◌, [], IfOk, IsTrue, OnOk};
 ghost use Rattle.std.specs.BTreeSet.{contains};
 ghost use Rattle.gx_dsnap.specs.Gxids.{gxid_cmp};
 ghost use Rattle.gx_ids.specs.declared.ids.Gxid.{Gxid as OneGxid};
@@ -124,15 +124,32 @@ fn has_ended(tally: &Tally, number: u64) -> bool
     tally.committed.contains(&gxid) || tally.aborted.contains(&gxid)
 }
 
-// The number, or the next one where the transaction of this number has ended.
-fn one_on(tally: &Tally, number: u64) -> u64
-    ensures { (g : OneGxid) → g.0 < result → (g.0 < number) ⊎ HasEndedIn tally.now g }
+fn next_of(number: u64) -> u64
+    ensures { result ≤ number + 1 }
 {
-    if number < u64::MAX && has_ended(tally, number) {
+    if number < u64::MAX {
         number + 1
     } else {
         number
     }
+}
+
+// The number, or the next one where the transaction of this number has ended.
+fn one_on(tally: &Tally, number: u64) -> u64
+    ensures { (g : OneGxid) → g.0 < result → (g.0 < number) ⊎ HasEndedIn tally.now g }
+{
+    if has_ended(tally, number) {
+        next_of(number)
+    } else {
+        number
+    }
+}
+
+fn two_on(tally: &Tally, number: u64) -> u64
+    ensures { (g : OneGxid) → g.0 < result → (g.0 < number) ⊎ HasEndedIn tally.now g }
+{
+    let next = one_on(tally, number);
+    one_on(tally, next)
 }
 
 // Each end lets it go on by two, so that it comes up with those that ended out of their order.
@@ -140,7 +157,7 @@ fn unsettled_with(tally: &Tally, mark: &Mark) -> u64
     ensures { (g : OneGxid) → g.0 < result → (g.0 < tally.now.unsettled) ⊎ HasEndedIn tally.now g }
 {
     match mark {
-        Mark::Commit { .. } | Mark::Abort { .. } => one_on(tally, one_on(tally, tally.unsettled)),
+        Mark::Commit { .. } | Mark::Abort { .. } => two_on(tally, tally.unsettled),
         _ => tally.unsettled,
     }
 }
