@@ -4,7 +4,7 @@ use Rattle.std.proofs.lemmas.Bool.Decides.{nat_tests}
 use Rattle.std.proofs.lemmas.List.{append-nil, take-append-drop, take-append-le}
 use Rattle.std.proofs.lemmas.List.Folds.{list_any-append}
 use Rattle.std.proofs.Math.Seq.{take-append_seam}
-use Rattle.std.specs.BTreeMap.{is_at}
+use Rattle.std.specs.BTreeMap.{BTreeMap, get, is_at}
 use Rattle.std.specs.List.{list_all, list_any}
 use Rattle.std.specs.Prelude.{unwrap_or}
 use Rattle.gx_dsnap.specs.Gxids.{gxid_cmp}
@@ -13,7 +13,9 @@ use Rattle.gx_ids.specs.declared.ids.Cid.{Cid}
 use Rattle.gx_ids.specs.declared.ids.Node.{Node}
 use Rattle.gx_ids.specs.declared.ids.Table.{Table}
 use Rattle.gx_ids.specs.declared.rid.Rid.{Rid}
-use Rattle.gx_lemmas.proofs.Tests.{or-false}
+use Rattle.gx_lemmas.proofs.Numbers.{eqb-of}
+use Rattle.gx_lemmas.proofs.Tests.{true-false}
+use Rattle.std.proofs.lemmas.Bool.{eqb-true}
 use Rattle.gx_script.specs.declared.Script.{Script}
 use Rattle.gx_tree.specs.declared.cond.Cond.{Cond}
 use Rattle.gx_tree.specs.declared.expr.Expr.{Expr}
@@ -25,7 +27,7 @@ use Rattle.gx_store.specs.Commands.{condition_on}
 use Rattle.gx_store.specs.Marks.{is_command_of, is_processed, is_same_gxid, is_same_rid, is_written, write_count}
 use Rattle.gx_store.proofs.Marks.{is_processed-append, is_written-append}
 use Rattle.gx_legal.specs.Inserted.{is_inserted, is_own, is_tuple_row}
-use Rattle.gx_legal.specs.Own.{IsFirst, IsOwn, first_with, is_of}
+use Rattle.gx_legal.specs.Own.{IsFirst, IsOwn, first_with, is_of, noted}
 use Rattle.gx_legal.specs.RowsDone.{are_done}
 use Rattle.gx_legal.specs.Selected.{is_met}
 use Rattle.gx_legal.specs.Told.{are_own_done, own_row}
@@ -108,6 +110,22 @@ module _ (g : Gxid) (marks own : List Mark) (is : IsOwn g marks own) where
 pub gxid-other : (g h : Gxid) → h.0 ≢ g.0 → is_at (gxid_cmp g) h ≡ false
 gxid-other g h other = grind (arith, nat_tests)
 
+pub noted-both : (place : ℕ) (a b : Bool) (first : Option ℕ) → noted place b (noted place a first) ≡ noted place (a || b) first
+noted-both place true true first = refl
+noted-both place true false first = refl
+noted-both place false b first = refl
+
+pub noted-at : (old new : BTreeMap Gxid ℕ) (h : Gxid) (place : ℕ) → get gxid_cmp new h ≡ Some (unwrap_or (get gxid_cmp old h) place) → ((g : Gxid) → g.0 ≢ h.0 → get gxid_cmp new g ≡ get gxid_cmp old g)
+    → (g : Gxid) → get gxid_cmp new g ≡ noted place (is_same_gxid h g) (get gxid_cmp old g)
+noted-at old new h place there elsewhere g = by_test (is_same_gxid h g) refl
+  where
+    apart : is_same_gxid h g ≡ false → g.0 ≢ h.0
+    apart e same = true-false (is_same_gxid h g) (eqb-of h.0 g.0 (sym same)) e
+
+    by_test : (b : Bool) → is_same_gxid h g ≡ b → get gxid_cmp new g ≡ noted place b (get gxid_cmp old g)
+    by_test true same = subst (λ (n : ℕ). get gxid_cmp new (record { 0 = n }) ≡ Some (unwrap_or (get gxid_cmp old (record { 0 = n })) place)) (eqb-true h.0 g.0 same) there
+    by_test false other = elsewhere g (apart other)
+
 module _ (g : Gxid) (marks : List Mark) where
   pub own-from : (place : ℕ) (own : List Mark) → IsFirst g marks (Some place) → own ≡ drop place marks → IsOwn g marks own
   own-from place own first is = record { before = take place marks; whole = sym (ap (λ ms. take place marks ++ ms) is ∙ take-append-drop place marks); none = first.1 }
@@ -124,7 +142,7 @@ module _ (g : Gxid) (marks : List Mark) where
       before : (place : ℕ) → place ≤ length marks → list_any (is_of g) (take place marks) ≡ false → list_any (is_of g) (take place (marks ++ m ∷ [])) ≡ false
       before place inside none = ap (list_any (is_of g)) (take-append-le place marks (m ∷ []) inside) ∙ none
 
-      by_test : (b : Bool) → is_of g m ≡ b → (first : Option ℕ) → IsFirst g marks first → IsFirst g (marks ++ m ∷ []) (if b then Some (unwrap_or first (length marks)) else first)
+      by_test : (b : Bool) → is_of g m ≡ b → (first : Option ℕ) → IsFirst g marks first → IsFirst g (marks ++ m ∷ []) (noted (length marks) b first)
       by_test true its (Some place) is = (longer place is.0, before place is.0 is.1)
       by_test true its None none = (longer (length marks) (omega arith), ap (list_any (is_of g)) (take-append_seam marks (m ∷ [])) ∙ none)
       by_test false its (Some place) is = (longer place is.0, before place is.0 is.1)

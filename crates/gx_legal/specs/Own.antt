@@ -1,5 +1,5 @@
 -- The marks that tell of a transaction's rows, and where they begin.
-use Rattle.std.specs.Prelude.{◌≡◌, ◌≤◌, ◌++◌, ◌||◌, ℕ, Bool, false, if◌then◌else◌, List, length, take, Some, None, unwrap_or}
+use Rattle.std.specs.Prelude.{◌≡◌, ◌≤◌, ◌++◌, ◌||◌, ℕ, Bool, true, false, List, length, take, Some, None, unwrap_or}
 use Rattle.std.specs.BTreeMap.{BTreeMap, get}
 use Rattle.std.specs.List.{list_any}
 use Rattle.std.specs.declared.option.Option.{Option}
@@ -29,6 +29,11 @@ IsFirst g marks (Some place) = (place ≤ length marks) × (list_any (is_of g) (
 abbrev pub AreFirsts : List Mark → BTreeMap Gxid ℕ → Type 0
 AreFirsts marks firsts = (g : Gxid) → IsFirst g marks (get gxid_cmp firsts g)
 
+-- this place, if there is none yet and the test holds
+abbrev pub noted : ℕ → Bool → Option ℕ → Option ℕ
+noted place true first = Some (unwrap_or first place)
+noted place false first = first
+
 -- the place of the first with a mark more, which stands at this place
 abbrev pub first_with : Gxid → Mark → ℕ → Option ℕ → Option ℕ
-first_with g mark place first = if is_of g mark then Some (unwrap_or first place) else first
+first_with g mark place first = noted place (is_of g mark) first

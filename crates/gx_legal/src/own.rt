@@ -1,25 +1,48 @@
 // Where the marks that tell of a transaction's rows begin, so that no look for them goes further back.
-ghost use Rattle.std.specs.Prelude.{◌≡◌, ◌≢◌, ◌≤◌, length, Some, OnOk, unwrap_or};
+ghost use Rattle.std.specs.Prelude.{◌≡◌, ◌≢◌, ◌≤◌, ◌||◌, drop, length, Some, OnOk, unwrap_or};
 ghost use Rattle.std.specs.BTreeMap.{get};
 ghost use Rattle.gx_dsnap.specs.Gxids.{gxid_cmp};
 ghost use Rattle.gx_ids.specs.declared.ids.Gxid.{Gxid as OneGxid};
-ghost use Rattle.gx_legal.specs.Own.{IsOwn, first_with};
+ghost use Rattle.gx_legal.specs.Own.{IsFirst, IsOwn, first_with, noted};
+ghost use Rattle.gx_store.specs.Marks.{is_same_gxid};
 
 use crate::moment::Moment;
 use gx_ids::{Gxid, Mem};
 use gx_store::Mark;
 use std::collections::BTreeMap;
 
-// Notes the place, where the transaction has none yet.
-fn note_first(firsts: &mut BTreeMap<Gxid, usize>, gxid: Gxid, place: usize) -> Mem<()>
-    ensures there { OnOk result (get gxid_cmp firsts.new gxid ≡ Some (unwrap_or (get gxid_cmp firsts.old gxid) place)) }
-    ensures elsewhere { OnOk result ((g : OneGxid) → g.0 ≢ gxid.0 → get gxid_cmp firsts.new g ≡ get gxid_cmp firsts.old g) }
+// The place that is noted for the transaction, or else this one.
+fn first_or(firsts: &BTreeMap<Gxid, usize>, gxid: Gxid, place: usize) -> usize
+    ensures { result ≡ unwrap_or (get gxid_cmp firsts.now gxid) place }
 {
-    let first = match firsts.get(&gxid) {
+    match firsts.get(&gxid) {
         Some(first) => *first,
         None => place,
-    };
+    }
+}
+
+fn set_first(firsts: &mut BTreeMap<Gxid, usize>, gxid: Gxid, first: usize) -> Mem<()>
+    ensures there { OnOk result (get gxid_cmp firsts.new gxid ≡ Some first) }
+    ensures elsewhere { OnOk result ((g : OneGxid) → g.0 ≢ gxid.0 → get gxid_cmp firsts.new g ≡ get gxid_cmp firsts.old g) }
+{
     firsts.insert(gxid, first)?;
+    Ok(())
+}
+
+// Notes the place, where the transaction has none yet.
+fn note_first(firsts: &mut BTreeMap<Gxid, usize>, gxid: Gxid, place: usize) -> Mem<()>
+    ensures { OnOk result ((g : OneGxid) → get gxid_cmp firsts.new g ≡ noted place (is_same_gxid gxid g) (get gxid_cmp firsts.old g)) }
+{
+    let first = first_or(firsts, gxid, place);
+    set_first(firsts, gxid, first)?;
+    Ok(())
+}
+
+fn note_both(firsts: &mut BTreeMap<Gxid, usize>, gxid: Gxid, other: Gxid, place: usize) -> Mem<()>
+    ensures { OnOk result ((g : OneGxid) → get gxid_cmp firsts.new g ≡ noted place (is_same_gxid gxid g || is_same_gxid other g) (get gxid_cmp firsts.old g)) }
+{
+    note_first(firsts, gxid, place)?;
+    note_first(firsts, other, place)?;
     Ok(())
 }
 
@@ -28,21 +51,39 @@ pub(crate) fn note_mark(firsts: &mut BTreeMap<Gxid, usize>, mark: &Mark, place: 
     ensures { OnOk result ((g : OneGxid) → get gxid_cmp firsts.new g ≡ first_with g mark.now place (get gxid_cmp firsts.old g)) }
 {
     match mark {
-        Mark::Write { gxid, rid, .. } => {
-            note_first(firsts, *gxid, place)?;
-            note_first(firsts, rid.gxid, place)
-        }
+        Mark::Write { gxid, rid, .. } => note_both(firsts, *gxid, rid.gxid, place),
         Mark::Skip { gxid, .. } => note_first(firsts, *gxid, place),
         _ => Ok(()),
     }
+}
+
+fn rest(marks: &[Mark], first: usize) -> &[Mark]
+    requires { first ≤ length marks.now }
+    ensures { result.now ≡ drop first marks.now }
+{
+    &marks[first..]
+}
+
+fn own_among(marks: &[Mark], _gxid: Gxid, first: Option<usize>) -> &[Mark]
+    requires { IsFirst _gxid marks.now first }
+    ensures { IsOwn _gxid marks.now result.now }
+{
+    match first {
+        Some(place) => rest(marks, place),
+        None => &[],
+    }
+}
+
+fn first_at(moment: &Moment<'_, '_>, gxid: Gxid) -> Option<usize>
+    ensures { result ≡ get gxid_cmp moment.now.tally.now.firsts gxid }
+{
+    moment.tally.firsts.get(&gxid).copied()
 }
 
 /// The marks before the moment from the first on that tells of the transaction's rows.
 pub fn own_marks<'a>(moment: &Moment<'a, '_>, gxid: Gxid) -> &'a [Mark]
     ensures { IsOwn gxid moment.now.before.now result.now }
 {
-    match moment.tally.firsts.get(&gxid) {
-        Some(first) => &moment.before[*first..],
-        None => &[],
-    }
+    let first = first_at(moment, gxid);
+    own_among(moment.before, gxid, first)
 }
