@@ -1,12 +1,12 @@
 -- What is asked of a transaction's rows is told by its own marks.
-use Rattle.std.proofs.Common.{◌≡◌, ◌≢◌, ◌∙◌, ◌≤◌, ◌+◌, ◌++◌, ◌||◌, ◌&&◌, ◌==◌, ℕ, Bool, true, false, not, if◌then◌else◌, List, [], ◌∷◌, Some, None, Option, length, take, drop, refl, sym, ap, subst, arith, length-append}
+use Rattle.std.proofs.Common.{◌≡◌, ◌≢◌, ◌∙◌, ◌≤◌, ◌+◌, ◌-◌, ◌++◌, ◌||◌, ◌&&◌, ◌==◌, ℕ, Bool, true, false, not, if◌then◌else◌, List, [], ◌∷◌, Some, None, Option, length, take, drop, refl, sym, ap, subst, arith, length-append}
 use Rattle.std.proofs.lemmas.Bool.Decides.{nat_tests}
 use Rattle.std.proofs.lemmas.List.{append-nil, take-append-drop, take-append-le}
 use Rattle.std.proofs.lemmas.List.Folds.{list_any-append}
 use Rattle.std.proofs.Math.Seq.{take-append_seam}
 use Rattle.std.specs.BTreeMap.{BTreeMap, get, is_at}
 use Rattle.std.specs.List.{list_all, list_any}
-use Rattle.std.specs.Prelude.{unwrap_or}
+use Rattle.std.specs.Prelude.{nat_le, slice_get, unwrap_or}
 use Rattle.gx_dsnap.specs.Gxids.{gxid_cmp}
 use Rattle.gx_ids.specs.declared.ids.Gxid.{Gxid}
 use Rattle.gx_ids.specs.declared.ids.Cid.{Cid}
@@ -26,6 +26,7 @@ use Rattle.gx_store.specs.declared.mark.Mark.TheVariants.{Skip, Write}
 use Rattle.gx_store.specs.Commands.{condition_on}
 use Rattle.gx_store.specs.Marks.{is_command_of, is_processed, is_same_gxid, is_same_rid, is_written, write_count}
 use Rattle.gx_store.proofs.Marks.{is_processed-append, is_written-append}
+use Rattle.gx_store.specs.Writes.{dist_of}
 use Rattle.gx_legal.specs.Inserted.{is_inserted, is_own, is_tuple_row}
 use Rattle.gx_legal.specs.Own.{IsFirst, IsOwn, first_with, is_of, noted}
 use Rattle.gx_legal.specs.RowsDone.{are_done}
@@ -41,8 +42,8 @@ or-second : (a b : Bool) → (a || b) ≡ false → b ≡ false
 or-second true b e = absurd (cc)
 or-second false b e = e
 
-other-row : (a b rid : Rid) (g : Gxid) → is_same_gxid a.gxid g ≡ false → is_same_gxid rid.gxid g ≡ true → is_same_rid a rid ≡ false
-other-row a b rid g no-own own = grind (arith, nat_tests)
+other-row : (a rid : Rid) (g : Gxid) → is_same_gxid a.gxid g ≡ false → is_same_gxid rid.gxid g ≡ true → is_same_rid a rid ≡ false
+other-row a rid g no-own own = grind (arith, nat_tests)
 
 other-command : (h g : Gxid) (c d : Cid) → is_same_gxid h g ≡ false → is_command_of g c h d ≡ false
 other-command h g c d e = ap (λ b. b && (d.0 == c.0)) e
@@ -51,7 +52,7 @@ unwritten : (ms : List Mark) (g : Gxid) (rid : Rid) → list_any (is_of g) ms �
 unwritten [] g rid none own = refl
 unwritten (Write h c node t r image ∷ ms) g rid none own =
     let here = or-second (is_same_gxid h g) (is_same_gxid r.gxid g) (or-first (is_same_gxid h g || is_same_gxid r.gxid g) _ none) in
-    ap (λ b. b || is_written ms rid) (other-row r r rid g here own) ∙ unwritten ms g rid (or-second (is_same_gxid h g || is_same_gxid r.gxid g) _ none) own
+    ap (λ b. b || is_written ms rid) (other-row r rid g here own) ∙ unwritten ms g rid (or-second (is_same_gxid h g || is_same_gxid r.gxid g) _ none) own
 unwritten (Skip h c r ∷ ms) g rid none own = unwritten ms g rid (or-second (is_same_gxid h g) _ none) own
 unwritten (_ ∷ ms) g rid none own = unwritten ms g rid none own
 
@@ -75,6 +76,10 @@ module _ (g : Gxid) (c : Cid) where
   uncounted (_ ∷ ms) own none = uncounted ms own none
 
 -- BY ITS OWN MARKS
+not-own : (b x y z : Bool) → b ≡ false → ((b && x) && y) ≡ ((b && x) && z)
+not-own true x y z e = absurd (cc)
+not-own false x y z e = refl
+
 module _ (g : Gxid) (marks own : List Mark) (is : IsOwn g marks own) where
   pub written-own : (rid : Rid) → is_same_gxid rid.gxid g ≡ true → is_written own rid ≡ is_written marks rid
   written-own rid its =
@@ -92,8 +97,9 @@ module _ (g : Gxid) (marks own : List Mark) (is : IsOwn g marks own) where
   inserted-own script c table tuples node rid image = by_test (is_same_gxid rid.gxid g) refl
     where
       by_test : (b : Bool) → is_same_gxid rid.gxid g ≡ b → is_inserted script own g c table tuples node rid image ≡ is_inserted script marks g c table tuples node rid image
-      by_test true its = ap (λ b. is_own g c rid && (not b && _)) (written-own rid its)
-      by_test false other = ap (λ b. (b && _) && _) other ∙ sym (ap (λ b. (b && _) && _) other)
+      by_test true its =
+          ap (λ b. is_own g c rid && (not b && is_tuple_row script.segments (dist_of script.tables table.0) node rid image (slice_get tuples (rid.ordinal - 1)))) (written-own rid its)
+      by_test false other = not-own (is_same_gxid rid.gxid g) ((rid.cid.0 == c.0) && nat_le 1 rid.ordinal) _ _ other
 
   pub own-done-own : (c : Cid) (place : ℕ) (tuples : List (List Expr)) → are_own_done own g c place tuples ≡ are_own_done marks g c place tuples
   own-done-own c place [] = refl
