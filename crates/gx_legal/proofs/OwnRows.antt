@@ -1,9 +1,9 @@
 -- What is asked of a transaction's rows is told by its own marks.
 use Rattle.std.proofs.Common.{◌≡◌, ◌≢◌, ◌∙◌, ◌≤◌, ◌+◌, ◌-◌, ◌++◌, ◌||◌, ◌&&◌, ◌==◌, ℕ, Bool, true, false, not, if◌then◌else◌, List, [], ◌∷◌, Some, None, Option, length, take, drop, refl, sym, ap, subst, arith, length-append}
 use Rattle.std.proofs.lemmas.Bool.Decides.{nat_tests}
-use Rattle.std.proofs.lemmas.List.{append-nil, take-append-drop, take-append-le}
+use Rattle.std.proofs.lemmas.List.{length-drop, take-append-drop, take-append-le}
 use Rattle.std.proofs.lemmas.List.Folds.{list_any-append}
-use Rattle.std.proofs.Math.Seq.{take-append_seam}
+use Rattle.std.proofs.Math.Seq.{take-length}
 use Rattle.std.specs.BTreeMap.{BTreeMap, get, is_at}
 use Rattle.std.specs.List.{list_all, list_any}
 use Rattle.std.specs.Prelude.{nat_le, slice_get, unwrap_or}
@@ -81,16 +81,22 @@ not-own true x y z e = absurd (cc)
 not-own false x y z e = refl
 
 module _ (g : Gxid) (marks own : List Mark) (is : IsOwn g marks own) where
+  abbrev first-ones : List Mark
+  first-ones = take (length marks - length own) marks
+
+  whole : marks ≡ first-ones ++ own
+  whole = sym (ap (λ ms. first-ones ++ ms) is.last ∙ take-append-drop (length marks - length own) marks)
+
   pub written-own : (rid : Rid) → is_same_gxid rid.gxid g ≡ true → is_written own rid ≡ is_written marks rid
   written-own rid its =
-      sym (ap (λ ms. is_written ms rid) is.whole ∙ is_written-append is.before own rid ∙ ap (λ b. b || is_written own rid) (unwritten is.before g rid is.none its))
+      sym (ap (λ ms. is_written ms rid) whole ∙ is_written-append first-ones own rid ∙ ap (λ b. b || is_written own rid) (unwritten first-ones g rid is.none its))
 
   pub processed-own : (c : Cid) (rid : Rid) → is_processed own g c rid ≡ is_processed marks g c rid
   processed-own c rid =
-      sym (ap (λ ms. is_processed ms g c rid) is.whole ∙ is_processed-append is.before own g c rid ∙ ap (λ b. b || is_processed own g c rid) (unprocessed g c is.before rid is.none))
+      sym (ap (λ ms. is_processed ms g c rid) whole ∙ is_processed-append first-ones own g c rid ∙ ap (λ b. b || is_processed own g c rid) (unprocessed g c first-ones rid is.none))
 
   pub counted-own : (c : Cid) → write_count own g c ≡ write_count marks g c
-  counted-own c = sym (ap (λ ms. write_count ms g c) is.whole ∙ uncounted g c is.before own is.none)
+  counted-own c = sym (ap (λ ms. write_count ms g c) whole ∙ uncounted g c first-ones own is.none)
 
   pub inserted-own : (script : Script) (c : Cid) (table : Table) (tuples : List (List Expr)) (node : Node) (rid : Rid) (image : Option (List Value))
       → is_inserted script own g c table tuples node rid image ≡ is_inserted script marks g c table tuples node rid image
@@ -133,11 +139,14 @@ noted-at old new h place there elsewhere g = by_test (is_same_gxid h g) refl
     by_test false other = elsewhere g (apart other)
 
 module _ (g : Gxid) (marks : List Mark) where
-  pub own-from : (place : ℕ) (own : List Mark) → IsFirst g marks (Some place) → own ≡ drop place marks → IsOwn g marks own
-  own-from place own first is = record { before = take place marks; whole = sym (ap (λ ms. take place marks ++ ms) is ∙ take-append-drop place marks); none = first.1 }
+  pub from-inside : (first : Option ℕ) (place : ℕ) → IsFirst g marks first → place ≡ unwrap_or first (length marks) → place ≤ length marks
+  from-inside first place is e = omega (arith, is.inside, e)
 
-  pub own-none : IsFirst g marks None → IsOwn g marks []
-  own-none none = record { before = marks; whole = sym (append-nil marks); none = none }
+  pub own-from : (first : Option ℕ) (place : ℕ) (own : List Mark) → IsFirst g marks first → place ≡ unwrap_or first (length marks) → own ≡ drop place marks → IsOwn g marks own
+  own-from first place own is e last =
+      let inside : place ≤ length marks = from-inside first place is e in
+      let back : length marks - length own ≡ place = omega (arith, inside, ap length last, length-drop place marks) in
+      record { last = last ∙ ap (λ n. drop n marks) (sym back); none = ap (λ n. list_any (is_of g) (take n marks)) (back ∙ e) ∙ is.none }
 
   pub first-next : (m : Mark) (first : Option ℕ) → IsFirst g marks first → IsFirst g (marks ++ m ∷ []) (first_with g m (length marks) first)
   first-next m first is = by_test (is_of g m) refl first is
@@ -148,9 +157,14 @@ module _ (g : Gxid) (marks : List Mark) where
       before : (place : ℕ) → place ≤ length marks → list_any (is_of g) (take place marks) ≡ false → list_any (is_of g) (take place (marks ++ m ∷ [])) ≡ false
       before place inside none = ap (list_any (is_of g)) (take-append-le place marks (m ∷ []) inside) ∙ none
 
+      all : (none : list_any (is_of g) (take (length marks) marks) ≡ false) → list_any (is_of g) marks ≡ false
+      all none = ap (list_any (is_of g)) (sym (take-length marks)) ∙ none
+
       by_test : (b : Bool) → is_of g m ≡ b → (first : Option ℕ) → IsFirst g marks first → IsFirst g (marks ++ m ∷ []) (noted (length marks) b first)
-      by_test true its (Some place) is = (longer place is.0, before place is.0 is.1)
-      by_test true its None none = (longer (length marks) (omega arith), ap (list_any (is_of g)) (take-append_seam marks (m ∷ [])) ∙ none)
-      by_test false its (Some place) is = (longer place is.0, before place is.0 is.1)
-      by_test false its None none =
-          list_any-append (is_of g) marks (m ∷ []) ∙ ap (λ b. b || (is_of g m || false)) none ∙ ap (λ b. b || false) its
+      by_test true its (Some place) is = record { inside = longer place is.inside; none = before place is.inside is.none }
+      by_test true its None is = record { inside = longer (length marks) is.inside; none = before (length marks) is.inside is.none }
+      by_test false its (Some place) is = record { inside = longer place is.inside; none = before place is.inside is.none }
+      by_test false its None is = record {
+        inside = omega arith;
+        none = ap (list_any (is_of g)) (take-length (marks ++ m ∷ [])) ∙ list_any-append (is_of g) marks (m ∷ []) ∙ ap (λ b. b || (is_of g m || false)) (all is.none) ∙ ap (λ b. b || false) its;
+      }

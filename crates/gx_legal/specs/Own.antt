@@ -1,5 +1,5 @@
 -- The marks that tell of a transaction's rows, and where they begin.
-use Rattle.std.specs.Prelude.{◌≡◌, ◌≤◌, ◌++◌, ◌||◌, ℕ, Bool, true, false, List, length, take, Some, None, unwrap_or}
+use Rattle.std.specs.Prelude.{◌≡◌, ◌≤◌, ◌-◌, ◌||◌, ℕ, Bool, true, false, List, drop, length, take, Some, unwrap_or}
 use Rattle.std.specs.BTreeMap.{BTreeMap, get}
 use Rattle.std.specs.List.{list_any}
 use Rattle.std.specs.declared.option.Option.{Option}
@@ -17,14 +17,13 @@ is_of g _ = false
 
 -- all of these marks that tell of its rows are among its own, which are the last of them
 pub record IsOwn (g : Gxid) (marks own : List Mark) : Type 0 where
-  pub before : List Mark
-  pub whole : marks ≡ before ++ own
-  pub none : list_any (is_of g) before ≡ false
+  pub last : own ≡ drop (length marks - length own) marks
+  pub none : list_any (is_of g) (take (length marks - length own) marks) ≡ false
 
--- before the place of the first, if there is one, nothing tells of its rows
-abbrev pub IsFirst : Gxid → List Mark → Option ℕ → Type 0
-IsFirst g marks None = list_any (is_of g) marks ≡ false
-IsFirst g marks (Some place) = (place ≤ length marks) × (list_any (is_of g) (take place marks) ≡ false)
+-- before the place, or before all where there is none, nothing tells of its rows
+pub record IsFirst (g : Gxid) (marks : List Mark) (first : Option ℕ) : Type 0 where
+  pub inside : unwrap_or first (length marks) ≤ length marks
+  pub none : list_any (is_of g) (take (unwrap_or first (length marks)) marks) ≡ false
 
 abbrev pub AreFirsts : List Mark → BTreeMap Gxid ℕ → Type 0
 AreFirsts marks firsts = (g : Gxid) → IsFirst g marks (get gxid_cmp firsts g)

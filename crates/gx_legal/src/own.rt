@@ -3,7 +3,7 @@ ghost use Rattle.std.specs.Prelude.{◌≡◌, ◌≢◌, ◌≤◌, ◌||◌, d
 ghost use Rattle.std.specs.BTreeMap.{get};
 ghost use Rattle.gx_dsnap.specs.Gxids.{gxid_cmp};
 ghost use Rattle.gx_ids.specs.declared.ids.Gxid.{Gxid as OneGxid};
-ghost use Rattle.gx_legal.specs.Own.{IsFirst, IsOwn, first_with, noted};
+ghost use Rattle.gx_legal.specs.Own.{IsOwn, first_with, noted};
 ghost use Rattle.gx_store.specs.Marks.{is_same_gxid};
 
 use crate::moment::Moment;
@@ -64,26 +64,11 @@ fn rest(marks: &[Mark], first: usize) -> &[Mark]
     &marks[first..]
 }
 
-fn own_among(marks: &[Mark], _gxid: Gxid, first: Option<usize>) -> &[Mark]
-    requires { IsFirst _gxid marks.now first }
-    ensures { IsOwn _gxid marks.now result.now }
-{
-    match first {
-        Some(place) => rest(marks, place),
-        None => &[],
-    }
-}
-
-fn first_at(moment: &Moment<'_, '_>, gxid: Gxid) -> Option<usize>
-    ensures { result ≡ get gxid_cmp moment.now.tally.now.firsts gxid }
-{
-    moment.tally.firsts.get(&gxid).copied()
-}
-
 /// The marks before the moment from the first on that tells of the transaction's rows.
 pub fn own_marks<'a>(moment: &Moment<'a, '_>, gxid: Gxid) -> &'a [Mark]
     ensures { IsOwn gxid moment.now.before.now result.now }
 {
-    let first = first_at(moment, gxid);
-    own_among(moment.before, gxid, first)
+    let count = moment.before.len();
+    let first = first_or(&moment.tally.firsts, gxid, count);
+    rest(moment.before, first)
 }

@@ -1,8 +1,20 @@
-use Rattle.std.proofs.Common.{subst, sym}
-use Rattle.gx_legal.specs.Own.{IsFirst}
+use Rattle.std.proofs.Common.{◌≡◌, ◌∙◌, ℕ, length, ap}
+use Rattle.std.specs.BTreeMap.{get}
+use Rattle.std.specs.Prelude.{unwrap_or}
+use Rattle.gx_dsnap.specs.Gxids.{gxid_cmp}
+use Rattle.gx_legal.proofs.OwnRows.{from-inside, own-from}
 use Rattle.gx_legal.proofs.own.own_marks.Goals as goal
 
-pub own_among-requires : goal.own_among-requires
-own_among-requires c =
+pub rest-requires : goal.rest-requires
+rest-requires c =
     let m = c.args.moment.now in
-    subst (IsFirst c.args.gxid m.before.now) (sym c.first_at-first.ensures) (m.told.firsts c.args.gxid)
+    let first = get gxid_cmp m.tally.now.firsts c.args.gxid in
+    let place : c.first_or-first.result ≡ unwrap_or first (length m.before.now) = c.first_or-first.ensures ∙ ap (unwrap_or first) c.len-count.ensures in
+    from-inside c.args.gxid m.before.now first c.first_or-first.result (m.told.firsts c.args.gxid) place
+
+pub returns : goal.returns
+returns c =
+    let m = c.args.moment.now in
+    let first = get gxid_cmp m.tally.now.firsts c.args.gxid in
+    let place : c.first_or-first.result ≡ unwrap_or first (length m.before.now) = c.first_or-first.ensures ∙ ap (unwrap_or first) c.len-count.ensures in
+    own-from c.args.gxid m.before.now first c.first_or-first.result c.rest.result.now (m.told.firsts c.args.gxid) place c.rest.ensures
