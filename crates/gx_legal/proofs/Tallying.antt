@@ -109,7 +109,7 @@ either-on f (inr c) = inr c
 
 -- STARTS
 starts-append : (xs ys : List Mark) → start_count (xs ++ ys) ≡ start_count xs + start_count ys
-starts-append [] ys = refl
+starts-append [] ys = omega arith
 starts-append (Start g s ∷ xs) ys = omega (arith, starts-append xs ys)
 starts-append (_ ∷ xs) ys = starts-append xs ys
 
