@@ -12,7 +12,7 @@ use Rattle.clap.specs.declared.error.Error.{Error}
 use Rattle.clap.specs.declared.error.kind.ErrorKind.TheVariants as kind
 use Rattle.clap.specs.declared.parser.matches.ArgMatches.{ArgMatches}
 use Rattle.clap.proofs.OnLiterals.{clap_on_literals}
-use Rattle.gx_words.specs.Command.{bare, command, tracing, valued}
+use Rattle.gx_words.specs.Command.{bare, command, flagged, valued}
 use Rattle.gx_words.specs.declared.command.WordsFault.{WordsFault}
 use Rattle.gx_words.specs.declared.command.WordsFault.TheVariants as words_fault
 
@@ -25,13 +25,14 @@ bare-is first second third new unnamed helpless =
     ap app_of_fields unnamed
     ∙ ap (λ (a : App). record { top = record a.top { no_binary_name = true }; subs = a.subs }) new)
 
-pub command-is : (start one two three all : Command) (a b d e : Rule) → app_of start ≡ bare → a ≡ valued (codes "seed") → b ≡ valued (codes "turns")
-    → d ≡ valued (codes "gen") → e ≡ tracing
+pub command-is : (start one two three four all : Command) (a b d e f : Rule) → app_of start ≡ bare → a ≡ valued (codes "seed") → b ≡ valued (codes "turns")
+    → d ≡ valued (codes "gen") → e ≡ flagged (codes "trace") → f ≡ flagged (codes "threads")
     → app_of one ≡ with_rule (app_of start) a → app_of two ≡ with_rule (app_of one) b → app_of three ≡ with_rule (app_of two) d
-    → app_of all ≡ with_rule (app_of three) e
+    → app_of four ≡ with_rule (app_of three) e → app_of all ≡ with_rule (app_of four) f
     → app_of all ≡ command
-command-is start one two three all a b d e begins seed turns gen trace first second third last =
-    last ∙ ap₂ with_rule (third ∙ ap₂ with_rule (second ∙ ap₂ with_rule (first ∙ ap₂ with_rule begins seed) turns) gen) trace
+command-is start one two three four all a b d e f begins seed turns gen trace threads first second third fourth last =
+    last
+    ∙ ap₂ with_rule (fourth ∙ ap₂ with_rule (third ∙ ap₂ with_rule (second ∙ ap₂ with_rule (first ∙ ap₂ with_rule begins seed) turns) gen) trace) threads
 
 simple : is_simple_and_free command ≡ true
 unfolding clap_on_literals

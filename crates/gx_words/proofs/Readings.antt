@@ -1,5 +1,5 @@
 -- Whether words are in the language, by what a parse made of them.
-use Rattle.std.proofs.Common.{◌≡◌, ◌∙◌, ℕ, ◌≤◌, true, false, List, [], map, Result, Err, sym, ap, subst, true≢false}
+use Rattle.std.proofs.Common.{◌≡◌, ◌∙◌, ℕ, true, false, List, [], map, Result, Err, sym, ap, true≢false}
 use Rattle.std.proofs.lemmas.List.Folds.{list_all-map}
 use Rattle.std.specs.Prelude.{string_bytes}
 use Rattle.std.specs.declared.alloc.Global.{Global}
@@ -8,7 +8,7 @@ use Rattle.std.specs.List.{list_all}
 use Rattle.clap.specs.Walk.{Row}
 use Rattle.clap.specs.Simple.{matches_of}
 use Rattle.clap.specs.Faults.{fault_of}
-use Rattle.gx_words.specs.Words.{IsCommand, Part, options_of}
+use Rattle.gx_words.specs.Words.{IsCommand, IsOf, Part}
 use Rattle.gx_words.specs.Command.{command, is_known}
 use Rattle.gx_words.specs.Found.{found_of_parts}
 use Rattle.gx_words.specs.declared.options.Options.{Options}
@@ -17,57 +17,43 @@ use Rattle.gx_words.specs.declared.command.WordsFault.TheVariants.{Usage}
 use Rattle.gx_words.proofs.Written.{parts-known}
 use Rattle.gx_words.proofs.Splits.{AreParts, are-parts, parts-fine, parts-found}
 
--- the options are those that the rows tell
+-- the options are those that are asked for by whatever parts have these rows
 abbrev pub Tells : List Row → Options → Type 0
-Tells rows options = (parts : List Part) → rows ≡ found_of_parts parts → options ≡ options_of parts
+Tells rows options = (parts : List Part) → rows ≡ found_of_parts parts → IsOf parts options
 
 pub reads : (ws : List (List ℕ)) (rows : List Row) (options : Options) → list_all is_known ws ≡ true → fault_of command ws ≡ []
-    → rows ≡ matches_of command ws → Tells rows options
-    → 1 ≤ options.turns → options.turns ≤ 10000000 → IsCommand ws options
-reads ws rows options known fine found tells least most = record {
+    → rows ≡ matches_of command ws → Tells rows options → IsCommand ws options
+reads ws rows options known fine found tells = record {
   parts = are.parts;
   written = are.written;
   once = are.once;
   numbered = are.numbered;
-  are = tells are.parts (found ∙ ap (matches_of command) are.written ∙ parts-found are.parts are.once are.numbered);
-  least = least;
-  most = most;
+  of = tells are.parts (found ∙ ap (matches_of command) are.written ∙ parts-found are.parts are.once are.numbered);
 }
   where
     are : AreParts ws
     are = are-parts ws known fine
 
-pub reads-alone : (ws : List (List ℕ)) (rows : List Row) (options others : Options) → rows ≡ matches_of command ws → Tells rows options
-    → IsCommand ws others → others ≡ options
-reads-alone ws rows options others found tells is =
-    is.are ∙ sym (tells is.parts (found ∙ ap (matches_of command) is.written ∙ parts-found is.parts is.once is.numbered))
+-- the rows are those of the command's parts
+rows-of : (ws : List (List ℕ)) (rows : List Row) (options : Options) → rows ≡ matches_of command ws → (is : IsCommand ws options) → rows ≡ found_of_parts is.parts
+rows-of ws rows options found is = found ∙ ap (matches_of command) is.written ∙ parts-found is.parts is.once is.numbered
 
-pub reads-known : (ws : List (List ℕ)) (options : Options) → IsCommand ws options → list_all is_known ws ≡ true
+pub reads-alone : (ws : List (List ℕ)) (rows : List Row) (options : Options) → rows ≡ matches_of command ws → Tells rows options
+    → (others : Options) → IsCommand ws others → others ≡ options
+reads-alone ws rows options found tells others is = is.of.are ∙ sym (tells is.parts (rows-of ws rows others found is)).are
+
+reads-known : (ws : List (List ℕ)) (options : Options) → IsCommand ws options → list_all is_known ws ≡ true
 reads-known ws options is = ap (list_all is_known) is.written ∙ parts-known is.parts is.numbered
 
-pub reads-fine : (ws : List (List ℕ)) (options : Options) → IsCommand ws options → fault_of command ws ≡ []
+reads-fine : (ws : List (List ℕ)) (options : Options) → IsCommand ws options → fault_of command ws ≡ []
 reads-fine ws options is = ap (fault_of command) is.written ∙ parts-fine is.parts is.once is.numbered
 
--- ---- options within the limit
+-- ---- words that are refused
 
-abbrev pub IsLimited : Options → Options → Type 0
-IsLimited options o = (o ≡ options) × (1 ≤ options.turns) × (options.turns ≤ 10000000)
-
-pub reads-limited : (ws : List (List ℕ)) (rows : List Row) (options : Options) → list_all is_known ws ≡ true → fault_of command ws ≡ []
-    → rows ≡ matches_of command ws → Tells rows options
-    → (o : Options) → IsLimited options o → IsCommand ws o
-reads-limited ws rows options known fine found tells o of = subst (IsCommand ws) (sym of.0) (reads ws rows options known fine found tells of.1 of.2)
-
-pub alone-limited : (ws : List (List ℕ)) (rows : List Row) (options : Options) → rows ≡ matches_of command ws → Tells rows options
-    → (o : Options) → IsLimited options o → (others : Options) → IsCommand ws others → others ≡ o
-alone-limited ws rows options found tells o of others is = reads-alone ws rows options others found tells is ∙ sym of.0
-
-pub refused-limited : (ws : List (List ℕ)) (rows : List Row) (options : Options) → rows ≡ matches_of command ws → Tells rows options
-    → (r : Result Options WordsFault)
-    → (r ≡ Err Usage → 1 ≤ options.turns → options.turns ≤ 10000000 → ⊥) → r ≡ Err Usage → (others : Options) → IsCommand ws others → ⊥
-refused-limited ws rows options found tells r refused said others is =
-    let same = reads-alone ws rows options others found tells is in
-    refused said (subst (λ (x : Options). 1 ≤ x.turns) same is.least) (subst (λ (x : Options). x.turns ≤ 10000000) same is.most)
+pub refused-matches : (ws : List (List ℕ)) (rows : List Row) → rows ≡ matches_of command ws → (r : Result Options WordsFault)
+    → (r ≡ Err Usage → (parts : List Part) → rows ≡ found_of_parts parts → (options : Options) → IsOf parts options → ⊥)
+    → r ≡ Err Usage → (others : Options) → IsCommand ws others → ⊥
+refused-matches ws rows found r refused said others is = refused said is.parts (rows-of ws rows others found is) others is.of
 
 pub refused-fault : (ws : List (List ℕ)) (f : WordsFault) → (fault_of command ws ≡ [] → f ≡ Usage → ⊥)
     → (let r : Result Options WordsFault = Err f in r) ≡ Err Usage → (others : Options) → IsCommand ws others → ⊥

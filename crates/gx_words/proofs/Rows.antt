@@ -9,8 +9,8 @@ use Rattle.clap.specs.declared.error.kind.ErrorKind.TheVariants.{ArgumentConflic
 use Rattle.clap.specs.declared.parser.matches.ValueSource.TheVariants.{CommandLine}
 use Rattle.clap.specs.Faults.{use_fault}
 use Rattle.clap.proofs.WalkLemmas.{list_any-map}
-use Rattle.gx_words.specs.Words.{Part, flag, apart, joined, label, has_label, name_text}
-use Rattle.gx_words.specs.Found.{row, rule, rule_in, trace_rule, values_in}
+use Rattle.gx_words.specs.Words.{Part, flag, trace, threads, apart, joined, flag_text, label, has_label, name_text}
+use Rattle.gx_words.specs.Found.{flag_rule, row, rule, rule_in, values_in}
 
 -- ---- rows
 
@@ -36,7 +36,7 @@ placed id how values rs e =
     (record { id = id; values = values; count = None; source = Some CommandLine; reading = how } ∷ []) rs e
 
 pub used-part : (p : Part) (rs : List Row) → has_row (label p) rs ≡ false → used (rule_in p) (values_in p) rs ≡ rs ++ row p ∷ []
-used-part flag rs e = placed (codes "trace") (reading_by trace_rule) (codes "true" ∷ []) rs e
+used-part (flag f) rs e = placed (flag_text f) (reading_by (flag_rule f)) (codes "true" ∷ []) rs e
 used-part (apart name t) rs e = placed (name_text name) (reading_by (rule name)) (t ∷ []) rs e
 used-part (joined name t) rs e = placed (name_text name) (reading_by (rule name)) (t ∷ []) rs e
 
@@ -48,7 +48,7 @@ repeated again = or_else (cond (again && true) (ArgumentConflict ∷ []) []) []
 
 use-is : (p : Part) (rs : List Row) → use_fault false (rule_in p) (values_in p) rs ≡ repeated (has_row (label p) rs)
 unfolding repeated
-use-is flag rs = refl
+use-is (flag f) rs = refl
 use-is (apart name t) rs = refl
 use-is (joined name t) rs = refl
 

@@ -3,16 +3,16 @@ use Rattle.std.proofs.Common.{◌≡◌, ◌∙◌, ℕ, ◌&&◌, Bool, true, f
 use Rattle.std.specs.List.{flat_map, list_all, list_any}
 use Rattle.std.specs.Option.{is_some}
 use Rattle.clap.specs.Kinds.{Kinds, or_else}
-use Rattle.clap.specs.Walk.{Held, Row, idle, nothing_held, with_default}
+use Rattle.clap.specs.Walk.{Held, Row, idle, nothing_held}
 use Rattle.clap.specs.Simple.{matches_of}
 use Rattle.clap.specs.Faults.{fault_of, use_fault}
 use Rattle.clap.specs.declared.error.kind.ErrorKind.{ErrorKind}
 use Rattle.clap.proofs.FaultLemmas.{leaf_fault}
 use Rattle.gx_words.specs.Words.{Name, Part, flag, apart, joined, are_once, has_label, is_numbered, label, name_text, number_of, words_of}
 use Rattle.gx_words.specs.Command.{command, is_known}
-use Rattle.gx_words.proofs.Written.{AreWords, Kind, and-true, are-words, is_fit, name, number, text_of, trace, whole}
+use Rattle.gx_words.proofs.Written.{AreWords, Kind, and-true, are-words, bare, is_fit, name, number, text_of, whole}
 use Rattle.gx_words.proofs.Numbers.{number-first}
-use Rattle.gx_words.specs.Found.{found_of_parts, row, rule, trace_rule}
+use Rattle.gx_words.specs.Found.{flag_rule, found_of_parts, row, rule, with_flags}
 use Rattle.gx_words.proofs.Rows.{is-new}
 use Rattle.gx_words.proofs.Standing.{IsBehind, behind, behind-next, use-fine}
 use Rattle.gx_words.proofs.Turns.{behind_apart, IsPlain, due, due-apart, due-opened, fault, fault-end, fault-flag, fault-flag_awaited, fault-joined, fault-joined_awaited, fault-number, fault-open, fault-option, fault-option_awaited, fault-stray, found, found-apart, found-end, found-flag, found-joined, opened, plain-word, rows}
@@ -49,7 +49,7 @@ some-kind k bad = absurd (cc)
 
 due-first : (ks : List Kind) (h : Held) → list_all is_fit ks ≡ true → fault idle h (map text_of ks) ≡ [] → due h ≡ []
 due-first [] h fit e = sym (fault-end h) ∙ e
-due-first (trace ∷ ks) h fit e = or_else-left (due h) _ (sym (fault-flag h (map text_of ks)) ∙ e)
+due-first (bare f ∷ ks) h fit e = or_else-left (due h) _ (sym (fault-flag f h (map text_of ks)) ∙ e)
 due-first (name n ∷ ks) h fit e = or_else-left (due h) _ (sym (fault-option n h (map text_of ks)) ∙ e)
 due-first (whole n t ∷ ks) h fit e = or_else-left (due h) _ (sym (fault-joined n t h (map text_of ks)) ∙ e)
 due-first (number t ∷ ks) h fit e =
@@ -72,12 +72,12 @@ awaits n h b none = some-kind _ (sym (due-opened n h) ∙ or_else-left (due (ope
 split : (ks : List Kind) (before : List Part) (h : Held) → IsBehind before h → list_all is_fit ks ≡ true → fault idle h (map text_of ks) ≡ []
     → IsSplit before ks
 split [] before h is fit e = record { parts = []; written = refl; once = refl; numbered = refl }
-split (trace ∷ ks) before h is fit e =
-    let used = or_else-right (due h) _ (sym (fault-flag h (map text_of ks)) ∙ e) in
-    let none = is-new flag (rows h) before is.given (or_else-left (use_fault false trace_rule [] (rows h)) _ used) in
-    one-more flag before h ks (trace ∷ ks) none refl refl
-    (split ks (before ++ flag ∷ []) (behind flag h) (behind-next flag before h is none) fit
-    (or_else-right (use_fault false trace_rule [] (rows h)) _ used))
+split (bare f ∷ ks) before h is fit e =
+    let used = or_else-right (due h) _ (sym (fault-flag f h (map text_of ks)) ∙ e) in
+    let none = is-new (flag f) (rows h) before is.given (or_else-left (use_fault false (flag_rule f) [] (rows h)) _ used) in
+    one-more (flag f) before h ks (bare f ∷ ks) none refl refl
+    (split ks (before ++ flag f ∷ []) (behind (flag f) h) (behind-next (flag f) before h is none) fit
+    (or_else-right (use_fault false (flag_rule f) [] (rows h)) _ used))
 split (whole n t ∷ ks) before h is fit e =
     let fits = and-true (is_some (number_of t)) (list_all is_fit ks) fit in
     let used = or_else-right (due h) _ (sym (fault-joined n t h (map text_of ks)) ∙ e) in
@@ -88,10 +88,10 @@ split (whole n t ∷ ks) before h is fit e =
 split (number t ∷ ks) before h is fit e =
     absurd (some-kind _ (sym (fault-stray t h (map text_of ks) (number-plain t (and-true (is_some (number_of t)) (list_all is_fit ks) fit).0)) ∙ e))
 split (name n ∷ []) before h is fit e = absurd (some-kind _ (sym (fault-open n h) ∙ or_else-right (due h) _ (sym (fault-option n h []) ∙ e)))
-split (name n ∷ trace ∷ ks) before h is fit e =
+split (name n ∷ bare f ∷ ks) before h is fit e =
     absurd (awaits n h _
-    (sym (fault-flag_awaited (name_text n) (opened n h) (map text_of ks))
-    ∙ or_else-right (due h) _ (sym (fault-option n h (text_of trace ∷ map text_of ks)) ∙ e)))
+    (sym (fault-flag_awaited f (name_text n) (opened n h) (map text_of ks))
+    ∙ or_else-right (due h) _ (sym (fault-option n h (text_of (bare f) ∷ map text_of ks)) ∙ e)))
 split (name n ∷ name m ∷ ks) before h is fit e =
     absurd (awaits n h _
     (sym (fault-option_awaited m (name_text n) (opened n h) (map text_of ks))
@@ -114,25 +114,25 @@ split (name n ∷ number t ∷ ks) before h is fit e =
 -- no fault in the words of options, and their rows are found
 pub record IsFound (before ps : List Part) (h : Held) : Type 0 where
   pub fine : fault idle h (flat_map words_of ps) ≡ []
-  pub rows : found idle h (flat_map words_of ps) ≡ with_default (map row (before ++ ps)) trace_rule
+  pub rows : found idle h (flat_map words_of ps) ≡ with_flags (map row (before ++ ps))
 
 seamed : (p : Part) (before ps : List Part)
-    → with_default (map row ((before ++ p ∷ []) ++ ps)) trace_rule ≡ with_default (map row (before ++ p ∷ ps)) trace_rule
-seamed p before ps = ap (λ (l : List Part). with_default (map row l) trace_rule) (append_assoc before (p ∷ []) ps)
+    → with_flags (map row ((before ++ p ∷ []) ++ ps)) ≡ with_flags (map row (before ++ p ∷ ps))
+seamed p before ps = ap (λ (l : List Part). with_flags (map row l)) (append_assoc before (p ∷ []) ps)
 
 take-in : (ps before : List Part) (h : Held) → IsBehind before h → are_once before ps ≡ true → list_all is_numbered ps ≡ true → IsFound before ps h
 take-in [] before h is once numbers = record {
   fine = fault-end h ∙ is.fine;
-  rows = found-end h ∙ ap (λ (rs : List Row). with_default rs trace_rule) (is.given ∙ ap (map row) (sym (append-nil before)));
+  rows = found-end h ∙ ap (λ (rs : List Row). with_flags rs) (is.given ∙ ap (map row) (sym (append-nil before)));
 }
-take-in (flag ∷ ps) before h is once numbers =
-    let onces = and-true (not (list_any (has_label (label flag)) before)) (are_once (before ++ flag ∷ []) ps) once in
-    let none = not-false (list_any (has_label (label flag)) before) onces.0 in
-    let rest : IsFound (before ++ flag ∷ []) ps (behind flag h) =
-    take-in ps (before ++ flag ∷ []) (behind flag h) (behind-next flag before h is none) onces.1 numbers in
+take-in (flag f ∷ ps) before h is once numbers =
+    let onces = and-true (not (list_any (has_label (label (flag f))) before)) (are_once (before ++ flag f ∷ []) ps) once in
+    let none = not-false (list_any (has_label (label (flag f))) before) onces.0 in
+    let rest : IsFound (before ++ flag f ∷ []) ps (behind (flag f) h) =
+    take-in ps (before ++ flag f ∷ []) (behind (flag f) h) (behind-next (flag f) before h is none) onces.1 numbers in
     record {
-      fine = fault-flag h (flat_map words_of ps) ∙ or_else-none _ _ is.fine (or_else-none _ _ (use-fine flag before h is none) rest.fine);
-      rows = found-flag h (flat_map words_of ps) ∙ rest.rows ∙ seamed flag before ps;
+      fine = fault-flag f h (flat_map words_of ps) ∙ or_else-none _ _ is.fine (or_else-none _ _ (use-fine (flag f) before h is none) rest.fine);
+      rows = found-flag f h (flat_map words_of ps) ∙ rest.rows ∙ seamed (flag f) before ps;
     }
 take-in (joined n t ∷ ps) before h is once numbers =
     let has = and-true (is_some (number_of t)) (list_all is_numbered ps) numbers in

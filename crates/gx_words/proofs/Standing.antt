@@ -4,7 +4,7 @@ use Rattle.std.proofs.lemmas.List.{map-append}
 use Rattle.std.specs.List.{list_any}
 use Rattle.clap.specs.Walk.{Held, Row, has_row, used}
 use Rattle.clap.specs.Faults.{use_fault}
-use Rattle.gx_words.specs.Words.{Part, seed, turns, gen, flag, apart, joined, label, has_label}
+use Rattle.gx_words.specs.Words.{Part, seed, turns, gen, flag, trace, threads, apart, joined, label, has_label}
 use Rattle.gx_words.proofs.Turns.{behind_apart, behind_flag, behind_joined, due, due-apart, rows}
 use Rattle.gx_words.specs.Found.{row, rule_in, values_in}
 use Rattle.gx_words.proofs.Rows.{has-part, use-new, used-part}
@@ -14,19 +14,20 @@ pub record IsBehind (before : List Part) (h : Held) : Type 0 where
   pub given : rows h ≡ map row before
 
 abbrev pub behind : Part → Held → Held
-behind flag h = behind_flag h
+behind (flag f) h = behind_flag f h
 behind (apart name t) h = behind_apart name t h
 behind (joined name t) h = behind_joined name t h
 
 rows-behind : (p : Part) (h : Held) → rows (behind p h) ≡ used (rule_in p) (values_in p) (rows h)
-rows-behind flag h = refl
+rows-behind (flag trace) h = refl
+rows-behind (flag threads) h = refl
 rows-behind (apart seed t) h = refl
 rows-behind (apart turns t) h = refl
 rows-behind (apart gen t) h = refl
 rows-behind (joined name t) h = refl
 
 due-behind : (p : Part) (h : Held) → use_fault false (rule_in p) (values_in p) (rows h) ≡ [] → due (behind p h) ≡ []
-due-behind flag h e = refl
+due-behind (flag f) h e = refl
 due-behind (apart name t) h e = due-apart name t h ∙ e
 due-behind (joined name t) h e = refl
 

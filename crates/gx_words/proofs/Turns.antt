@@ -11,9 +11,9 @@ use Rattle.clap.specs.Simple.{Shape, built}
 use Rattle.clap.specs.Faults.{bundle_fault, check_fault, defaults_fault, flag_word_fault, other_fault, settle_fault, step_fault, use_fault, walk_fault}
 use Rattle.clap.specs.declared.error.kind.ErrorKind.TheVariants.{InvalidValue, UnknownArgument}
 use Rattle.clap.proofs.OnLiterals.{clap_on_literals}
-use Rattle.gx_words.specs.Words.{Name, seed, turns, gen, name_text}
+use Rattle.gx_words.specs.Words.{Flag, Name, seed, turns, gen, trace, threads, flag_text, name_text}
 use Rattle.gx_words.specs.Command.{command}
-use Rattle.gx_words.specs.Found.{rule, trace_rule}
+use Rattle.gx_words.specs.Found.{flag_rule, rule, with_flags}
 
 abbrev pub shape : Shape
 shape = (built command).top
@@ -45,8 +45,8 @@ due h = settle_fault shape.rules false h
 abbrev pub rows : Held → List Row
 rows h = (settled shape.rules h).rows
 
-abbrev pub behind_flag : Held → Held
-behind_flag h = reacted shape.rules trace_rule [] h
+abbrev pub behind_flag : Flag → Held → Held
+behind_flag f h = reacted shape.rules (flag_rule f) [] h
 
 abbrev pub behind_joined : Name → List ℕ → Held → Held
 behind_joined name t h = reacted shape.rules (rule name) (t ∷ []) h
@@ -77,15 +77,18 @@ turn-opened a x t = ap (λ (k : Kinds). or_else (or_else k x) t) (or_else-nil a)
 
 -- ---- a word
 
-pub fault-flag : (h : Held) (ws : List (List ℕ))
-    → fault idle h (codes "--trace" ∷ ws) ≡ or_else (due h) (or_else (use_fault false trace_rule [] (rows h)) (fault idle (behind_flag h) ws))
+pub fault-flag : (f : Flag) (h : Held) (ws : List (List ℕ))
+    → fault idle h ((codes "--" ++ flag_text f) ∷ ws) ≡ or_else (due h) (or_else (use_fault false (flag_rule f) [] (rows h)) (fault idle (behind_flag f h) ws))
 unfolding clap_on_literals
-fault-flag h ws = turn-used (due h) (use_fault false trace_rule [] (rows h)) _ _
+fault-flag trace h ws = turn-used (due h) (use_fault false (flag_rule trace) [] (rows h)) _ _
+fault-flag threads h ws = turn-used (due h) (use_fault false (flag_rule threads) [] (rows h)) _ _
 
-pub fault-flag_awaited : (id : List ℕ) (h : Held) (ws : List (List ℕ))
-    → fault (option id) h (codes "--trace" ∷ ws) ≡ or_else (due h) (or_else (use_fault false trace_rule [] (rows h)) (fault idle (behind_flag h) ws))
+pub fault-flag_awaited : (f : Flag) (id : List ℕ) (h : Held) (ws : List (List ℕ))
+    → fault (option id) h ((codes "--" ++ flag_text f) ∷ ws)
+    ≡ or_else (due h) (or_else (use_fault false (flag_rule f) [] (rows h)) (fault idle (behind_flag f h) ws))
 unfolding clap_on_literals
-fault-flag_awaited id h ws = turn-used (due h) (use_fault false trace_rule [] (rows h)) _ _
+fault-flag_awaited trace id h ws = turn-used (due h) (use_fault false (flag_rule trace) [] (rows h)) _ _
+fault-flag_awaited threads id h ws = turn-used (due h) (use_fault false (flag_rule threads) [] (rows h)) _ _
 
 pub fault-joined : (name : Name) (t : List ℕ) (h : Held) (ws : List (List ℕ))
     → fault idle h ((codes "--" ++ name_text name ++ codes "=" ++ t) ∷ ws)
@@ -222,16 +225,23 @@ no-default name rs rest = at (has_row (name_text name) rs)
     at true = refl
     at false = refl
 
-flag-default : (rs : List Row) → defaults_fault rs (trace_rule ∷ []) ≡ []
+flag-default : (f : Flag) (rs : List Row) (rest : List Rule) → defaults_fault rs (flag_rule f ∷ rest) ≡ defaults_fault (with_default rs (flag_rule f)) rest
 unfolding clap_on_literals
-flag-default rs = at (has_row (codes "trace") rs)
+flag-default f rs rest = at (has_row (flag_text f) rs)
   where
-    at : (b : Bool) → or_else (cond (b || false) [] []) [] ≡ []
+    at : (b : Bool) → or_else (cond (b || false) [] []) (defaults_fault (with_default rs (flag_rule f)) rest) ≡ defaults_fault (with_default rs (flag_rule f)) rest
     at true = refl
     at false = refl
 
+no-rule : (rs : List Row) → defaults_fault rs [] ≡ []
+unfolding clap_on_literals
+no-rule rs = refl
+
 defaults-none : (rs : List Row) → defaults_fault rs shape.rules ≡ []
-defaults-none rs = no-default seed rs _ ∙ no-default turns rs _ ∙ no-default gen rs _ ∙ flag-default rs
+defaults-none rs =
+    no-default seed rs _ ∙ no-default turns rs _ ∙ no-default gen rs _ ∙ flag-default trace rs _
+    ∙ flag-default threads (with_default rs (flag_rule trace)) []
+    ∙ no-rule (with_flags rs)
 
 pub fault-end : (h : Held) → fault idle h [] ≡ due h
 unfolding clap_on_literals
@@ -250,15 +260,16 @@ same-rows name rs = at (has_row (name_text name) rs)
     at true = refl
     at false = refl
 
-pub found-end : (h : Held) → found idle h [] ≡ with_default (rows h) trace_rule
+pub found-end : (h : Held) → found idle h [] ≡ with_flags (rows h)
 found-end h =
-    ap (λ (rs : List Row). with_default (with_default (with_default rs (rule turns)) (rule gen)) trace_rule) (same-rows seed (rows h))
-    ∙ ap (λ (rs : List Row). with_default (with_default rs (rule gen)) trace_rule) (same-rows turns (rows h))
-    ∙ ap (λ (rs : List Row). with_default rs trace_rule) (same-rows gen (rows h))
+    ap (λ (rs : List Row). with_flags (with_default (with_default rs (rule turns)) (rule gen))) (same-rows seed (rows h))
+    ∙ ap (λ (rs : List Row). with_flags (with_default rs (rule gen))) (same-rows turns (rows h))
+    ∙ ap (λ (rs : List Row). with_flags rs) (same-rows gen (rows h))
 
-pub found-flag : (h : Held) (ws : List (List ℕ)) → found idle h (codes "--trace" ∷ ws) ≡ found idle (behind_flag h) ws
+pub found-flag : (f : Flag) (h : Held) (ws : List (List ℕ)) → found idle h ((codes "--" ++ flag_text f) ∷ ws) ≡ found idle (behind_flag f h) ws
 unfolding clap_on_literals
-found-flag h ws = refl
+found-flag trace h ws = refl
+found-flag threads h ws = refl
 
 pub found-joined : (name : Name) (t : List ℕ) (h : Held) (ws : List (List ℕ))
     → found idle h ((codes "--" ++ name_text name ++ codes "=" ++ t) ∷ ws) ≡ found idle (behind_joined name t h) ws

@@ -5,23 +5,23 @@ use Rattle.std.proofs.lemmas.Slice.Eq.{bytes_eq-Decides}
 use Rattle.std.specs.List.{flat_map, list_all}
 use Rattle.std.specs.Option.{is_some}
 use Rattle.std.specs.Str.{bytes_eq}
-use Rattle.gx_words.specs.Words.{Name, Part, seed, turns, gen, flag, apart, joined, is_numbered, name_text, number_of, words_of}
+use Rattle.gx_words.specs.Words.{Flag, Name, Part, seed, turns, gen, flag, trace, threads, apart, joined, flag_text, is_numbered, name_text, number_of, words_of}
 use Rattle.gx_words.specs.Command.{is_joined, is_known, is_option}
 
 pub data Kind : Type 0 where
-  trace : Kind
+  bare : Flag → Kind
   name : Name → Kind
   whole : Name → List ℕ → Kind
   number : List ℕ → Kind
 
 abbrev pub text_of : Kind → List ℕ
-text_of trace = codes "--trace"
+text_of (bare f) = codes "--" ++ flag_text f
 text_of (name n) = codes "--" ++ name_text n
 text_of (whole n t) = codes "--" ++ name_text n ++ codes "=" ++ t
 text_of (number t) = t
 
 abbrev pub is_fit : Kind → Bool
-is_fit trace = true
+is_fit (bare f) = true
 is_fit (name n) = true
 is_fit (whole n t) = is_some (number_of t)
 is_fit (number t) = is_some (number_of t)
@@ -61,14 +61,17 @@ option-word n alone before w is joins e = elim (or-true (bytes_eq w alone) (is_j
 
 pub is-word : (w : List ℕ) → is_known w ≡ true → IsWord w
 is-word w e = elim (or-true _ _ e) [
-  | inl same ↦ record { kind = trace; written = (bytes_eq-Decides w (codes "--trace")).0 same; fits = refl }
+  | inl same ↦ record { kind = bare trace; written = (bytes_eq-Decides w (codes "--trace")).0 same; fits = refl }
   | inr e ↦ elim (or-true _ _ e) [
-    | inl of ↦ option-word seed (codes "--seed") (codes "--seed=") w refl (λ t. refl) of
+    | inl same ↦ record { kind = bare threads; written = (bytes_eq-Decides w (codes "--threads")).0 same; fits = refl }
     | inr e ↦ elim (or-true _ _ e) [
-      | inl of ↦ option-word turns (codes "--turns") (codes "--turns=") w refl (λ t. refl) of
+      | inl of ↦ option-word seed (codes "--seed") (codes "--seed=") w refl (λ t. refl) of
       | inr e ↦ elim (or-true _ _ e) [
-        | inl of ↦ option-word gen (codes "--gen") (codes "--gen=") w refl (λ t. refl) of
-        | inr e ↦ record { kind = number w; written = refl; fits = e }
+        | inl of ↦ option-word turns (codes "--turns") (codes "--turns=") w refl (λ t. refl) of
+        | inr e ↦ elim (or-true _ _ e) [
+          | inl of ↦ option-word gen (codes "--gen") (codes "--gen=") w refl (λ t. refl) of
+          | inr e ↦ record { kind = number w; written = refl; fits = e }
+        ]
       ]
     ]
   ]
@@ -94,14 +97,19 @@ are-words (w ∷ ws) e =
 
 -- ---- the other way round
 
-or-last : (a b d f e : Bool) → e ≡ true → (a || (b || (d || (f || e)))) ≡ true
-or-last a b d f e is = or-right a (b || (d || (f || e))) (or-right b (d || (f || e)) (or-right d (f || e) (or-right f e is)))
+or-last : (a b d f g e : Bool) → e ≡ true → (a || (b || (d || (f || (g || e))))) ≡ true
+or-last a b d f g e is =
+    or-right a (b || (d || (f || (g || e)))) (or-right b (d || (f || (g || e))) (or-right d (f || (g || e)) (or-right f (g || e) (or-right g e is))))
 
 known-number : (t : List ℕ) → is_some (number_of t) ≡ true → is_known t ≡ true
 known-number t e =
-    or-last (bytes_eq t (codes "--trace")) (is_option (codes "--seed") (codes "--seed=") t) (is_option (codes "--turns") (codes "--turns=") t)
+    or-last (bytes_eq t (codes "--trace")) (bytes_eq t (codes "--threads")) (is_option (codes "--seed") (codes "--seed=") t) (is_option (codes "--turns") (codes "--turns=") t)
     (is_option (codes "--gen") (codes "--gen=") t)
     (is_some (number_of t)) e
+
+known-flag : (f : Flag) → is_known (text_of (bare f)) ≡ true
+known-flag trace = refl
+known-flag threads = refl
 
 known-name : (n : Name) → is_known (text_of (name n)) ≡ true
 known-name seed = refl
@@ -115,7 +123,7 @@ known-whole gen t e = rw e refl
 
 pub parts-known : (ps : List Part) → list_all is_numbered ps ≡ true → list_all is_known (flat_map words_of ps) ≡ true
 parts-known [] e = refl
-parts-known (flag ∷ ps) e = parts-known ps e
+parts-known (flag f ∷ ps) e = and-both (is_known (text_of (bare f))) _ (known-flag f) (parts-known ps e)
 parts-known (apart n t ∷ ps) e =
     let both = and-true (is_some (number_of t)) (list_all is_numbered ps) e in
     and-both (is_known (text_of (name n))) _ (known-name n) (and-both (is_known t) _ (known-number t both.0) (parts-known ps both.1))

@@ -28,14 +28,12 @@ fn valued<'a>(alloc: Global, name: &'a str) -> Arg<'a>
     Arg::new(alloc, name).long(name)
 }
 
-// The flag.
-fn tracing<'a>(alloc: Global) -> Arg<'a>
-    ensures rule { rule_of result ≡ of.tracing }
+// A flag.
+fn flagged<'a>(alloc: Global, name: &'a str) -> Arg<'a>
+    ensures rule { rule_of result ≡ of.flagged name.entry.now }
     ensures local { result.global ≡ false }
 {
-    Arg::new(alloc, "trace")
-        .long("trace")
-        .action(ArgAction::SetTrue)
+    Arg::new(alloc, name).long(name).action(ArgAction::SetTrue)
 }
 
 fn bare<'a>(alloc: Global) -> Command<'a>
@@ -53,11 +51,13 @@ fn command<'a>(alloc: Global) -> Result<Command<'a>, AllocError>
     let seed = valued(alloc, "seed");
     let turns = valued(alloc, "turns");
     let work = valued(alloc, "gen");
-    let trace = tracing(alloc);
+    let trace = flagged(alloc, "trace");
+    let threads = flagged(alloc, "threads");
     let one = start.arg(seed)?;
     let two = one.arg(turns)?;
     let three = two.arg(work)?;
-    let all = three.arg(trace)?;
+    let four = three.arg(trace)?;
+    let all = four.arg(threads)?;
     Ok(all)
 }
 

@@ -1,7 +1,7 @@
 // The program's own look at the words.
 ghost use Rattle.std.specs.Prelude.{◌≡◌, string_bytes};
-ghost use Rattle.std.specs.List.{list_all};
-ghost use Rattle.gx_words.specs.Command.{is_joined, is_known, is_option};
+ghost use Rattle.std.specs.List.{list_all, list_any};
+ghost use Rattle.gx_words.specs.Command.{is_joined, is_known, is_option, is_threads};
 
 use crate::number::number;
 
@@ -25,6 +25,7 @@ fn is_known(word: &[u8]) -> bool
     ensures { result ≡ is_known word.now }
 {
     word == b"--trace".as_slice()
+        || word == b"--threads".as_slice()
         || is_option(b"--seed", b"--seed=", word)
         || is_option(b"--turns", b"--turns=", word)
         || is_option(b"--gen", b"--gen=", word)
@@ -36,4 +37,19 @@ pub fn are_known(words: &[String]) -> bool
     ensures { result ≡ list_all (λ w. is_known (string_bytes w)) words.now }
 {
     words.iter().all(|word| is_known(word.as_str().as_bytes()))
+}
+
+/// Whether one of the words is the one that asks for threads.
+pub fn has_threads(words: &[String]) -> bool
+    ensures { result ≡ list_any (λ w. is_threads (string_bytes w)) words.now }
+{
+    words
+        .iter()
+        .any(|word| is_threads(word.as_str().as_bytes()))
+}
+
+fn is_threads(word: &[u8]) -> bool
+    ensures { result ≡ is_threads word.now }
+{
+    word == b"--threads".as_slice()
 }

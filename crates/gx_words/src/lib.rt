@@ -11,4 +11,4 @@ mod words;
 pub use bytes::{NoBytes, script_bytes};
 pub use command::WordsFault;
 pub use options::Options;
-pub use words::read_words;
+pub use words::{ask_for_threads, read_words};

@@ -4,13 +4,13 @@ ghost use Rattle.std.specs.List.{list_all};
 ghost use Rattle.clap.specs.Walk.{rows_of};
 ghost use Rattle.clap.specs.Matches.{first_value, found_of};
 ghost use Rattle.gx_words.specs.Command.{is_known};
-ghost use Rattle.gx_words.specs.Words.{IsCommand, Part, number_of, options_of};
+ghost use Rattle.gx_words.specs.Words.{IsCommand, IsOf, Part, are_mixed, number_of, options_of};
 ghost use Rattle.gx_words.specs.Found.{found_of_parts};
 ghost use Rattle.gx_words.specs.declared.options.Options.{Options};
 ghost use Rattle.gx_words.specs.declared.command.WordsFault.TheVariants as words_fault;
 
 use crate::command::{WordsFault, parsed};
-use crate::known::are_known;
+use crate::known::{are_known, has_threads};
 use crate::number::number;
 use crate::options::Options;
 use clap::ArgMatches;
@@ -23,16 +23,28 @@ fn number_given(matches: &ArgMatches, name: &str) -> Option<u64>
     number(matches.get_str(name)?.as_bytes())
 }
 
+// Whether they ask for threads, and for a seed or for turns.
+fn are_mixed(matches: &ArgMatches) -> bool
+    ensures { (parts : List Part) → rows_of (found_of matches.now) ≡ found_of_parts parts → result ≡ are_mixed parts }
+{
+    let threads = matches.get_flag("threads");
+    let seed = number_given(matches, "seed");
+    let turns = number_given(matches, "turns");
+    threads && (seed.is_some() || turns.is_some())
+}
+
 fn options_of(matches: &ArgMatches) -> Options
     ensures { (parts : List Part) → rows_of (found_of matches.now) ≡ found_of_parts parts → result ≡ options_of parts }
 {
     let seed = number_given(matches, "seed");
+    let threads = matches.get_flag("threads");
     let trace = matches.get_flag("trace");
     let asked = number_given(matches, "turns");
     let work = number_given(matches, "gen");
     let turns = asked.unwrap_or(1_000_000);
     Options {
         seed,
+        threads,
         trace,
         turns,
         work,
@@ -50,6 +62,16 @@ fn limited(options: Options) -> Result<Options, WordsFault>
     Ok(options)
 }
 
+fn read_matches(matches: &ArgMatches) -> Result<Options, WordsFault>
+    ensures taken { IfOk result (λ options. (parts : List Part) → rows_of (found_of matches.now) ≡ found_of_parts parts → IsOf parts options) }
+    ensures refused { result ≡ Err words_fault.Usage → (parts : List Part) → rows_of (found_of matches.now) ≡ found_of_parts parts → (options : Options) → IsOf parts options → ⊥ }
+{
+    if are_mixed(matches) {
+        return Err(WordsFault::Usage);
+    }
+    limited(options_of(matches))
+}
+
 // Reads words that may stand in a command.
 fn read_known(alloc: Global, words: &[String]) -> Result<Options, WordsFault>
     requires { list_all (λ w. is_known (string_bytes w)) words.now ≡ true }
@@ -58,9 +80,16 @@ fn read_known(alloc: Global, words: &[String]) -> Result<Options, WordsFault>
     ensures refused { result ≡ Err words_fault.Usage → (options : Options) → IsCommand (map string_bytes words.now) options → ⊥ }
 {
     match parsed(alloc, words) {
-        Ok(matches) => limited(options_of(&matches)),
+        Ok(matches) => read_matches(&matches),
         Err(fault) => Err(fault),
     }
+}
+
+/// Whether the words ask for threads, where they are in the language.
+pub fn ask_for_threads(words: &[String]) -> bool
+    ensures { (options : Options) → IsCommand (map string_bytes words.now) options → result ≡ options.threads }
+{
+    has_threads(words)
 }
 
 /// Reads the words of the command line behind the program's name.
