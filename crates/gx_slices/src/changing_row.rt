@@ -8,7 +8,7 @@ ghost use Rattle.gx_rules.specs.Shown.{current_of};
 ghost use Rattle.gx_rules.specs.Slices as slices;
 ghost use Rattle.gx_slices.specs.Stopping.{has_row, left_locks, left_marks, locks_after, marks_after, row_locks, row_marks, stop_locks, stop_marks};
 ghost use Rattle.gx_store.specs.Commands.{condition_on};
-ghost use Rattle.gx_slices.specs.Sweeping.{IsSwept};
+ghost use Rattle.gx_slices.specs.Sweeping.{IsSwept, LeavesSwept, Writes};
 ghost use Rattle.gx_slices.specs.Changing.{Came, IsAt, IsFree, IsRightImage, IsTypedFor, MayChange, Spot, Stage, awaited_in, change_in, end_of, is_done_at, newest_in};
 
 use crate::change::Change;
@@ -83,8 +83,9 @@ fn change_row(
     requires at { IsAt stage change.now.writer.gxid held.old entry.old marks.old.items }
     requires free { IsFree stage change.now.writer.gxid }
     requires right { IsRightImage stage.found.tables change.now.writer.table (Some old) }
-    ensures { IfOk result (λ end. Came stage change.now.writer.gxid held.new entry.new marks.new.items
+    ensures came { IfOk result (λ end. Came stage change.now.writer.gxid held.new entry.new marks.new.items
         (rule.writes stage.moved change.now.writer.gxid (change_in change.now) rid old (rule.new_image change.now.set old)) end) }
+    ensures written { IfOk result (λ end. Writes change.now rid held.old.store held.new.store end) }
 {
     match new_image(alloc, &change.set, &old)? {
         Ok(image) => {
@@ -122,8 +123,9 @@ fn change_if_true(
     requires at { IsAt stage change.now.writer.gxid held.old entry.old marks.old.items }
     requires free { IsFree stage change.now.writer.gxid }
     requires right { IsRightImage stage.found.tables change.now.writer.table image }
-    ensures { IfOk result (λ end. Came stage change.now.writer.gxid held.new entry.new marks.new.items
+    ensures came { IfOk result (λ end. Came stage change.now.writer.gxid held.new entry.new marks.new.items
         (rule.looks_again stage.moved change.now.writer.gxid (change_in change.now) rid image) end) }
+    ensures written { IfOk result (λ end. Writes change.now rid held.old.store held.new.store end) }
 {
     match image {
         Some(old) => match is_true(change.cond.get(), &old) {
@@ -153,8 +155,9 @@ fn change_shown(
     requires at { IsAt stage change.now.writer.gxid held.old entry.old marks.old.items }
     requires free { IsFree stage change.now.writer.gxid }
     requires right { IsRightImage stage.found.tables change.now.writer.table image }
-    ensures { IfOk result (λ end. Came stage change.now.writer.gxid held.new entry.new marks.new.items
+    ensures came { IfOk result (λ end. Came stage change.now.writer.gxid held.new entry.new marks.new.items
         (rule.changes_shown stage.moved change.now.writer.gxid (change_in change.now) rid image) end) }
+    ensures written { IfOk result (λ end. Writes change.now rid held.old.store held.new.store end) }
 {
     match image {
         Some(old) => change_row(alloc, change, held, entry, rid, old, marks),
@@ -178,8 +181,9 @@ fn process(
     requires free { IsFree spot.stage change.now.writer.gxid }
     requires newest { newest ≡ newest_in held.old.store.horizon spot.version }
     requires current { current_of spot.stage.moved.seg change.now.writer.table rid ≡ Some spot.version }
-    ensures { IfOk result (λ end. Came spot.stage change.now.writer.gxid held.new entry.new marks.new.items
+    ensures came { IfOk result (λ end. Came spot.stage change.now.writer.gxid held.new entry.new marks.new.items
         (rule.processes spot.stage.moved change.now.writer.gxid (change_in change.now) rid spot.version change.now.level) end) }
+    ensures written { IfOk result (λ end. Writes change.now rid held.old.store held.new.store end) }
 {
     let Newest { writer, cid, image } = newest;
     match change.level {
@@ -292,8 +296,9 @@ fn come_to(
     requires free { IsFree spot.stage change.now.writer.gxid }
     requires newest { newest ≡ newest_in held.old.store.horizon spot.version }
     requires current { current_of spot.stage.moved.seg change.now.writer.table rid ≡ Some spot.version }
-    ensures { IfOk result (λ end. Came spot.stage change.now.writer.gxid held.new entry.new marks.new.items
+    ensures came { IfOk result (λ end. Came spot.stage change.now.writer.gxid held.new entry.new marks.new.items
         (rule.at_current spot.stage.moved change.now.writer.gxid (change_in change.now) rid (Some spot.version)) end) }
+    ensures written { IfOk result (λ end. Writes change.now rid held.old.store held.new.store end) }
 {
     let Writer { node, gxid, .. } = change.writer;
     match awaited(&held.locks, gxid, newest.writer)? {
@@ -320,8 +325,9 @@ fn look_at(
     requires at { IsAt stage change.now.writer.gxid held.old entry.old marks.old.items }
     requires free { IsFree stage change.now.writer.gxid }
     requires swept { IsSwept held.old.store change.now.writer.table rid }
-    ensures { IfOk result (λ end. Came stage change.now.writer.gxid held.new entry.new marks.new.items
+    ensures came { IfOk result (λ end. Came stage change.now.writer.gxid held.new entry.new marks.new.items
         (rule.looked_at stage.moved change.now.writer.gxid (change_in change.now) rid) end) }
+    ensures written { IfOk result (λ end. Writes change.now rid held.old.store held.new.store end) }
 {
     match held.store.newest(change.writer.table, rid)? {
         Some(newest) => come_to(alloc, change, held, entry, rid, newest, marks),
@@ -363,8 +369,9 @@ pub(crate) fn does_row(
     requires may { MayChange stage.found.tables stage.found.start change.now }
     requires at { IsAt stage change.now.writer.gxid held.old entry.old marks.old.items }
     requires free { IsFree stage change.now.writer.gxid }
-    ensures { IfOk result (λ end. Came stage change.now.writer.gxid held.new entry.new marks.new.items
+    ensures came { IfOk result (λ end. Came stage change.now.writer.gxid held.new entry.new marks.new.items
         (rule.does_row stage.moved change.now.writer.gxid (change_in change.now) rid) end) }
+    ensures swept { IfOk result (λ end. LeavesSwept change.now rid held.old.store held.new.store end) }
 {
     let Writer {
         node,

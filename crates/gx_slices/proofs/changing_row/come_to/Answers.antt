@@ -2,8 +2,8 @@ use Rattle.gx_slices.specs.Changing.{change_in}
 use Rattle.gx_slices.proofs.RowSteps.{Came-waits, unsettled-newest}
 use Rattle.gx_slices.proofs.changing_row.come_to.Goals as goal
 
-pub returns-in_ok-wait_at-in-Some : goal.returns-in_ok-wait_at-in-Some
-returns-in_ok-wait_at-in-Some g c =
+pub returns-in_ok-wait_at-in-Some-clause-came : goal.returns-in_ok-wait_at-in-Some-clause-came
+returns-in_ok-wait_at-in-Some-clause-came g c =
     let k = c.args.change.now in
     let stage = g.spot.stage in
     let gxid = k.writer.gxid in

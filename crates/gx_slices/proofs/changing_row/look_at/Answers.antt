@@ -13,16 +13,16 @@ come_to-requires g c =
     let is = one-current g.stage w.gxid c.args.held.now c.args.entry.now c.args.marks.now.items c.requires.1.0 w.table c.args.rid c.in_ok-newest.field-0 c.in-Some.newest (version w.gxid w.cid w.table c.args.rid None) c.in_ok-newest.ensures c.in-Some.is in
     (c.requires.0, (c.requires.1.0, (c.requires.1.1.0, (is.newest, is.current))))
 
-pub returns-in-Some : goal.returns-in-Some
-returns-in-Some g c =
+pub returns-in-Some-clause-came : goal.returns-in-Some-clause-came
+returns-in-Some-clause-came g c =
     let k = c.args.change.now in
     let w = k.writer in
     let is = one-current g.stage w.gxid c.args.held.now c.args.entry.now c.args.marks.now.items c.requires.1.0 w.table c.args.rid c.in_ok-newest.field-0 c.in-Some.newest (version w.gxid w.cid w.table c.args.rid None) c.in_ok-newest.ensures c.in-Some.is in
     subst (λ (o : Option Version). IfOk c.come_to.result (λ end. Came g.stage w.gxid c.come_to.new.held c.come_to.new.entry c.come_to.new.marks.items (at_current g.stage.moved w.gxid (change_in k) c.args.rid o) end))
-    (sym is.current) c.come_to.ensures
+    (sym is.current) c.come_to.ensures.came
 
-pub returns-in-None : goal.returns-in-None
-returns-in-None g c =
+pub returns-in-None-clause-came : goal.returns-in-None-clause-came
+returns-in-None-clause-came g c =
     let k = c.args.change.now in
     let w = k.writer in
     let held = c.args.held.now in

@@ -18,8 +18,8 @@ change_shown-requires g c =
     let right = right-newest g.spot.stage k.writer.gxid c.args.held.now c.args.entry.now c.args.marks.now.items c.requires.1.0 k.writer.table c.args.rid g.spot.version c.requires.1.1.1.1 c.args.newest c.requires.1.1.1.0 in
     (c.requires.0, (c.requires.1.0, (c.requires.1.1.0, right)))
 
-pub returns-in-Some : goal.returns-in-Some
-returns-in-Some g c =
+pub returns-in-Some-clause-came : goal.returns-in-Some-clause-came
+returns-in-Some-clause-came g c =
     let k = c.args.change.now in
     let stage = g.spot.stage in
     let gxid = k.writer.gxid in
@@ -31,11 +31,11 @@ returns-in-Some g c =
     (sym (refused-turn stage gxid held entry marks at k.writer.table c.args.rid g.spot.version c.requires.1.1.1.1 c.args.newest c.requires.1.1.1.0 (change_in k) c.in-RepeatableRead.is c.overtaker.result c.overtaker.ensures c.in-Some.writer c.in-Some.is))
     (Came-overtaken stage gxid held entry marks at c.requires.1.1.0 c.args.rid c.in-Some.writer)
 
-pub returns-in-None : goal.returns-in-None
-returns-in-None g c =
+pub returns-in-None-clause-came : goal.returns-in-None-clause-came
+returns-in-None-clause-came g c =
     let k = c.args.change.now in
     let stage = g.spot.stage in
     let gxid = k.writer.gxid in
     subst (λ (t : RowTurn). IfOk c.change_shown.result (λ end. Came stage gxid c.change_shown.new.held c.change_shown.new.entry c.change_shown.new.marks.items t end))
     (sym (shown-turn stage gxid c.args.held.now c.args.entry.now c.args.marks.now.items c.requires.1.0 k.writer.table c.args.rid g.spot.version c.requires.1.1.1.1 c.args.newest c.requires.1.1.1.0 (change_in k) c.in-RepeatableRead.is c.overtaker.result c.overtaker.ensures c.in-None.is))
-    c.change_shown.ensures
+    c.change_shown.ensures.came
