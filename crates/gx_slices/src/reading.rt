@@ -76,7 +76,7 @@ fn rows_listed<'a>(
     ensures whole { IfOk result (λ rows. rows.items ≡ listed_rows lists.now.entries xids.now table snap.now own cid) }
     ensures ordered { IsOrdered rid_cmp lists.now }
 {
-    let mut rows = Vec::new(alloc);
+    let mut rows = Vec::with_capacity(alloc, lists.len())?;
     for (rid, list) in lists {
         push_entry(&mut rows, *rid, list, xids, table, snap, own, cid)?;
     }
@@ -115,7 +115,7 @@ pub(crate) fn rows_of<'a>(
 ) -> Mem<Vec<ShownRow<'a>>>
     ensures { IfOk result (λ rows. rows.items ≡ flat_map (λ rid. keyed rid (image_at versions.now xids.now snap.now own cid rid)) rids.now) }
 {
-    let mut rows = Vec::new(alloc);
+    let mut rows = Vec::with_capacity(alloc, rids.len())?;
     for rid in rids {
         let row = row_in(versions.of(*rid), xids, snap, own, cid);
         push_shown(&mut rows, *rid, row)?;
