@@ -41,3 +41,4 @@ pub mod AfterSweep
 pub mod SweptTwice
 pub mod Listed
 pub mod Told
+pub mod Risen

@@ -2,7 +2,7 @@ ghost use Rattle.std.specs.Prelude.{◌≡◌, ◌++◌, ◌∷◌, [], length, 
 ghost use Rattle.std.specs.List.{flat_map};
 ghost use Rattle.gx_ids.specs.Rid.{text_of};
 ghost use Rattle.gx_msg.specs.ItemBytes.{line_of_kept};
-ghost use Rattle.gx_slices.specs.Kept.{kept_in, kept_rows, listed};
+ghost use Rattle.gx_slices.specs.Kept.{AreSound, IsRising, kept_in, kept_rows, listed, put_all};
 ghost use Rattle.gx_store.specs.Journals.{kept_with};
 
 use gx_ids::{Mem, Rid, Table};
@@ -22,11 +22,13 @@ pub struct Last {
     pub image: Option<Row>,
 }
 
-/// Rows by their identities. Most transactions write one here.
+/// Rows by their identities. Most transactions write one here, and of the others most go from row to row as identities rise: these are a list
+/// with its last identity.
 #[derive(Drop)]
 pub(crate) enum Rows {
     Empty,
     One(Rid, Last),
+    Rising(Rid, Vec<(Rid, Last)>),
     Many(BTreeMap<Rid, Last>),
 }
 
@@ -41,11 +43,13 @@ pub struct KeptRows {
 impl Model for KeptRows {
     ghost use Rattle.std.specs.Prelude.{List};
     ghost use Rattle.gx_msg.specs.declared.item.Kept.{Kept};
-    ghost use Rattle.gx_slices.specs.Kept.{kept_rows};
+    ghost use Rattle.gx_slices.specs.Kept.{AreSound, kept_rows};
 
     ghost Value = { List Kept };
 
     ghost view = { λ a. kept_rows a.rows };
+
+    ghost invariant = { λ a. AreSound a.rows };
 }
 
 impl KeptRows {
@@ -80,7 +84,9 @@ impl Written for KeptRows {
 }
 
 fn put_row(alloc: Global, rows: &mut Rows, rid: Rid, last: Last) -> Mem<()>
-    ensures { OnOk result (kept_rows rows.new ≡ kept_with (kept_in (rid, last)) (kept_rows rows.old)) }
+    requires { AreSound rows.old }
+    ensures put { OnOk result (kept_rows rows.new ≡ kept_with (kept_in (rid, last)) (kept_rows rows.old)) }
+    ensures sound { AreSound rows.new }
 {
     let before = mem::replace(rows, Rows::Empty);
     *rows = with_row(alloc, before, rid, last)?;
@@ -89,14 +95,17 @@ fn put_row(alloc: Global, rows: &mut Rows, rid: Rid, last: Last) -> Mem<()>
 
 // The rows with one more, or with a later image of one.
 fn with_row(alloc: Global, rows: Rows, rid: Rid, last: Last) -> Mem<Rows>
-    ensures { IfOk result (λ all. kept_rows all ≡ kept_with (kept_in (rid, last)) (kept_rows rows)) }
+    requires { AreSound rows }
+    ensures put { IfOk result (λ all. kept_rows all ≡ kept_with (kept_in (rid, last)) (kept_rows rows)) }
+    ensures sound { IfOk result AreSound }
 {
     match rows {
         Rows::Empty => Ok(Rows::One(rid, last)),
         Rows::One(first, before) => {
-            let rows = both(alloc, first, before, rid, last)?;
-            Ok(Rows::Many(rows))
+            let list = alone(alloc, first, before)?;
+            with_row_behind(alloc, first, list, rid, last)
         }
+        Rows::Rising(top, list) => with_row_behind(alloc, top, list, rid, last),
         Rows::Many(mut rows) => {
             insert_row(&mut rows, rid, last)?;
             Ok(Rows::Many(rows))
@@ -104,18 +113,50 @@ fn with_row(alloc: Global, rows: Rows, rid: Rid, last: Last) -> Mem<Rows>
     }
 }
 
-fn both(
+fn alone(alloc: Global, rid: Rid, last: Last) -> Mem<Vec<(Rid, Last)>>
+    ensures { IfOk result (λ list. list.items ≡ (rid, last) ∷ []) }
+{
+    let list = Vec::new(alloc);
+    with_last(list, rid, last)
+}
+
+fn with_last(list: Vec<(Rid, Last)>, rid: Rid, last: Last) -> Mem<Vec<(Rid, Last)>>
+    ensures { IfOk result (λ all. all.items ≡ list.items ++ (rid, last) ∷ []) }
+{
+    let mut list = list;
+    list.push((rid, last))?;
+    Ok(list)
+}
+
+// A list that has risen so far goes on with a row above it; else a map takes its place.
+fn with_row_behind(
     alloc: Global,
-    first: Rid,
-    before: Last,
-    second: Rid,
+    top: Rid,
+    list: Vec<(Rid, Last)>,
+    rid: Rid,
     last: Last,
-) -> Mem<BTreeMap<Rid, Last>>
-    ensures { IfOk result (λ rows. listed rows.entries ≡ kept_with (kept_in (second, last)) (kept_in (first, before) ∷ [])) }
+) -> Mem<Rows>
+    requires { IsRising top list.items }
+    ensures put { IfOk result (λ all. kept_rows all ≡ kept_with (kept_in (rid, last)) (listed list.items)) }
+    ensures sound { IfOk result AreSound }
+{
+    if top < rid {
+        let list = with_last(list, rid, last)?;
+        Ok(Rows::Rising(rid, list))
+    } else {
+        let mut rows = mapped(alloc, list)?;
+        insert_row(&mut rows, rid, last)?;
+        Ok(Rows::Many(rows))
+    }
+}
+
+fn mapped(alloc: Global, list: Vec<(Rid, Last)>) -> Mem<BTreeMap<Rid, Last>>
+    ensures { IfOk result (λ rows. listed rows.entries ≡ put_all [] list.items) }
 {
     let mut rows = BTreeMap::new(alloc);
-    insert_row(&mut rows, first, before)?;
-    insert_row(&mut rows, second, last)?;
+    for (rid, last) in list {
+        insert_row(&mut rows, rid, last)?;
+    }
     Ok(rows)
 }
 
@@ -132,6 +173,7 @@ fn count_rows(rows: &Rows) -> usize
     match rows {
         Rows::Empty => 0,
         Rows::One(_, _) => 1,
+        Rows::Rising(_, list) => list.len(),
         Rows::Many(rows) => rows.len(),
     }
 }
@@ -142,8 +184,18 @@ fn push_all(text: &mut Vec<u8>, rows: &Rows) -> Mem<()>
     match rows {
         Rows::Empty => Ok(()),
         Rows::One(rid, last) => push_line(text, *rid, last),
+        Rows::Rising(_, list) => push_list(text, list.as_slice()),
         Rows::Many(rows) => push_many(text, rows),
     }
+}
+
+fn push_list(text: &mut Vec<u8>, list: &[(Rid, Last)]) -> Mem<()>
+    ensures { OnOk result (text.new.items ≡ text.old.items ++ flat_map (λ e. line_of_kept (kept_in e)) list.now) }
+{
+    for (rid, last) in list {
+        push_line(text, *rid, last)?;
+    }
+    Ok(())
 }
 
 fn push_many(text: &mut Vec<u8>, rows: &BTreeMap<Rid, Last>) -> Mem<()>
