@@ -1,8 +1,10 @@
--- A list put in the place of a rid's.
+-- Versions that are changed where they stand.
 use Rattle.std.proofs.Common.{◌≡◌, ◌≢◌, Bool, true, false, cond, arith, List, [], ◌∷◌, refl, sym, ap, ◌∙◌}
 use Rattle.std.proofs.lemmas.Bool.Decides.{nat_tests}
 use Rattle.std.proofs.lemmas.Cmp.{alike_right}
-use Rattle.std.specs.Prelude.{Option, None, Some, unwrap_or}
+use Rattle.std.specs.Borrow.{MutBor}
+use Rattle.std.specs.Option.{option_copied_mut}
+use Rattle.std.specs.Prelude.{Option, None, Some, IfNone, IfSome, OnSome, unwrap_or}
 use Rattle.std.specs.Map.{lookup, set_value}
 use Rattle.std.specs.BTreeMap.{is_at}
 use Rattle.std.specs.Ordering.{is_eq}
@@ -14,38 +16,36 @@ use Rattle.gx_rows.specs.Rids.{rid_cmp}
 use Rattle.gx_rows.specs.Rows.{versions_of}
 use Rattle.gx_rows.proofs.Entries.{rid_cmp-total}
 
-module _ {K X : Type 0} (test : K → Bool) (w : X) where
-  missing_step : (e : K × X) (es : List (K × X)) (b : Bool) → cond b (Some e.1) (lookup test es) ≡ None → (lookup test es ≡ None → set_value test es w ≡ es) → cond b ((e.0, w) ∷ es) (e ∷ set_value test es w) ≡ e ∷ es
-  missing_step e es true missing more = absurd (cc)
-  missing_step e es false missing more = ap (λ (r : List (K × X)). e ∷ r) (more missing)
+-- WHERE ONE IS FOUND
+module _ {K X : Type 0} (test : K → Bool) (was w : X) where
+  written_step : (e : K × X) (es : List (K × X)) (b : Bool) → test e.0 ≡ b → cond b (Some e.1) (lookup test es) ≡ Some was → (lookup test es ≡ Some was → lookup test (set_value test es w) ≡ Some w)
+      → lookup test (cond b ((e.0, w) ∷ es) (e ∷ set_value test es w)) ≡ Some w
+  written_step e es true is found more = ap (λ (b : Bool). cond b (Some w) (lookup test es)) is
+  written_step e es false is found more = ap (λ (b : Bool). cond b (Some e.1) (lookup test (set_value test es w))) is ∙ more found
 
-  -- where nothing is found nothing is written
-  pub set_value-missing : (es : List (K × X)) → lookup test es ≡ None → set_value test es w ≡ es
-  set_value-missing [] missing = refl
-  set_value-missing (e ∷ es) missing = missing_step e es (test e.0) missing (set_value-missing es)
+  lookup-written : (es : List (K × X)) → lookup test es ≡ Some was → lookup test (set_value test es w) ≡ Some w
+  lookup-written [] found = absurd (cc)
+  lookup-written (e ∷ es) found = written_step e es (test e.0) refl found (lookup-written es)
 
-pub versions-missing : (r : Rid) (rows : List (Rid × List Version)) → lookup (is_at (rid_cmp r)) rows ≡ None → versions_of rows r ≡ []
-versions-missing r rows missing = ap (λ (found : Option (List Version)). unwrap_or found []) missing
+module _ (r : Rid) (rows : List (Rid × List Version)) (was : List Version) (found : lookup (is_at (rid_cmp r)) rows ≡ Some was) where
+  pub versions-found : versions_of rows r ≡ was
+  versions-found = ap (λ (l : Option (List Version)). unwrap_or l []) found
 
--- ONE RID
-module _ (r : Rid) (f : List Version → List Version) (none : f [] ≡ []) where
-  abbrev put : List (Rid × List Version) → List Version → List (Rid × List Version)
-  put rows list = set_value (is_at (rid_cmp r)) rows list
+  pub versions-written : (list : List Version) → versions_of (set_value (is_at (rid_cmp r)) rows list) r ≡ list
+  versions-written list = ap (λ (l : Option (List Version)). unwrap_or l []) (lookup-written (is_at (rid_cmp r)) was list rows found)
 
-  here : (e : Rid × List Version) (es : List (Rid × List Version)) (b : Bool) → is_at (rid_cmp r) e.0 ≡ b → versions_of (put (put es []) (f (versions_of es r))) r ≡ f (versions_of es r)
-      → versions_of (put (cond b ((e.0, []) ∷ es) (e ∷ put es [])) (f (unwrap_or (cond b (Some e.1) (lookup (is_at (rid_cmp r)) es)) []))) r ≡ f (unwrap_or (cond b (Some e.1) (lookup (is_at (rid_cmp r)) es)) [])
-  here e es true is more =
-      ap (λ (b : Bool). versions_of (cond b ((e.0, f e.1) ∷ es) ((e.0, []) ∷ put es (f e.1))) r) is
-      ∙ ap (λ (b : Bool). unwrap_or (cond b (Some (f e.1)) (lookup (is_at (rid_cmp r)) es)) []) is
-  here e es false is more =
-      ap (λ (b : Bool). versions_of (cond b ((e.0, f (versions_of es r)) ∷ put es []) (e ∷ put (put es []) (f (versions_of es r)))) r) is
-      ∙ ap (λ (b : Bool). unwrap_or (cond b (Some e.1) (lookup (is_at (rid_cmp r)) (put (put es []) (f (versions_of es r))))) []) is
-      ∙ more
+-- WHAT IS LENT
+pub lent-found : (r : Rid) (rows : List (Rid × List Version)) (lent : Option (MutBor (List Version))) → option_copied_mut lent ≡ lookup (is_at (rid_cmp r)) rows → IfSome lent (λ list. lookup (is_at (rid_cmp r)) rows ≡ Some list.now)
+lent-found r rows (Some list) is = sym is
+lent-found r rows None is = tt
 
-  -- what is taken out, changed and put back
-  pub versions-changed : (rows : List (Rid × List Version)) → versions_of (put (put rows []) (f (versions_of rows r))) r ≡ f (versions_of rows r)
-  versions-changed [] = sym none
-  versions-changed (e ∷ es) = here e es (is_at (rid_cmp r) e.0) refl (versions-changed es)
+pub lent-missing : (r : Rid) (rows : List (Rid × List Version)) (lent : Option (MutBor (List Version))) → option_copied_mut lent ≡ lookup (is_at (rid_cmp r)) rows → IfNone lent (versions_of rows r ≡ [])
+lent-missing r rows (Some list) is = tt
+lent-missing r rows None is = ap (λ (l : Option (List Version)). unwrap_or l []) (sym is)
+
+pub on-some : {A P : Type 0} (o : Option A) → P → OnSome o P
+on-some (Some x) p = p
+on-some None p = tt
 
 -- THE OTHERS
 rids_apart : (q r : Rid) → q ≢ r → is_eq (rid_cmp q r) ≡ false

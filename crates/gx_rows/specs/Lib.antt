@@ -5,3 +5,4 @@ pub mod Keys
 pub mod Xids
 pub mod Truncated
 pub mod VersionLists
+pub mod Lent

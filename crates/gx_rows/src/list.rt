@@ -34,15 +34,6 @@ impl Model for VersionList {
 }
 
 impl VersionList {
-    /// No version.
-    pub(crate) fn new() -> VersionList
-        ensures { result ≡ [] }
-    {
-        VersionList {
-            versions: Few::Empty,
-        }
-    }
-
     /// One version.
     pub(crate) fn of(version: Version) -> VersionList
         ensures { result ≡ version ∷ [] }

@@ -1,9 +1,11 @@
-ghost use Rattle.std.specs.Prelude.{◌≡◌, ◌≢◌, ◌++◌, ◌∷◌, [], List, IfOk, OnOk, OnErr};
-ghost use Rattle.std.specs.Map.{set_value};
+ghost use Rattle.std.specs.Prelude.{◌≡◌, ◌≢◌, ◌++◌, ◌∷◌, [], List, Some, IfSome, IfNone, IfOk, OnOk, OnErr};
+ghost use Rattle.std.specs.Borrow.{sem};
+ghost use Rattle.std.specs.Map.{lookup};
 ghost use Rattle.std.specs.Option.{option_copied};
 ghost use Rattle.std.specs.BTreeMap.{IsOrdered, IsUnchanged, is_at};
 ghost use Rattle.std.specs.List.Sorted.{IsStrictlySortedBy};
 ghost use Rattle.gx_ids.specs.declared.rid.Rid.{Rid};
+ghost use Rattle.gx_rows.specs.Lent.{LendsList};
 ghost use Rattle.gx_rows.specs.Rids.{rid_cmp};
 ghost use Rattle.gx_rows.specs.Rows.{versions_of, added, rids_of, newest_of};
 
@@ -16,7 +18,6 @@ use std::alloc::Global;
 use std::collections::BTreeMap;
 use std::collections::btree_map::Entry;
 use std::marker::Model;
-use std::mem;
 
 /// The versions of the rows at a segment. Contracts see them as the rids, rising, each with its versions in the order
 /// in which they were added.
@@ -87,21 +88,13 @@ impl Versions {
         push_version(self.alloc, &mut self.lists, rid, version)
     }
 
-    /// Takes out the versions of a rid, which has none from then on.
-    pub fn take(&mut self, rid: Rid) -> VersionList
-        ensures taken { result ≡ versions_of self.old rid }
-        ensures left { self.new ≡ set_value (is_at (rid_cmp rid)) self.old [] }
+    /// The versions of a rid, to be changed where they stand; none where it is unknown.
+    pub fn of_mut(&mut self, rid: Rid) -> Option<&mut VersionList>
+        ensures* follows { sem 𝓛 (LendsList self.entry rid result) }
+        ensures found { IfSome result (λ list. lookup (is_at (rid_cmp rid)) self.old ≡ Some list.now) }
+        ensures missing { IfNone result (versions_of self.old rid ≡ []) }
     {
-        let none = VersionList::new();
-        replace_list(&mut self.lists, rid, none)
-    }
-
-    /// Puts versions in the place of those that a rid has. Of an unknown rid nothing is kept.
-    pub fn put(&mut self, rid: Rid, versions: VersionList)
-        ensures { self.new ≡ set_value (is_at (rid_cmp rid)) self.old versions }
-    {
-        let before = replace_list(&mut self.lists, rid, versions);
-        drop(before);
+        self.lists.get_mut(&rid)
     }
 
     /// The newest version of a rid that isn't locally aborted.
@@ -137,24 +130,6 @@ fn push_version(
         Entry::Vacant(place) => {
             place.insert(VersionList::of(version));
             Ok(())
-        }
-    }
-}
-
-// Puts a list in the place of a rid's, if it is known, and hands back that one.
-fn replace_list(
-    lists: &mut BTreeMap<Rid, VersionList>,
-    rid: Rid,
-    versions: VersionList,
-) -> VersionList
-    ensures before { result ≡ versions_of lists.old.entries rid }
-    ensures now { lists.new.entries ≡ set_value (is_at (rid_cmp rid)) lists.old.entries versions }
-{
-    match lists.get_mut(&rid) {
-        Some(list) => mem::replace(list, versions),
-        None => {
-            drop(versions);
-            VersionList::new()
         }
     }
 }

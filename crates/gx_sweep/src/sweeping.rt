@@ -23,9 +23,9 @@ pub fn sweep(rows: &mut Versions, rid: Rid, map: &XidMap, horizon: Gxid)
     ensures shown { (snap : Snapshot) (own : Option Lxid) (cid : Cid) → horizon.0 ≤ snap.xmin.0 → ForSome own (λ l. is_unaborted (status_of map.now l) ≡ true)
         → shown_of (versions_of rows.new rid) map.now snap own cid ≡ shown_of (versions_of rows.old rid) map.now snap own cid }
 {
-    let mut versions = rows.take(rid);
-    drop_dead(&mut versions, map, horizon);
-    rows.put(rid, versions);
+    if let Some(versions) = rows.of_mut(rid) {
+        drop_dead(versions, map, horizon);
+    }
 }
 
 // From the newest on, until one is settled, who hasn't aborted stays.
@@ -53,8 +53,8 @@ fn has_aborted(map: &XidMap, version: &Version) -> bool
 fn is_settled(map: &XidMap, horizon: Gxid, version: &Version) -> bool
     ensures { result ≡ is_settled map.now horizon version.now }
 {
-    map.status(version.lxid) == LocalStatus::Committed
-        && is_past(horizon, map.gxid_of(version.lxid))
+    let (status, gxid) = map.standing(version.lxid);
+    status == LocalStatus::Committed && is_past(horizon, gxid)
 }
 
 fn is_past(horizon: Gxid, gxid: Option<Gxid>) -> bool
