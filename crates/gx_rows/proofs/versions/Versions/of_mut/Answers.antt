@@ -1,4 +1,4 @@
-use Rattle.std.proofs.Common.{◌≡◌, ◌∙◌, List, Some, IfSome, IfNone, ap, refl, subst}
+use Rattle.std.proofs.Common.{◌≡◌, ◌∙◌, List, [], Some, IfSome, IfNone, ap, refl, subst}
 use Rattle.std.specs.BTreeMap.{is_at}
 use Rattle.std.specs.Map.{lookup, set_value}
 use Rattle.gx_ids.specs.declared.rid.Rid.{Rid}
