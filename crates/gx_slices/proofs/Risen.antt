@@ -1,5 +1,5 @@
 -- A row above all others goes behind them.
-use Rattle.std.proofs.Common.{◌≡◌, Bool, true, false, if◌then◌else◌, List, [], ◌∷◌, ◌++◌, map, refl, sym, ap, ◌∙◌, arith}
+use Rattle.std.proofs.Common.{◌≡◌, Bool, true, false, if◌then◌else◌, List, [], ◌∷◌, ◌++◌, refl, sym, ap, ◌∙◌, arith}
 use Rattle.std.proofs.lemmas.Bool.Decides.{nat_tests}
 use Rattle.std.specs.List.{AllByRecursion}
 use Rattle.std.specs.Ordering.{is_lt}
@@ -19,9 +19,6 @@ over top rid r above up = grind (arith, nat_tests)
 
 itself : (r : Rid) → is_lt (rid_order r r) ≡ false
 itself r = grind (arith, nat_tests)
-
-pub alone-rises : (rid : Rid) (last : Last) → IsRising rid ((rid, last) ∷ [])
-alone-rises rid last = record { below = (itself rid, tt); put = refl }
 
 module _ (top rid : Rid) (last : Last) (above : is_lt (rid_order top rid) ≡ true) where
   behind : (es : List (Rid × Last)) → AllByRecursion (λ e. is_lt (rid_order top e.0) ≡ false) es → kept_with (kept_in (rid, last)) (listed es) ≡ listed es ++ kept_in (rid, last) ∷ []
