@@ -35,3 +35,4 @@ pub mod Quiet
 pub mod Cancelled
 pub mod Stepped
 pub mod Counts
+pub mod Deciding

@@ -1,8 +1,8 @@
 -- A step: the event's turn, and behind it its victims'.
-use Rattle.std.proofs.Common.{◌≡◌, ◌≤◌, ◌∙◌, ℕ, List, [], ◌++◌, Bool, true, None, sym, subst, ap, length, slice_index}
+use Rattle.std.proofs.Common.{◌≡◌, ◌≤◌, ◌∙◌, ℕ, List, [], ◌++◌, Bool, true, false, None, sym, subst, ap, length, slice_index}
 use Rattle.gx_ids.specs.declared.ids.Gxid.{Gxid}
 use Rattle.gx_msg.specs.declared.message.Out.{Out}
-use Rattle.gx_node.specs.Orders.{Took}
+use Rattle.gx_node.specs.Orders.{IsLaterBy, Took}
 use Rattle.gx_outside.specs.Shelves.{Shelf}
 use Rattle.gx_script.specs.declared.Script.{Script}
 use Rattle.gx_store.specs.declared.mark.Mark.{Mark}
@@ -84,3 +84,8 @@ finish-is old mid new clock marks sent after told items more gs victims v g m c 
   where
     mid_coord : rule.Coord
     mid_coord = record (coord_of old) { sent = counted_all (slice_index old.sent.items) more; clock = clock }
+
+pub later-is : (k : Coord) (p : Script) (x : NodeEvent) {before after : Shelf} → p ≡ k.script.value → IsLaterBy before after (on_event p (coord_of k) x false).item → IsLaterBy before after (coord_rule k.script.value (coord_of k) x false).item
+later-is k p x {before = before} {after = after} same later =
+    subst (λ item. IsLaterBy before after item) (sym (item-stays (victims_at (coord_of k) x) (coord_turn k.script.value (coord_of k) x false)))
+    (subst (λ (s : Script). IsLaterBy before after (on_event s (coord_of k) x false).item) same later)

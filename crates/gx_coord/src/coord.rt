@@ -2,7 +2,8 @@ ghost use Rattle.std.specs.Prelude.{◌≡◌, ◌==◌, ◌<◌, ◌^◌, [], A
 ghost use Rattle.gx_locks.specs.Graphs.{graph_at};
 ghost use Rattle.gx_locks.specs.Locks.{next_ready};
 ghost use Rattle.gx_outside.specs.Shelves.{IsLater};
-ghost use Rattle.gx_rules.specs.AtCoordinator.{awaited, coord_can, is_unfinished_there};
+ghost use Rattle.gx_node.specs.Orders.{IsLaterBy};
+ghost use Rattle.gx_rules.specs.AtCoordinator.{awaited, coord_can, coord_rule, is_unfinished_there};
 ghost use Rattle.gx_rules.specs.Coordinators.{Coord as RuleCoord, new_coordinator};
 ghost use Rattle.gx_rules.specs.Rounds as rounds_of;
 ghost use Rattle.gx_rules.specs.Sending.{heard_in};
@@ -101,6 +102,7 @@ impl Coord {
         requires blank { marks.old.items ≡ [] }
         ensures stepped { OnOk result (HasStepped self.old self.new c event (J.shelf journal.old) (J.shelf journal.new) marks.new.items) }
         ensures later { IsLater (J.shelf journal.old) (J.shelf journal.new) }
+        ensures item { IsLaterBy (J.shelf journal.old) (J.shelf journal.new) (coord_rule self.old.script.value c event false).item }
         ensures spent { OnErr result (self.new.spent ≡ true) }
         ensures again { self.old.spent ≡ true → IsErr result }
         ensures untouched { self.old.spent ≡ true → (J.shelf journal.new).items ≡ (J.shelf journal.old).items }
@@ -145,6 +147,8 @@ impl Coord {
         ensures stepped { OnOk result (HasStepped self.old self.new c (NodeEvent.Deliver from (record { number = number; clock = clock; message = message.now }))
             (J.shelf journal.old) (J.shelf journal.new) marks.new.items) }
         ensures later { IsLater (J.shelf journal.old) (J.shelf journal.new) }
+        ensures item { IsLaterBy (J.shelf journal.old) (J.shelf journal.new)
+            (coord_rule self.old.script.value c (NodeEvent.Deliver from (record { number = number; clock = clock; message = message.now })) false).item }
         ensures spent { OnErr result (self.new.spent ≡ true) }
         ensures again { self.old.spent ≡ true → IsErr result }
         ensures untouched { self.old.spent ≡ true → (J.shelf journal.new).items ≡ (J.shelf journal.old).items }

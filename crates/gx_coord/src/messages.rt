@@ -2,8 +2,7 @@
 ghost use Rattle.std.specs.Prelude.{◌≡◌, ◌<◌, ◌^◌, [], None, true, false, IfOk, OnOk};
 ghost use Rattle.gx_detect.specs.Reports.{IsSegment};
 ghost use Rattle.gx_dtx.specs.Table.{IsActive};
-ghost use Rattle.gx_outside.specs.Shelves.{IsLater};
-ghost use Rattle.gx_node.specs.Orders.{Took};
+ghost use Rattle.gx_node.specs.Orders.{IsLaterBy, Took};
 ghost use Rattle.gx_rules.specs.AtCoordinator as turns;
 ghost use Rattle.gx_rules.specs.Rounds as rounds;
 ghost use Rattle.gx_coord.specs.Books.{coord_of};
@@ -154,7 +153,7 @@ fn take_reply<J: Journal>(
     ensures turn { IfOk result (λ turned. IsTurn coord.old coord.new marks.old.items marks.new.items (turns.on_answer (coord_of coord.old) gxid node turned.fails reply.now)) }
     ensures outs { IfOk result (λ turned. turned.outs ≡ (turns.on_answer (coord_of coord.old) gxid node turned.fails reply.now).outs) }
     ensures took { IfOk result (λ turned. Took (J.shelf journal.old) (J.shelf journal.new) turned.fails (turns.on_answer (coord_of coord.old) gxid node turned.fails reply.now).item) }
-    ensures later { IsLater (J.shelf journal.old) (J.shelf journal.new) }
+    ensures later { IsLaterBy (J.shelf journal.old) (J.shelf journal.new) (turns.on_answer (coord_of coord.old) gxid node false reply.now).item }
     ensures nobody { IfOk result (λ turned. turned.victims ≡ []) }
     ensures small { IsSmallReply reply.now }
 {
@@ -220,7 +219,7 @@ pub(crate) fn take_message<J: Journal>(
     ensures turn { IfOk result (λ turned. IsTurn coord.old coord.new marks.old.items marks.new.items (turns.on_message (coord_of coord.old) from turned.fails message.now)) }
     ensures outs { IfOk result (λ turned. turned.outs ≡ (turns.on_message (coord_of coord.old) from turned.fails message.now).outs) }
     ensures took { IfOk result (λ turned. Took (J.shelf journal.old) (J.shelf journal.new) turned.fails (turns.on_message (coord_of coord.old) from turned.fails message.now).item) }
-    ensures later { IsLater (J.shelf journal.old) (J.shelf journal.new) }
+    ensures later { IsLaterBy (J.shelf journal.old) (J.shelf journal.new) (turns.on_message (coord_of coord.old) from false message.now).item }
     ensures victims { IfOk result (λ turned. turned.victims ≡ rounds.victims_on_message (coord_of coord.old) from message.now) }
     ensures small { IsSmallMessage message.now }
 {

@@ -2,8 +2,7 @@
 ghost use Rattle.std.specs.Prelude.{◌≡◌, ◌<◌, [], Bool, true, IfOk};
 ghost use Rattle.gx_dtx.specs.Deciding.{own_failure};
 ghost use Rattle.gx_dtx.specs.Rules.{on_reply};
-ghost use Rattle.gx_outside.specs.Shelves.{IsLater};
-ghost use Rattle.gx_node.specs.Orders.{Took};
+ghost use Rattle.gx_node.specs.Orders.{IsLaterBy, Took};
 ghost use Rattle.gx_rules.specs.AtCoordinator as turns;
 ghost use Rattle.gx_coord.specs.Books.{coord_of};
 ghost use Rattle.gx_coord.specs.Turns.{IsFit, IsBusy, IsTurn, answers_line};
@@ -53,7 +52,7 @@ pub(crate) fn take_status<J: Journal>(
     ensures turn { IfOk result (λ turned. IsTurn coord.old coord.new marks.old.items marks.new.items (turns.on_status (coord_of coord.old) gxid node reply.now turned.fails)) }
     ensures outs { IfOk result (λ turned. turned.outs ≡ (turns.on_status (coord_of coord.old) gxid node reply.now turned.fails).outs) }
     ensures took { IfOk result (λ turned. Took (J.shelf journal.old) (J.shelf journal.new) turned.fails (turns.on_status (coord_of coord.old) gxid node reply.now turned.fails).item) }
-    ensures later { IsLater (J.shelf journal.old) (J.shelf journal.new) }
+    ensures later { IsLaterBy (J.shelf journal.old) (J.shelf journal.new) (turns.on_status (coord_of coord.old) gxid node reply.now false).item }
     ensures nobody { IfOk result (λ turned. turned.victims ≡ []) }
 {
     let reply = reply.copy(alloc)?;

@@ -1,8 +1,8 @@
 // One step on the coordinator's parts.
 ghost use Rattle.std.specs.Prelude.{◌≡◌, ◌+◌, ◌<◌, ◌≤◌, ◌++◌, ◌^◌, [], All, length, slice_index, true, OnOk};
 ghost use Rattle.gx_store.specs.Language.{IsScript};
-ghost use Rattle.gx_outside.specs.Shelves.{IsLater};
-ghost use Rattle.gx_rules.specs.AtCoordinator.{and_cancels_all, coord_can, coord_sends};
+ghost use Rattle.gx_node.specs.Orders.{IsLaterBy};
+ghost use Rattle.gx_rules.specs.AtCoordinator.{and_cancels_all, coord_can, coord_rule, coord_sends};
 ghost use Rattle.gx_rules.specs.Sending.{counted_all, heard_in, numbered};
 ghost use Rattle.gx_coord.specs.Books.{coord_of};
 ghost use Rattle.gx_coord.specs.Own.{IsOwn};
@@ -89,7 +89,7 @@ pub(crate) fn step_on<J: Journal>(
     requires rounds { coord.old.detector.begun < 2 ^ 62 }
     requires blank { marks.old.items ≡ [] }
     ensures gone { OnOk result (HasGone coord.old coord.new event (J.shelf journal.old) (J.shelf journal.new) marks.new.items) }
-    ensures later { IsLater (J.shelf journal.old) (J.shelf journal.new) }
+    ensures later { IsLaterBy (J.shelf journal.old) (J.shelf journal.new) (coord_rule coord.old.script.value (coord_of coord.old) event false).item }
 {
     match event {
         NodeEvent::Deliver { from, envelope } => {
@@ -129,7 +129,8 @@ pub(crate) fn receive_on<J: Journal>(
     requires blank { marks.old.items ≡ [] }
     ensures gone { OnOk result (HasGone coord.old coord.new (NodeEvent.Deliver from (record { number = number; clock = clock; message = message.now }))
         (J.shelf journal.old) (J.shelf journal.new) marks.new.items) }
-    ensures later { IsLater (J.shelf journal.old) (J.shelf journal.new) }
+    ensures later { IsLaterBy (J.shelf journal.old) (J.shelf journal.new)
+        (coord_rule coord.old.script.value (coord_of coord.old) (NodeEvent.Deliver from (record { number = number; clock = clock; message = message.now })) false).item }
 {
     let alloc = coord.alloc;
     let after = clock_after(coord.clock, clock);
@@ -162,7 +163,7 @@ fn step_alone<J: Journal>(
     requires own { IsOwn event }
     requires blank { marks.old.items ≡ [] }
     ensures gone { OnOk result (HasGone coord.old coord.new event (J.shelf journal.old) (J.shelf journal.new) marks.new.items) }
-    ensures later { IsLater (J.shelf journal.old) (J.shelf journal.new) }
+    ensures later { IsLaterBy (J.shelf journal.old) (J.shelf journal.new) (coord_rule coord.old.script.value (coord_of coord.old) event false).item }
 {
     let alloc = coord.alloc;
     let after = coord.clock + 1;

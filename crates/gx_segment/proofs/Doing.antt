@@ -14,7 +14,7 @@ use Rattle.gx_msg.specs.declared.reply.Reply.{Reply}
 use Rattle.gx_locks.specs.Locks.{Locks}
 use Rattle.gx_node.specs.Changes.{Change, change_of, left_locks, left_marks, marks_in, outs_in, turn_of}
 use Rattle.gx_outside.specs.Shelves.{Shelf}
-use Rattle.gx_node.specs.Orders.{Took}
+use Rattle.gx_node.specs.Orders.{IsLaterBy, Took}
 use Rattle.gx_node.specs.Outcomes.{Outcome}
 use Rattle.gx_node.proofs.Turns.{turn-makes}
 use Rattle.gx_rules.specs.Segments.{Local, Seg, SegTurn, Suspended, local_of, stays, tells_kept}
@@ -81,6 +81,12 @@ module _ (o : Order) (s : Seg) (g : Gxid) (fails : Bool) where
   item-ordered : (change : Change) → s.horizon.0 ≤ g.0 → change ≡ made → change.item ≡ (order_turn o s g fails).item
   item-ordered change alive same =
       let makes = turn-makes o s g fails in ap (λ (c : Change). c.item) same ∙ sym makes.item ∙ sym (ap (λ (t : SegTurn). t.item) (above alive))
+
+-- the journal may have the turn's item more
+pub later-order : (o : Order) (s : Seg) (g : Gxid) (tables : List Schema) (held : Held) (node : Node) {before after : Shelf} → IsHeld tables held s → node ≡ s.node → s.horizon.0 ≤ g.0
+    → IsLaterBy before after (change_of o node g (rows_in (entry_at held g)) false (local_in (entry_at held g))).item → IsLaterBy before after (order_turn o s g false).item
+later-order o s g tables held node {before = before} {after = after} is n alive later =
+    subst (λ (it : Option JournalItem). IsLaterBy before after it) (item-ordered o s g false _ alive (made-held o s g false tables held node is n alive)) later
 
 -- SLICES
 replies-answer_of : (g : Gxid) (r : Option Reply) → to_coordinator (answer_of g r) ≡ replies g r

@@ -1,7 +1,6 @@
 // What comes to a segment, message by message.
 ghost use Rattle.std.specs.Prelude.{◌≡◌, true, [], None, IfOk, OnOk};
-ghost use Rattle.gx_outside.specs.Shelves.{IsLater};
-ghost use Rattle.gx_node.specs.Orders.{Took};
+ghost use Rattle.gx_node.specs.Orders.{IsLaterBy, Took};
 ghost use Rattle.gx_rules.specs.AtSegment.{on_event, on_message};
 ghost use Rattle.gx_rules.specs.Machine.{seg_can};
 ghost use Rattle.gx_slices.specs.Agrees.{IsHeld};
@@ -50,7 +49,7 @@ pub(crate) fn take_event<J: Journal, G: Gate>(
     ensures done { IfOk result (λ done. HasDone was.script.tables held.new horizon.new (came marks.new.items done) (on_event was.script was.seg event done.fails)) }
     ensures report { OnOk result (report.new ≡ report_behind was.seg event) }
     ensures took { IfOk result (λ done. Took (J.shelf journal.old) (J.shelf journal.new) done.fails (on_event was.script was.seg event done.fails).item) }
-    ensures later { IsLater (J.shelf journal.old) (J.shelf journal.new) }
+    ensures later { IsLaterBy (J.shelf journal.old) (J.shelf journal.new) (on_event was.script was.seg event false).item }
 {
     match event {
         NodeEvent::Deliver { from: _, envelope } => {
@@ -120,7 +119,7 @@ pub(crate) fn take_message<J: Journal, G: Gate>(
     ensures done { IfOk result (λ done. HasDone was.script.tables held.new horizon.new (came marks.new.items done) (on_message was.script was.seg done.fails message.now)) }
     ensures report { OnOk result (report.new ≡ report_after was.seg message.now) }
     ensures took { IfOk result (λ done. Took (J.shelf journal.old) (J.shelf journal.new) done.fails (on_message was.script was.seg done.fails message.now).item) }
-    ensures later { IsLater (J.shelf journal.old) (J.shelf journal.new) }
+    ensures later { IsLaterBy (J.shelf journal.old) (J.shelf journal.new) (on_message was.script was.seg false message.now).item }
 {
     match message {
         Message::Exec {

@@ -4,9 +4,8 @@ ghost use Rattle.std.specs.BTreeMap.{get};
 ghost use Rattle.std.specs.BTreeSet.{contains};
 ghost use Rattle.gx_ids.specs.declared.ids.Gxid.{Gxid};
 ghost use Rattle.gx_dsnap.specs.Gxids.{gxid_cmp};
-ghost use Rattle.gx_outside.specs.Shelves.{IsLater};
 ghost use Rattle.gx_node.specs.Changes.{Does, change_of, left_locks, left_marks, marks_in};
-ghost use Rattle.gx_node.specs.Orders.{Took};
+ghost use Rattle.gx_node.specs.Orders.{IsLaterBy, Took};
 ghost use Rattle.gx_node.specs.Phases.{local_of, phase_of};
 ghost use Rattle.gx_rules.specs.Segments.{has_ended};
 ghost use Rattle.gx_slices.specs.Agrees.{IsHeld, entry_at, local_in, rows_in};
@@ -45,7 +44,7 @@ pub(crate) fn take<J: Journal>(
     requires blank { marks.old.items ≡ [] }
     ensures done { IfOk result (λ done. HasDone was.script.tables held.new horizon (came marks.new.items done) (order_turn order was.seg gxid done.fails)) }
     ensures took { IfOk result (λ done. Took (J.shelf journal.old) (J.shelf journal.new) done.fails (order_turn order was.seg gxid done.fails).item) }
-    ensures later { IsLater (J.shelf journal.old) (J.shelf journal.new) }
+    ensures later { IsLaterBy (J.shelf journal.old) (J.shelf journal.new) (order_turn order was.seg gxid false).item }
 {
     if gxid < horizon {
         return Ok(nothing());
@@ -117,7 +116,7 @@ fn obey<J: Journal>(
     ensures moved { IfOk result (λ taken. HasMoved held.old held.new gxid (change_of order node gxid (rows_in (entry_at held.old gxid)) taken.fails (local_in (entry_at held.old gxid))) taken) }
     ensures took { IfOk result (λ taken. Took (J.shelf journal.old) (J.shelf journal.new) taken.fails
         (change_of order node gxid (rows_in (entry_at held.old gxid)) taken.fails (local_in (entry_at held.old gxid))).item) }
-    ensures later { IsLater (J.shelf journal.old) (J.shelf journal.new) }
+    ensures later { IsLaterBy (J.shelf journal.old) (J.shelf journal.new) (change_of order node gxid (rows_in (entry_at held.old gxid)) false (local_in (entry_at held.old gxid))).item }
 {
     let mut phase = Phase::Reading;
     let taken = take_in(
@@ -148,7 +147,7 @@ fn take_in<J: Journal>(
         (change_of order node gxid (rows_in (get gxid_cmp entries.old gxid)) taken.fails (local_in (get gxid_cmp entries.old gxid))) taken (phase_of phase.new)) }
     ensures took { IfOk result (λ taken. Took (J.shelf journal.old) (J.shelf journal.new) taken.fails
         (change_of order node gxid (rows_in (get gxid_cmp entries.old gxid)) taken.fails (local_in (get gxid_cmp entries.old gxid))).item) }
-    ensures later { IsLater (J.shelf journal.old) (J.shelf journal.new) }
+    ensures later { IsLaterBy (J.shelf journal.old) (J.shelf journal.new) (change_of order node gxid (rows_in (get gxid_cmp entries.old gxid)) false (local_in (get gxid_cmp entries.old gxid))).item }
 {
     match entries.get_mut(&gxid) {
         Some(entry) => take_at(alloc, node, gxid, order, entry, phase, journal),
@@ -171,7 +170,7 @@ fn take_new<J: Journal>(
         (change_of order node gxid (rows_in (get gxid_cmp entries.old gxid)) taken.fails (local_in (get gxid_cmp entries.old gxid))) taken (phase_of phase.new)) }
     ensures took { IfOk result (λ taken. Took (J.shelf journal.old) (J.shelf journal.new) taken.fails
         (change_of order node gxid (rows_in (get gxid_cmp entries.old gxid)) taken.fails (local_in (get gxid_cmp entries.old gxid))).item) }
-    ensures later { IsLater (J.shelf journal.old) (J.shelf journal.new) }
+    ensures later { IsLaterBy (J.shelf journal.old) (J.shelf journal.new) (change_of order node gxid (rows_in (get gxid_cmp entries.old gxid)) false (local_in (get gxid_cmp entries.old gxid))).item }
 {
     let mut entry = new_entry(alloc);
     match take_at(alloc, node, gxid, order, &mut entry, phase, journal) {
@@ -199,7 +198,7 @@ fn take_at<J: Journal>(
     ensures phase { OnOk result (phase.new ≡ entry.new.local.phase) }
     ensures kept { entry.new.kept ≡ entry.old.kept }
     ensures took { IfOk result (λ taken. Took (J.shelf journal.old) (J.shelf journal.new) taken.fails (change_of order node gxid entry.old.kept taken.fails (local_of entry.old.local)).item) }
-    ensures later { IsLater (J.shelf journal.old) (J.shelf journal.new) }
+    ensures later { IsLaterBy (J.shelf journal.old) (J.shelf journal.new) (change_of order node gxid entry.old.kept false (local_of entry.old.local)).item }
 {
     let local = &mut entry.local;
     let taken = take_order(alloc, node, gxid, order, local, &entry.kept, journal);

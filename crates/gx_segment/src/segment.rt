@@ -1,5 +1,7 @@
 ghost use Rattle.std.specs.Prelude.{◌≡◌, ◌<◌, ◌^◌, [], true, false, None, IfOk, OnOk, OnErr, IsErr};
 ghost use Rattle.gx_outside.specs.Shelves.{IsLater};
+ghost use Rattle.gx_node.specs.Orders.{IsLaterBy};
+ghost use Rattle.gx_rules.specs.AtSegment.{seg_rule};
 ghost use Rattle.gx_rules.specs.Machine.{seg_can};
 ghost use Rattle.gx_rules.specs.Segments.{Seg, new_segment};
 ghost use Rattle.gx_rules.specs.Sending.{heard_in};
@@ -83,6 +85,7 @@ impl Segment {
         requires blank { marks.old.items ≡ [] }
         ensures stepped { OnOk result (HasStepped self.old self.new s event (J.shelf journal.old) (J.shelf journal.new) marks.new.items) }
         ensures later { IsLater (J.shelf journal.old) (J.shelf journal.new) }
+        ensures item { IsLaterBy (J.shelf journal.old) (J.shelf journal.new) (seg_rule self.old.script.value s event false).item }
         ensures spent { OnErr result (self.new.spent ≡ true) }
         ensures again { self.old.spent ≡ true → IsErr result }
         ensures untouched { self.old.spent ≡ true → (J.shelf journal.new).items ≡ (J.shelf journal.old).items }
@@ -130,6 +133,7 @@ impl Segment {
         requires blank { marks.old.items ≡ [] }
         ensures stepped { OnOk result (HasStepped self.old self.new s (delivered from number clock message.now) (J.shelf journal.old) (J.shelf journal.new) marks.new.items) }
         ensures later { IsLater (J.shelf journal.old) (J.shelf journal.new) }
+        ensures item { IsLaterBy (J.shelf journal.old) (J.shelf journal.new) (seg_rule self.old.script.value s (delivered from number clock message.now) false).item }
         ensures spent { OnErr result (self.new.spent ≡ true) }
         ensures again { self.old.spent ≡ true → IsErr result }
         ensures untouched { self.old.spent ≡ true → (J.shelf journal.new).items ≡ (J.shelf journal.old).items }

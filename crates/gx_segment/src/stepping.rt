@@ -1,6 +1,7 @@
 // One step on a segment's parts.
 ghost use Rattle.std.specs.Prelude.{◌≡◌, ◌<◌, ◌+◌, ◌^◌, [], true, nat_lt, if◌then◌else◌, OnOk};
-ghost use Rattle.gx_outside.specs.Shelves.{IsLater};
+ghost use Rattle.gx_node.specs.Orders.{IsLaterBy};
+ghost use Rattle.gx_rules.specs.AtSegment.{seg_rule};
 ghost use Rattle.gx_rules.specs.Machine.{seg_can};
 ghost use Rattle.gx_rules.specs.Sending.{heard_in};
 ghost use Rattle.gx_slices.specs.Agrees.{IsHeld};
@@ -48,7 +49,7 @@ pub(crate) fn step_on<J: Journal, G: Gate>(
     requires heard { heard_in event < 2 ^ 62 }
     requires blank { marks.old.items ≡ [] }
     ensures gone { OnOk result (HasGone was event held.new horizon.new report.new sent.new clock.new (J.shelf journal.old) (J.shelf journal.new) marks.new.items) }
-    ensures later { IsLater (J.shelf journal.old) (J.shelf journal.new) }
+    ensures later { IsLaterBy (J.shelf journal.old) (J.shelf journal.new) (seg_rule was.script was.seg event false).item }
 {
     *clock = clock_behind(*clock, heard(&event));
     let done = take_event(
@@ -89,7 +90,7 @@ pub(crate) fn receive_on<J: Journal, G: Gate>(
     requires heard { heard < 2 ^ 62 }
     requires blank { marks.old.items ≡ [] }
     ensures gone { OnOk result (HasGone was (delivered from number heard message.now) held.new horizon.new report.new sent.new clock.new (J.shelf journal.old) (J.shelf journal.new) marks.new.items) }
-    ensures later { IsLater (J.shelf journal.old) (J.shelf journal.new) }
+    ensures later { IsLaterBy (J.shelf journal.old) (J.shelf journal.new) (seg_rule was.script was.seg (delivered from number heard message.now) false).item }
 {
     *clock = clock_behind(*clock, heard);
     let done = take_message(

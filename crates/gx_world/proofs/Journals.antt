@@ -1,10 +1,12 @@
 -- One journal of a list changes.
-use Rattle.std.proofs.Common.{◌≡◌, ◌<◌, ◌≤◌, ◌⊎◌, ℕ, zero, suc, List, [], ◌∷◌, Some, inl, inr, refl, sym, ap, ◌∙◌, subst, arith, length, get_or}
+use Rattle.std.proofs.Common.{◌≡◌, ◌<◌, ◌≤◌, ◌⊎◌, ℕ, zero, suc, List, [], ◌∷◌, Option, Some, inl, inr, refl, sym, ap, ◌∙◌, subst, arith, length, get_or}
 use Rattle.std.specs.Prelude.{map, slice_get, slice_set}
 use Rattle.gx_lemmas.proofs.Options.{some-same}
 use Rattle.gx_lemmas.proofs.Lists.{length-set}
 use Rattle.gx_ids.specs.declared.ids.Node.{Node}
-use Rattle.gx_outside.specs.Shelves.{Shelf, IsLater}
+use Rattle.gx_msg.specs.declared.item.JournalItem.{JournalItem}
+use Rattle.gx_outside.specs.Shelves.{Shelf}
+use Rattle.gx_node.specs.Orders.{IsLaterBy}
 use Rattle.gx_script.specs.declared.Script.{Script}
 use Rattle.gx_store.specs.declared.event.Event.{Event}
 use Rattle.gx_store.specs.declared.node.NodeEvent.{NodeEvent}
@@ -12,7 +14,7 @@ use Rattle.gx_store.specs.Refusals.{the_coordinator}
 use Rattle.gx_rules.specs.Machine as machine
 use Rattle.gx_world.specs.declared.network.Network.{Network}
 use Rattle.gx_world.specs.Networks.{HasMoved, HasTurned}
-use Rattle.gx_world.specs.Worlds.{AreLater}
+use Rattle.gx_world.specs.Worlds.{AreLater, AreLaterBy}
 use Rattle.gx_world.proofs.Segs.{get-set}
 
 get-map : {A B : Type 0} (f : A → B) (xs : List A) (k : ℕ) (x : A) → slice_get xs k ≡ Some x → slice_get (map f xs) k ≡ Some (f x)
@@ -53,20 +55,24 @@ module _ {A : Type 0} (f : A → Shelf) (js : List A) (script : Script) (w : mac
   moved-first same inside h =
       moved-at 0 same inside (subst (λ n. HasTurned script w event n here new (f (get_or js 0 d)) (f now)) (sym (at-zero at same)) h)
 
-later-set : (shelves : List Shelf) (node : Node) (was now : Shelf) → slice_get shelves node.0 ≡ Some was → IsLater was now → AreLater node shelves (slice_set shelves node.0 now)
-later-set shelves node was now there h =
-    record { count = length-set shelves node.0 now; own = λ b a old new. at-place b a old (get-set shelves node.0 node.0 now a new); others = λ i b a apart old new. elsewhere i b a apart old (get-set shelves node.0 i now a new) }
-  where
-    at-place : (b a : Shelf) → slice_get shelves node.0 ≡ Some b → ((node.0 ≡ node.0) × (a ≡ now)) ⊎ ((node.0 ≡ node.0 → ⊥) × (slice_get shelves node.0 ≡ Some a)) → IsLater b a
-    at-place b a old (inl e) = subst (λ (x : Shelf). IsLater b x) (sym e.1) (subst (λ (x : Shelf). IsLater x now) (some-same was b (sym there ∙ old)) h)
-    at-place b a old (inr e) = absurd (e.0 refl)
+pub later-those : {node : Node} {it : Option JournalItem} {before after : List Shelf} → AreLaterBy node it before after → AreLater node before after
+later-those h = record { count = h.count; own = λ b a was now. (h.own b a was now).later; others = h.others }
 
-    elsewhere : (i : ℕ) (b a : Shelf) → (i ≡ node.0 → ⊥) → slice_get shelves i ≡ Some b → ((i ≡ node.0) × (a ≡ now)) ⊎ ((i ≡ node.0 → ⊥) × (slice_get shelves i ≡ Some a)) → a ≡ b
-    elsewhere i b a apart old (inl e) = absurd (apart e.0)
-    elsewhere i b a apart old (inr e) = sym (some-same b a (sym old ∙ e.1))
+module _ (node : Node) (it : Option JournalItem) where
+  later-set : (shelves : List Shelf) (was now : Shelf) → slice_get shelves node.0 ≡ Some was → IsLaterBy was now it → AreLaterBy node it shelves (slice_set shelves node.0 now)
+  later-set shelves was now there h =
+      record { count = length-set shelves node.0 now; own = λ b a old new. at-place b a old (get-set shelves node.0 node.0 now a new); others = λ i b a apart old new. elsewhere i b a apart old (get-set shelves node.0 i now a new) }
+    where
+      at-place : (b a : Shelf) → slice_get shelves node.0 ≡ Some b → ((node.0 ≡ node.0) × (a ≡ now)) ⊎ ((node.0 ≡ node.0 → ⊥) × (slice_get shelves node.0 ≡ Some a)) → IsLaterBy b a it
+      at-place b a old (inl e) = subst (λ (x : Shelf). IsLaterBy b x it) (sym e.1) (subst (λ (x : Shelf). IsLaterBy x now it) (some-same was b (sym there ∙ old)) h)
+      at-place b a old (inr e) = absurd (e.0 refl)
 
-pub later-at : {A : Type 0} (f : A → Shelf) (js : List A) (d now : A) (node : Node) (k : ℕ) → node.0 ≡ k → k < length js → IsLater (f (get_or js k d)) (f now) → AreLater node (map f js) (map f (slice_set js k now))
-later-at f js d now node k same inside h =
-    subst (λ i. AreLater node (map f js) (map f (slice_set js i now))) same
-    (subst (λ xs. AreLater node (map f js) xs) (sym (map-set f js node.0 now))
-    (later-set (map f js) node (f (get_or js k d)) (f now) (subst (λ i. slice_get (map f js) i ≡ Some (f (get_or js k d))) (sym same) (get-map f js k (get_or js k d) (read-at js k d inside))) h))
+      elsewhere : (i : ℕ) (b a : Shelf) → (i ≡ node.0 → ⊥) → slice_get shelves i ≡ Some b → ((i ≡ node.0) × (a ≡ now)) ⊎ ((i ≡ node.0 → ⊥) × (slice_get shelves i ≡ Some a)) → a ≡ b
+      elsewhere i b a apart old (inl e) = absurd (apart e.0)
+      elsewhere i b a apart old (inr e) = sym (some-same b a (sym old ∙ e.1))
+
+  pub later-at : {A : Type 0} (f : A → Shelf) (js : List A) (d now : A) (k : ℕ) → node.0 ≡ k → k < length js → IsLaterBy (f (get_or js k d)) (f now) it → AreLaterBy node it (map f js) (map f (slice_set js k now))
+  later-at f js d now k same inside h =
+      subst (λ i. AreLaterBy node it (map f js) (map f (slice_set js i now))) same
+      (subst (λ xs. AreLaterBy node it (map f js) xs) (sym (map-set f js node.0 now))
+      (later-set (map f js) (f (get_or js k d)) (f now) (subst (λ i. slice_get (map f js) i ≡ Some (f (get_or js k d))) (sym same) (get-map f js k (get_or js k d) (read-at js k d inside))) h))

@@ -8,7 +8,7 @@ use Rattle.gx_lemmas.proofs.Lists.{length-set}
 use Rattle.gx_lemmas.proofs.Options.{some-same}
 use Rattle.gx_ids.specs.declared.ids.Node.{Node}
 use Rattle.gx_outside.specs.Shelves.{Shelf}
-use Rattle.gx_node.specs.Orders.{Took}
+use Rattle.gx_node.specs.Orders.{IsLaterBy, Took}
 use Rattle.gx_script.specs.declared.Script.{Script}
 use Rattle.gx_store.specs.declared.event.Event.{Event}
 use Rattle.gx_store.specs.declared.mark.Mark.{Mark}
@@ -22,11 +22,12 @@ use Rattle.gx_rules.specs.Machine as machine
 use Rattle.gx_rules.specs.Machine.{coord_did, does, noted, seg_did, seg_can}
 use Rattle.gx_rules.specs.Maps.{with_at}
 use Rattle.gx_rules.specs.Segments.{Seg}
+use Rattle.gx_law_order.specs.Journals.{item_at}
 use Rattle.gx_segment.specs.declared.segment.Segment.{Segment}
 use Rattle.gx_segment.specs.Steps as segment
 use Rattle.gx_world.specs.Links.{IsAddressed}
 use Rattle.gx_world.specs.declared.network.Network.{Network}
-use Rattle.gx_world.specs.Turns.{HasSteppedAt, IsFit, IsNext}
+use Rattle.gx_world.specs.Turns.{HasSteppedAt, IsFit, IsLaterAt, IsNext}
 use Rattle.gx_world.specs.Networks.{HasTurned, IsAt, Stands}
 use Rattle.gx_world.proofs.Turned.{AreKept, IsPushed, addressed, are-kept, made}
 
@@ -89,6 +90,11 @@ module _ (script : Script) (w : machine.World) (old : Network) (stands : Stands 
     where
       not_zero : (n : Node) → 1 ≤ n.0 → is_same_node n the_coordinator ≡ false
       not_zero n h = grind (arith, nat_tests)
+
+  pub seg-later : (here : NodeEvent) {before after : Shelf} → IsLaterAt at old.segments.items (w.segs at.0) here before after → IsLaterBy before after (item_at script w at false (Some here))
+  seg-later here {before = before} {after = after} h =
+      subst (λ (b : Bool). IsLaterBy before after (if b then (coord_rule script w.coord here false).item else (seg_rule script (w.segs at.0) here false).item)) (sym away)
+      (subst (λ q. IsLaterBy before after (seg_rule q (w.segs at.0) here false).item) (stands.segments (at.0 - 1) h.was h.there).of h.later)
 
   module _ (event : Event) (here : NodeEvent) (before after : Shelf) (step : Step) (items : List Segment) (next : IsNext script w event at here) (h : HasSteppedAt at event old.segments.items items (w.segs at.0) here before after step) where
     abbrev turn : Bool → Rattle.gx_rules.specs.Segments.SegTurn

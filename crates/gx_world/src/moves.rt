@@ -1,12 +1,13 @@
 // A network goes on by one event.
 ghost use Rattle.std.specs.Prelude.{◌≡◌, ◌≤◌, ◌<◌, ◌^◌, length, map, true, false, Some, OnOk, OnErr};
-ghost use Rattle.gx_law_runs.specs.Replays.{is_admitted};
+ghost use Rattle.gx_law_order.specs.Journals.{item_at};
+ghost use Rattle.gx_law_runs.specs.Replays.{is_admitted, world_behind};
 ghost use Rattle.gx_rules.specs.Machine.{at_node, can_here, node_of};
 ghost use Rattle.gx_rules.specs.Sending.{heard_in};
 ghost use Rattle.gx_world.specs.Coming.{Moment};
 ghost use Rattle.gx_world.specs.Turns.{IsNext};
 ghost use Rattle.gx_world.specs.Networks.{HasDone, HasMoved, HasRoom, IsNetwork, Stands};
-ghost use Rattle.gx_world.specs.Worlds.{AreLater};
+ghost use Rattle.gx_world.specs.Worlds.{AreLaterBy, kept_for};
 
 use crate::arriving::event_node;
 use crate::network::Network;
@@ -28,7 +29,7 @@ pub(crate) fn do_event<J: Journal, G: Gate>(
     requires journals { length journals.old ≡ 17 }
     requires room { length network.old.run.steps < 2 ^ 40 }
     ensures done { OnOk result (HasDone network.old network.new event (map J.shelf journals.old) (map J.shelf journals.new)) }
-    ensures later { AreLater (node_of event) (map J.shelf journals.old) (map J.shelf journals.new) }
+    ensures later { AreLaterBy (node_of event) (kept_for network.old.script.value (world_behind network.old.script.value network.old.run.steps) event) (map J.shelf journals.old) (map J.shelf journals.new) }
     ensures script { network.new.script ≡ network.old.script }
     ensures err { OnErr result (network.new.run ≡ network.old.run) }
 {
@@ -54,7 +55,7 @@ fn turn<J: Journal, G: Gate>(
     requires room { HasRoom network.old }
     ensures moved { OnOk result (HasMoved network.old.script.value moment.w event at moment.here network.new
         (map J.shelf journals.old) (map J.shelf journals.new)) }
-    ensures later { AreLater at (map J.shelf journals.old) (map J.shelf journals.new) }
+    ensures later { AreLaterBy at (item_at network.old.script.value moment.w at false (Some moment.here)) (map J.shelf journals.old) (map J.shelf journals.new) }
     ensures script { network.new.script ≡ network.old.script }
     ensures err { OnErr result (network.new.run ≡ network.old.run) }
 {

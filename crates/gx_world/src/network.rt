@@ -1,9 +1,9 @@
 ghost use Rattle.std.specs.Prelude.{◌≡◌, ◌<◌, ◌^◌, [], true, false, IfOk, IsErr, OnOk, OnErr, length, map};
-ghost use Rattle.gx_law_runs.specs.Replays.{is_admitted};
+ghost use Rattle.gx_law_runs.specs.Replays.{is_admitted, world_behind};
 ghost use Rattle.gx_rules.specs.Machine.{node_of};
 ghost use Rattle.gx_store.specs.Language.{IsScript};
 ghost use Rattle.gx_world.specs.Networks.{HasDone, IsNetwork};
-ghost use Rattle.gx_world.specs.Worlds.{AreLater};
+ghost use Rattle.gx_world.specs.Worlds.{AreLaterBy, kept_for};
 
 use crate::Letters;
 use crate::making::new_segments;
@@ -76,7 +76,7 @@ impl Network {
         requires room { self.old.spent ≡ false → length self.old.run.steps < 2 ^ 40 }
         ensures is { IsNetwork self.new }
         ensures done { OnOk result (HasDone self.old self.new event (map J.shelf journals.old) (map J.shelf journals.new)) }
-        ensures later { AreLater (node_of event) (map J.shelf journals.old) (map J.shelf journals.new) }
+        ensures later { AreLaterBy (node_of event) (kept_for self.old.script.value (world_behind self.old.script.value self.old.run.steps) event) (map J.shelf journals.old) (map J.shelf journals.new) }
         ensures script { self.new.script ≡ self.old.script }
         ensures run { OnErr result (self.new.run ≡ self.old.run) }
         ensures spent { OnErr result (self.new.spent ≡ true) }

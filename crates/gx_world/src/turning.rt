@@ -2,20 +2,22 @@
 ghost use Rattle.std.specs.Prelude.{◌≡◌, ◌≤◌, ◌<◌, ◌^◌, ◌-◌, ◌++◌, ◌∷◌, [], ℕ, true, false, if◌then◌else◌, All, Bool, Some, IfOk, OnOk, OnErr, length, slice_get};
 ghost use Rattle.gx_ids.specs.declared.ids.Node.{Node as OneNode};
 ghost use Rattle.gx_world.specs.Links.{IsAddressed, IsLong, link_in, places_from};
-ghost use Rattle.gx_outside.specs.Shelves.{IsLater};
-ghost use Rattle.gx_rules.specs.AtCoordinator.{coord_can};
+ghost use Rattle.gx_node.specs.Orders.{IsLaterBy};
+ghost use Rattle.gx_rules.specs.AtCoordinator.{coord_can, coord_rule};
+ghost use Rattle.gx_rules.specs.AtSegment.{seg_rule};
 ghost use Rattle.gx_rules.specs.Machine.{at_node, seg_can};
 ghost use Rattle.gx_rules.specs.Sending.{heard_in};
 ghost use Rattle.gx_store.specs.Journals.{is_same_node};
 ghost use Rattle.gx_store.specs.Refusals.{the_coordinator};
 ghost use Rattle.gx_rules.specs.Segments.{Seg};
+ghost use Rattle.gx_law_order.specs.Journals.{item_at};
 ghost use Rattle.gx_coord.specs.Steps.{HasStepped, IsCoord};
 ghost use Rattle.gx_rules.specs.Coordinators.{Coord as RuleCoord};
 ghost use Rattle.gx_segment.specs.Steps.{HasStepped as HasSegmentStepped, IsSegment};
 ghost use Rattle.gx_segment.specs.declared.segment.Segment.{Segment as OneSegment};
 ghost use Rattle.gx_store.specs.declared.node.NodeEvent.TheVariants.{Deliver};
 ghost use Rattle.gx_world.specs.Coming.{CoordMoment, Moment, SegMoment, coming};
-ghost use Rattle.gx_world.specs.Turns.{HasSteppedAt, IsNext};
+ghost use Rattle.gx_world.specs.Turns.{HasSteppedAt, IsLaterAt, IsNext};
 ghost use Rattle.gx_world.specs.Networks.{HasRoom, HasTurned, Stands};
 
 use crate::arriving::own_event;
@@ -45,7 +47,7 @@ pub(crate) fn coord_turn<J: Journal>(
     requires heard { heard_in at.here < 2 ^ 62 }
     requires room { HasRoom network.old }
     ensures turned { OnOk result (HasTurned network.old.script.value at.w event the_coordinator at.here network.new (J.shelf journal.old) (J.shelf journal.new)) }
-    ensures later { IsLater (J.shelf journal.old) (J.shelf journal.new) }
+    ensures later { IsLaterBy (J.shelf journal.old) (J.shelf journal.new) (item_at network.old.script.value at.w the_coordinator false (Some at.here)) }
     ensures script { network.new.script ≡ network.old.script }
     ensures err { OnErr result (network.new.run ≡ network.old.run) }
 {
@@ -84,7 +86,7 @@ fn coord_step<J: Journal>(
     requires drawn { coord.old.dtx.next.0 < 2 ^ 62 }
     requires rounds { coord.old.detector.begun < 2 ^ 62 }
     ensures stepped { IfOk result (HasStepped coord.old coord.new at.c at.here (J.shelf journal.old) (J.shelf journal.new)) }
-    ensures later { IsLater (J.shelf journal.old) (J.shelf journal.new) }
+    ensures later { IsLaterBy (J.shelf journal.old) (J.shelf journal.new) (coord_rule coord.old.script.value at.c at.here false).item }
     ensures steps { steps.new ≡ steps.old }
 {
     let mut marks = steps.blank(alloc);
@@ -115,7 +117,7 @@ fn coord_event<J: Journal>(
     requires rounds { coord.old.detector.begun < 2 ^ 62 }
     requires blank { marks.old.items ≡ [] }
     ensures stepped { OnOk result (HasStepped coord.old coord.new at.c at.here (J.shelf journal.old) (J.shelf journal.new) marks.new.items) }
-    ensures later { IsLater (J.shelf journal.old) (J.shelf journal.new) }
+    ensures later { IsLaterBy (J.shelf journal.old) (J.shelf journal.new) (coord_rule coord.old.script.value at.c at.here false).item }
 {
     match event {
         Event::Receive { from, to, number } => match letters.letter(steps, from, to, number) {
@@ -147,7 +149,7 @@ fn coord_receives<J: Journal>(
     requires rounds { coord.old.detector.begun < 2 ^ 62 }
     requires blank { marks.old.items ≡ [] }
     ensures stepped { OnOk result (HasStepped coord.old coord.new c (Deliver from letter.entry) (J.shelf journal.old) (J.shelf journal.new) marks.new.items) }
-    ensures later { IsLater (J.shelf journal.old) (J.shelf journal.new) }
+    ensures later { IsLaterBy (J.shelf journal.old) (J.shelf journal.new) (coord_rule coord.old.script.value c (Deliver from letter.entry) false).item }
 {
     let Letter {
         number,
@@ -175,7 +177,7 @@ pub(crate) fn seg_turn<J: Journal, G: Gate>(
     requires heard { heard_in moment.here < 2 ^ 62 }
     requires room { HasRoom network.old }
     ensures turned { OnOk result (HasTurned network.old.script.value moment.w event at moment.here network.new (J.shelf journal.old) (J.shelf journal.new)) }
-    ensures later { IsLater (J.shelf journal.old) (J.shelf journal.new) }
+    ensures later { IsLaterBy (J.shelf journal.old) (J.shelf journal.new) (item_at network.old.script.value moment.w at false (Some moment.here)) }
     ensures script { network.new.script ≡ network.old.script }
     ensures err { OnErr result (network.new.run ≡ network.old.run) }
 {
@@ -213,7 +215,7 @@ fn seg_step<J: Journal, G: Gate>(
     requires admitted { (segment : OneSegment) → slice_get segments.old.items (at.0 - 1) ≡ Some segment → seg_can segment.script.value moment.s moment.here ≡ true }
     requires heard { heard_in moment.here < 2 ^ 62 }
     ensures stepped { IfOk result (λ step. HasSteppedAt at event segments.old.items segments.new.items moment.s moment.here (J.shelf journal.old) (J.shelf journal.new) step) }
-    ensures later { IsLater (J.shelf journal.old) (J.shelf journal.new) }
+    ensures later { IsLaterAt at segments.old.items moment.s moment.here (J.shelf journal.old) (J.shelf journal.new) }
     ensures steps { steps.new ≡ steps.old }
 {
     let mut marks = steps.blank(alloc);
@@ -241,7 +243,7 @@ fn seg_event<J: Journal, G: Gate>(
     requires numbers { segment.old.sent < 2 ^ 62 }
     requires blank { marks.old.items ≡ [] }
     ensures stepped { OnOk result (HasSegmentStepped segment.old segment.new at.s at.here (J.shelf journal.old) (J.shelf journal.new) marks.new.items) }
-    ensures later { IsLater (J.shelf journal.old) (J.shelf journal.new) }
+    ensures later { IsLaterBy (J.shelf journal.old) (J.shelf journal.new) (seg_rule segment.old.script.value at.s at.here false).item }
 {
     match event {
         Event::Receive { from, to, number } => match letters.letter(steps, from, to, number) {
@@ -269,7 +271,7 @@ fn seg_receives<J: Journal, G: Gate>(
     requires numbers { segment.old.sent < 2 ^ 62 }
     requires blank { marks.old.items ≡ [] }
     ensures stepped { OnOk result (HasSegmentStepped segment.old segment.new s (Deliver from letter.entry) (J.shelf journal.old) (J.shelf journal.new) marks.new.items) }
-    ensures later { IsLater (J.shelf journal.old) (J.shelf journal.new) }
+    ensures later { IsLaterBy (J.shelf journal.old) (J.shelf journal.new) (seg_rule segment.old.script.value s (Deliver from letter.entry) false).item }
 {
     let Letter {
         number,

@@ -8,7 +8,7 @@ ghost use Rattle.gx_law_runs.specs.Reached.{IsReached};
 ghost use Rattle.gx_law_locks.specs.Legal.{AreRoundsLegal};
 ghost use Rattle.gx_rules.specs.AtCoordinator.{is_unfinished_there};
 ghost use Rattle.gx_ids.specs.declared.ids.SessionId.{SessionId as Id};
-ghost use Rattle.gx_law_runs.specs.Replays.{coordinator_after, is_admitted};
+ghost use Rattle.gx_law_runs.specs.Replays.{coordinator_after, is_admitted, world_behind};
 ghost use Rattle.gx_rules.specs.Machine.{node_of};
 ghost use Rattle.gx_rules.specs.System.{IsSystemRun};
 ghost use Rattle.gx_store.specs.Cancelled.{wait_graph};
@@ -23,7 +23,7 @@ ghost use Rattle.gx_store.specs.Schedule.{is_any_wait, resumptions, segments_of,
 ghost use Rattle.gx_store.specs.View.{AreFinalFrom};
 ghost use Rattle.gx_store.specs.declared.event.Event.TheVariants.{Resume};
 ghost use Rattle.gx_world.specs.Networks.{AreNodesBehind};
-ghost use Rattle.gx_world.specs.Worlds.{AreLater, HasStepped};
+ghost use Rattle.gx_world.specs.Worlds.{AreLater, AreLaterBy, HasStepped, kept_for};
 
 use crate::admitting::can;
 use crate::graphs::graphs;
@@ -144,7 +144,8 @@ impl World {
     }
 
     /// Does one event that may be done, at its node, with the journal of that node. After want of memory the run is as it was,
-    /// and the world is spent; the journal of the event's node may then hold one item more than the run tells of.
+    /// and the world is spent; the journal of the event's node may then hold one item more than the run tells of: that of this
+    /// event.
     pub fn step<J: Journal, G: Gate>(
         &mut self,
         event: Event,
@@ -167,6 +168,7 @@ impl World {
         ensures system { OnOk result (IsSystemRun self.old.script self.new.run) }
         ensures unspent { OnOk result (self.new.spent ≡ false) }
         ensures later { AreLater (node_of event) (map J.shelf journals.old) (map J.shelf journals.new) }
+        ensures item { AreLaterBy (node_of event) (kept_for self.old.script (world_behind self.old.script self.old.run.steps) event) (map J.shelf journals.old) (map J.shelf journals.new) }
         ensures script { self.new.script ≡ self.old.script }
         ensures err { OnErr result (self.new ≡ record self.old { spent = true }) }
         ensures again { self.old.spent ≡ true → IsErr result × (journals.new ≡ journals.old) }

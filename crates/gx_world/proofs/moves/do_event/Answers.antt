@@ -1,6 +1,10 @@
-use Rattle.std.proofs.Common.{◌≡◌, Some}
+use Rattle.std.proofs.Common.{◌≡◌, Option, Some, false, subst, sym}
+use Rattle.gx_ids.specs.declared.ids.Node.{Node}
+use Rattle.gx_law_order.specs.Journals.{item_at}
 use Rattle.gx_law_runs.specs.Replays.{world_behind}
 use Rattle.gx_rules.specs.Machine.{at_node}
+use Rattle.gx_store.specs.declared.node.NodeEvent.{NodeEvent}
+use Rattle.gx_world.specs.Worlds.{AreLaterBy}
 use Rattle.gx_world.proofs.Answers.{on_ok}
 use Rattle.gx_world.proofs.Coming.{here_in, is-here}
 use Rattle.gx_world.proofs.Doing.{admitted-at, done-at, few-at, heard-at, next-at, room-at}
@@ -43,3 +47,10 @@ returns-clause-done g c =
     let w = world_behind c.args.network.now.script.value c.args.network.now.run.steps in
     on_ok c.turn.result _ _ c.turn.ensures.moved
     (λ m. done-at c.args.network.now c.requires.is c.requires.usable c.args.event _ (is-here c.args.network.now.script.value w c.args.event c.requires.admitted) c.requires.admitted c.event_node.result c.event_node.ensures c.turn.new.network _ _ m)
+
+pub returns-clause-later : goal.returns-clause-later
+returns-clause-later g c =
+    let script = c.args.network.now.script.value in
+    let w = world_behind script c.args.network.now.run.steps in
+    subst (λ (n : Node). AreLaterBy n (item_at script w n false (at_node w c.args.event)) _ _) c.event_node.ensures
+    (subst (λ (o : Option NodeEvent). AreLaterBy c.event_node.result (item_at script w c.event_node.result false o) _ _) (sym (is-here script w c.args.event c.requires.admitted)) c.turn.ensures.later)

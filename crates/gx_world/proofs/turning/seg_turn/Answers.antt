@@ -6,7 +6,7 @@ use Rattle.gx_world.specs.Links.{link_in, places_from}
 use Rattle.gx_world.specs.declared.network.Network.{Network}
 use Rattle.gx_world.proofs.Answers.{both_ok, on_ok}
 use Rattle.gx_world.proofs.Coming.{comes}
-use Rattle.gx_world.proofs.Segs.{seg-addressed, seg-inside, seg-is, seg-may, seg-turned, seg-usable}
+use Rattle.gx_world.proofs.Segs.{seg-addressed, seg-inside, seg-is, seg-later, seg-may, seg-turned, seg-usable}
 use Rattle.gx_world.proofs.turning.seg_turn.Goals as goal
 
 pub seg_step-requires : goal.seg_step-requires
@@ -58,3 +58,6 @@ returns-clause-turned g c =
       links = subst (λ (steps : List Step). (f t : Node) → link_in new.letters f t ≡ link_in old.letters f t ++ (if is_same_node f step.stamp.node then places_from (length steps) 0 t step.marks else [])) c.seg_step.ensures.steps e.1.1;
     })
     (ap (λ (x : Network). x.segments.items) others) (ap (λ (x : Network). x.coord) others) (ap (λ (x : Network). x.script) others) (ap (λ (x : Network). x.spent) others))
+
+pub returns-clause-later : goal.returns-clause-later
+returns-clause-later g c = seg-later _ _ c.args.network.now c.requires.1.1.0 c.args.at c.requires.1.1.1.1.0 g.moment.here c.seg_step.ensures.later
