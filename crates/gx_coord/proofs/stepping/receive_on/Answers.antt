@@ -7,7 +7,7 @@ use Rattle.gx_rules.specs.Coordinators.{CoordTurn}
 use Rattle.gx_coord.specs.Books.{coord_of}
 use Rattle.gx_coord.proofs.Cancelled.{stayed-trans}
 use Rattle.gx_coord.proofs.Gone.{links-sent}
-use Rattle.gx_coord.proofs.Stepped.{framed-stayed, step-is, took-is, turned-sound}
+use Rattle.gx_coord.proofs.Stepped.{framed-stayed, later-is, step-is, took-is, turned-sound}
 use Rattle.gx_coord.proofs.Turned.{script-same}
 use Rattle.gx_coord.proofs.stepping.receive_on.Goals as goal
 
@@ -52,3 +52,18 @@ returns-clause-gone g c =
       told = ap (λ (t : CoordTurn). t.marks) is;
       took = took-is old c.args.script.now x fails same e.took;
     }
+
+pub returns-in_err-turned-clause-later : goal.returns-in_err-turned-clause-later
+returns-in_err-turned-clause-later g c =
+    let x : NodeEvent = Deliver c.args.from (record { number = c.args.number; clock = c.args.clock; message = c.args.message.now }) in
+    later-is c.args.coord.now c.args.script.now x (sym c.requires.same) c.take_message.ensures.later
+
+pub returns-in_err-send_and_cancel-clause-later : goal.returns-in_err-send_and_cancel-clause-later
+returns-in_err-send_and_cancel-clause-later g c =
+    let x : NodeEvent = Deliver c.args.from (record { number = c.args.number; clock = c.args.clock; message = c.args.message.now }) in
+    later-is c.args.coord.now c.args.script.now x (sym c.requires.same) c.take_message.ensures.later
+
+pub returns-clause-later : goal.returns-clause-later
+returns-clause-later g c =
+    let x : NodeEvent = Deliver c.args.from (record { number = c.args.number; clock = c.args.clock; message = c.args.message.now }) in
+    later-is c.args.coord.now c.args.script.now x (sym c.requires.same) c.take_message.ensures.later

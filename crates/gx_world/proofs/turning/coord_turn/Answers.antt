@@ -1,5 +1,8 @@
-use Rattle.std.proofs.Common.{◌≡◌, ◌∙◌, ◌++◌, ◌∷◌, [], List, ap, if◌then◌else◌, length, subst}
+use Rattle.std.proofs.Common.{◌≡◌, ◌∙◌, ◌++◌, ◌∷◌, [], List, false, ap, if◌then◌else◌, length, subst}
 use Rattle.gx_ids.specs.declared.ids.Node.{Node}
+use Rattle.gx_node.specs.Orders.{IsLaterBy}
+use Rattle.gx_rules.specs.AtCoordinator.{coord_rule}
+use Rattle.gx_script.specs.declared.Script.{Script}
 use Rattle.gx_store.specs.Journals.{is_same_node}
 use Rattle.gx_store.specs.declared.run.Step.{Step}
 use Rattle.gx_world.specs.Links.{link_in, places_from}
@@ -25,3 +28,9 @@ returns-clause-turned g c =
       links = subst (λ (steps : List Step). (f t : Node) → link_in new.letters f t ≡ link_in old.letters f t ++ (if is_same_node f step.stamp.node then places_from (length steps) 0 t step.marks else [])) c.coord_step.ensures.steps e.1.1;
     })
     c.push_step.ensures.others)
+
+pub returns-in_err-marks-clause-later : goal.returns-in_err-marks-clause-later
+returns-in_err-marks-clause-later g c = subst (λ (x : Script). IsLaterBy _ _ (coord_rule x g.at.w.coord g.at.here false).item) c.requires.1.0.coord_script c.coord_step.ensures.later
+
+pub returns-clause-later : goal.returns-clause-later
+returns-clause-later g c = subst (λ (x : Script). IsLaterBy _ _ (coord_rule x g.at.w.coord g.at.here false).item) c.requires.1.0.coord_script c.coord_step.ensures.later

@@ -29,3 +29,19 @@ returns-clause-stepped g c =
     stepped-at c.args.segments.now.items _
     (segment-read c.args.segments.now.items c.args.at.0 c.from.result c.index_mut-segment.result.now c.from.ensures c.requires.1.1.0 c.requires.1.1.1.0 c.index_mut-segment.ensures.value)
     (ap (λ n. slice_set c.args.segments.now.items (n - 1) c.seg_event.new.segment) c.from.ensures) (c.step_of.ensures ∙ ap (made c.args.at c.args.event c.seg_event.new.segment.clock) c.from_vec.ensures) c.in_ok-seg_event.ensures.stepped
+
+pub returns-in_err-seg_event-clause-later : goal.returns-in_err-seg_event-clause-later
+returns-in_err-seg_event-clause-later g c =
+    record {
+      was = c.index_mut-segment.result.now;
+      there = segment-read c.args.segments.now.items c.args.at.0 c.from.result c.index_mut-segment.result.now c.from.ensures c.requires.1.1.0 c.requires.1.1.1.0 c.index_mut-segment.ensures.value;
+      later = c.seg_event.ensures.later;
+    }
+
+pub returns-clause-later : goal.returns-clause-later
+returns-clause-later g c =
+    record {
+      was = c.index_mut-segment.result.now;
+      there = segment-read c.args.segments.now.items c.args.at.0 c.from.result c.index_mut-segment.result.now c.from.ensures c.requires.1.1.0 c.requires.1.1.1.0 c.index_mut-segment.ensures.value;
+      later = c.seg_event.ensures.later;
+    }

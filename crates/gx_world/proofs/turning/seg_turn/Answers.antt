@@ -61,3 +61,6 @@ returns-clause-turned g c =
 
 pub returns-clause-later : goal.returns-clause-later
 returns-clause-later g c = seg-later _ _ c.args.network.now c.requires.1.1.0 c.args.at c.requires.1.1.1.1.0 g.moment.here c.seg_step.ensures.later
+
+pub returns-in_err-step-clause-later : goal.returns-in_err-step-clause-later
+returns-in_err-step-clause-later g c = seg-later _ _ c.args.network.now c.requires.1.1.0 c.args.at c.requires.1.1.1.1.0 g.moment.here c.seg_step.ensures.later

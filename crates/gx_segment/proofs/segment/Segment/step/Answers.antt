@@ -1,7 +1,16 @@
-use Rattle.std.proofs.Common.{refl}
+use Rattle.std.proofs.Common.{false, refl, subst}
+use Rattle.gx_node.specs.Orders.{IsLaterBy}
+use Rattle.gx_rules.specs.AtSegment.{seg_rule}
+use Rattle.gx_script.specs.declared.Script.{Script}
 use Rattle.gx_segment.proofs.Gone.{HasStepped-made}
 use Rattle.gx_segment.proofs.segment.Segment.step.Goals as goal
 
 pub returns-clause-stepped : goal.returns-clause-stepped
 returns-clause-stepped g c =
     HasStepped-made c.args.self.now _ g.s c.args.event _ _ c.step_on.new.marks.items c.deref.result.now c.deref.ensures (c.requires.1.1.0 c.if-self.false) c.in_ok-step_on.ensures.gone refl refl refl
+
+pub returns-in_err-step_on-clause-item : goal.returns-in_err-step_on-clause-item
+returns-in_err-step_on-clause-item g c = subst (λ (x : Script). IsLaterBy _ _ (seg_rule x g.s c.args.event false).item) c.deref.ensures c.step_on.ensures.later
+
+pub returns-clause-item : goal.returns-clause-item
+returns-clause-item g c = subst (λ (x : Script). IsLaterBy _ _ (seg_rule x g.s c.args.event false).item) c.deref.ensures c.step_on.ensures.later
