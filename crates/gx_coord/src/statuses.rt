@@ -1,5 +1,5 @@
 // Answers of segments for a transaction's status.
-ghost use Rattle.std.specs.Prelude.{◌≡◌, ◌<◌, [], Bool, true, IfOk};
+ghost use Rattle.std.specs.Prelude.{◌≡◌, ◌<◌, [], Bool, true, false, IfOk};
 ghost use Rattle.gx_dtx.specs.Deciding.{own_failure};
 ghost use Rattle.gx_dtx.specs.Rules.{on_reply};
 ghost use Rattle.gx_node.specs.Orders.{IsLaterBy, Took};

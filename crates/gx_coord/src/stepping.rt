@@ -1,5 +1,5 @@
 // One step on the coordinator's parts.
-ghost use Rattle.std.specs.Prelude.{◌≡◌, ◌+◌, ◌<◌, ◌≤◌, ◌++◌, ◌^◌, [], All, length, slice_index, true, OnOk};
+ghost use Rattle.std.specs.Prelude.{◌≡◌, ◌+◌, ◌<◌, ◌≤◌, ◌++◌, ◌^◌, [], All, length, slice_index, true, false, OnOk};
 ghost use Rattle.gx_store.specs.Language.{IsScript};
 ghost use Rattle.gx_node.specs.Orders.{IsLaterBy};
 ghost use Rattle.gx_rules.specs.AtCoordinator.{and_cancels_all, coord_can, coord_rule, coord_sends};

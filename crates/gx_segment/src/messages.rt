@@ -1,5 +1,5 @@
 // What comes to a segment, message by message.
-ghost use Rattle.std.specs.Prelude.{◌≡◌, true, [], None, IfOk, OnOk};
+ghost use Rattle.std.specs.Prelude.{◌≡◌, true, false, [], None, IfOk, OnOk};
 ghost use Rattle.gx_node.specs.Orders.{IsLaterBy, Took};
 ghost use Rattle.gx_rules.specs.AtSegment.{on_event, on_message};
 ghost use Rattle.gx_rules.specs.Machine.{seg_can};

@@ -1,5 +1,5 @@
 // One step on a segment's parts.
-ghost use Rattle.std.specs.Prelude.{◌≡◌, ◌<◌, ◌+◌, ◌^◌, [], true, nat_lt, if◌then◌else◌, OnOk};
+ghost use Rattle.std.specs.Prelude.{◌≡◌, ◌<◌, ◌+◌, ◌^◌, [], true, false, nat_lt, if◌then◌else◌, OnOk};
 ghost use Rattle.gx_node.specs.Orders.{IsLaterBy};
 ghost use Rattle.gx_rules.specs.AtSegment.{seg_rule};
 ghost use Rattle.gx_rules.specs.Machine.{seg_can};
