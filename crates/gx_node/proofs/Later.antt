@@ -1,5 +1,5 @@
 -- Which item a journal may have more, from what an append came to.
-use Rattle.std.proofs.Common.{◌∙◌, Bool, true, false, Option, Result, Ok, Err, IfOk, OnErr, append-nil, arith, inl, inr, refl}
+use Rattle.std.proofs.Common.{◌≡◌, ◌∙◌, Bool, true, false, Option, Result, Ok, Err, IfOk, OnErr, append-nil, arith, inl, inr, refl, subst}
 use Rattle.gx_msg.specs.declared.item.JournalItem.{JournalItem}
 use Rattle.gx_outside.specs.Shelves.{Shelf, HasKept}
 use Rattle.gx_node.specs.Orders.{IsLaterBy, Took}
@@ -21,3 +21,6 @@ module _ {before after : Shelf} where
       → IsLaterBy before after (item false)
   later-either (Ok x) fails item took kept = later-took item (fails x) took
   later-either (Err e) fails item took kept = later-kept (item false) kept
+
+  pub later-alike : {A : Type 0} (item : A → Option JournalItem) {x y : A} → x ≡ y → IsLaterBy before after (item x) → IsLaterBy before after (item y)
+  later-alike item same later = subst (λ z. IsLaterBy before after (item z)) same later

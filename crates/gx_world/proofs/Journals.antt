@@ -58,6 +58,9 @@ module _ {A : Type 0} (f : A → Shelf) (js : List A) (script : Script) (w : mac
 pub later-those : {node : Node} {it : Option JournalItem} {before after : List Shelf} → AreLaterBy node it before after → AreLater node before after
 later-those h = record { count = h.count; own = λ b a was now. (h.own b a was now).later; others = h.others }
 
+pub those-alike : {A : Type 0} (at : A → Node) (item : A → Option JournalItem) {x y : A} {before after : List Shelf} → x ≡ y → AreLaterBy (at x) (item x) before after → AreLaterBy (at y) (item y) before after
+those-alike at item {before = before} {after = after} same later = subst (λ z. AreLaterBy (at z) (item z) before after) same later
+
 module _ (node : Node) (it : Option JournalItem) where
   later-set : (shelves : List Shelf) (was now : Shelf) → slice_get shelves node.0 ≡ Some was → IsLaterBy was now it → AreLaterBy node it shelves (slice_set shelves node.0 now)
   later-set shelves was now there h =

@@ -2,7 +2,7 @@ use Rattle.std.proofs.Common.{◌≡◌, ◌∙◌, false, ap, subst, sym}
 use Rattle.std.proofs.lemmas.Result.{IfOk-weaker}
 use Rattle.gx_msg.specs.declared.reply.Reply.{Reply}
 use Rattle.gx_msg.specs.declared.reply.Reply.TheVariants.{Done}
-use Rattle.gx_node.specs.Orders.{IsLaterBy}
+use Rattle.gx_node.proofs.Later.{later-alike}
 use Rattle.gx_rules.specs.AtCoordinator.{on_answer}
 use Rattle.gx_rules.specs.Coordinators.{CoordTurn}
 use Rattle.gx_coord.specs.Books.{coord_of}
@@ -50,4 +50,4 @@ returns-in_default-clause-outs g c =
 pub returns-in_default-clause-later : goal.returns-in_default-clause-later
 returns-in_default-clause-later g c =
     let own = for-status c.args.reply.now c.in_default.not-Done c.in_default.not-Failed in
-    subst (λ (t : CoordTurn). IsLaterBy _ _ t.item) (status-turn (coord_of c.args.coord.now) c.args.gxid c.args.node c.args.reply.now false own) c.take_status.ensures.later
+    later-alike (λ (t : CoordTurn). t.item) (status-turn (coord_of c.args.coord.now) c.args.gxid c.args.node c.args.reply.now false own) c.take_status.ensures.later

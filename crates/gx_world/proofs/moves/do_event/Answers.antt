@@ -1,13 +1,13 @@
-use Rattle.std.proofs.Common.{◌≡◌, Option, Some, false, subst, sym}
+use Rattle.std.proofs.Common.{◌≡◌, Option, Some, false, sym}
 use Rattle.gx_ids.specs.declared.ids.Node.{Node}
 use Rattle.gx_law_order.specs.Journals.{item_at}
 use Rattle.gx_law_runs.specs.Replays.{world_behind}
 use Rattle.gx_rules.specs.Machine.{at_node}
 use Rattle.gx_store.specs.declared.node.NodeEvent.{NodeEvent}
-use Rattle.gx_world.specs.Worlds.{AreLaterBy}
 use Rattle.gx_world.proofs.Answers.{on_ok}
 use Rattle.gx_world.proofs.Coming.{here_in, is-here}
 use Rattle.gx_world.proofs.Doing.{admitted-at, done-at, few-at, heard-at, next-at, room-at}
+use Rattle.gx_world.proofs.Journals.{those-alike}
 use Rattle.gx_world.proofs.moves.do_event.Goals as goal
 
 pub turn-requires : goal.turn-requires
@@ -52,5 +52,6 @@ pub returns-clause-later : goal.returns-clause-later
 returns-clause-later g c =
     let script = c.args.network.now.script.value in
     let w = world_behind script c.args.network.now.run.steps in
-    subst (λ (n : Node). AreLaterBy n (item_at script w n false (at_node w c.args.event)) _ _) c.event_node.ensures
-    (subst (λ (o : Option NodeEvent). AreLaterBy c.event_node.result (item_at script w c.event_node.result false o) _ _) (sym (is-here script w c.args.event c.requires.admitted)) c.turn.ensures.later)
+    let at = c.event_node.result in
+    those-alike (λ (n : Node). n) (λ (n : Node). item_at script w n false (at_node w c.args.event)) c.event_node.ensures
+    (those-alike (λ (here : Option NodeEvent). at) (item_at script w at false) (sym (is-here script w c.args.event c.requires.admitted)) c.turn.ensures.later)

@@ -1,6 +1,7 @@
 use Rattle.std.proofs.Common.{◌≡◌, Some, true, false, subst, sym, arith}
+use Rattle.gx_ids.specs.declared.ids.Node.{Node}
 use Rattle.gx_law_order.specs.Journals.{item_at}
-use Rattle.gx_node.specs.Orders.{IsLaterBy}
+use Rattle.gx_node.proofs.Later.{later-alike}
 use Rattle.gx_rules.specs.Machine.{can_here}
 use Rattle.gx_world.specs.Turns.{IsNext}
 use Rattle.gx_world.proofs.Answers.{on_ok}
@@ -37,9 +38,8 @@ returns-else-at-eq0-clause-moved g c =
 
 pub returns-then-at-eq0-clause-later : goal.returns-then-at-eq0-clause-later
 returns-then-at-eq0-clause-later g c =
-    let shelf = g.J.Journal.shelf in
-    later-at c.args.at _ shelf c.args.journals.now c.index-journals-0.result c.coord_turn.new.journal 0 c.if-at-eq0.true (omega (arith, c.requires.1.1.1.1.1.1.1.1.0))
-    (subst (λ n. IsLaterBy (shelf c.index-journals-0.result) (shelf c.coord_turn.new.journal) (item_at c.args.network.now.script.value g.moment.w n false (Some g.moment.here))) (sym (at-zero c.args.at c.if-at-eq0.true)) c.coord_turn.ensures.later)
+    later-at c.args.at _ g.J.Journal.shelf c.args.journals.now c.index-journals-0.result c.coord_turn.new.journal 0 c.if-at-eq0.true (omega (arith, c.requires.1.1.1.1.1.1.1.1.0))
+    (later-alike (λ (n : Node). item_at c.args.network.now.script.value g.moment.w n false (Some g.moment.here)) (sym (at-zero c.args.at c.if-at-eq0.true)) c.coord_turn.ensures.later)
 
 pub returns-else-at-eq0-clause-later : goal.returns-else-at-eq0-clause-later
 returns-else-at-eq0-clause-later g c =

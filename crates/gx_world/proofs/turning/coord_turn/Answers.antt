@@ -1,6 +1,6 @@
 use Rattle.std.proofs.Common.{◌≡◌, ◌∙◌, ◌++◌, ◌∷◌, [], List, false, ap, if◌then◌else◌, length, subst}
 use Rattle.gx_ids.specs.declared.ids.Node.{Node}
-use Rattle.gx_node.specs.Orders.{IsLaterBy}
+use Rattle.gx_node.proofs.Later.{later-alike}
 use Rattle.gx_rules.specs.AtCoordinator.{coord_rule}
 use Rattle.gx_script.specs.declared.Script.{Script}
 use Rattle.gx_store.specs.Journals.{is_same_node}
@@ -30,7 +30,7 @@ returns-clause-turned g c =
     c.push_step.ensures.others)
 
 pub returns-in_err-marks-clause-later : goal.returns-in_err-marks-clause-later
-returns-in_err-marks-clause-later g c = subst (λ (x : Script). IsLaterBy _ _ (coord_rule x g.at.w.coord g.at.here false).item) c.requires.1.0.coord_script c.coord_step.ensures.later
+returns-in_err-marks-clause-later g c = later-alike (λ (x : Script). (coord_rule x g.at.w.coord g.at.here false).item) c.requires.1.0.coord_script c.coord_step.ensures.later
 
 pub returns-clause-later : goal.returns-clause-later
-returns-clause-later g c = subst (λ (x : Script). IsLaterBy _ _ (coord_rule x g.at.w.coord g.at.here false).item) c.requires.1.0.coord_script c.coord_step.ensures.later
+returns-clause-later g c = later-alike (λ (x : Script). (coord_rule x g.at.w.coord g.at.here false).item) c.requires.1.0.coord_script c.coord_step.ensures.later

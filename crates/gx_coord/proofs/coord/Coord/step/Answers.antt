@@ -1,5 +1,5 @@
-use Rattle.std.proofs.Common.{false, subst}
-use Rattle.gx_node.specs.Orders.{IsLaterBy}
+use Rattle.std.proofs.Common.{false}
+use Rattle.gx_node.proofs.Later.{later-alike}
 use Rattle.gx_rules.specs.AtCoordinator.{coord_rule}
 use Rattle.gx_rules.specs.Coordinators.{Coord}
 use Rattle.gx_coord.proofs.Gone.{has-stepped}
@@ -11,8 +11,8 @@ returns-in-Ok-clause-stepped g c =
 
 pub returns-in-Err-clause-item : goal.returns-in-Err-clause-item
 returns-in-Err-clause-item g c =
-    subst (λ (k : Coord). IsLaterBy _ _ (coord_rule c.args.self.now.script.value k c.args.event false).item) (c.requires.1.1.0 c.if-self.false).holds c.step_on.ensures.later
+    later-alike (λ (k : Coord). (coord_rule c.args.self.now.script.value k c.args.event false).item) (c.requires.1.1.0 c.if-self.false).holds c.step_on.ensures.later
 
 pub returns-in-Ok-clause-item : goal.returns-in-Ok-clause-item
 returns-in-Ok-clause-item g c =
-    subst (λ (k : Coord). IsLaterBy _ _ (coord_rule c.args.self.now.script.value k c.args.event false).item) (c.requires.1.1.0 c.if-self.false).holds c.step_on.ensures.later
+    later-alike (λ (k : Coord). (coord_rule c.args.self.now.script.value k c.args.event false).item) (c.requires.1.1.0 c.if-self.false).holds c.step_on.ensures.later

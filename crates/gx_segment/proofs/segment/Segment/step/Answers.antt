@@ -1,5 +1,5 @@
-use Rattle.std.proofs.Common.{false, refl, subst}
-use Rattle.gx_node.specs.Orders.{IsLaterBy}
+use Rattle.std.proofs.Common.{false, refl}
+use Rattle.gx_node.proofs.Later.{later-alike}
 use Rattle.gx_rules.specs.AtSegment.{seg_rule}
 use Rattle.gx_script.specs.declared.Script.{Script}
 use Rattle.gx_segment.proofs.Gone.{HasStepped-made}
@@ -10,7 +10,7 @@ returns-clause-stepped g c =
     HasStepped-made c.args.self.now _ g.s c.args.event _ _ c.step_on.new.marks.items c.deref.result.now c.deref.ensures (c.requires.1.1.0 c.if-self.false) c.in_ok-step_on.ensures.gone refl refl refl
 
 pub returns-in_err-step_on-clause-item : goal.returns-in_err-step_on-clause-item
-returns-in_err-step_on-clause-item g c = subst (λ (x : Script). IsLaterBy _ _ (seg_rule x g.s c.args.event false).item) c.deref.ensures c.step_on.ensures.later
+returns-in_err-step_on-clause-item g c = later-alike (λ (x : Script). (seg_rule x g.s c.args.event false).item) c.deref.ensures c.step_on.ensures.later
 
 pub returns-clause-item : goal.returns-clause-item
-returns-clause-item g c = subst (λ (x : Script). IsLaterBy _ _ (seg_rule x g.s c.args.event false).item) c.deref.ensures c.step_on.ensures.later
+returns-clause-item g c = later-alike (λ (x : Script). (seg_rule x g.s c.args.event false).item) c.deref.ensures c.step_on.ensures.later

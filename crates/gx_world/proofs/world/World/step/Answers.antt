@@ -1,9 +1,9 @@
-use Rattle.std.proofs.Common.{ap, subst, ◌∙◌}
+use Rattle.std.proofs.Common.{ap, ◌∙◌}
 use Rattle.gx_law_runs.specs.Replays.{world_behind}
 use Rattle.gx_rules.specs.Machine.{node_of}
-use Rattle.gx_world.specs.Worlds.{AreLaterBy, WorldState, kept_for}
+use Rattle.gx_world.specs.Worlds.{WorldState, kept_for}
 use Rattle.gx_world.proofs.Answers.{always_ok}
-use Rattle.gx_world.proofs.Journals.{later-those}
+use Rattle.gx_world.proofs.Journals.{later-those, those-alike}
 use Rattle.gx_world.proofs.Laws.{run-blocked, run-follows, run-legal, run-locks, run-ordered, run-rounds, run-standing, run-system, run-tells}
 use Rattle.gx_world.proofs.world.World.step.Goals as goal
 
@@ -38,4 +38,4 @@ pub returns-clause-later : goal.returns-clause-later
 returns-clause-later g c = later-those c.step.ensures.later
 
 pub returns-clause-item : goal.returns-clause-item
-returns-clause-item g c = subst (λ (w : WorldState). AreLaterBy (node_of c.args.event) (kept_for w.script (world_behind w.script w.run.steps) c.args.event) _ _) c.self.view_is c.step.ensures.later
+returns-clause-item g c = those-alike (λ (w : WorldState). node_of c.args.event) (λ (w : WorldState). kept_for w.script (world_behind w.script w.run.steps) c.args.event) c.self.view_is c.step.ensures.later
