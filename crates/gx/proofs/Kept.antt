@@ -6,32 +6,16 @@ use Rattle.gx_store.specs.declared.run.Step.{Step}
 use Rattle.gx_outside.specs.Shelves.{Shelf, AreEmpty}
 use Rattle.gx_drive.specs.Ordered.{AreFailuresFew, AreHeld, AreHeldSoFar}
 use Rattle.gx_drive.proofs.Journals.{none-failed, none-held, none-held-so-far}
-use Rattle.gx_sql.specs.declared.refusal.Refusal.{Refusal}
 use Rattle.gx_store.specs.declared.run.Run.{Run}
-use Rattle.gx_store.specs.declared.attempt.Attempt.{Attempt}
-use Rattle.gx_store.specs.declared.attempt.Attempt.TheVariants.{Done, Stopped, Stuck, Usage, Refused, ReadFault, TooLarge, OutOfMemory}
-use Rattle.gx_store.specs.Told.{no_run, run_in}
-use Rattle.gx.specs.Top.{AreKept, IsRefusedFor}
+use Rattle.gx_store.specs.Told.{no_run}
+use Rattle.gx.specs.Top.{AreKept}
 
 -- nothing was run
 pub none-kept : (shelves : List Shelf) (over : Bool) → AreEmpty shelves → AreKept [] over shelves shelves
 none-kept shelves over empty = record { failures = none-failed shelves; so_far = none-held-so-far shelves empty; held = λ _. none-held shelves empty }
 
-pub none_ran : (shelves : List Shelf) (run : Run) → run ≡ no_run → AreEmpty shelves → AreKept run.steps false shelves shelves
-none_ran shelves run none empty = subst (λ (r : Run). AreKept r.steps false shelves shelves) (sym none) (none-kept shelves false empty)
-
-refused-run : (refusal : Refusal) (a : Attempt) → IsRefusedFor refusal a → run_in a ≡ no_run
-refused-run refusal (Refused text) is = refl
-refused-run refusal (OutOfMemory run) is = is
-refused-run refusal (Done run text) is = absurd is
-refused-run refusal (Stopped run text) is = absurd is
-refused-run refusal (Stuck run text) is = absurd is
-refused-run refusal Usage is = absurd is
-refused-run refusal ReadFault is = absurd is
-refused-run refusal TooLarge is = absurd is
-
-pub refused-kept : (shelves : List Shelf) (refusal : Refusal) (a : Attempt) (over : Bool) → IsRefusedFor refusal a → AreEmpty shelves → AreKept (run_in a).steps over shelves shelves
-refused-kept shelves refusal a over is empty = subst (λ (r : Run). AreKept r.steps over shelves shelves) (sym (refused-run refusal a is)) (none-kept shelves over empty)
+pub none_ran : (shelves : List Shelf) (over : Bool) (run : Run) → run ≡ no_run → AreEmpty shelves → AreKept run.steps over shelves shelves
+none_ran shelves over run none empty = subst (λ (r : Run). AreKept r.steps over shelves shelves) (sym none) (none-kept shelves over empty)
 
 -- as many journals as were lent to the driver have come back
 pub count-back : {A : Type 0} (new rest : List A) (n : ℕ) → n ≡ length new → length (take n (new ++ rest)) ≡ n

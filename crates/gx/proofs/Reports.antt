@@ -1,7 +1,9 @@
 -- What each status of a report tells, from what the work before the writing came to and what was told of it.
-use Rattle.std.proofs.Common.{◌≡◌, ◌⊎◌, inl, inr, ℕ, nat_eq, List, Option, Bool, true, false, arith, refl, sym, ◌∙◌, subst}
+use Rattle.std.proofs.Common.{◌≡◌, ◌⊎◌, inl, inr, ℕ, nat_eq, List, Option, Bool, true, false, arith, refl, sym, ◌∙◌, subst, true≢false}
 use Rattle.std.specs.declared.alloc.Global.{Global}
 use Rattle.std.specs.declared.string.String.{String}
+use Rattle.gx_words.specs.Asked.{AreAsked}
+use Rattle.gx_words.specs.declared.options.Options.{Options}
 use Rattle.gx_store.specs.declared.run.Run.{Run}
 use Rattle.gx_outside.specs.Shelves.{Shelf}
 use Rattle.gx_drive.specs.Ordered.{AreFailuresFew, AreHeld, AreHeldSoFar}
@@ -181,3 +183,14 @@ module _ (words : List (String Global)) (left after : Option (List ℕ)) (before
     ]
     | inr out ↦ (calm a of out.0, out.4)
   ]
+
+-- whatever the words ask for, they ask for threads
+abbrev pub AreAllForThreads : List (String Global) → Type 0
+AreAllForThreads words = (options : Options) → AreAsked words options → options.threads ≡ true
+
+module _ (words : List (String Global)) (left after : Option (List ℕ)) (run : Run) (written shown : Option (List ℕ)) (asks : AreAllForThreads words) where
+  pub never-stopped : IsWritten (IsStopped words left after run) written shown → ⊥
+  never-stopped is = true≢false (sym (asks is.is.options is.is.asked) ∙ is.is.is.alone)
+
+  pub never-stuck : IsWritten (IsStuck words left after run) written shown → ⊥
+  never-stuck is = true≢false (sym (asks is.is.options is.is.asked) ∙ is.is.is.alone)

@@ -24,10 +24,12 @@ use Rattle.gx_store.specs.Ordered.{AreOrdered}
 use Rattle.gx_store.specs.Points.{marks_of}
 use Rattle.gx_store.specs.Protocol.{DoStepsFollow}
 use Rattle.gx_store.specs.Runs.{IsLegalHistory}
+use Rattle.gx_store.specs.Schedule.{is_any_unfinished}
 use Rattle.gx_store.specs.Stands.{DoRowsStand}
 use Rattle.gx_store.specs.View.{AreFinalFrom}
 use Rattle.gx_store.specs.Whole.{AreInsertsWhole}
 use Rattle.gx_rules.specs.System.{IsSystemRun}
+use Rattle.gx_law_merge.specs.Merge.{DoFit, IsMergeOf}
 use Rattle.gx_law_locks.specs.Blocked.{DoStayBlocked}
 use Rattle.gx_law_writes.specs.Legal.{AreLocksLegal}
 use Rattle.gx_law_runs.specs.Endings.{IsFinished}
@@ -57,14 +59,29 @@ abbrev pub AreDriven : Option ℕ → Script → List Step → Type 0
 AreDriven None script steps = AreFirst script [] steps
 AreDriven (Some seed) script steps = AreDrawn script seed [] steps
 
+-- How a driver of one thread has made the run: each event is the one that it takes; where a round was all that was left to choose, it
+-- comes to victims, so that there are no more such rounds, of those that came to their recheck, than transactions; and the run has no
+-- more steps than turns were asked for.
+pub record IsByDriver (script : Script) (options : Options) (run : Run) : Type 0 where
+  pub driven : AreDriven options.seed script run.steps
+  pub lone : DoLoneRoundsFindVictims script (lets script) [] run.steps
+  pub few : AreLoneRoundsFew script (lets script) run.steps
+  pub within : length run.steps ≤ options.turns
+
+-- What is said of a run in threads: it is the merge, by clock and node, of histories that fit together, one of each node, which follows its rule
+-- there by what the others have sent it.
+pub record IsMerged (script : Script) (run : Run) : Type 0 where
+  pub histories : List (List Step)
+  pub fit : DoFit script histories
+  pub merge : IsMergeOf histories run.steps
+
 -- The run is a legal history of one store without segments. Its nodes follow their rules and the commit protocol, its messages are
 -- numbered, follow what they tell of, and arrive after they were sent, clocks rise, rows stand where it tells of them, no segment says
--- of a command both that it is done and that it has failed, or two causes, its locks are legal, who is blocked stays blocked until one of
--- them aborts, and each event is the one that the driver takes. Its rounds of the deadlock detector ask, report and decide as they are defined; where one names somebody the waits
--- that it found stuck still stand, and whoever it names is the youngest of those who can't go on; and where a round was all that was
--- left to choose, it comes to victims, so that there are no more such rounds, of those that came to their recheck, than transactions. No
--- resource group ever has more open transactions than slots, and its sessions begin theirs in the order in which they asked. The run has
--- no more steps than turns were asked for.
+-- of a command both that it is done and that it has failed, or two causes, its locks are legal, and who is blocked stays blocked until one of
+-- them aborts. Its rounds of the deadlock detector ask, report and decide as they are defined; where one names somebody the waits
+-- that it found stuck still stand, and whoever it names is the youngest of those who can't go on. No resource group ever has more open
+-- transactions than slots, and its sessions begin theirs in the order in which they asked. Where the words ask for no threads, a driver
+-- has made the run; else it is the merge of histories that fit, and that threads made it is no clause.
 pub record IsRunOf (script : Script) (options : Options) (run : Run) : Type 0 where
   pub legal : IsLegalHistory script run
   pub ordered : AreOrdered script [] run.steps
@@ -76,12 +93,10 @@ pub record IsRunOf (script : Script) (options : Options) (run : Run) : Type 0 wh
   pub locks : AreLocksLegal script run.steps
   pub blocked : DoStayBlocked (marks_of run)
   pub rounds : AreRoundsLegal script run.steps
-  pub lone : DoLoneRoundsFindVictims script (lets script) [] run.steps
-  pub few : AreLoneRoundsFew script (lets script) run.steps
   pub slots : AlwaysKeepsSlots script (marks_of run)
   pub queued : BeginAsAsked script run.steps
-  pub driven : AreDriven options.seed script run.steps
-  pub within : length run.steps ≤ options.turns
+  pub alone : options.threads ≡ false → IsByDriver script options run
+  pub threads : options.threads ≡ true → IsMerged script run
 
 -- the tables of a script as they are behind a run
 pub record AreTables (script : Script) (run : Run) (tables : List (Vec KeyedRow Global)) : Type 0 where
@@ -113,20 +128,23 @@ pub record IsStoppedText (script : Script) (options : Options) (run : Run) (why 
 -- no session is unfinished: every line was answered in it, every block is closed, every transaction has ended; and this is its text
 pub record IsWholeRunOf (script : Script) (options : Options) (run : Run) (text : List ℕ) : Type 0 where
   pub is : IsRunOf script options run
-  pub ended : IsEnd script run.steps options.turns end.Done
+  pub done : is_any_unfinished script run.steps ≡ false
+  pub ended : options.threads ≡ false → IsEnd script run.steps options.turns end.Done
   pub over : IsFinished script run
   pub told : IsEndedText script options run text
 
--- all turns were taken, a session is unfinished, and this is the text that says so
+-- no threads were asked for, all turns were taken, a session is unfinished, and this is the text that says so
 pub record IsStoppedRunOf (script : Script) (options : Options) (run : Run) (text : List ℕ) : Type 0 where
   pub is : IsRunOf script options run
+  pub alone : options.threads ≡ false
   pub ended : IsEnd script run.steps options.turns end.Turns
   pub told : IsStoppedText script options run turns_spent text
 
--- The detector is off, turns are left and a session is unfinished, but nothing may happen; and this is the text that says so and
--- which waits are stuck.
+-- No threads were asked for, the detector is off, turns are left and a session is unfinished, but nothing may happen; and this is the
+-- text that says so and which waits are stuck.
 pub record IsStuckRunOf (script : Script) (options : Options) (run : Run) (text : List ℕ) : Type 0 where
   pub is : IsRunOf script options run
+  pub alone : options.threads ≡ false
   pub off : script.detector ≡ false
   pub graphs : List LocalGraph
   pub ended : IsEnd script run.steps options.turns (end.Stuck graphs)
@@ -146,18 +164,11 @@ IsRefusedFor refusal (Refused text) = refusal_text refusal ≡ Some text.items
 IsRefusedFor refusal (OutOfMemory run) = run ≡ no_run
 IsRefusedFor refusal _ = ⊥
 
--- these bytes are a script, of which this holds
-abbrev pub IsScriptWith : List ℕ → (Script → Type 0) → Type 0
-IsScriptWith bytes Is = (script : Script) × Reads bytes (Ok script) × Is script
-
--- what became of bytes
-abbrev pub IsOfBytes : List ℕ → Options → Attempt → Type 0
-IsOfBytes bytes options (Done run text) = IsScriptWith bytes (λ script. IsWholeRunOf script options run text.items)
-IsOfBytes bytes options (Stopped run text) = IsScriptWith bytes (λ script. IsStoppedRunOf script options run text.items)
-IsOfBytes bytes options (Stuck run text) = IsScriptWith bytes (λ script. IsStuckRunOf script options run text.items)
-IsOfBytes bytes options (Refused text) = (refusal : Refusal) × Reads bytes (Err refusal) × (refusal_text refusal ≡ Some text.items)
-IsOfBytes bytes options (OutOfMemory run) = (run ≡ no_run) ⊎ IsScriptWith bytes (λ script. IsRunOf script options run)
-IsOfBytes bytes options _ = ⊥
+-- what became of bytes that are no script, or for which memory was missing
+abbrev pub IsNoScript : List ℕ → Attempt → Type 0
+IsNoScript bytes (Refused text) = (refusal : Refusal) × Reads bytes (Err refusal) × (refusal_text refusal ≡ Some text.items)
+IsNoScript bytes (OutOfMemory run) = run ≡ no_run
+IsNoScript bytes _ = ⊥
 
 -- the bytes that were given are this script, or no script for this reason
 pub record IsRead (work : Option ℕ) (left after : Option (List ℕ)) (said : Result Script Refusal) : Type 0 where
@@ -177,6 +188,18 @@ pub record KeepsLanguage (script : Script) : Type 0 where
 -- so does whatever script was read
 abbrev pub IsOfLanguage : Option (List ℕ) → Option (List ℕ) → Type 0
 IsOfLanguage left after = (work : Option ℕ) (script : Script) → IsRead work left after (Ok script) → KeepsLanguage script
+
+-- the words ask for threads
+pub record IsForThreads (words : List (String Global)) : Type 0 where
+  pub options : Options
+  pub asked : AreAsked words options
+  pub threads : options.threads ≡ true
+
+-- the words ask for this, what was given is this script, and the source has counted no fault
+pub record IsGiven (words : List (String Global)) (left after : Option (List ℕ)) (before now : ℕ) (options : Options) (script : Script) : Type 0 where
+  pub asked : AreAsked words options
+  pub read : IsRead options.work left after (Ok script)
+  pub calm : now ≡ before
 
 -- the words ask for this, and the bytes that were given are a script of which this holds
 pub record HasScript (words : List (String Global)) (left after : Option (List ℕ)) (Is : Script → Options → Type 0) : Type 0 where

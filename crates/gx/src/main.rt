@@ -2,8 +2,11 @@
 //! tables.
 #![tactic(auto)]
 
+mod alone;
 mod attempt;
 mod driving;
+mod in_threads;
+mod reading;
 mod running;
 mod telling;
 mod top;
@@ -28,6 +31,7 @@ fn main(rt: HostRuntime) -> ExitCode {
     let mut source = StdinSource::new(rt.reader());
     let mut sink = StdoutSink::new(io::writer(&rt));
     let report = run_gx(
+        &rt,
         alloc,
         words.as_slice(),
         &mut source,

@@ -31,6 +31,7 @@ pub fn run_script<J: Journal, G: Gate>(
     journals: &mut Vec<J>,
     gate: &G,
 ) -> Attempt
+    requires alone { options.threads ≡ false }
     requires turns { options.turns ≤ 10000000 }
     requires language { IsScript script }
     requires inserts { AreInsertsWhole script.tables script.lines }
@@ -53,6 +54,7 @@ pub fn run_script<J: Journal, G: Gate>(
 
 // What a run that came to an end is told as.
 fn ended(alloc: Global, world: World, options: Options, end: End) -> Attempt
+    requires alone { options.threads ≡ false }
     requires usable { world.spent ≡ false }
     requires language { IsScript world.script }
     requires inserts { AreInsertsWhole world.script.tables world.script.lines }
@@ -69,6 +71,7 @@ fn ended(alloc: Global, world: World, options: Options, end: End) -> Attempt
 }
 
 fn finished(alloc: Global, world: World, options: Options) -> Attempt
+    requires alone { options.threads ≡ false }
     requires usable { world.spent ≡ false }
     requires language { IsScript world.script }
     requires inserts { AreInsertsWhole world.script.tables world.script.lines }
@@ -84,6 +87,7 @@ fn finished(alloc: Global, world: World, options: Options) -> Attempt
 }
 
 fn stopped(alloc: Global, world: World, options: Options) -> Attempt
+    requires alone { options.threads ≡ false }
     requires language { IsScript world.script }
     requires inserts { AreInsertsWhole world.script.tables world.script.lines }
     requires driven { AreDriven options.seed world.script world.run.steps }
@@ -98,6 +102,7 @@ fn stopped(alloc: Global, world: World, options: Options) -> Attempt
 }
 
 fn stuck(alloc: Global, world: World, options: Options, graphs: Seq<LocalGraph>) -> Attempt
+    requires alone { options.threads ≡ false }
     requires language { IsScript world.script }
     requires inserts { AreInsertsWhole world.script.tables world.script.lines }
     requires driven { AreDriven options.seed world.script world.run.steps }

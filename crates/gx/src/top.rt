@@ -3,17 +3,22 @@ ghost use Rattle.std.specs.Prelude.{◌≡◌, ◌≢◌, length, map};
 ghost use Rattle.gx_drive.specs.Ordered.{AreFailuresFew, AreHeld, AreHeldSoFar};
 ghost use Rattle.gx_outside.specs.Shelves.{AreEmpty};
 ghost use Rattle.gx_words.specs.Asked.{IsForSource};
-ghost use Rattle.gx.specs.Top.{IsCutShort, IsDone, IsDue, IsOfLanguage, IsPartRun, IsReadFault, IsRefused, IsStatus, IsStopped, IsStuck, IsTooLarge, IsUsage, IsWritten};
+ghost use Rattle.gx.specs.Top.{IsCutShort, IsDone, IsDue, IsForThreads, IsOfLanguage, IsPartRun, IsReadFault, IsRefused, IsStatus, IsStopped, IsStuck, IsTooLarge, IsUsage, IsWritten};
 
-use crate::attempt::make_attempt;
+use crate::alone::run_alone;
+use crate::attempt::make_attempt_in_threads;
 use gx_outside::{Gate, Journal, Sink, Source};
 use gx_store::{Report, told_of};
+use gx_words::ask_for_threads;
 use std::alloc::Global;
+use std::sync::Wait;
+use std::thread::Threads;
 
 /// Reads a script from the source, or generates the one of the number that the words give, runs it, and writes the text of its run to
 /// the sink, which is built whole before the first write. The words are those of the command line behind the program's name. The journals are those of the coordinator and of 16
-/// segments, by their numbers, and hold nothing. The gate is entered by each slice.
-pub fn run_gx<S: Source, K: Sink, J: Journal, G: Gate>(
+/// segments, by their numbers, and hold nothing. The gate is entered by each slice. Where the words ask for threads it may wait forever.
+pub fn run_gx<R: Threads + Wait + Sync, S: Source, K: Sink, J: Journal + Send, G: Gate + Sync>(
+    rt: &R,
     alloc: Global,
     words: &[String],
     source: &mut S,
@@ -26,8 +31,8 @@ pub fn run_gx<S: Source, K: Sink, J: Journal, G: Gate>(
     ensures known { IsStatus result.status }
 
     // The source was read to its end and its bytes are a script, or those that were generated are; the run is a legal history of one store in which
-    // each line of it has its answer, made by the system of nodes in the fixed order or by the seed; and the text of that run and of the tables at its
-    // end was written, which for generated work is one line.
+    // each line of it has its answer, made by the system of nodes in the fixed order, by the seed, or in threads; and the text of that run and of the
+    // tables at its end was written, which for generated work is one line.
     ensures done { result.status ≡ 0 → IsWritten (IsDone words.now (S.left source.old) (S.left source.new) result.run) (K.written sink.old) (K.written sink.new) }
 
     // The words are not in the language, and the text says what is.
@@ -42,7 +47,8 @@ pub fn run_gx<S: Source, K: Sink, J: Journal, G: Gate>(
     ensures write_fault { result.status ≡ 5 → IsCutShort (IsDue words.now (S.left source.old) (S.left source.new) (S.fault_count source.old) (S.fault_count source.new) result.run)
         (K.written sink.old) (K.written sink.new) (K.fault_count sink.old) (K.fault_count sink.new) }
 
-    // Nothing was written, source and sink have counted no fault, and what was run is a part of a legal history of the script, within its turns.
+    // Nothing was written, source and sink have counted no fault, and what was run is a part of a legal history of the
+    // script, within its turns where the words ask for no threads.
     ensures unfailed { result.status ≡ 6 → (S.fault_count source.new ≡ S.fault_count source.old) × (K.fault_count sink.new ≡ K.fault_count sink.old) }
     ensures memory { result.status ≡ 6 → (K.written sink.new ≡ K.written sink.old) × IsPartRun words.now (S.left source.old) (S.left source.new) result.run }
 
@@ -63,8 +69,11 @@ pub fn run_gx<S: Source, K: Sink, J: Journal, G: Gate>(
     // the limit of bytes.
     ensures language { IsOfLanguage (S.left source.old) (S.left source.new) }
 
-    // All journals come back.
-    ensures count { length journals.new.items ≡ 17 }
+    // Where the words ask for threads, the status is neither 7 nor 8.
+    ensures threads { IsForThreads words.now → (result.status ≢ 7) × (result.status ≢ 8) }
+
+    // All journals come back, unless the words ask for threads and memory ran out.
+    ensures count { (IsForThreads words.now → result.status ≢ 6) → length journals.new.items ≡ 17 }
 
     // Each journal holds the items that the marks of its node stand for, and nothing else.
     ensures held { result.status ≢ 6 → AreHeld result.run.steps (map J.shelf journals.new.items) }
@@ -75,6 +84,9 @@ pub fn run_gx<S: Source, K: Sink, J: Journal, G: Gate>(
     // No node has more JournalFailed marks than its journal's count has risen.
     ensures failures { AreFailuresFew result.run.steps (map J.shelf journals.old.items) (map J.shelf journals.new.items) }
 {
-    let attempt = make_attempt(alloc, words, source, journals, gate);
+    if !ask_for_threads(words) {
+        return run_alone(alloc, words, source, sink, journals, gate);
+    }
+    let attempt = make_attempt_in_threads(rt, alloc, words, source, journals, gate);
     told_of(alloc, attempt, sink)
 }

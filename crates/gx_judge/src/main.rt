@@ -1,7 +1,7 @@
 //! `gx_judge` reads a script from the standard input, runs it as `gx` does, and says whether its run is a legal history. That every run is
 //! one is proved; here the definition itself is asked, of the runs that the tests make. With `--refuse NODE.CALL` before `gx`'s words, that append to
 //! the node's journal fails, and the run is told before the verdict. With `--apart` before them the nodes work apart, and the run that
-//! their histories make is told and judged.
+//! their histories make is told and judged; so it is with `--threads` among them, where the nodes work in threads.
 #![tactic(auto)]
 
 mod apart;
@@ -15,6 +15,7 @@ mod verdict;
 
 use apart::judge_apart;
 use gx_outside::{Failed, StdinSource, StdoutSink};
+use gx_words::ask_for_threads;
 use judging::judge;
 use std::process::ExitCode;
 use std::{env, io};
@@ -33,6 +34,7 @@ fn main(rt: HostRuntime) -> ExitCode {
         [first, others @ ..] if first.as_str() == "--apart" => {
             judge_apart(&rt, alloc, others, &mut source)
         }
+        all if ask_for_threads(all) => judge_apart(&rt, alloc, all, &mut source),
         all => judge(alloc, all, &mut source),
     };
     let mut sink = StdoutSink::new(io::writer(&rt));

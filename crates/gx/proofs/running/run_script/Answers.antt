@@ -16,7 +16,7 @@ returns-in-Ok-drive-clause-kept g c =
 pub returns-in-Err-drive-clause-ran : goal.returns-in-Err-drive-clause-ran
 returns-in-Err-drive-clause-ran g c =
     let of = c.drive.ensures.script ∙ ap (λ (w : WorldState). w.script) c.in-Ok.ensures in
-    inr (run-in c.args.script c.args.options c.drive.new.world c.into_run.result of c.into_run.ensures.value c.requires.language c.requires.inserts c.into_run.ensures.reached
+    inr (run-in c.args.script c.args.options c.drive.new.world c.into_run.result c.requires.alone of c.into_run.ensures.value c.requires.language c.requires.inserts c.into_run.ensures.reached
     (subst (λ (s : Script). AreDriven c.args.options.seed s c.drive.new.world.run.steps) (ap (λ (w : WorldState). w.script) c.in-Ok.ensures) c.in-Err-drive.ensures.driven)
     c.in-Err-drive.ensures.within)
 

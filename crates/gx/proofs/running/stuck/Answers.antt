@@ -14,7 +14,8 @@ returns-in-Ok-clause-ran c =
     let same = sym c.into_run.ensures.value in
     let cause = c.requires.ended.stuck.0 (c.args.graphs, refl) in
     record {
-      is = run-in c.args.world.script c.args.options c.args.world c.into_run.result refl c.into_run.ensures.value c.requires.language c.requires.inserts c.into_run.ensures.reached c.requires.driven c.requires.ended.within;
+      is = run-in c.args.world.script c.args.options c.args.world c.into_run.result c.requires.alone refl c.into_run.ensures.value c.requires.language c.requires.inserts c.into_run.ensures.reached c.requires.driven c.requires.ended.within;
+      alone = c.requires.alone;
       off = no-detector c.args.world.script c.args.world.run.steps c.requires.language c.requires.inserts c.into_run.ensures.reached
           (driven-let c.args.world.script c.args.options.seed c.args.world.run.steps c.requires.driven) cause.unfinished cause.nothing;
       graphs = c.args.graphs;
@@ -25,4 +26,4 @@ returns-in-Ok-clause-ran c =
 
 pub returns-clause-ran : goal.returns-clause-ran
 returns-clause-ran c =
-    inr (run-in c.args.world.script c.args.options c.args.world c.into_run-in-Err.result refl c.into_run-in-Err.ensures.value c.requires.language c.requires.inserts c.into_run-in-Err.ensures.reached c.requires.driven c.requires.ended.within)
+    inr (run-in c.args.world.script c.args.options c.args.world c.into_run-in-Err.result c.requires.alone refl c.into_run-in-Err.ensures.value c.requires.language c.requires.inserts c.into_run-in-Err.ensures.reached c.requires.driven c.requires.ended.within)
