@@ -1,8 +1,8 @@
 // From the words to the script that they ask for.
-ghost use Rattle.std.specs.Prelude.{◌≡◌, IfErr, IfOk, Ok};
+ghost use Rattle.std.specs.Prelude.{◌≡◌, ◌≤◌, IfErr, IfOk, Ok, length};
 ghost use Rattle.gx.specs.Top.{IsAttempt, IsGiven, IsNoScript, IsRefusedFor};
 ghost use Rattle.gx_sql.specs.Script.{Reads};
-ghost use Rattle.gx_words.specs.Asked.{IsForSource};
+ghost use Rattle.gx_words.specs.Asked.{IsForSource, limit};
 ghost use Rattle.gx_store.specs.Told.{no_run, run_in};
 
 use gx_outside::Source;
@@ -40,6 +40,7 @@ pub fn read_script<S: Source>(
 
 // The script that these bytes are.
 fn script_of(alloc: Global, options: Options, bytes: &[u8]) -> Result<(Options, Script), Attempt>
+    requires { length bytes.now ≤ limit }
     ensures ok { IfOk result (λ r. (r.0 ≡ options) × Reads bytes.now (Ok r.1)) }
     ensures err { IfErr result (IsNoScript bytes.now) }
 {

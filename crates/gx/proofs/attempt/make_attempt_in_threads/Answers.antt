@@ -5,13 +5,13 @@ use Rattle.gx.proofs.Language.{keeps_language}
 use Rattle.gx.proofs.attempt.make_attempt_in_threads.Goals as goal
 
 pub run_in_threads-requires-clause-threads : goal.run_in_threads-requires-clause-threads
-run_in_threads-requires-clause-threads g c = c.requires.threads c.in-Ok.options c.in-Ok.ensures.given.asked
+run_in_threads-requires-clause-threads g c κs within = c.requires.threads c.in-Ok.options c.in-Ok.ensures.given.asked
 
 pub run_in_threads-requires-clause-language : goal.run_in_threads-requires-clause-language
-run_in_threads-requires-clause-language g c = (keeps_language _ _ c.in-Ok.options.work c.in-Ok.script c.in-Ok.ensures.given.read).language
+run_in_threads-requires-clause-language g c κs within = (keeps_language _ _ c.in-Ok.options.work c.in-Ok.script c.in-Ok.ensures.given.read).language
 
 pub run_in_threads-requires-clause-inserts : goal.run_in_threads-requires-clause-inserts
-run_in_threads-requires-clause-inserts g c = (keeps_language _ _ c.in-Ok.options.work c.in-Ok.script c.in-Ok.ensures.given.read).inserts
+run_in_threads-requires-clause-inserts g c κs within = (keeps_language _ _ c.in-Ok.options.work c.in-Ok.script c.in-Ok.ensures.given.read).inserts
 
 pub returns-in-Ok-clause-is : goal.returns-in-Ok-clause-is
 returns-in-Ok-clause-is g c = ran _ _ _ _ _ c.in-Ok.options c.in-Ok.script c.in-Ok.ensures.given c.run_in_threads.result c.run_in_threads.ensures.ran

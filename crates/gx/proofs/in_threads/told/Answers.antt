@@ -14,6 +14,6 @@ returns-in-Ok-clause-ran c =
       told = record { tables = c.args.tables.items; final = c.requires.tables; told = c.in-Ok.ensures ∙ ap (λ ts. ended_text c.args.options.work script c.args.run ts ++ traced c.args.options.trace script c.args.run) c.as_slice.ensures.value };
     }
 
-pub returns-in-Err-clause-ran : goal.returns-in-Err-clause-ran
-returns-in-Err-clause-ran c =
+pub returns-clause-ran : goal.returns-clause-ran
+returns-clause-ran c =
     inr (run-reached c.args.script.now c.args.options c.args.run c.requires.language c.requires.inserts c.requires.reached c.requires.starts (λ off. absurd (true≢false (sym c.requires.threads ∙ off))) (λ _. c.requires.merged))

@@ -13,7 +13,7 @@ returns c =
       front = c.in_ok-text.text.items;
       says = c.in_ok-text.ensures;
       told = behind
-          ∙ ap (λ (s : Script). c.in_ok-push_stuck.text'.items ++ traced c.args.options.trace s c.run.result.now) c.script.ensures.value
-          ∙ ap (λ (r : Run). c.in_ok-push_stuck.text'.items ++ traced c.args.options.trace world.script r) c.run.ensures.value
+          ∙ ap (λ (s : Script). c.push_stuck.new.text.items ++ traced c.args.options.trace s c.run.result.now) c.script.ensures.value
+          ∙ ap (λ (r : Run). c.push_stuck.new.text.items ++ traced c.args.options.trace world.script r) c.run.ensures.value
           ∙ ap (λ (xs : List ℕ). xs ++ traced c.args.options.trace world.script world.run) c.in_ok-push_stuck.ensures;
     })

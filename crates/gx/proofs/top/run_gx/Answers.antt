@@ -1,4 +1,4 @@
-use Rattle.std.proofs.Common.{◌∙◌, sym}
+use Rattle.std.proofs.Common.{◌∙◌, sym, true≢false}
 use Rattle.gx.proofs.Language.{keeps_language}
 use Rattle.gx.proofs.Reports.{AreAllForThreads, at_status, cut_short, failures, held, known, memory, never-stopped, never-stuck, over, so_far, unfailed}
 use Rattle.gx.proofs.top.run_gx.Goals as goal
@@ -7,7 +7,12 @@ pub run_alone-requires-clause-alone : goal.run_alone-requires-clause-alone
 run_alone-requires-clause-alone g c = λ options asked. sym (c.ask_for_threads.ensures options asked) ∙ c.if-not-ask_for_threads.true
 
 pub make_attempt_in_threads-attempt-requires-clause-threads : goal.make_attempt_in_threads-attempt-requires-clause-threads
-make_attempt_in_threads-attempt-requires-clause-threads g c = λ options asked. sym (c.ask_for_threads.ensures options asked) ∙ c.if-not-ask_for_threads.false
+make_attempt_in_threads-attempt-requires-clause-threads g c κs within = λ options asked. sym (c.ask_for_threads.ensures options asked) ∙ c.if-not-ask_for_threads.false
+
+-- who asks for threads isn't run alone
+pub returns-then-not-ask_for_threads-clause-threads : goal.returns-then-not-ask_for_threads-clause-threads
+returns-then-not-ask_for_threads-clause-threads g c =
+    λ for. absurd (true≢false (sym for.threads ∙ sym (c.ask_for_threads.ensures for.options for.asked) ∙ c.if-not-ask_for_threads.true))
 
 pub returns : goal.returns
 returns g c =
