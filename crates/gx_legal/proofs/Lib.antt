@@ -39,6 +39,7 @@ pub mod Sessions
 pub mod Standings
 pub mod Stretching
 pub mod Stepping
+pub mod OwnRows
 pub mod Tallying
 pub mod UnderWay
 pub mod Numbering

@@ -1,14 +1,17 @@
 -- A tally behind one more mark, and behind one more step.
-use Rattle.std.proofs.Common.{◌≡◌, ◌≢◌, ◌∙◌, ◌⊎◌, ◌≤◌, ◌<◌, ◌+◌, ◌^◌, ◌++◌, ◌||◌, if◌then◌else◌, ℕ, zero, suc, eqb, Bool, true, false, List, [], ◌∷◌, Some, None}
+use Rattle.std.proofs.Common.{◌≡◌, ◌≢◌, ◌∙◌, ◌⊎◌, ◌≤◌, ◌<◌, ◌+◌, ◌^◌, ◌++◌, ◌||◌, ◌==◌, if◌then◌else◌, ℕ, zero, suc, eqb, Bool, true, false, List, [], ◌∷◌, Some, None}
 use Rattle.std.proofs.Common.{inl, inr, length, take, get_or, slice_get, slice_set, refl, sym, subst, ap, arith, append_assoc}
+use Rattle.std.specs.BTreeMap.{BTreeMap, get}
 use Rattle.std.specs.BTreeSet.{contains}
 use Rattle.gx_dsnap.specs.Gxids.{gxid_cmp}
+use Rattle.gx_ids.specs.declared.ids.Gxid.{Gxid}
 use Rattle.gx_ids.specs.declared.ids.SessionId.{SessionId}
 use Rattle.gx_lemmas.proofs.Lists.{get-set, get-set-other, length-push, place-below}
 use Rattle.gx_lemmas.proofs.Numbers.{eqb-of, eqb-self}
 use Rattle.gx_lemmas.proofs.Options.{some-same}
 use Rattle.gx_lemmas.proofs.Tests.{true-false}
 use Rattle.std.proofs.lemmas.Bool.{eqb-true}
+use Rattle.std.proofs.lemmas.Bool.Decides.{nat_tests}
 use Rattle.std.proofs.lemmas.Option.{get_or_from_slice_get, slice_get_read}
 use Rattle.gx_script.specs.declared.Script.{Script}
 use Rattle.gx_store.specs.declared.event.Event.{Event}
@@ -18,7 +21,7 @@ use Rattle.gx_store.specs.declared.mark.Mark.TheVariants.{Answer, Start}
 use Rattle.gx_store.specs.declared.run.Step.{Step}
 use Rattle.gx_store.specs.Lines as lines
 use Rattle.gx_store.specs.Lines.{state_after_line, state_from, stmt_of}
-use Rattle.gx_store.specs.Marks.{answer_count, is_aborted, is_begun_after, is_committed, is_same_session, started_after}
+use Rattle.gx_store.specs.Marks.{answer_count, is_aborted, is_begun_after, is_committed, is_ended, is_same_session, start_count, started_after}
 use Rattle.gx_store.specs.Points.{ends_by, ends_in, marks_in, starts_by, starts_in}
 use Rattle.gx_store.proofs.Lines.{state_from-append}
 use Rattle.gx_store.proofs.Marks.{answer_count-append, is_aborted-append, is_begun_after-append, is_committed-append, started_after-append}
@@ -28,8 +31,10 @@ use Rattle.gx_legal.specs.declared.standing.Block.TheVariants as block
 use Rattle.gx_legal.specs.declared.standing.Standing.{Standing}
 use Rattle.gx_legal.specs.declared.tally.Seat.{Seat}
 use Rattle.gx_legal.specs.declared.tally.Tally.{Tally}
+use Rattle.gx_legal.proofs.OwnRows.{first-next}
+use Rattle.gx_legal.specs.Own.{AreFirsts, IsFirst, first_with}
 use Rattle.gx_legal.specs.Standings.{IsMoved, state_in}
-use Rattle.gx_legal.specs.Tallies.{AreSeats, CanMove, CanStep, IsCounted, IsSeat, IsSeatMoved, IsSeatStepped, IsStepped, IsTally, IsUnmoved, mover}
+use Rattle.gx_legal.specs.Tallies.{AreSeats, CanCount, CanMove, CanStep, HasEndedIn, IsCounted, IsSeat, IsSeatMoved, IsSeatStepped, IsStepped, IsTally, IsUnmoved, mover}
 
 -- SEATS
 get-push : {A : Type 0} (xs : List A) (y : A) (i : ℕ) (x : A) → slice_get (xs ++ y ∷ []) i ≡ Some x → (slice_get xs i ≡ Some x) ⊎ (x ≡ y)
@@ -80,6 +85,38 @@ module _ (P : SessionId → Seat → Seat → Type 0) (seats : List Seat) (s : S
     e,
     others session seat (λ same. let inside : session.0 < length seats = place-below seats session.0 seat e in absurd (omega (arith, same, inside, past))),
   )
+
+-- ENDS
+or-more : (a b x y : Bool) → (a || b) ≡ true → ((a || x) || (b || y)) ≡ true
+or-more true b x y e = refl
+or-more false true true y e = refl
+or-more false true false y e = refl
+or-more false false x y e = absurd (cc)
+
+below-next : (a n next : ℕ) → next ≤ n + 1 → a < next → (a == n) ≡ false → a < n
+below-next a n next few below other = grind (arith, nat_tests)
+
+pub next-ended : (tally : Tally) (n next : ℕ) → next ≤ n + 1 → HasEndedIn tally (record { 0 = n }) → (g : Gxid) → g.0 < next → (g.0 < n) ⊎ HasEndedIn tally g
+next-ended tally n next few ended g below = by_test (g.0 == n) refl
+  where
+    by_test : (b : Bool) → (g.0 == n) ≡ b → (g.0 < n) ⊎ HasEndedIn tally g
+    by_test true same = inr (subst (λ (k : ℕ). HasEndedIn tally (record { 0 = k })) (sym (eqb-true g.0 n same)) ended)
+    by_test false other = inl (below-next g.0 n next few below other)
+
+pub either-on : {A B C : Type 0} → (A → B ⊎ C) → A ⊎ C → B ⊎ C
+either-on f (inl a) = f a
+either-on f (inr c) = inr c
+
+-- STARTS
+starts-append : (xs ys : List Mark) → start_count (xs ++ ys) ≡ start_count xs + start_count ys
+starts-append [] ys = omega arith
+starts-append (Start g s ∷ xs) ys = omega (arith, starts-append xs ys)
+starts-append (_ ∷ xs) ys = starts-append xs ys
+
+pub starts-fit : (ms : List Mark) → start_count ms ≤ length ms
+starts-fit [] = omega arith
+starts-fit (Start g s ∷ ms) = omega (arith, starts-fit ms)
+starts-fit (_ ∷ ms) = omega (arith, starts-fit ms)
 
 not-same : (s session other : SessionId) → s ≡ session → other.0 ≢ session.0 → is_same_session s other ≡ false
 not-same s session other e ne = by_test (is_same_session s other) refl
@@ -142,11 +179,29 @@ module _ (script : Script) where
       ended = m.ended ∙ is.ended;
     }
 
+    -- who has ended by then, and at one mark more
+    kept-in : (marks : List Mark) (new : Tally) (g : Gxid) → contains gxid_cmp new.committed g ≡ is_committed marks g → contains gxid_cmp new.aborted g ≡ is_aborted marks g
+        → HasEndedIn new g → is_ended marks g ≡ true
+    kept-in marks new g c a h = sym (ap (λ b. b || contains gxid_cmp new.aborted g) c ∙ ap (λ b. is_committed marks g || b) a) ∙ h
+
+    ended-still : (marks : List Mark) (g : Gxid) → is_ended marks g ≡ true → is_ended (marks ++ mark ∷ []) g ≡ true
+    ended-still marks g e =
+        ap (λ b. b || is_aborted (marks ++ mark ∷ []) g) (is_committed-append marks (mark ∷ []) g) ∙ ap (λ b. (is_committed marks g || is_committed (mark ∷ []) g) || b) (is_aborted-append marks (mark ∷ []) g)
+        ∙ or-more (is_committed marks g) (is_aborted marks g) (is_committed (mark ∷ []) g) (is_aborted (mark ∷ []) g) e
+
     pub tally-next : (steps : List Step) (marks : List Mark) (old new : Tally) → IsTally script steps marks old → IsCounted script mark old new → IsTally script steps (marks ++ mark ∷ []) new
     tally-next steps marks old new is m = record {
       seats = λ session seat e. let was = m.seats session seat e in seat-next session steps marks was.0 seat (is.seats session was.0 was.1) was.2;
       committed = λ g. m.committed g ∙ ap (λ b. b || is_committed (mark ∷ []) g) (is.committed g) ∙ sym (is_committed-append marks (mark ∷ []) g);
       aborted = λ g. m.aborted g ∙ ap (λ b. b || is_aborted (mark ∷ []) g) (is.aborted g) ∙ sym (is_aborted-append marks (mark ∷ []) g);
+      unsettled = λ g one below. elim (m.unsettled g below) [
+        | inl before ↦ ended-still marks g (is.unsettled g one before)
+        | inr ended ↦ kept-in (marks ++ mark ∷ []) new g (m.committed g ∙ ap (λ b. b || is_committed (mark ∷ []) g) (is.committed g) ∙ sym (is_committed-append marks (mark ∷ []) g))
+            (m.aborted g ∙ ap (λ b. b || is_aborted (mark ∷ []) g) (is.aborted g) ∙ sym (is_aborted-append marks (mark ∷ []) g)) ended
+      ];
+      count = omega (arith, m.count, is.count, length-push marks mark);
+      starts = omega (arith, m.starts, is.starts, starts-append marks (mark ∷ []));
+      firsts = λ g. subst (IsFirst g (marks ++ mark ∷ [])) (ap (λ n. first_with g mark n (get gxid_cmp old.firsts g)) (sym is.count) ∙ sym (m.firsts g)) (first-next g marks mark (get gxid_cmp old.firsts g) (is.firsts g));
     }
 
   pub tally-through : (steps : List Step) (before marks : List Mark) (k : ℕ) (mark : Mark) (old new : Tally) → slice_get marks k ≡ Some mark → IsTally script steps (before ++ take k marks) old
@@ -173,6 +228,10 @@ module _ (script : Script) where
       seats = λ session seat e. let was = m.seats session seat e in seat-step session steps marks was.0 seat (is.seats session was.0 was.1) was.2;
       committed = λ g. ap (λ s. contains gxid_cmp s g) m.committed ∙ is.committed g;
       aborted = λ g. ap (λ s. contains gxid_cmp s g) m.aborted ∙ is.aborted g;
+      count = m.count ∙ is.count;
+      starts = m.starts ∙ is.starts;
+      firsts = subst (AreFirsts marks) (sym m.firsts) is.firsts;
+      unsettled = λ g one below. is.unsettled g one (omega (arith, m.unsettled, below));
     }
 
     pub tally-steps : (steps : List Step) (k : ℕ) (old new : Tally) → slice_get steps k ≡ Some step → IsTally script (take k steps) (marks_in (take k steps) ++ step.marks) old
@@ -209,8 +268,11 @@ module _ (script : Script) where
   ends-inside session (s ∷ ss) = omega (arith, ends-one session s.event, ends-inside session ss)
 
   module _ (steps : List Step) (marks : List Mark) (tally : Tally) (is : IsTally script steps marks tally) where
-    pub can-move : length marks + 1 < 2 ^ 64 → CanMove tally.seats.items
+    can-move : length marks + 1 < 2 ^ 64 → CanMove tally.seats.items
     can-move room session seat e = let s = is.seats session seat e in (omega (arith, s.commands, room), omega (arith, s.answers, room))
+
+    pub can-count : length marks + 1 < 2 ^ 64 → CanCount tally
+    can-count room = (can-move room, omega (arith, is.count, room), let few = starts-fit marks in omega (arith, is.starts, few, room))
 
     pub can-step : length steps + 1 < 2 ^ 64 → CanStep tally.seats.items
     can-step room session seat e =

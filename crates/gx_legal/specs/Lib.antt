@@ -1,5 +1,6 @@
 pub mod Numbers
 pub mod Images
+pub mod Own
 pub mod Places
 pub mod Gathered
 pub mod Viewed

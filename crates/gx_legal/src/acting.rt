@@ -6,6 +6,7 @@ ghost use Rattle.gx_store.specs.Language.{IsScript};
 ghost use Rattle.gx_store.specs.Writes.{IsWriteOf, may_skip as can_skip};
 ghost use Rattle.gx_store.specs.Commands.{has_own_snapshot as is_served};
 ghost use Rattle.gx_legal.specs.Deeds.{May, doing_of};
+ghost use Rattle.gx_legal.specs.Own.{IsOwn};
 
 use crate::command::{Command, RowAt};
 use crate::deed::{Act, Deed};
@@ -45,19 +46,21 @@ fn may_write(
     alloc: Global,
     script: &Script,
     marks: &[Mark],
+    own: &[Mark],
     command: Command,
     stmt: &Stmt,
     row: RowAt,
     image: &Option<Row>,
 ) -> Mem<bool>
-    requires { IsScript script.now }
+    requires script { IsScript script.now }
+    requires own { IsOwn command.gxid marks.now own.now }
     ensures { IfOk result (λ may. IsTrue may ↔ ((is_served command.level marks.now command.gxid command.cid ≡ true)
         × IsWriteOf script.now marks.now command.level command.gxid command.cid stmt.now row.node row.table row.rid image.now)) }
 {
     if !has_own_snapshot(marks, command) {
         return Ok(false);
     }
-    is_write_of(alloc, script, marks, command, stmt, row, image)
+    is_write_of(alloc, script, marks, own, command, stmt, row, image)
 }
 
 // Some fault of the command's is on this image of the row.
@@ -99,7 +102,9 @@ pub fn may(alloc: Global, script: &Script, deed: &Deed<'_>, stmt: &Stmt, level: 
     };
     match deed.act {
         Act::Snap => Ok(is_on_rows(stmt) && !has_own_snapshot(marks, command)),
-        Act::Write { row, image } => may_write(alloc, script, marks, command, stmt, row, image),
+        Act::Write { row, image } => {
+            may_write(alloc, script, marks, deed.own, command, stmt, row, image)
+        }
         Act::Skip(rid) => is_skip_of(alloc, marks, command, stmt, rid),
         Act::Fault { rid, image } => may_fault(alloc, marks, command, stmt, rid, image),
         Act::LateWrite { row, image } => {

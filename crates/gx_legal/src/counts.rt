@@ -7,7 +7,7 @@ ghost use Rattle.gx_store.specs.Points.{ends_in, starts_in};
 use gx_ids::{Gxid, SessionId};
 use gx_store::{Event, Mark, Step};
 
-fn starts(mark: &Mark) -> usize
+pub(crate) fn starts(mark: &Mark) -> usize
     ensures is { result ≡ count_of (mark.now ∷ []) }
     ensures room { result ≤ 1 }
 {
@@ -15,18 +15,6 @@ fn starts(mark: &Mark) -> usize
         Mark::Start { .. } => 1,
         _ => 0,
     }
-}
-
-/// How many transactions were started.
-pub fn start_count(marks: &[Mark]) -> usize
-    ensures is { result ≡ count_of marks.now }
-    ensures room { result ≤ length marks.now }
-{
-    let mut count = 0;
-    for mark in marks {
-        count += starts(mark);
-    }
-    count
 }
 
 fn is_answer_to(mark: &Mark, session: SessionId) -> bool

@@ -1,5 +1,7 @@
 // What a command does by a mark, and whether one under way may do it.
 
+ghost use Rattle.gx_legal.specs.Own.{IsOwn};
+
 use crate::command::RowAt;
 use gx_ids::{Cid, Gxid, Rid};
 use gx_store::Mark;
@@ -18,11 +20,13 @@ pub enum Act<'a> {
     LateFault,
 }
 
-/// What a command of a number in a transaction did behind these marks.
+/// What a command of a number in a transaction did behind these marks, and those of them that tell of the transaction's rows.
 #[derive(Clone, Copy)]
 pub struct Deed<'a> {
     pub gxid: Gxid,
     pub cid: Cid,
     pub marks: &'a [Mark],
+    pub own: &'a [Mark],
     pub act: Act<'a>,
+    pub ghost apart: { IsOwn gxid marks.now own.now },
 }

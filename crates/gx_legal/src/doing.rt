@@ -10,6 +10,7 @@ use crate::command::RowAt;
 use crate::deed::{Act, Deed};
 use crate::late::is_late;
 use crate::moment::Moment;
+use crate::own::own_marks;
 use crate::working::is_by_command;
 use gx_ids::{Cid, Gxid, Mem, Node, Rid, Table};
 use gx_tree::Row;
@@ -26,10 +27,12 @@ fn is_by_either(
     requires { IsScript moment.now.script.now }
     ensures { IfOk result (λ is. IsTrue is ↔ IsByEither moment.now.script.now (point_of moment.now) command.0 command.1 live.entry late.entry) }
 {
+    let own = own_marks(moment, command.0);
     let live = Deed {
         gxid: command.0,
         cid: command.1,
         marks: moment.before,
+        own,
         act: live,
     };
     if is_by_command(alloc, moment, &live)? {
@@ -39,6 +42,7 @@ fn is_by_either(
         gxid: command.0,
         cid: command.1,
         marks: moment.before,
+        own,
         act: late,
     };
     is_late(alloc, moment, &late)

@@ -17,6 +17,7 @@ use crate::heard::has_heard;
 use crate::lines::{is_command, level_in, line_under_way, number_in, transaction_at};
 use crate::marks::is_committed;
 use crate::moment::Moment;
+use crate::own::own_marks;
 use crate::pieces::pieces_of;
 use crate::seats::{is_ended_at, standing_at};
 use crate::standing::Block;
@@ -91,7 +92,15 @@ fn has_succeeded_by(
         gxid,
         cid: number_in(block),
     };
-    tells(alloc, moment.script, moment.before, command, line, answer)
+    tells(
+        alloc,
+        moment.script,
+        moment.before,
+        own_marks(moment, gxid),
+        command,
+        line,
+        answer,
+    )
 }
 
 /// Whether the session's line is a command, which succeeded with this answer.

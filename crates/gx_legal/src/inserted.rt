@@ -1,5 +1,6 @@
 // Whether an INSERT has written its rows.
 ghost use Rattle.std.specs.Prelude.{◌≡◌, IfOk};
+ghost use Rattle.gx_legal.specs.Own.{IsOwn};
 ghost use Rattle.gx_legal.specs.Told.{are_ordinals_in as are_all_in, are_own_done as were_own_done, has_inserted as did_insert};
 
 use crate::command::Command;
@@ -16,25 +17,34 @@ use std::collections::BTreeSet;
 pub(crate) fn has_inserted(
     alloc: Global,
     marks: &[Mark],
+    own: &[Mark],
     command: Command,
     tuples: &[Seq<Expr>],
     count: u128,
 ) -> Mem<bool>
+    requires { IsOwn command.gxid marks.now own.now }
     ensures { IfOk result (λ holds. holds ≡ did_insert marks.now command.level command.gxid command.cid tuples.now count) }
 {
     if count != tuples.len() as u128 || !has_own_snapshot(marks, command) {
         return Ok(false);
     }
     match are_whole(alloc, tuples) {
-        Ok(true) => are_own_done(alloc, marks, command, tuples),
+        Ok(true) => are_own_done(alloc, marks, own, command, tuples),
         other => other,
     }
 }
 
-fn are_own_done(alloc: Global, marks: &[Mark], command: Command, tuples: &[Seq<Expr>]) -> Mem<bool>
-    ensures { IfOk result (λ holds. holds ≡ were_own_done marks.now command.gxid command.cid 0 tuples.now) }
+fn are_own_done(
+    alloc: Global,
+    _marks: &[Mark],
+    own: &[Mark],
+    command: Command,
+    tuples: &[Seq<Expr>],
+) -> Mem<bool>
+    requires { IsOwn command.gxid _marks.now own.now }
+    ensures { IfOk result (λ holds. holds ≡ were_own_done _marks.now command.gxid command.cid 0 tuples.now) }
 {
-    let ordinals = processed_ordinals(alloc, marks, command)?;
+    let ordinals = processed_ordinals(alloc, own, command)?;
     Ok(are_ordinals_in(&ordinals, tuples))
 }
 

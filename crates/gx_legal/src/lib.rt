@@ -1,6 +1,6 @@
 //! Whether the run of a script is a legal history: its definition decided, for any run. A tally is carried from mark to mark; the rest is
 //! looked up in the run. What rows ask of a mark behind any marks (legal writes, skips, faults and answers) keeps nothing from one question
-//! to the next: each walks the marks a few times, mostly from the last on.
+//! to the next: each walks the marks a few times, mostly from the last on, and for the rows of its own transaction from their first mark on.
 #![tactic(auto)]
 
 pub mod acting;
@@ -39,6 +39,7 @@ pub mod noted;
 mod orders;
 pub mod overtaken;
 pub mod overtaken_rows;
+pub mod own;
 pub mod parts;
 pub mod pieces;
 mod places;

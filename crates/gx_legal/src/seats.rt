@@ -1,6 +1,6 @@
 // What a moment's tally tells. A session beyond the script has no seat there, and is counted anew.
 ghost use Rattle.std.specs.Prelude.{◌≡◌, ◌≤◌, length};
-ghost use Rattle.gx_store.specs.Marks.{is_aborted as has_aborted, is_ended as has_ended};
+ghost use Rattle.gx_store.specs.Marks.{is_aborted as has_aborted, is_ended as has_ended, start_count as count_of};
 ghost use Rattle.gx_store.specs.Points.{ends_in, starts_in};
 ghost use Rattle.gx_legal.specs.Standings.{IsStanding, commands_in};
 
@@ -39,6 +39,14 @@ pub fn end_count_at(moment: &Moment<'_, '_>, session: SessionId) -> usize
         Some(seat) => seat.ended,
         None => end_count_of(session, moment.steps),
     }
+}
+
+/// How many transactions were started by then.
+pub fn starts_at(moment: &Moment<'_, '_>) -> usize
+    ensures is { result ≡ count_of moment.now.before.now }
+    ensures room { result ≤ length moment.now.before.now }
+{
+    moment.tally.starts
 }
 
 /// Whether the transaction has aborted by then.

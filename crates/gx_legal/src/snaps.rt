@@ -11,6 +11,7 @@ ghost use Rattle.gx_legal.specs.Snaps.{SeesCommits, SeesEnded};
 
 use crate::deed::{Act, Deed};
 use crate::moment::Moment;
+use crate::own::own_marks;
 use crate::seats::is_ended_at;
 use crate::working::is_by_command;
 use gx_dsnap::Snapshot;
@@ -39,11 +40,11 @@ fn has_ended_if_seen(moment: &Moment<'_, '_>, snapshot: &Snapshot, gxid: Gxid) -
     !snapshot.sees(gxid) || is_ended_at(moment, gxid)
 }
 
-// Whether all that it sees have ended. The first that is seen and has not ends the loop, so it takes no longer than there are marks.
+// Whether all that it sees have ended. Those below a number have, and the first that is seen and has not ends the loop.
 fn sees_ended(moment: &Moment<'_, '_>, snapshot: &Snapshot) -> bool
     ensures { IsTrue result ↔ SeesEnded moment.now.before.now snapshot.now }
 {
-    for number in 1..snapshot.xmax.0 {
+    for number in moment.tally.unsettled..snapshot.xmax.0 {
         if !has_ended_if_seen(moment, snapshot, Gxid(number)) {
             return false;
         }
@@ -71,6 +72,7 @@ pub fn is_legal_snap(
         gxid: command.0,
         cid: command.1,
         marks: moment.before,
+        own: own_marks(moment, command.0),
         act: Act::Snap,
     };
     is_by_command(alloc, moment, &deed)

@@ -1,5 +1,6 @@
 ghost use Rattle.std.specs.Prelude.{◌≡◌, ◌↔◌, IfOk, IsTrue};
 ghost use Rattle.gx_store.specs.Answers.{Tells};
+ghost use Rattle.gx_legal.specs.Own.{IsOwn};
 ghost use Rattle.gx_legal.specs.Told.{has_told as did_tell, tells_deleted as may_tell_deleted, tells_inserted as may_tell_inserted};
 ghost use Rattle.gx_legal.specs.Told.{tells_locked as may_tell_locked, tells_rows as may_tell_rows, tells_updated as may_tell_updated};
 
@@ -20,31 +21,38 @@ pub fn tells(
     alloc: Global,
     script: &Script,
     marks: &[Mark],
+    own: &[Mark],
     command: Command,
     stmt: &Stmt,
     answer: &StmtAnswer,
 ) -> Mem<bool>
+    requires { IsOwn command.gxid marks.now own.now }
     ensures { IfOk result (λ holds. IsTrue holds ↔ Tells script.now marks.now command.level command.gxid command.cid stmt.now answer.now) }
 {
-    has_told(alloc, script, marks, command, stmt, answer)
+    has_told(alloc, script, marks, own, command, stmt, answer)
 }
 
 fn has_told(
     alloc: Global,
     script: &Script,
     marks: &[Mark],
+    own: &[Mark],
     command: Command,
     stmt: &Stmt,
     answer: &StmtAnswer,
 ) -> Mem<bool>
+    requires { IsOwn command.gxid marks.now own.now }
     ensures { IfOk result (λ holds. holds ≡ did_tell script.now marks.now command.level command.gxid command.cid stmt.now answer.now) }
 {
     match stmt {
         Stmt::Select(query) => tells_rows(alloc, marks, command, query.get(), answer),
-        Stmt::Insert(_, tuples) => tells_inserted(alloc, marks, command, tuples.as_slice(), answer),
+        Stmt::Insert(_, tuples) => {
+            tells_inserted(alloc, marks, own, command, tuples.as_slice(), answer)
+        }
         Stmt::Update(table, _, cond) => tells_updated(
             alloc,
             marks,
+            own,
             command,
             *table,
             cond.get(),
@@ -53,6 +61,7 @@ fn has_told(
         Stmt::Delete(table, cond) => tells_deleted(
             alloc,
             marks,
+            own,
             command,
             *table,
             cond.get(),
@@ -88,14 +97,16 @@ fn tells_rows(
 fn tells_inserted(
     alloc: Global,
     marks: &[Mark],
+    own: &[Mark],
     command: Command,
     tuples: &[Seq<Expr>],
     answer: &StmtAnswer,
 ) -> Mem<bool>
+    requires { IsOwn command.gxid marks.now own.now }
     ensures { IfOk result (λ holds. holds ≡ may_tell_inserted marks.now command.level command.gxid command.cid tuples.now answer.now) }
 {
     match answer {
-        StmtAnswer::Inserted(count) => has_inserted(alloc, marks, command, tuples, *count),
+        StmtAnswer::Inserted(count) => has_inserted(alloc, marks, own, command, tuples, *count),
         _ => Ok(false),
     }
 }
@@ -103,15 +114,17 @@ fn tells_inserted(
 fn tells_updated(
     alloc: Global,
     marks: &[Mark],
+    own: &[Mark],
     command: Command,
     table: Table,
     cond: &Option<Cond>,
     answer: &StmtAnswer,
 ) -> Mem<bool>
+    requires { IsOwn command.gxid marks.now own.now }
     ensures { IfOk result (λ holds. holds ≡ may_tell_updated marks.now command.level command.gxid command.cid table cond.now answer.now) }
 {
     match answer {
-        StmtAnswer::Updated(count) => has_changed(alloc, marks, command, table, cond, *count),
+        StmtAnswer::Updated(count) => has_changed(alloc, marks, own, command, table, cond, *count),
         _ => Ok(false),
     }
 }
@@ -119,15 +132,17 @@ fn tells_updated(
 fn tells_deleted(
     alloc: Global,
     marks: &[Mark],
+    own: &[Mark],
     command: Command,
     table: Table,
     cond: &Option<Cond>,
     answer: &StmtAnswer,
 ) -> Mem<bool>
+    requires { IsOwn command.gxid marks.now own.now }
     ensures { IfOk result (λ holds. holds ≡ may_tell_deleted marks.now command.level command.gxid command.cid table cond.now answer.now) }
 {
     match answer {
-        StmtAnswer::Deleted(count) => has_changed(alloc, marks, command, table, cond, *count),
+        StmtAnswer::Deleted(count) => has_changed(alloc, marks, own, command, table, cond, *count),
         _ => Ok(false),
     }
 }

@@ -11,7 +11,7 @@ pub returns-then-branch : goal.returns-then-branch
 returns-then-branch c =
     let ms = c.args.marks.now in
     let k = c.args.command in
-    let counted : (c.args.count == write_count ms k.gxid k.cid) ≡ true = grind (arith, nat_tests, c.if-count-write_count.false, c.write_count.ensures) in
+    let counted : (c.args.count == write_count ms k.gxid k.cid) ≡ true = grind (arith, nat_tests, c.if-count-own_count.false, c.own_count.ensures) in
     sym (both (c.args.count == write_count ms k.gxid k.cid) _ counted (sym (found-there (is_snapshot k.level k.gxid k.cid) (is_done_at ms k.gxid k.cid c.args.table c.args.cond.now) ms c.loop-place.place c.index-marks-place.result
     c.loop-place-test.true c.loop-place.auto.place c.index-marks-place.is c.loop-place.invariant (sym c.is_snapshot.ensures ∙ c.if-is_snapshot.true) (sym c.in_ok-is_done_at.ensures ∙ c.if-branch.true))))
 

@@ -10,7 +10,7 @@ use Rattle.gx_store.specs.Points.{Point, marks_in}
 use Rattle.gx_legal.proofs.Earlier.{in-step-last, in-step-none, in-step-some}
 use Rattle.gx_legal.proofs.Oks.{if_ok}
 use Rattle.gx_legal.proofs.Sessions.{no-longer}
-use Rattle.gx_legal.proofs.Tallying.{can-move, tally-through}
+use Rattle.gx_legal.proofs.Tallying.{can-count, tally-through}
 use Rattle.gx_legal.specs.Deeds.{IsByCommand, doing_of}
 use Rattle.gx_legal.specs.Moments.{point_of}
 use Rattle.gx_legal.specs.Stretches.{end_of}
@@ -31,7 +31,7 @@ is_by_command-requires c = subst IsScript (sym c.moment_at-moment.ensures.script
 pub count_mark-requires : goal.count_mark-requires
 count_mark-requires c =
     let s = c.args.stretch.now in
-    can-move s.script.now s.steps.now (marks_in s.steps.now ++ take c.loop-count.count s.marks.now) c.loop-count.tally c.loop-count.invariant.told c.moment_at-moment.ensures.room
+    can-count s.script.now s.steps.now (marks_in s.steps.now ++ take c.loop-count.count s.marks.now) c.loop-count.tally c.loop-count.invariant.told c.moment_at-moment.ensures.room
 
 pub loop-count-preserved : goal.loop-count-preserved
 loop-count-preserved c =
