@@ -1,3 +1,4 @@
 pub mod Attempts
 pub mod Reports
 pub mod Cut
+pub mod Exactly

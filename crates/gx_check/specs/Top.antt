@@ -195,5 +195,9 @@ abbrev pub IsSaidOf : Attempt → Option (List ℕ) → Option (List ℕ) → �
 IsSaidOf OutOfMemory written after before now said = (said ≡ 6) × (after ≡ written) × (now ≡ before)
 IsSaidOf attempt written after before now said = IsSaid (status_in attempt) (text_in attempt) written after before now said
 
+-- what has this status was told by it, unless reading or writing failed or memory ran out
+abbrev pub IsToldAs : ℕ → ℕ → Type 0
+IsToldAs n said = ((said ≡ n) ⊎ (said ≡ 4)) ⊎ ((said ≡ 5) ⊎ (said ≡ 6))
+
 abbrev pub IsStatus : ℕ → Type 0
 IsStatus n = ((((((((n ≡ 0) ⊎ (n ≡ 2)) ⊎ (n ≡ 3)) ⊎ (n ≡ 4)) ⊎ (n ≡ 5)) ⊎ (n ≡ 6)) ⊎ (n ≡ 9)) ⊎ (n ≡ 11)) ⊎ (n ≡ 12)

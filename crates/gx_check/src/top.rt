@@ -1,5 +1,8 @@
 // The top call.
-ghost use Rattle.std.specs.Prelude.{◌≡◌};
+ghost use Rattle.std.specs.Prelude.{◌≡◌, ◌≤◌, ◌<◌, ℕ, List, [], length, Some};
+ghost use Rattle.gx_judging.specs.declared.verdicts.Definition.{Definition as OneDefinition};
+ghost use Rattle.gx_sql.specs.declared.refusal.Refusal.{Refusal as OneRefusal};
+ghost use Rattle.gx_check.specs.Top.{AreLegal, AreNoTrace, AreNotLegal, AreRefused, IsToldAs, limit};
 ghost use Rattle.gx_check.specs.Top.{IsCutShort, IsDue, IsLegal, IsNoTrace, IsNotLegal, IsReadFault, IsRefused, IsSaid, IsSaidOf, IsStatus, IsTooLarge, IsUsage, IsWritten, work};
 
 use crate::attempt::{Attempt, make_attempt};
@@ -70,6 +73,14 @@ pub fn run_check<S: Source, K: Sink>(
 
     // The least definition is told that what is shown doesn't meet.
     ensures not_legal { result ≡ 12 → IsWritten (IsNotLegal (S.left source.old) (S.left source.new)) (K.written sink.old) (K.written sink.new) }
+
+    // And each kind of bytes has its status, where no words are given and the source's bytes are known, unless reading or writing fails or
+    // memory runs out.
+    ensures legal_told { words.now ≡ [] → (bytes : List ℕ) → S.left source.old ≡ Some bytes → length bytes ≤ limit → AreLegal bytes → IsToldAs 0 result }
+    ensures refused_told { words.now ≡ [] → (bytes : List ℕ) → S.left source.old ≡ Some bytes → length bytes ≤ limit → (refusal : OneRefusal) → AreRefused bytes refusal → IsToldAs 3 result }
+    ensures large_told { words.now ≡ [] → (bytes : List ℕ) → S.left source.old ≡ Some bytes → limit < length bytes → IsToldAs 9 result }
+    ensures no_trace_told { words.now ≡ [] → (bytes : List ℕ) → S.left source.old ≡ Some bytes → length bytes ≤ limit → (line : ℕ) → AreNoTrace bytes line → IsToldAs 11 result }
+    ensures not_legal_told { words.now ≡ [] → (bytes : List ℕ) → S.left source.old ≡ Some bytes → length bytes ≤ limit → (least : OneDefinition) → AreNotLegal bytes least → IsToldAs 12 result }
 {
     let attempt = make_attempt(alloc, words, source);
     told_of(attempt, sink)
