@@ -63,7 +63,7 @@ no-feed (x ∷ xs) [] s a e = All-head (λ byte. byte ≢ 10) x xs a (first-same
 no-feed (x ∷ xs) (y ∷ ys) s a e = no-feed xs ys s (All-tail (λ byte. byte ≢ 10) x xs a) (others-same x y xs (ys ++ (10 ∷ s)) e)
 
 -- `trace:` is a line
-the-word : List ℕ
+abbrev the-word : List ℕ
 the-word = codes "trace:"
 
 word-line : IsLine the-word
@@ -98,8 +98,12 @@ no-front (l ∷ ls) (m ∷ ms) t rest a b c e =
     (cut-line l m (fed ls ++ (the-word ++ (10 ∷ t))) (fed ms ++ rest) (All-head IsOther l ls a).0 (All-head IsOther m ms b).0 (sym (fed-next l ls (the-word ++ (10 ∷ t))) ∙ e ∙ fed-next m ms rest)).1
 
 -- KINDS OF BYTES
-ok-same : {A E : Type 0} (x y : A) → (Ok {A} {E} x) ≡ Ok y → x ≡ y
-ok-same x y e = cc
+value : {A E : Type 0} → Result A E → A → A
+value (Ok a) other = a
+value (Err e) other = other
+
+ok-same : {A E : Type 0} (r : Result A E) (x y : A) → r ≡ Ok x → r ≡ Ok y → x ≡ y
+ok-same r x y e f = sym (ap (λ o. value o x) e) ∙ ap (λ o. value o x) f
 
 module _ (bytes : List ℕ) where
   split-one : (f g t u : List ℕ) → IsSplit bytes f t → IsSplit bytes g u → (f ≡ g) × (t ≡ u)
@@ -118,7 +122,7 @@ module _ (bytes : List ℕ) where
   front-one f g (inr (a, is)) (inr (b, same)) = is ∙ sym same
 
   script-one : (f g : List ℕ) (s r : Script) → IsFront bytes f → IsFront bytes g → Reads f (Ok s) → Reads g (Ok r) → s ≡ r
-  script-one f g s r a b h k = ok-same s r (reads_one f (Ok s) (Ok r) h (subst (λ (z : List ℕ). Reads z (Ok r)) (front-one g f b a) k))
+  script-one f g s r a b h k = ok-same (Ok s) s r refl (reads_one f (Ok s) (Ok r) h (subst (λ (z : List ℕ). Reads z (Ok r)) (front-one g f b a) k))
 
   front-of : (line : ℕ) (n : AreNoTrace bytes line) → IsFront bytes n.front
   front-of line n = by n.why
@@ -136,7 +140,7 @@ module _ (bytes : List ℕ) where
 
   module _ (small : length bytes < 2 ^ 32) where
     front-small : (f t : List ℕ) → IsSplit bytes f t → length f < 2 ^ 32
-    front-small f t a = omega (arith, small, ap length a.parts, length-append f (the-word ++ (10 ∷ t)))
+    front-small f t a = omega (arith, small, ap length a.parts, length-append f (codes "trace:\n" ++ t))
 
     module _ (s : Script) (seen : Seen) (run : ShowRun bytes s seen) where
       is-script : IsScript s
@@ -165,7 +169,7 @@ module _ (bytes : List ℕ) where
           let (front, behind) = split-one more.front run.front more.trace run.trace more.split run.split in
           let lawful : IsShown s other = subst (λ (x : Script). IsShown x other) same more.lawful in
           let shown : run.trace ≡ shown_text s other = sym behind ∙ more.shown ∙ ap (λ (x : Script). shown_text x other) same in
-          (same, ok-same other seen (sym (is-seen s (plain-names s is-script) (few s is-script) run.trace other lawful shown) ∙ read))
+          (same, ok-same (read_text s run.trace) other seen (is-seen s (plain-names s is-script) (few s is-script) run.trace other lawful shown) read)
 
     pub not-both : (least : Definition) → AreLegal bytes → AreNotLegal bytes least → ⊥
     not-both least a n =
@@ -189,7 +193,7 @@ too-many bytes others None is more = absurd is
 too-many bytes others (Some rest) is more = omega (arith, more, ap length is, length-append others rest)
 
 -- an ending that isn't of the bytes
-IsBeside : Attempt → Type 0
+abbrev pub IsBeside : Attempt → Type 0
 IsBeside a = (a ≡ ReadFault) ⊎ (a ≡ OutOfMemory)
 
 module _ {A : Type 0} (words : List A) (none : words ≡ []) (bytes : List ℕ) (after : Option (List ℕ)) (before now : ℕ) where
