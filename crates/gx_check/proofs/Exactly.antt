@@ -309,3 +309,10 @@ told-as n written shown faults more said a (inl e) is = by a e is
     by (NotATrace text) e is = whole (NotATrace text) e is
     by (NotLegal text) e is = whole (NotLegal text) e is
     by OutOfMemory e is = inr (inr is.0)
+
+pub usage_as : (written shown : Option (List ℕ)) (faults more said : ℕ) (a : Attempt) → a ≡ Usage → IsSaidOf a written shown faults more said → (said ≡ 2) ⊎ (said ≡ 5)
+usage_as written shown faults more said a e is = by (subst (λ (x : Attempt). IsSaidOf x written shown faults more said) e is)
+  where
+    by : IsSaid 2 (codes "usage: gx_check\n") written shown faults more said → (said ≡ 2) ⊎ (said ≡ 5)
+    by (inl (two, all)) = inl two
+    by (inr (five, cut)) = inr five

@@ -1,5 +1,5 @@
 // The work before the writing: bytes, script, trace and verdict.
-ghost use Rattle.std.specs.Prelude.{◌≡◌, ◌++◌, ◌<◌, ◌^◌, IfOk, codes, length};
+ghost use Rattle.std.specs.Prelude.{◌≡◌, ◌++◌, ◌<◌, ◌^◌, [], IfOk, codes, length};
 ghost use Rattle.std.specs.Fmt.{decimal};
 ghost use Rattle.gx_store.specs.Language.{IsScript};
 ghost use Rattle.gx_check.specs.Parts.{IsNoTraceAt, IsNotLegalBy, IsOfFront, IsOfParts, IsOfTrace, IsScriptOf, refused_as};
@@ -133,7 +133,8 @@ fn of_bytes(alloc: Global, bytes: &[u8]) -> Attempt
 
 /// Reads the source and finds out what its bytes are, and writes nothing. With words it reads nothing.
 pub fn make_attempt<S: Source>(alloc: Global, words: &[String], source: &mut S) -> Attempt
-    ensures { IsAttempt (work words.now (S.left source.old) (S.left source.new) (S.fault_count source.old) (S.fault_count source.new)) result }
+    ensures usage { (words.now ≡ [] → ⊥) → result ≡ Attempt.Usage }
+    ensures is { IsAttempt (work words.now (S.left source.old) (S.left source.new) (S.fault_count source.old) (S.fault_count source.new)) result }
 {
     if !words.is_empty() {
         return Attempt::Usage;

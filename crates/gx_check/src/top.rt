@@ -1,5 +1,5 @@
 // The top call.
-ghost use Rattle.std.specs.Prelude.{◌≡◌, ◌≤◌, ◌<◌, ℕ, List, [], length, Some};
+ghost use Rattle.std.specs.Prelude.{◌≡◌, ◌⊎◌, ◌≤◌, ◌<◌, ℕ, List, [], length, Some};
 ghost use Rattle.gx_judging.specs.declared.verdicts.Definition.{Definition as OneDefinition};
 ghost use Rattle.gx_sql.specs.declared.refusal.Refusal.{Refusal as OneRefusal};
 ghost use Rattle.gx_check.specs.Top.{AreLegal, AreNoTrace, AreNotLegal, AreRefused, IsToldAs, limit};
@@ -73,6 +73,9 @@ pub fn run_check<S: Source, K: Sink>(
 
     // The least definition is told that what is shown doesn't meet.
     ensures not_legal { result ≡ 12 → IsWritten (IsNotLegal (S.left source.old) (S.left source.new)) (K.written sink.old) (K.written sink.new) }
+
+    // Words have their status, unless writing fails.
+    ensures usage_told { (words.now ≡ [] → ⊥) → (result ≡ 2) ⊎ (result ≡ 5) }
 
     // And each kind of bytes has its status, where no words are given and the source's bytes are known, unless reading or writing fails or
     // memory runs out.

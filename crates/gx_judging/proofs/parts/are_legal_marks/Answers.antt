@@ -9,7 +9,7 @@ use Rattle.gx_judging.specs.Parts.{IsLegalIn}
 use Rattle.gx_store.specs.Points.{Point, marks_in}
 use Rattle.gx_judging.proofs.Walking.{marks-end, marks-next, marks-stop}
 use Rattle.gx_legal.proofs.Sessions.{no-longer}
-use Rattle.gx_legal.proofs.Tallying.{can-move, tally-through}
+use Rattle.gx_legal.proofs.Tallying.{can-count, tally-through}
 use Rattle.gx_legal.specs.Moments.{point_of}
 use Rattle.gx_legal.specs.Tallies.{IsTally}
 use Rattle.gx_judging.proofs.parts.are_legal_marks.Goals as goal
@@ -25,7 +25,7 @@ is_legal_in-requires c = subst IsScript (sym c.moment_at-moment.ensures.script) 
 pub count_mark-requires : goal.count_mark-requires
 count_mark-requires c =
     let s = c.args.stretch.now in
-    can-move s.script.now s.steps.now (marks_in s.steps.now ++ take c.loop-number.number s.marks.now) c.loop-number.tally c.loop-number.invariant.told c.moment_at-moment.ensures.room
+    can-count s.script.now s.steps.now (marks_in s.steps.now ++ take c.loop-number.number s.marks.now) c.loop-number.tally c.loop-number.invariant.told c.moment_at-moment.ensures.room
 
 pub loop-number-preserved : goal.loop-number-preserved
 loop-number-preserved c =
