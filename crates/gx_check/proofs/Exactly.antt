@@ -1,7 +1,7 @@
 -- Which ending comes, by what the bytes are: each kind of bytes has one.
 use Rattle.std.proofs.Common.{◌≡◌, ◌≢◌, ◌⊎◌, inl, inr, ℕ, ◌≤◌, ◌<◌, ◌+◌, ◌^◌, List, [], ◌∷◌, ◌++◌, length, Some, None, Ok, Err, Result, refl, sym, ◌∙◌, ap, subst, arith, append_assoc, append-nil, length-append}
 use Rattle.std.specs.Prelude.{All, Option, codes, drop, get_or}
-use Rattle.std.specs.Io.KnownBytes.{Consumes, IsAtEnd}
+use Rattle.std.specs.Io.KnownBytes.{Consumes}
 use Rattle.std.proofs.lemmas.List.Elements.{All-head, All-tail}
 use Rattle.gx_script.specs.declared.Script.{Script}
 use Rattle.gx_sql.specs.declared.refusal.Refusal.{Refusal}
@@ -83,7 +83,7 @@ fronts (l ∷ ls) [] t u a b e =
     absurd (is (cut-line l the-word (fed ls ++ (the-word ++ (10 ∷ t))) u line word-line (sym (fed-next l ls (the-word ++ (10 ∷ t))) ∙ e)).0)
 fronts (l ∷ ls) (m ∷ ms) t u a b e =
     let (line, rest) = cut-line l m (fed ls ++ (the-word ++ (10 ∷ t))) (fed ms ++ (the-word ++ (10 ∷ u))) (All-head IsOther l ls a).0 (All-head IsOther m ms b).0
-        (sym (fed-next l ls (the-word ++ (10 ∷ t))) ∙ e ∙ fed-next m ms (the-word ++ (10 ∷ u))) in
+    (sym (fed-next l ls (the-word ++ (10 ∷ t))) ∙ e ∙ fed-next m ms (the-word ++ (10 ∷ u))) in
     let (lines, traces) = fronts ls ms t u (All-tail IsOther l ls a) (All-tail IsOther m ms b) rest in
     (λ i. line i ∷ lines i, traces)
 
@@ -109,7 +109,7 @@ module _ (bytes : List ℕ) where
   split-one : (f g t u : List ℕ) → IsSplit bytes f t → IsSplit bytes g u → (f ≡ g) × (t ≡ u)
   split-one f g t u a b =
       let (lines, traces) = fronts a.lines b.lines t u a.others b.others
-          (sym (ap (λ z. z ++ (the-word ++ (10 ∷ t))) a.before) ∙ sym a.parts ∙ b.parts ∙ ap (λ z. z ++ (the-word ++ (10 ∷ u))) b.before) in
+      (sym (ap (λ z. z ++ (the-word ++ (10 ∷ t))) a.before) ∙ sym a.parts ∙ b.parts ∙ ap (λ z. z ++ (the-word ++ (10 ∷ u))) b.before) in
       (a.before ∙ ap fed lines ∙ sym b.before, traces)
 
   split-or : (f t : List ℕ) → IsSplit bytes f t → IsUnsplit bytes → ⊥
@@ -160,7 +160,7 @@ module _ (bytes : List ℕ) where
               let same : n.script ≡ s = script-one n.front run.front n.script s (front-of line n) (inl (run.trace, run.split)) n.reads run.reads in
               let (front, behind) = split-one n.front run.front trace run.trace split run.split in
               ok-err (sym read ∙ is-bad s (plain-names s is-script) (few s is-script) run.trace line
-                  (subst (λ (z : List ℕ). IsFirstBad s z line) behind (subst (λ (x : Script). IsFirstBad x trace line) same bad)))
+              (subst (λ (z : List ℕ). IsFirstBad s z line) behind (subst (λ (x : Script). IsFirstBad x trace line) same bad)))
           by (inr (unsplit, same, none)) = split-or run.front run.trace run.split unsplit
 
       pub not-other : (r : Script) (other : Seen) → ShowRun bytes r other → (r ≡ s) × (other ≡ seen)

@@ -1,7 +1,7 @@
 -- A tally behind one more mark, and behind one more step.
 use Rattle.std.proofs.Common.{◌≡◌, ◌≢◌, ◌∙◌, ◌⊎◌, ◌≤◌, ◌<◌, ◌+◌, ◌^◌, ◌++◌, ◌||◌, ◌==◌, if◌then◌else◌, ℕ, zero, suc, eqb, Bool, true, false, List, [], ◌∷◌, Some, None}
 use Rattle.std.proofs.Common.{inl, inr, length, take, get_or, slice_get, slice_set, refl, sym, subst, ap, arith, append_assoc}
-use Rattle.std.specs.BTreeMap.{BTreeMap, get}
+use Rattle.std.specs.BTreeMap.{get}
 use Rattle.std.specs.BTreeSet.{contains}
 use Rattle.gx_dsnap.specs.Gxids.{gxid_cmp}
 use Rattle.gx_ids.specs.declared.ids.Gxid.{Gxid}

@@ -1,5 +1,6 @@
 // What a moment's tally tells. A session beyond the script has no seat there, and is counted anew.
-ghost use Rattle.std.specs.Prelude.{◌≡◌, ◌≤◌, length};
+ghost use Rattle.std.specs.Prelude.{◌≡◌, ◌<◌, ◌≤◌, length, true};
+ghost use Rattle.gx_ids.specs.declared.ids.Gxid.{Gxid as OneGxid};
 ghost use Rattle.gx_store.specs.Marks.{is_aborted as has_aborted, is_ended as has_ended, start_count as count_of};
 ghost use Rattle.gx_store.specs.Points.{ends_in, starts_in};
 ghost use Rattle.gx_legal.specs.Standings.{IsStanding, commands_in};
@@ -47,6 +48,15 @@ pub fn starts_at(moment: &Moment<'_, '_>) -> usize
     ensures room { result ≤ length moment.now.before.now }
 {
     moment.tally.starts
+}
+
+/// A number from 1 on below which all transactions have ended by then.
+pub fn unsettled_at(moment: &Moment<'_, '_>) -> u64
+    ensures some { 1 ≤ result }
+    ensures ended { (g : OneGxid) → 1 ≤ g.0 → g.0 < result → has_ended moment.now.before.now g ≡ true }
+{
+    let number = moment.tally.unsettled;
+    if number == 0 { 1 } else { number }
 }
 
 /// Whether the transaction has aborted by then.

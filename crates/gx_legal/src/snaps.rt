@@ -12,7 +12,7 @@ ghost use Rattle.gx_legal.specs.Snaps.{SeesCommits, SeesEnded};
 use crate::deed::{Act, Deed};
 use crate::moment::Moment;
 use crate::own::own_marks;
-use crate::seats::is_ended_at;
+use crate::seats::{is_ended_at, unsettled_at};
 use crate::working::is_by_command;
 use gx_dsnap::Snapshot;
 use gx_ids::{Cid, Gxid, Mem};
@@ -44,7 +44,7 @@ fn has_ended_if_seen(moment: &Moment<'_, '_>, snapshot: &Snapshot, gxid: Gxid) -
 fn sees_ended(moment: &Moment<'_, '_>, snapshot: &Snapshot) -> bool
     ensures { IsTrue result ↔ SeesEnded moment.now.before.now snapshot.now }
 {
-    for number in moment.tally.unsettled..snapshot.xmax.0 {
+    for number in unsettled_at(moment)..snapshot.xmax.0 {
         if !has_ended_if_seen(moment, snapshot, Gxid(number)) {
             return false;
         }
