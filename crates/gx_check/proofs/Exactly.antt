@@ -98,7 +98,7 @@ no-front (l ∷ ls) (m ∷ ms) t rest a b c e =
     (cut-line l m (fed ls ++ (the-word ++ (10 ∷ t))) (fed ms ++ rest) (All-head IsOther l ls a).0 (All-head IsOther m ms b).0 (sym (fed-next l ls (the-word ++ (10 ∷ t))) ∙ e ∙ fed-next m ms rest)).1
 
 -- KINDS OF BYTES
-value : {A E : Type 0} → Result A E → A → A
+abbrev value : {A E : Type 0} → Result A E → A → A
 value (Ok a) other = a
 value (Err e) other = other
 
@@ -224,48 +224,48 @@ module _ {A : Type 0} (words : List A) (none : words ≡ []) (bytes : List ℕ) 
     legal-ends legal OutOfMemory is = inr (inr refl)
 
     pub unlawful-ends : (least : Definition) → AreNotLegal bytes least → (a : Attempt) → IsAttempt done a → (status_in a ≡ 12) ⊎ IsBeside a
-    unlawful-ends least no Legal is =
-        absurd (not-both bytes small least (subst AreLegal (taken bytes is.bytes after is.read) is.are) no)
-    unlawful-ends least no Usage is = absurd (is.some none)
-    unlawful-ends least no (Refused text) is =
-        absurd (not-refused bytes no.script no.show.front is.refusal (inl (no.show.trace, no.show.split)) no.show.reads (refusal-of is.refusal is.bytes is.read is.are))
-    unlawful-ends least no ReadFault is = inr (inl refl)
-    unlawful-ends least no TooLarge is = absurd (not-large is)
-    unlawful-ends least no (NotATrace text) is =
-        absurd (not-bad bytes small no.script no.seen no.show is.line (subst (λ (z : List ℕ). AreNoTrace z is.line) (taken bytes is.bytes after is.read) is.are))
-    unlawful-ends least no (NotLegal text) is = inl refl
-    unlawful-ends least no OutOfMemory is = inr (inr refl)
+    unlawful-ends least cause Legal is =
+        absurd (not-both bytes small least (subst AreLegal (taken bytes is.bytes after is.read) is.are) cause)
+    unlawful-ends least cause Usage is = absurd (is.some none)
+    unlawful-ends least cause (Refused text) is =
+        absurd (not-refused bytes cause.script cause.show.front is.refusal (inl (cause.show.trace, cause.show.split)) cause.show.reads (refusal-of is.refusal is.bytes is.read is.are))
+    unlawful-ends least cause ReadFault is = inr (inl refl)
+    unlawful-ends least cause TooLarge is = absurd (not-large is)
+    unlawful-ends least cause (NotATrace text) is =
+        absurd (not-bad bytes small cause.script cause.seen cause.show is.line (subst (λ (z : List ℕ). AreNoTrace z is.line) (taken bytes is.bytes after is.read) is.are))
+    unlawful-ends least cause (NotLegal text) is = inl refl
+    unlawful-ends least cause OutOfMemory is = inr (inr refl)
 
     pub untraced-ends : (line : ℕ) → AreNoTrace bytes line → (a : Attempt) → IsAttempt done a → (status_in a ≡ 11) ⊎ IsBeside a
-    untraced-ends line no Legal is =
+    untraced-ends line cause Legal is =
         let legal = subst AreLegal (taken bytes is.bytes after is.read) is.are in
-        absurd (not-bad bytes small legal.script legal.seen legal.show line no)
-    untraced-ends line no Usage is = absurd (is.some none)
-    untraced-ends line no (Refused text) is =
-        absurd (not-refused bytes no.script no.front is.refusal (front-of bytes line no) no.reads (refusal-of is.refusal is.bytes is.read is.are))
-    untraced-ends line no ReadFault is = inr (inl refl)
-    untraced-ends line no TooLarge is = absurd (not-large is)
-    untraced-ends line no (NotATrace text) is = inl refl
-    untraced-ends line no (NotLegal text) is =
+        absurd (not-bad bytes small legal.script legal.seen legal.show line cause)
+    untraced-ends line cause Usage is = absurd (is.some none)
+    untraced-ends line cause (Refused text) is =
+        absurd (not-refused bytes cause.script cause.front is.refusal (front-of bytes line cause) cause.reads (refusal-of is.refusal is.bytes is.read is.are))
+    untraced-ends line cause ReadFault is = inr (inl refl)
+    untraced-ends line cause TooLarge is = absurd (not-large is)
+    untraced-ends line cause (NotATrace text) is = inl refl
+    untraced-ends line cause (NotLegal text) is =
         let other = subst (λ (z : List ℕ). AreNotLegal z is.least) (taken bytes is.bytes after is.read) is.are in
-        absurd (not-bad bytes small other.script other.seen other.show line no)
-    untraced-ends line no OutOfMemory is = inr (inr refl)
+        absurd (not-bad bytes small other.script other.seen other.show line cause)
+    untraced-ends line cause OutOfMemory is = inr (inr refl)
 
     pub refused-ends : (r : Refusal) → AreRefused bytes r → (a : Attempt) → IsAttempt done a → (status_in a ≡ 3) ⊎ IsBeside a
-    refused-ends r no Legal is =
+    refused-ends r cause Legal is =
         let legal = subst AreLegal (taken bytes is.bytes after is.read) is.are in
-        absurd (not-refused bytes legal.script legal.show.front r (inl (legal.show.trace, legal.show.split)) legal.show.reads no)
-    refused-ends r no Usage is = absurd (is.some none)
-    refused-ends r no (Refused text) is = inl refl
-    refused-ends r no ReadFault is = inr (inl refl)
-    refused-ends r no TooLarge is = absurd (not-large is)
-    refused-ends r no (NotATrace text) is =
+        absurd (not-refused bytes legal.script legal.show.front r (inl (legal.show.trace, legal.show.split)) legal.show.reads cause)
+    refused-ends r cause Usage is = absurd (is.some none)
+    refused-ends r cause (Refused text) is = inl refl
+    refused-ends r cause ReadFault is = inr (inl refl)
+    refused-ends r cause TooLarge is = absurd (not-large is)
+    refused-ends r cause (NotATrace text) is =
         let bad = subst (λ (z : List ℕ). AreNoTrace z is.line) (taken bytes is.bytes after is.read) is.are in
-        absurd (not-refused bytes bad.script bad.front r (front-of bytes is.line bad) bad.reads no)
-    refused-ends r no (NotLegal text) is =
+        absurd (not-refused bytes bad.script bad.front r (front-of bytes is.line bad) bad.reads cause)
+    refused-ends r cause (NotLegal text) is =
         let other = subst (λ (z : List ℕ). AreNotLegal z is.least) (taken bytes is.bytes after is.read) is.are in
-        absurd (not-refused bytes other.script other.show.front r (inl (other.show.trace, other.show.split)) other.show.reads no)
-    refused-ends r no OutOfMemory is = inr (inr refl)
+        absurd (not-refused bytes other.script other.show.front r (inl (other.show.trace, other.show.split)) other.show.reads cause)
+    refused-ends r cause OutOfMemory is = inr (inr refl)
 
   pub large-ends : limit < length bytes → (a : Attempt) → IsAttempt done a → (status_in a ≡ 9) ⊎ IsBeside a
   large-ends more Legal is = absurd (not-few (taken bytes is.bytes after is.read) is.read.few more)
@@ -280,11 +280,10 @@ module _ {A : Type 0} (words : List A) (none : words ≡ []) (bytes : List ℕ) 
   large-ends more (NotLegal text) is = absurd (let same = ap length (taken bytes is.bytes after is.read) in omega (arith, same, is.read.few, more))
   large-ends more OutOfMemory is = inr (inr refl)
 
-pub left-is : {A : Type 0} {words : List A} {left known after : Option (List ℕ)} {before now : ℕ} {a : Attempt} → left ≡ known
+pub left-is : {A : Type 0} (words : List A) (left known after : Option (List ℕ)) (before now : ℕ) (a : Attempt) → left ≡ known
     → IsAttempt (record { words = words; left = left; after = after; before = before; now = now }) a
     → IsAttempt (record { words = words; left = known; after = after; before = before; now = now }) a
-left-is {words = words} {after = after} {before = before} {now = now} {a = a} e is =
-    subst (λ (l : Option (List ℕ)). IsAttempt (record { words = words; left = l; after = after; before = before; now = now }) a) e is
+left-is words left known after before now a e is = subst (λ (l : Option (List ℕ)). IsAttempt (record { words = words; left = l; after = after; before = before; now = now }) a) e is
 
 -- so is what was told
 pub told-as : (n : ℕ) (written shown : Option (List ℕ)) (faults more said : ℕ) (a : Attempt) → (status_in a ≡ n) ⊎ IsBeside a → IsSaidOf a written shown faults more said → IsToldAs n said

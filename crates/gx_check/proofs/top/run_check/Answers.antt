@@ -20,9 +20,9 @@ returns g c =
       no_trace = λ e. at_status _ _ _ _ _ _ 11 a of is e (λ q. cc) (λ q. cc);
       not_legal = λ e. at_status _ _ _ _ _ _ 12 a of is e (λ q. cc) (λ q. cc);
       usage_told = λ some. usage_as _ _ _ _ _ a (c.make_attempt-attempt.ensures.usage some) is;
-      legal_told = λ none bytes known few legal. told-as 0 _ _ _ _ _ a (legal-ends _ none bytes _ _ _ few legal a (left-is known of)) is;
-      refused_told = λ none bytes known few refusal refused. told-as 3 _ _ _ _ _ a (refused-ends _ none bytes _ _ _ few refusal refused a (left-is known of)) is;
-      large_told = λ none bytes known large. told-as 9 _ _ _ _ _ a (large-ends _ none bytes _ _ _ large a (left-is known of)) is;
-      no_trace_told = λ none bytes known few line bad. told-as 11 _ _ _ _ _ a (untraced-ends _ none bytes _ _ _ few line bad a (left-is known of)) is;
-      not_legal_told = λ none bytes known few least bad. told-as 12 _ _ _ _ _ a (unlawful-ends _ none bytes _ _ _ few least bad a (left-is known of)) is;
+      legal_told = λ none bytes known few legal. told-as 0 _ _ _ _ _ a (legal-ends _ none bytes _ _ _ few legal a (left-is _ _ _ _ _ _ a known of)) is;
+      refused_told = λ none bytes known few refusal refused. told-as 3 _ _ _ _ _ a (refused-ends _ none bytes _ _ _ few refusal refused a (left-is _ _ _ _ _ _ a known of)) is;
+      large_told = λ none bytes known large. told-as 9 _ _ _ _ _ a (large-ends _ none bytes _ _ _ large a (left-is _ _ _ _ _ _ a known of)) is;
+      no_trace_told = λ none bytes known few line bad. told-as 11 _ _ _ _ _ a (untraced-ends _ none bytes _ _ _ few line bad a (left-is _ _ _ _ _ _ a known of)) is;
+      not_legal_told = λ none bytes known few least bad. told-as 12 _ _ _ _ _ a (unlawful-ends _ none bytes _ _ _ few least bad a (left-is _ _ _ _ _ _ a known of)) is;
     }
