@@ -23,7 +23,6 @@ use std::alloc::Global;
 use std::mem;
 
 /// Runs a script by the schedule that is asked for, for so many turns at most as are asked for, and tells its run.
-#[tactic(auto, using(crate::proofs::Kept::none_ran))]
 pub fn run_script<J: Journal, G: Gate>(
     alloc: Global,
     script: Script,

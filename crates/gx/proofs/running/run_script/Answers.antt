@@ -1,12 +1,16 @@
 use Rattle.std.proofs.Common.{◌∙◌, ap, arith, false, inr, subst}
+use Rattle.std.specs.Prelude.{map}
 use Rattle.gx_world.specs.Worlds.{WorldState}
 use Rattle.gx_script.specs.declared.Script.{Script}
 use Rattle.gx.specs.Top.{AreDriven}
 use Rattle.gx_store.specs.Told.{is_over, run_in}
 use Rattle.gx_store.specs.declared.run.Run.{Run}
-use Rattle.gx.proofs.Kept.{count-back, kept-back}
+use Rattle.gx.proofs.Kept.{count-back, kept-back, none_ran}
 use Rattle.gx.proofs.Runs.{run-in}
 use Rattle.gx.proofs.running.run_script.Goals as goal
+
+pub returns-in-Err-clause-kept : goal.returns-in-Err-clause-kept
+returns-in-Err-clause-kept g c = none_ran (map g.J.Journal.shelf c.args.journals.now.items) _ c.new-in-Err.result c.new-in-Err.ensures c.requires.empty
 
 pub returns-in-Ok-drive-clause-kept : goal.returns-in-Ok-drive-clause-kept
 returns-in-Ok-drive-clause-kept g c =
