@@ -1,5 +1,5 @@
 -- What became of the journals.
-use Rattle.std.proofs.Common.{◌≡◌, ℕ, List, [], ◌++◌, Bool, false, true, refl, sym, ap, ◌∙◌, subst, take, length}
+use Rattle.std.proofs.Common.{◌≡◌, ℕ, List, [], ◌++◌, Bool, true, sym, ap, ◌∙◌, subst, take, length}
 use Rattle.std.proofs.Math.Seq.{take-append_seam}
 use Rattle.std.specs.Prelude.{map}
 use Rattle.gx_store.specs.declared.run.Step.{Step}
