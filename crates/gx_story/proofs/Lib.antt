@@ -1,0 +1,5 @@
+mod Knowing
+mod Marking
+mod NamedBy
+mod Places
+mod Turning

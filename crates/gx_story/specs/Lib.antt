@@ -1,0 +1,10 @@
+pub mod History
+pub mod Desks
+pub mod Known
+pub mod Story
+pub mod Naming
+pub mod Answers
+pub mod Lines
+pub mod Log
+pub mod Names
+pub mod Graphs

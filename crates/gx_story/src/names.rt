@@ -1,0 +1,200 @@
+// Who and what the numbers of a trace stand for.
+ghost use Rattle.std.specs.Prelude.{◌≡◌, ◌++◌, ◌∷◌, [], ℕ, nat_eq, false, length, replicate, IfOk, OnOk};
+ghost use Rattle.std.specs.Option.{option_copied};
+ghost use Rattle.gx_ids.specs.declared.ids.Gxid.{Gxid as OneGxid};
+ghost use Rattle.gx_ids.specs.declared.rid.Rid.{Rid as OneRid};
+ghost use Rattle.gx_story.specs.Answers as answers;
+ghost use Rattle.gx_story.specs.Names as of;
+ghost use Rattle.gx_story.specs.Naming.{session_of as session_in};
+
+use gx_ids::{Duplicate, Gxid, Mem, Rid, Seq, SessionId, Table};
+use gx_script::{Line, Script};
+use gx_store::Mark;
+use gx_trace::{Seen, SeenAnswer, SeenMark};
+use gx_tree::{Row, Txt};
+use std::alloc::Global;
+use std::collections::BTreeMap;
+
+/// A row as it was first written.
+#[derive(Drop)]
+pub struct Named {
+    pub table: Table,
+    pub row: Row,
+}
+
+/// Whose the transactions are, in the order in which they began; each row as it was first written; the event at which a transaction committed;
+/// the places of each session's lines in the script, and of its answers; and the texts of the script's lines.
+#[derive(Drop)]
+pub struct Names {
+    pub begun: Vec<SessionId>,
+    pub rows: BTreeMap<Rid, Named>,
+    pub commits: BTreeMap<Gxid, usize>,
+    pub lines: Vec<Seq<usize>>,
+    pub answers: Vec<Seq<usize>>,
+    pub texts: Vec<Txt>,
+}
+
+fn no_places(alloc: Global) -> Mem<Vec<Seq<usize>>>
+    ensures { IfOk result (λ places. places.items ≡ replicate 256 []) }
+{
+    let mut places = Vec::with_capacity(alloc, 256)?;
+    for _session in 0..256usize {
+        places.push(Seq::new(alloc))?;
+    }
+    Ok(places)
+}
+
+// One more place of a session.
+fn add_place(index: &mut Vec<Seq<usize>>, session: SessionId, place: usize) -> Mem<()>
+    requires { length index.old.items ≡ 256 }
+    ensures whole { OnOk result (length index.new.items ≡ length index.old.items) }
+    ensures here { OnOk result (of.nth_places index.new.items session.0 ≡ of.nth_places index.old.items session.0 ++ place ∷ []) }
+    ensures others { OnOk result ((k : ℕ) → nat_eq k session.0 ≡ false → of.nth_places index.new.items k ≡ of.nth_places index.old.items k) }
+{
+    index[usize::from(session.0)].push(place)
+}
+
+fn line_places(alloc: Global, lines: &[Line]) -> Mem<Vec<Seq<usize>>>
+    ensures { IfOk result (λ places. of.ArePlaces of.line_session lines.now places.items) }
+{
+    let mut places = no_places(alloc)?;
+    for (place, line) in lines.iter().enumerate() {
+        add_place(&mut places, line.session, place)?;
+    }
+    Ok(places)
+}
+
+fn answer_places(alloc: Global, answers: &[SeenAnswer]) -> Mem<Vec<Seq<usize>>>
+    ensures { IfOk result (λ places. of.ArePlaces of.answer_session answers.now places.items) }
+{
+    let mut places = no_places(alloc)?;
+    for (place, answer) in answers.iter().enumerate() {
+        add_place(&mut places, answer.session, place)?;
+    }
+    Ok(places)
+}
+
+// Keeps a row as it is written, unless an earlier write of it is kept.
+fn name_row(
+    alloc: Global,
+    rows: &mut BTreeMap<Rid, Named>,
+    table: Table,
+    rid: Rid,
+    row: &Row,
+) -> Mem<()>
+    ensures { OnOk result ((q : OneRid) → of.row_of rows.new.entries q ≡ of.or_else (of.row_of rows.old.entries q) (of.named_as rid (of.named table row.now) q)) }
+{
+    if rows.contains_key(&rid) {
+        return Ok(());
+    }
+    let row = row.copy(alloc)?;
+    drop(rows.insert(rid, Named { table, row })?);
+    Ok(())
+}
+
+// Keeps where a transaction commits, unless it has before.
+fn note_commit(commits: &mut BTreeMap<Gxid, usize>, gxid: Gxid, at: usize) -> Mem<()>
+    ensures { OnOk result ((q : OneGxid) → of.commit_of commits.new.entries q ≡ of.or_else (of.commit_of commits.old.entries q) (of.committed_as gxid at q)) }
+{
+    if commits.contains_key(&gxid) {
+        return Ok(());
+    }
+    commits.insert(gxid, at)?;
+    Ok(())
+}
+
+fn note_name(alloc: Global, names: &mut Names, at: usize, mark: &SeenMark) -> Mem<()>
+    ensures { OnOk result (of.IsNamedBy names.old names.new at (mark.now ∷ [])) }
+{
+    match mark {
+        SeenMark::Whole(Mark::Start { session, .. }) => {
+            names.begun.push(*session)?;
+            Ok(())
+        }
+        SeenMark::Whole(Mark::Commit { gxid }) => note_commit(&mut names.commits, *gxid, at),
+        SeenMark::Whole(
+            Mark::Write {
+                table,
+                rid,
+                image: Some(row),
+                ..
+            },
+        ) => name_row(alloc, &mut names.rows, *table, *rid, row),
+        _ => Ok(()),
+    }
+}
+
+fn note_names(alloc: Global, names: &mut Names, at: usize, marks: &[SeenMark]) -> Mem<()>
+    ensures { OnOk result (of.IsNamedBy names.old names.new at marks.now) }
+{
+    for mark in marks {
+        note_name(alloc, names, at, mark)?;
+    }
+    Ok(())
+}
+
+/// The names of what was seen of a script.
+#[tactic(auto, using(crate::proofs::NamedBy::none_named))]
+pub fn names_of(alloc: Global, script: &Script, seen: &Seen, texts: Vec<Txt>) -> Mem<Names>
+    ensures { IfOk result (of.AreNames script.now seen.now texts.items) }
+{
+    let lines = line_places(alloc, script.lines.as_slice())?;
+    let answers = answer_places(alloc, seen.answers.as_slice())?;
+    let mut names = Names {
+        begun: Vec::new(alloc),
+        rows: BTreeMap::new(alloc),
+        commits: BTreeMap::new(alloc),
+        lines,
+        answers,
+        texts,
+    };
+    for (at, step) in seen.steps.as_slice().iter().enumerate() {
+        note_names(alloc, &mut names, at, step.marks.as_slice())?;
+    }
+    Ok(names)
+}
+
+/// The session of a transaction.
+pub fn session_of(names: &Names, gxid: Gxid) -> Option<SessionId>
+    ensures { result ≡ session_in names.now gxid }
+{
+    names
+        .begun
+        .as_slice()
+        .get((gxid.0 as usize).saturating_sub(1))
+        .copied()
+}
+
+fn nth(places: &[Seq<usize>], session: SessionId, number: usize) -> Option<usize>
+    ensures { result ≡ answers.nth places.now session number }
+{
+    match places.get(usize::from(session.0)) {
+        Some(places) => places.as_slice().get(number.saturating_sub(1)).copied(),
+        None => None,
+    }
+}
+
+/// The text of the line of this number of a session.
+pub fn line_at(names: &Names, session: SessionId, number: usize) -> Option<&Txt>
+    ensures { option_copied result ≡ answers.line_at names.now session number }
+{
+    match nth(names.lines.as_slice(), session, number) {
+        Some(place) => names.texts.as_slice().get(place),
+        None => None,
+    }
+}
+
+/// The answer to the line of this number of a session.
+pub fn answer_at<'a>(
+    seen: &'a Seen,
+    names: &Names,
+    session: SessionId,
+    number: u32,
+) -> Option<&'a SeenAnswer>
+    ensures { option_copied result ≡ answers.answer_at seen.now names.now session number }
+{
+    match nth(names.answers.as_slice(), session, number as usize) {
+        Some(place) => seen.answers.as_slice().get(place),
+        None => None,
+    }
+}
