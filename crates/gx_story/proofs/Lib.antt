@@ -1,5 +1,4 @@
-mod Knowing
-mod Marking
+mod Beyond
 mod NamedBy
 mod Places
-mod Turning
+mod Printing

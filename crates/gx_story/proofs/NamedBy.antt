@@ -1,17 +1,14 @@
--- Names behind more marks, and behind one step more.
+-- What is called how, behind more marks, and behind one step more.
 use Rattle.std.proofs.Common.{◌≡◌, ◌<◌, ℕ, ◌+◌, Bool, true, false, ◌||◌, if◌then◌else◌, List, [], ◌∷◌, ◌++◌, length, take, get_or, Option, None, Some, refl, sym, ap, ◌∙◌, arith, append-nil, append_assoc}
 use Rattle.std.proofs.lemmas.Grind.{flat_map-append}
 use Rattle.std.proofs.lemmas.List.{length-take-le, take_more}
-use Rattle.std.proofs.lemmas.List.Folds.{list_any-append}
-use Rattle.std.specs.List.{flat_map, list_any}
+use Rattle.std.specs.List.{flat_map}
 use Rattle.gx_ids.specs.declared.ids.Gxid.{Gxid}
 use Rattle.gx_ids.specs.declared.rid.Rid.{Rid}
-use Rattle.gx_script.specs.declared.Script.{Script}
-use Rattle.gx_trace.specs.declared.seen.Seen.{Seen}
 use Rattle.gx_trace.specs.declared.seen.SeenMark.{SeenMark}
 use Rattle.gx_trace.specs.declared.seen.SeenStep.{SeenStep}
-use Rattle.gx_story.specs.Names.{AreNames, ArePlaces, IsNamedBy, answer_session, first_named, commit_among, commit_in, first_commit, line_session, marks_of, named_in, or_else, row_of, starts, commit_of}
-use Rattle.gx_story.specs.declared.names.Names.{Names}
+use Rattle.gx_story.specs.Names.{AreCalled, IsCalledBy, first_named, commit_among, commit_in, first_commit, marks_of, named_in, or_else, row_of, starts, commit_of}
+use Rattle.gx_story.specs.declared.names.Called.{Called}
 
 or_else-none : {X : Type 0} (o : Option X) → o ≡ or_else o None
 or_else-none None = refl
@@ -25,21 +22,18 @@ first_named-append : (rid : Rid) (xs ys : List SeenMark) → first_named rid (xs
 first_named-append rid [] ys = refl
 first_named-append rid (x ∷ xs) ys = ap (or_else (named_in rid x)) (first_named-append rid xs ys) ∙ sym (or_else-assoc (named_in rid x) (first_named rid xs) (first_named rid ys))
 
-pub nothing_named : (names : Names) (at : ℕ) → IsNamedBy names names at []
+pub nothing_named : (names : Called) (at : ℕ) → IsCalledBy names names at []
 nothing_named names at = record {
   begun = sym (append-nil names.begun.items);
   rows = λ rid. or_else-none (row_of names.rows.entries rid);
   commits = λ w. or_else-none (commit_of names.commits.entries w);
-  lines = refl;
-  answers = refl;
-  texts = refl;
 }
 
 commit_among-append : (w : Gxid) (at : ℕ) (xs ys : List SeenMark) → commit_among w at (xs ++ ys) ≡ or_else (commit_among w at xs) (commit_among w at ys)
 commit_among-append w at [] ys = refl
 commit_among-append w at (x ∷ xs) ys = ap (or_else (commit_in w at x)) (commit_among-append w at xs ys) ∙ sym (or_else-assoc (commit_in w at x) (commit_among w at xs) (commit_among w at ys))
 
-named_both : (a b c : Names) (at : ℕ) (xs ys : List SeenMark) → IsNamedBy a b at xs → IsNamedBy b c at ys → IsNamedBy a c at (xs ++ ys)
+named_both : (a b c : Called) (at : ℕ) (xs ys : List SeenMark) → IsCalledBy a b at xs → IsCalledBy b c at ys → IsCalledBy a c at (xs ++ ys)
 named_both a b c at xs ys p q = record {
   begun =
       q.begun ∙ ap (λ l. l ++ flat_map starts ys) p.begun ∙ append_assoc a.begun.items (flat_map starts xs) (flat_map starts ys)
@@ -50,20 +44,12 @@ named_both a b c at xs ys p q = record {
   commits = λ w.
       q.commits w ∙ ap (λ o. or_else o (commit_among w at ys)) (p.commits w) ∙ or_else-assoc (commit_of a.commits.entries w) (commit_among w at xs) (commit_among w at ys)
       ∙ ap (or_else (commit_of a.commits.entries w)) (sym (commit_among-append w at xs ys));
-  lines = q.lines ∙ p.lines;
-  answers = q.answers ∙ p.answers;
-  texts = q.texts ∙ p.texts;
 }
 
-pub named-next : (a b c : Names) (at : ℕ) (marks : List SeenMark) (i : ℕ) (m : SeenMark) → i < length marks → m ≡ get_or marks i m → IsNamedBy a b at (take i marks) → IsNamedBy b c at (m ∷ []) → IsNamedBy a c at (take (i + 1) marks)
+pub named-next : (a b c : Called) (at : ℕ) (marks : List SeenMark) (i : ℕ) (m : SeenMark) → i < length marks → m ≡ get_or marks i m → IsCalledBy a b at (take i marks) → IsCalledBy b c at (m ∷ []) → IsCalledBy a c at (take (i + 1) marks)
 named-next a b c at marks i m inside is p q = rw (take_more marks i m inside ∙ ap (λ y. take i marks ++ y ∷ []) (sym is)) (named_both a b c at (take i marks) (m ∷ []) p q)
 
 -- STEPS
-pub record AreNamed (names : Names) (steps : List SeenStep) : Type 0 where
-  pub begun : names.begun.items ≡ flat_map starts (flat_map marks_of steps)
-  pub rows : (rid : Rid) → row_of names.rows.entries rid ≡ first_named rid (flat_map marks_of steps)
-  pub commits : (w : Gxid) → commit_of names.commits.entries w ≡ first_commit w 0 steps
-
 first_commit-last : (w : Gxid) (at : ℕ) (ss : List SeenStep) (s : SeenStep) → first_commit w at (ss ++ s ∷ []) ≡ or_else (first_commit w at ss) (commit_among w (at + length ss) s.marks)
 first_commit-last w at [] s = sym (or_else-none (commit_among w at s.marks)) ∙ ap (λ n. commit_among w n s.marks) (omega arith)
 first_commit-last w at (x ∷ ss) s =
@@ -71,7 +57,7 @@ first_commit-last w at (x ∷ ss) s =
     ∙ sym (or_else-assoc (commit_among w at x.marks) (first_commit w (at + 1) ss) (commit_among w (at + 1 + length ss) s.marks))
     ∙ ap (λ n. or_else (first_commit w at (x ∷ ss)) (commit_among w n s.marks)) (omega arith)
 
-pub named_steps_next : (old new : Names) (steps : List SeenStep) (i : ℕ) (s : SeenStep) → i < length steps → s ≡ get_or steps i s → AreNamed old (take i steps) → IsNamedBy old new i s.marks → AreNamed new (take (i + 1) steps)
+pub named_steps_next : (old new : Called) (steps : List SeenStep) (i : ℕ) (s : SeenStep) → i < length steps → s ≡ get_or steps i s → AreCalled (take i steps) old → IsCalledBy old new i s.marks → AreCalled (take (i + 1) steps) new
 named_steps_next old new steps i s inside is a p = rw (take_more steps i s inside ∙ ap (λ y. take i steps ++ y ∷ []) (sym is)) all
   where
     count : 0 + length (take i steps) ≡ i
@@ -80,7 +66,7 @@ named_steps_next old new steps i s inside is a p = rw (take_more steps i s insid
     marks : flat_map marks_of (take i steps ++ s ∷ []) ≡ flat_map marks_of (take i steps) ++ s.marks
     marks = flat_map-append marks_of (take i steps) (s ∷ []) ∙ ap (λ l. flat_map marks_of (take i steps) ++ l) (append-nil s.marks)
 
-    all : AreNamed new (take i steps ++ s ∷ [])
+    all : AreCalled (take i steps ++ s ∷ []) new
     all = record {
       begun =
           p.begun ∙ ap (λ l. l ++ flat_map starts s.marks) a.begun ∙ sym (flat_map-append starts (flat_map marks_of (take i steps)) s.marks) ∙ ap (flat_map starts) (sym marks);
@@ -92,7 +78,7 @@ named_steps_next old new steps i s inside is a p = rw (take_more steps i s insid
           ∙ ap (λ n. or_else (first_commit w 0 (take i steps)) (commit_among w n s.marks)) (sym count) ∙ sym (first_commit-last w 0 (take i steps) s);
     }
 
-pub none_named : (names : Names) (steps : List SeenStep) → names.begun.items ≡ [] → names.rows.entries ≡ [] → names.commits.entries ≡ [] → AreNamed names (take 0 steps)
+pub none_named : (names : Called) (steps : List SeenStep) → names.begun.items ≡ [] → names.rows.entries ≡ [] → names.commits.entries ≡ [] → AreCalled (take 0 steps) names
 none_named names [] begun rows commits = record {
   begun = begun;
   rows = λ rid. ap (λ es. row_of es rid) rows;

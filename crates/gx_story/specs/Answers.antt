@@ -1,12 +1,8 @@
 -- What a line was answered.
-use Rattle.std.specs.Prelude.{ℕ, ◌-◌, if◌then◌else◌, List, [], ◌∷◌, ◌++◌, codes, length, slice_get, Option, Some, None, option_and_then}
+use Rattle.std.specs.Prelude.{ℕ, List, [], ◌∷◌, ◌++◌, codes, length, Option, Some, None}
 use Rattle.std.specs.BTreeMap.{is_at}
-use Rattle.std.specs.Fmt.{decimal}
 use Rattle.std.specs.List.{flat_map}
 use Rattle.std.specs.Map.{lookup}
-use Rattle.gx_ids.specs.declared.ids.Gxid.{Gxid}
-use Rattle.gx_ids.specs.declared.ids.SessionId.{SessionId}
-use Rattle.gx_ids.specs.declared.rid.Rid.{Rid}
 use Rattle.gx_dsnap.specs.Gxids.{gxid_cmp}
 use Rattle.gx_tree.specs.declared.cell.Cell.{Cell}
 use Rattle.gx_script.specs.declared.Script.{Script}
@@ -15,29 +11,9 @@ use Rattle.gx_store.specs.declared.answer.Refused.TheVariants as refused
 use Rattle.gx_store.specs.declared.answer.StmtAnswer.{StmtAnswer}
 use Rattle.gx_store.specs.declared.answer.StmtAnswer.TheVariants as answer
 use Rattle.gx_report.specs.Text.{cells_text}
-use Rattle.gx_trace.specs.declared.seen.Seen.{Seen}
 use Rattle.gx_trace.specs.declared.seen.SeenAnswer.{SeenAnswer}
-use Rattle.gx_story.specs.Naming.{at_text, counted, node_text, row_text, statement, who}
+use Rattle.gx_story.specs.Naming.{at_text, counted, node_text, row_text, who}
 use Rattle.gx_story.specs.declared.names.Names.{Names}
-
--- PLACES
-abbrev pub nth_in : ℕ → Option (List ℕ) → Option ℕ
-nth_in number None = None
-nth_in number (Some places) = slice_get places (number - 1)
-
--- the place of the session's line or answer of this number
-abbrev pub nth : List (List ℕ) → SessionId → ℕ → Option ℕ
-nth places session number = nth_in number (slice_get places session.0)
-
-abbrev pub there : {X : Type 0} → List X → Option ℕ → Option X
-there xs None = None
-there xs (Some place) = slice_get xs place
-
-abbrev pub line_at : Names → SessionId → ℕ → Option (List ℕ)
-line_at names session number = there names.texts.items (nth names.lines.items session number)
-
-abbrev pub answer_at : Seen → Names → SessionId → ℕ → Option SeenAnswer
-answer_at seen names session number = there seen.answers (nth names.answers.items session number)
 
 -- TEXTS
 abbrev pub row_shown : List Cell → List ℕ
@@ -50,7 +26,7 @@ ended_at (Some at) = codes ", who committed at " ++ at_text at
 abbrev pub refused_text : Script → Names → Refused → List ℕ
 refused_text script names (refused.Serialization rid newer) =
     codes "refused: " ++ row_text script names rid ++ codes " was changed behind its snapshot by " ++ who script names newer
-    ++ ended_at (lookup (is_at (gxid_cmp newer)) names.commits.entries)
+    ++ ended_at (lookup (is_at (gxid_cmp newer)) names.called.commits.entries)
 refused_text script names (refused.Victim round) = counted (codes "refused: cancelled by round ") round
 refused_text script names refused.Overflow = codes "refused: overflow"
 refused_text script names refused.DivisionByZero = codes "refused: division by zero"
@@ -72,6 +48,3 @@ answer_text script names (answer.Refused why) = refused_text script names why
 abbrev pub said_text : Script → Names → Option SeenAnswer → List ℕ
 said_text script names None = []
 said_text script names (Some said) = answer_text script names said.answer
-
-abbrev pub answered_text : Script → Seen → Names → SessionId → ℕ → List ℕ
-answered_text script seen names session number = statement script session number ++ said_text script names (answer_at seen names session number)

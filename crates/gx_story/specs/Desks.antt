@@ -1,27 +1,32 @@
--- The desks of all sessions, and what becomes of them.
-use Rattle.std.specs.Prelude.{◌≡◌, ◌<◌, ℕ, if◌then◌else◌, true, List, [], ◌∷◌, ◌++◌, length, slice_get, unwrap_or, Option}
-use Rattle.gx_ids.specs.declared.ids.SessionId.{SessionId}
-use Rattle.gx_story.specs.History.{is_session, no_line, with_line}
+-- What is known of a session's lines: where they started, and of the one that is under way its waits, where it went on, whether its commit is decided,
+-- and whether a segment has committed it.
+use Rattle.std.specs.Prelude.{ℕ, true, false, List, [], ◌∷◌, ◌++◌}
+use Rattle.gx_ids.specs.declared.ids.Gxid.{Gxid}
+use Rattle.gx_ids.specs.declared.ids.Node.{Node}
 use Rattle.gx_story.specs.declared.desk.Change.{Change}
 use Rattle.gx_story.specs.declared.desk.Change.TheVariants.{Starts, Waits, GoesOn, IsDecided, IsCommitted}
 use Rattle.gx_story.specs.declared.desk.Desk.{Desk}
+use Rattle.gx_story.specs.declared.told.Claimed.{Claimed}
+use Rattle.gx_story.specs.declared.told.Resumed.{Resumed}
+use Rattle.gx_story.specs.declared.told.Waiting.{Waiting}
 
--- a line that is changed so
+abbrev pub waiting : ℕ → Node → Gxid → List Claimed → Waiting
+waiting at node gxid whom = record { since = at; node = node; gxid = gxid; whom = whom }
+
+abbrev pub resumed : ℕ → Node → Gxid → Resumed
+resumed at node gxid = record { at = at; node = node; gxid = gxid }
+
+-- a session of which no line has started
+abbrev pub no_line : Desk
+no_line = record { starts = []; waits = []; resumes = []; decided = false; wrote = false }
+
+-- of the line that starts nothing is known but that it does
+abbrev pub with_line : ℕ → Desk → Desk
+with_line at desk = record { starts = desk.starts ++ at ∷ []; waits = []; resumes = []; decided = false; wrote = false }
+
 abbrev pub changed : Change → Desk → Desk
 changed (Starts at) desk = with_line at desk
-changed (Waits waiting) desk = record desk { waits = desk.waits ++ waiting ∷ [] }
-changed (GoesOn resumed) desk = record desk { resumes = desk.resumes ++ resumed ∷ [] }
+changed (Waits wait) desk = record desk { waits = desk.waits ++ wait ∷ [] }
+changed (GoesOn on) desk = record desk { resumes = desk.resumes ++ on ∷ [] }
 changed IsDecided desk = record desk { decided = true }
-changed (IsCommitted node) desk = record desk { nodes = desk.nodes ++ node ∷ [] }
-
--- the line of this session, and no other
-abbrev pub turned : Option SessionId → Change → ℕ → Desk → Desk
-turned session change number desk = if is_session number session then changed change desk else desk
-
-abbrev pub nth_desk : List Desk → ℕ → Desk
-nth_desk desks session = unwrap_or (slice_get desks session) no_line
-
--- each number of 8 bits has a desk, which is what this makes of the one before
-pub record AreTurned (old new : List Desk) (f : ℕ → Desk → Desk) : Type 0 where
-  pub whole : length new ≡ 256
-  pub desks : (session : ℕ) → session < 256 → nth_desk new session ≡ f session (nth_desk old session)
+changed IsCommitted desk = record desk { wrote = true }

@@ -1,10 +1,8 @@
-pub mod History
-pub mod Desks
-pub mod Known
-pub mod Story
 pub mod Naming
+pub mod Names
+pub mod Desks
+pub mod Now
+pub mod Told
 pub mod Answers
 pub mod Lines
 pub mod Log
-pub mod Names
-pub mod Graphs

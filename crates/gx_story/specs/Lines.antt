@@ -1,133 +1,137 @@
 -- The line of each told thing.
-use Rattle.std.specs.Prelude.{ℕ, ◌+◌, ◌-◌, ◌==◌, Bool, true, false, if◌then◌else◌, List, [], ◌∷◌, ◌++◌, codes, length, map, slice_get, Option, Some, None}
+use Rattle.std.specs.Prelude.{ℕ, ◌+◌, ◌==◌, Bool, true, false, if◌then◌else◌, List, [], ◌∷◌, ◌++◌, codes, length, filter, not, Option, Some, None}
 use Rattle.std.specs.List.{flat_map}
 use Rattle.std.specs.Fmt.{decimal}
 use Rattle.gx_ids.specs.declared.ids.Gxid.{Gxid}
 use Rattle.gx_ids.specs.declared.ids.Node.{Node}
 use Rattle.gx_ids.specs.declared.ids.SessionId.{SessionId}
-use Rattle.gx_ids.specs.declared.ids.Table.{Table}
 use Rattle.gx_ids.specs.declared.rid.Rid.{Rid}
+use Rattle.gx_dsnap.specs.declared.snapshot.Snapshot.{Snapshot}
 use Rattle.gx_tree.specs.declared.value.Value.{Value}
-use Rattle.gx_waits.specs.declared.object.Object.{Object}
-use Rattle.gx_waits.specs.declared.object.Object.TheVariants.{Relation, Tuple, Transaction}
+use Rattle.gx_waits.specs.declared.placed_edge.PlacedEdge.{PlacedEdge}
 use Rattle.gx_waits.specs.declared.verdict.Verdict.{Verdict}
 use Rattle.gx_waits.specs.declared.verdict.Verdict.TheVariants.{Nothing, Dropped, Victims}
 use Rattle.gx_msg.specs.ItemBytes.{bytes_of_image}
+use Rattle.gx_print.specs.Written.{printed}
+use Rattle.gx_script.specs.declared.Line.{Line}
+use Rattle.gx_script.specs.declared.LinkFault.{LinkFault}
 use Rattle.gx_script.specs.declared.Script.{Script}
 use Rattle.gx_report.specs.Words.{session_name, table_name}
-use Rattle.gx_trace.specs.declared.seen.Seen.{Seen}
-use Rattle.gx_story.specs.declared.told.By.{By}
-use Rattle.gx_story.specs.declared.told.Claimed.{Claimed}
-use Rattle.gx_story.specs.declared.told.Reported.{Reported}
-use Rattle.gx_story.specs.declared.told.Told.{Told}
-use Rattle.gx_story.specs.declared.told.What.{What}
-use Rattle.gx_story.specs.declared.told.What.TheVariants as what
-use Rattle.gx_story.specs.Answers.{answered_text, line_at}
-use Rattle.gx_story.specs.Naming.{at_text, by_text, counted, node_text, row_text, statement, who}
+use Rattle.gx_story.specs.Answers.{said_text}
+use Rattle.gx_story.specs.Names.{line_at}
+use Rattle.gx_story.specs.Naming.{at_text, counted, node_text, row_text, statement, who}
+use Rattle.gx_story.specs.Told.{By, Over, OverTable, OverRow, OverNothing, Told, What, Started, Left, WentOn, SentAgain, RoundBegan, Began, Snapped, Wrote, Skipped, Faulted, Waited, Promised, Decided, CommittedAt, Committed, Aborted, JournalFailed, Answered, Faulty, Judged}
+use Rattle.gx_story.specs.declared.desk.Desk.{Desk}
 use Rattle.gx_story.specs.declared.names.Names.{Names}
+use Rattle.gx_story.specs.declared.told.Claimed.{Claimed}
 
--- SESSIONS
-abbrev pub line_text : Option (List ℕ) → List ℕ
-line_text None = []
-line_text (Some text) = text
+-- a transaction's statement
+abbrev pub by_text : Script → Names → By → List ℕ
+by_text script names by = who script names by.gxid ++ counted (codes ".") by.line ++ codes "  "
+
+-- STATEMENTS
+abbrev pub line_text : Script → Option Line → List ℕ
+line_text script None = []
+line_text script (Some line) = printed script.tables line.stmt
 
 abbrev pub left_text : Script → SessionId → List ℕ
 left_text script session = session_name script session ++ codes "  has no line left, and its block is rolled back"
 
 -- WAITS
-abbrev pub after_text : ℕ → Option ℕ → List ℕ
-after_text at None = []
-after_text at (Some since) = counted (codes ", after ") (at - since) ++ codes " events"
-
 abbrev pub claimed_text : Script → Names → Claimed → List ℕ
 claimed_text script names claimed =
     codes ", for " ++ who script names claimed.claim.gxid ++ (if claimed.held then codes " (since " else codes " (waiting since ") ++ at_text claimed.since ++ codes ")"
 
-abbrev pub over_row : Script → Names → Option Rid → List ℕ
-over_row script names None = []
-over_row script names (Some rid) = codes ", over " ++ row_text script names rid
-
-abbrev pub over_table : Script → Table → List ℕ
-over_table script table = codes ", over table " ++ table_name script table
-
-abbrev pub over_text : Script → Names → Object → Option Rid → List ℕ
-over_text script names (Relation table) row = over_table script table
-over_text script names (Tuple rid) row = over_row script names row
-over_text script names (Transaction gxid) row = over_row script names row
+abbrev pub over_text : Script → Names → Over → List ℕ
+over_text script names (OverTable table) = codes ", over table " ++ table_name script table
+over_text script names (OverRow rid) = codes ", over " ++ row_text script names rid
+over_text script names OverNothing = []
 
 -- COMMITS
-abbrev pub at_node : Node → List ℕ
-at_node node = codes ", at " ++ node_text node
-
-abbrev pub phases_text : List Node → Bool → List ℕ
-phases_text nodes true = codes "commits in two phases"
-phases_text [] false = codes "commits, with nothing written"
-phases_text (n ∷ ns) false = codes "commits in one phase"
+-- by two phases, or by one, or by none, where no segment wrote
+abbrev pub phases : Bool → Bool → List ℕ
+phases true wrote = codes "commits in two phases"
+phases false true = codes "commits in one phase"
+phases false false = codes "commits, with nothing written"
 
 -- ROUNDS
 abbrev pub each_who : Script → Names → Gxid → List ℕ
 each_who script names gxid = codes " " ++ who script names gxid
 
-abbrev pub edge_text : Script → Names → Reported → List ℕ
-edge_text script names reported =
-    codes " (" ++ who script names reported.edge.waiter ++ codes " waits for " ++ who script names reported.edge.holder ++ codes " at " ++ node_text reported.node ++ codes ")"
+abbrev pub edge_text : Script → Names → PlacedEdge → List ℕ
+edge_text script names placed =
+    codes " (" ++ who script names placed.edge.waiter ++ codes " waits for " ++ who script names placed.edge.holder ++ codes " at " ++ node_text placed.node ++ codes ")"
 
 abbrev pub verdict_text : Script → Names → Verdict → List ℕ
 verdict_text script names Nothing = codes ": nobody is stuck"
 verdict_text script names (Dropped gxid) = codes ": dropped, since it is over with " ++ who script names gxid
 verdict_text script names (Victims gxids) = codes ": cancels" ++ flat_map (each_who script names) gxids
 
--- SNAPSHOTS
-abbrev pub unseen_text : Script → Names → List Gxid → List ℕ
-unseen_text script names [] = []
-unseen_text script names (g ∷ gs) = codes ", without" ++ flat_map (each_who script names) (g ∷ gs)
-
 -- MESSAGES
-abbrev pub resent_text : Script → Names → Node → Option Gxid → List ℕ
-resent_text script names segment None = codes " for the round"
-resent_text script names segment (Some gxid) = codes " about " ++ who script names gxid
-
-abbrev pub again_text : Script → Names → Node → Option Gxid → List ℕ
-again_text script names segment gxid = codes "sent again " ++ codes "to " ++ node_text segment ++ resent_text script names segment gxid
+abbrev pub about_text : Script → Names → Option Gxid → List ℕ
+about_text script names None = codes " for the round"
+about_text script names (Some gxid) = codes " about " ++ who script names gxid
 
 abbrev pub fault_text : Bool → List ℕ
 fault_text true = codes " will come twice"
 fault_text false = codes " is lost"
 
--- EACH
-abbrev pub end_text : Script → Names → What → List ℕ
-end_text script names (what.Promised by node) = by_text script names by ++ node_text node ++ codes " promises to commit"
-end_text script names (what.Decided by) = by_text script names by ++ codes "is to commit, since all who wrote have promised"
-end_text script names (what.Aborted by) = by_text script names by ++ codes "aborts"
-end_text script names (what.JournalFailed by node) = by_text script names by ++ codes "the journal of " ++ node_text node ++ codes " fails"
-end_text script names _ = []
+-- STATEMENTS OF A TRANSACTION
+abbrev pub began_text : Script → Names → By → List ℕ
+began_text script names by = by_text script names by ++ counted (codes "begins transaction ") by.gxid.0
 
-abbrev pub deed_text : Script → Names → What → List ℕ
-deed_text script names (what.Began by) = by_text script names by ++ counted (codes "begins transaction ") by.gxid.0
-deed_text script names (what.Snapped by least running) =
-    by_text script names by ++ counted (codes "takes a snapshot of what has committed below transaction ") least.0 ++ unseen_text script names running
-deed_text script names (what.Wrote by node rid image) =
+abbrev pub snapped_text : Script → Names → By → Snapshot → List ℕ
+snapped_text script names by snapshot =
+    by_text script names by ++ counted (codes "takes a snapshot of what has committed below transaction ") snapshot.xmax.0 ++ codes ", beside"
+    ++ flat_map (each_who script names) snapshot.running
+
+abbrev pub wrote_text : Script → Names → By → Node → Rid → Option (List Value) → List ℕ
+wrote_text script names by node rid image =
     by_text script names by ++ codes "writes " ++ row_text script names rid ++ codes " at " ++ node_text node ++ codes ": " ++ bytes_of_image image
-deed_text script names (what.Skipped by rid) = by_text script names by ++ codes "looks again at " ++ row_text script names rid ++ codes ", and leaves it alone"
-deed_text script names (what.Faulted by rid) = by_text script names by ++ codes "fails to compute at " ++ row_text script names rid
-deed_text script names (what.Waited by node object row whom) =
-    by_text script names by ++ codes "waits at " ++ node_text node ++ over_text script names object row ++ flat_map (claimed_text script names) whom
-deed_text script names (what.Committed by nodes decided) = by_text script names by ++ phases_text nodes decided ++ flat_map at_node nodes
-deed_text script names other = end_text script names other
 
-abbrev pub what_text : Script → Seen → Names → ℕ → What → List ℕ
-what_text script seen names at (what.Started session number) = statement script session number ++ line_text (line_at names session number)
-what_text script seen names at (what.Left session) = left_text script session
-what_text script seen names at (what.WentOn by node since) = by_text script names by ++ codes "goes on at " ++ node_text node ++ after_text at since
-what_text script seen names at (what.SentAgain segment gxid) = again_text script names segment gxid
-what_text script seen names at what.RoundBegan = codes "a round begins"
-what_text script seen names at (what.Answered session number waits resumes) = answered_text script seen names session number
-what_text script seen names at (what.Faulty from to message repeat) =
-    node_text from ++ codes "  its message '" ++ message ++ codes "' to " ++ node_text to ++ fault_text repeat
-what_text script seen names at (what.Judged round edges verdict) =
-    counted (codes "round ") round ++ flat_map (edge_text script names) edges ++ verdict_text script names verdict
-what_text script seen names at other = deed_text script names other
+abbrev pub waited_text : Script → Names → By → Node → Over → List Claimed → List ℕ
+waited_text script names by node over whom =
+    by_text script names by ++ codes "waits at " ++ node_text node ++ over_text script names over ++ flat_map (claimed_text script names) whom
+
+abbrev pub faulty_text : Node → Node → List ℕ → LinkFault → List ℕ
+faulty_text from to message fault = node_text from ++ codes "  its message '" ++ message ++ codes "' to " ++ node_text to ++ fault_text fault.repeat
+
+abbrev pub judged_text : Script → Names → ℕ → List PlacedEdge → Verdict → List ℕ
+judged_text script names round edges verdict = counted (codes "round ") round ++ flat_map (edge_text script names) edges ++ verdict_text script names verdict
+
+-- EACH
+abbrev pub what_text : Script → Names → What → List ℕ
+what_text script names (Started session number) = statement script session number ++ line_text script (line_at script names session number)
+what_text script names (Left session) = left_text script session
+what_text script names (WentOn by node) = by_text script names by ++ codes "goes on at " ++ node_text node
+what_text script names (SentAgain segment gxid) = codes "sent again to " ++ node_text segment ++ about_text script names gxid
+what_text script names RoundBegan = codes "a round begins"
+what_text script names (Began by) = began_text script names by
+what_text script names (Snapped by snapshot) = snapped_text script names by snapshot
+what_text script names (Wrote by node rid image) = wrote_text script names by node rid image
+what_text script names (Skipped by rid) = by_text script names by ++ codes "looks again, and leaves alone " ++ row_text script names rid
+what_text script names (Faulted by rid) = by_text script names by ++ codes "fails to compute at " ++ row_text script names rid
+what_text script names (Waited by node over whom) = waited_text script names by node over whom
+what_text script names (Promised by node) = by_text script names by ++ codes "may commit, promises " ++ node_text node
+what_text script names (Decided by) = by_text script names by ++ codes "is to commit, since all who wrote have promised"
+what_text script names (CommittedAt by node) = by_text script names by ++ codes "is committed at " ++ node_text node
+what_text script names (Committed by desk) = by_text script names by ++ phases desk.decided desk.wrote
+what_text script names (Aborted by) = by_text script names by ++ codes "aborts"
+what_text script names (JournalFailed by node) = by_text script names by ++ codes "finds a failed journal at " ++ node_text node
+what_text script names (Answered session number desk said) = statement script session number ++ said_text script names said
+what_text script names (Faulty from to message fault) = faulty_text from to message fault
+what_text script names (Judged round edges verdict) = judged_text script names round edges verdict
 
 -- behind the event's number
-abbrev pub told_line : Script → Seen → Names → Told → List ℕ
-told_line script seen names told = at_text told.at ++ codes "  " ++ what_text script seen names told.at told.what ++ codes "\n"
+abbrev pub start_text : ℕ → List ℕ
+start_text at = at_text at ++ codes "  "
+
+abbrev pub line_behind : ℕ → List ℕ → List ℕ
+line_behind at text = start_text at ++ text ++ codes "\n"
+
+abbrev pub line_of : Script → Names → ℕ → Option What → List ℕ
+line_of script names at None = []
+line_of script names at (Some what) = line_behind at (what_text script names what)
+
+abbrev pub told_line : Script → Names → Told → List ℕ
+told_line script names told = line_of script names told.at told.what

@@ -1,5 +1,5 @@
 -- That names are those of what was seen.
-use Rattle.std.specs.Prelude.{◌≡◌, ◌<◌, ◌==◌, ℕ, ◌+◌, Bool, false, if◌then◌else◌, List, [], ◌∷◌, ◌++◌, length, slice_get, unwrap_or, Option, Some, None}
+use Rattle.std.specs.Prelude.{◌≡◌, ◌<◌, ◌==◌, ℕ, ◌+◌, ◌-◌, Bool, false, if◌then◌else◌, List, [], ◌∷◌, ◌++◌, length, slice_get, unwrap_or, Option, Some, None}
 use Rattle.std.specs.BTreeMap.{is_at}
 use Rattle.std.specs.List.{flat_map, list_any}
 use Rattle.std.specs.Map.{lookup}
@@ -19,6 +19,7 @@ use Rattle.gx_trace.specs.declared.seen.SeenAnswer.{SeenAnswer}
 use Rattle.gx_trace.specs.declared.seen.SeenMark.{SeenMark}
 use Rattle.gx_trace.specs.declared.seen.SeenMark.TheVariants.{Whole}
 use Rattle.gx_trace.specs.declared.seen.SeenStep.{SeenStep}
+use Rattle.gx_story.specs.declared.names.Called.{Called}
 use Rattle.gx_story.specs.declared.names.Named.{Named}
 use Rattle.gx_story.specs.declared.names.Names.{Names}
 
@@ -42,8 +43,12 @@ abbrev pub named_as : Rid → Named → Rid → Option Named
 named_as other named rid = if is_at (rid_order rid) other then Some named else None
 
 -- a row as a mark writes it, where it does
+abbrev pub named_image : Rid → Table → Option (List Value) → Rid → Option Named
+named_image other table None rid = None
+named_image other table (Some row) rid = named_as other (named table row) rid
+
 abbrev pub named_in : Rid → SeenMark → Option Named
-named_in rid (Whole (mark.Write gxid cid node table other (Some row))) = named_as other (named table row) rid
+named_in rid (Whole (mark.Write gxid cid node table other image)) = named_image other table image rid
 named_in rid _ = None
 
 abbrev pub or_else : {X : Type 0} → Option X → Option X → Option X
@@ -98,19 +103,38 @@ pub record ArePlaces {X : Type 0} (of : X → SessionId) (xs : List X) (index : 
   pub places : (session : ℕ) → session < 256 → nth_places index session ≡ places_from of session 0 xs
 
 -- ALL
--- names with those of a step's marks
-pub record IsNamedBy (old new : Names) (at : ℕ) (marks : List SeenMark) : Type 0 where
+-- with what a step's marks call
+pub record IsCalledBy (old new : Called) (at : ℕ) (marks : List SeenMark) : Type 0 where
   pub begun : new.begun.items ≡ old.begun.items ++ flat_map starts marks
   pub rows : (rid : Rid) → row_of new.rows.entries rid ≡ or_else (row_of old.rows.entries rid) (first_named rid marks)
   pub commits : (gxid : Gxid) → commit_of new.commits.entries gxid ≡ or_else (commit_of old.commits.entries gxid) (commit_among gxid at marks)
-  pub lines : new.lines ≡ old.lines
-  pub answers : new.answers ≡ old.answers
-  pub texts : new.texts ≡ old.texts
 
-pub record AreNames (script : Script) (seen : Seen) (printed : List (List ℕ)) (names : Names) : Type 0 where
-  pub begun : names.begun.items ≡ flat_map starts (flat_map marks_of seen.steps)
-  pub rows : (rid : Rid) → row_of names.rows.entries rid ≡ first_named rid (flat_map marks_of seen.steps)
-  pub commits : (gxid : Gxid) → commit_of names.commits.entries gxid ≡ first_commit gxid 0 seen.steps
+-- what steps call
+pub record AreCalled (steps : List SeenStep) (called : Called) : Type 0 where
+  pub begun : called.begun.items ≡ flat_map starts (flat_map marks_of steps)
+  pub rows : (rid : Rid) → row_of called.rows.entries rid ≡ first_named rid (flat_map marks_of steps)
+  pub commits : (gxid : Gxid) → commit_of called.commits.entries gxid ≡ first_commit gxid 0 steps
+
+pub record AreNames (script : Script) (seen : Seen) (names : Names) : Type 0 where
+  pub called : AreCalled seen.steps names.called
   pub lines : ArePlaces line_session script.lines names.lines.items
   pub answers : ArePlaces answer_session seen.answers names.answers.items
-  pub texts : names.texts.items ≡ printed
+
+-- BY NUMBER
+abbrev pub nth_in : ℕ → Option (List ℕ) → Option ℕ
+nth_in number None = None
+nth_in number (Some places) = slice_get places (number - 1)
+
+-- the place of the session's line or answer of this number
+abbrev pub nth : List (List ℕ) → SessionId → ℕ → Option ℕ
+nth index session number = nth_in number (slice_get index session.0)
+
+abbrev pub there : {X : Type 0} → List X → Option ℕ → Option X
+there xs None = None
+there xs (Some place) = slice_get xs place
+
+abbrev pub line_at : Script → Names → SessionId → ℕ → Option Line
+line_at script names session number = there script.lines (nth names.lines.items session number)
+
+abbrev pub answer_at : Seen → Names → SessionId → ℕ → Option SeenAnswer
+answer_at seen names session number = there seen.answers (nth names.answers.items session number)

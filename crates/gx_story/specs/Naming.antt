@@ -18,7 +18,6 @@ use Rattle.gx_tree.specs.declared.value.Value.TheVariants.{Int, Text}
 use Rattle.gx_meaning.specs.Order.{rid_order}
 use Rattle.gx_script.specs.declared.Script.{Script}
 use Rattle.gx_report.specs.Words.{session_name}
-use Rattle.gx_story.specs.declared.told.By.{By}
 use Rattle.gx_story.specs.declared.names.Named.{Named}
 use Rattle.gx_story.specs.declared.names.Names.{Names}
 
@@ -32,7 +31,7 @@ at_text at = decimal (at + 1)
 
 -- TRANSACTIONS
 abbrev pub session_of : Names → Gxid → Option SessionId
-session_of names gxid = slice_get names.begun.items (gxid.0 - 1)
+session_of names gxid = slice_get names.called.begun.items (gxid.0 - 1)
 
 abbrev pub called : Script → Gxid → Option SessionId → List ℕ
 called script gxid None = counted (codes "transaction ") gxid.0
@@ -44,10 +43,6 @@ who script names gxid = called script gxid (session_of names gxid)
 
 abbrev pub statement : Script → SessionId → ℕ → List ℕ
 statement script session number = session_name script session ++ counted (codes ".") number ++ codes "  "
-
--- a transaction's statement
-abbrev pub by_text : Script → Names → By → List ℕ
-by_text script names by = who script names by.gxid ++ counted (codes ".") by.line ++ codes "  "
 
 -- NODES
 abbrev pub node_text : Node → List ℕ
@@ -84,4 +79,4 @@ row_called script rid (Some named) = row_in rid named (slice_get script.tables n
 
 -- a row, by its table and its key
 abbrev pub row_text : Script → Names → Rid → List ℕ
-row_text script names rid = row_called script rid (lookup (is_at (rid_order rid)) names.rows.entries)
+row_text script names rid = row_called script rid (lookup (is_at (rid_order rid)) names.called.rows.entries)

@@ -1,21 +1,20 @@
 // What is known of a session's lines.
 ghost use Rattle.std.specs.Prelude.{◌≡◌, ◌++◌, ◌∷◌, [], OnOk};
-ghost use Rattle.gx_story.specs.Desks.{changed};
-ghost use Rattle.gx_story.specs.History.{no_line, with_line};
+ghost use Rattle.gx_story.specs.Desks.{changed, no_line, with_line};
 
 use crate::told::{Resumed, Waiting};
-use gx_ids::{Mem, Node, Seq};
+use gx_ids::{Mem, Seq};
 use std::alloc::Global;
 
 /// The events at which a session's lines started; and of the line that is under way its waits, where it went on, whether its commit is decided, and
-/// the segments that have committed it.
+/// whether a segment has committed it.
 #[derive(Drop)]
 pub struct Desk {
     pub starts: Seq<usize>,
     pub waits: Seq<Waiting>,
     pub resumes: Seq<Resumed>,
     pub decided: bool,
-    pub nodes: Seq<Node>,
+    pub wrote: bool,
 }
 
 /// What becomes of a session's line.
@@ -25,7 +24,7 @@ pub enum Change {
     Waits(Waiting),
     GoesOn(Resumed),
     IsDecided,
-    IsCommitted(Node),
+    IsCommitted,
 }
 
 impl Desk {
@@ -38,7 +37,7 @@ impl Desk {
             waits: Seq::new(alloc),
             resumes: Seq::new(alloc),
             decided: false,
-            nodes: Seq::new(alloc),
+            wrote: false,
         }
     }
 
@@ -49,7 +48,7 @@ impl Desk {
         self.waits = Seq::new(alloc);
         self.resumes = Seq::new(alloc);
         self.decided = false;
-        self.nodes = Seq::new(alloc);
+        self.wrote = false;
         Ok(())
     }
 
@@ -64,7 +63,10 @@ impl Desk {
                 self.decided = true;
                 Ok(())
             }
-            Change::IsCommitted(node) => self.nodes.push(node),
+            Change::IsCommitted => {
+                self.wrote = true;
+                Ok(())
+            }
         }
     }
 }

@@ -1,16 +1,18 @@
 // The wait graphs of each round, as Graphviz has them.
 ghost use Rattle.std.specs.Prelude.{◌≡◌, ◌++◌, OnOk};
 ghost use Rattle.std.specs.List.{flat_map};
-ghost use Rattle.gx_story.specs.declared.told.What.TheVariants.{Judged};
-ghost use Rattle.gx_story.specs.Graphs as of;
+ghost use Rattle.gx_story.specs.Log as of;
+ghost use Rattle.gx_story.specs.Now.{now_of};
 
+use crate::known::Known;
 use crate::names::Names;
-use crate::told::{Reported, Told, What};
 use crate::words::{push_counted, push_node, push_who};
 use gx_ids::{Gxid, Mem};
 use gx_script::Script;
+use gx_store::Mark;
 use gx_text::push_bytes;
-use gx_waits::Verdict;
+use gx_trace::SeenMark;
+use gx_waits::{PlacedEdge, Verdict};
 
 fn push_quoted_who(text: &mut Vec<u8>, script: &Script, names: &Names, gxid: Gxid) -> Mem<()>
     ensures { OnOk result (text.new.items ≡ text.old.items ++ of.quoted_who script.now names.now gxid) }
@@ -51,43 +53,37 @@ fn push_cancellations(
     }
 }
 
-fn push_edge_end(text: &mut Vec<u8>, dotted: bool) -> Mem<()>
-    ensures { OnOk result (text.new.items ≡ text.old.items ++ of.edge_end dotted) }
+fn push_edge_line(
+    text: &mut Vec<u8>,
+    script: &Script,
+    names: &Names,
+    placed: &PlacedEdge,
+) -> Mem<()>
+    ensures { OnOk result (text.new.items ≡ text.old.items ++ of.edge_line script.now names.now placed.now) }
 {
-    if dotted {
+    push_bytes(text, b"  ")?;
+    push_quoted_who(text, script, names, placed.edge.waiter)?;
+    push_bytes(text, b" -> ")?;
+    push_quoted_who(text, script, names, placed.edge.holder)?;
+    push_bytes(text, b" [label=\"")?;
+    push_node(text, placed.node)?;
+    if placed.edge.dotted {
         push_bytes(text, b"\", style=dotted];\n")
     } else {
         push_bytes(text, b"\"];\n")
     }
 }
 
-fn push_edge_line(
-    text: &mut Vec<u8>,
-    script: &Script,
-    names: &Names,
-    reported: &Reported,
-) -> Mem<()>
-    ensures { OnOk result (text.new.items ≡ text.old.items ++ of.edge_line script.now names.now reported.now) }
-{
-    push_bytes(text, b"  ")?;
-    push_quoted_who(text, script, names, reported.edge.waiter)?;
-    push_bytes(text, b" -> ")?;
-    push_quoted_who(text, script, names, reported.edge.holder)?;
-    push_bytes(text, b" [label=\"")?;
-    push_node(text, reported.node)?;
-    push_edge_end(text, reported.edge.dotted)
-}
-
 fn push_edge_lines(
     text: &mut Vec<u8>,
     script: &Script,
     names: &Names,
-    edges: &[Reported],
+    edges: &[PlacedEdge],
 ) -> Mem<()>
     ensures { OnOk result (text.new.items ≡ text.old.items ++ flat_map (of.edge_line script.now names.now) edges.now) }
 {
-    for reported in edges {
-        push_edge_line(text, script, names, reported)?;
+    for placed in edges {
+        push_edge_line(text, script, names, placed)?;
     }
     Ok(())
 }
@@ -97,35 +93,52 @@ fn push_round(
     script: &Script,
     names: &Names,
     round: u64,
-    edges: &[Reported],
+    edges: &[PlacedEdge],
     verdict: &Verdict,
 ) -> Mem<()>
     ensures { OnOk result (text.new.items ≡ text.old.items ++ of.round_text script.now names.now round edges.now verdict.now) }
 {
-    push_counted(text, b"digraph r", round as usize)?;
+    push_counted(text, b"digraph r", u128::from(round))?;
     push_bytes(text, b" {\n")?;
     push_cancellations(text, script, names, verdict)?;
     push_edge_lines(text, script, names, edges)?;
     push_bytes(text, b"}\n")
 }
 
-fn push_graph(text: &mut Vec<u8>, script: &Script, names: &Names, told: &Told) -> Mem<()>
-    ensures { OnOk result (text.new.items ≡ text.old.items ++ of.graph_text script.now names.now told.now) }
+fn push_of_whole(
+    text: &mut Vec<u8>,
+    script: &Script,
+    names: &Names,
+    known: &Known,
+    mark: &Mark,
+) -> Mem<()>
+    ensures { OnOk result (text.new.items ≡ text.old.items ++ of.graph_whole script.now names.now (now_of known.now) mark.now) }
 {
-    match &told.what {
-        What::Judged(round, edges, verdict) => {
-            push_round(text, script, names, *round, edges.as_slice(), verdict)
-        }
+    match mark {
+        Mark::Recheck { round, verdict, .. } => push_round(
+            text,
+            script,
+            names,
+            *round,
+            known.edges.as_slice(),
+            verdict,
+        ),
         _ => Ok(()),
     }
 }
 
-/// Adds the wait graphs of each round.
-pub fn push_graphs(text: &mut Vec<u8>, script: &Script, names: &Names, told: &[Told]) -> Mem<()>
-    ensures { OnOk result (text.new.items ≡ text.old.items ++ of.graphs_text script.now names.now told.now) }
+/// Adds the wait graphs of a round, where the mark ends one.
+pub(crate) fn push_graph(
+    text: &mut Vec<u8>,
+    script: &Script,
+    names: &Names,
+    known: &Known,
+    mark: &SeenMark,
+) -> Mem<()>
+    ensures { OnOk result (text.new.items ≡ text.old.items ++ of.graph_at script.now names.now (now_of known.now) mark.now) }
 {
-    for thing in told {
-        push_graph(text, script, names, thing)?;
+    match mark {
+        SeenMark::Whole(mark) => push_of_whole(text, script, names, known, mark),
+        _ => Ok(()),
     }
-    Ok(())
 }

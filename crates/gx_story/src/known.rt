@@ -1,142 +1,226 @@
-// What the events and marks so far say of transactions, sessions and locks.
-ghost use Rattle.std.specs.Prelude.{◌≡◌, ◌++◌, ◌∷◌, ◌-◌, [], List, length, map, slice_get, unwrap_or, OnOk, IfOk};
-ghost use Rattle.std.specs.Option.{option_copied};
+// What stands behind the events and marks so far.
+ghost use Rattle.std.specs.Prelude.{◌≡◌, ◌++◌, ◌<◌, length, map, slice_index_or, slice_set, option_copied, unwrap_or, IfOk, OnOk};
 ghost use Rattle.gx_waits.specs.Claims.{claim as claim_on};
-ghost use Rattle.gx_story.specs.History as of;
-ghost use Rattle.gx_story.specs.History.{Past, Happened, Made};
-ghost use Rattle.gx_story.specs.Known.{IsTurned, Knows};
-ghost use Rattle.gx_store.specs.declared.event.Event.TheVariants.{Resume, Round, Start};
-ghost use Rattle.gx_store.specs.declared.mark.Mark.TheVariants as mark;
-ghost use Rattle.gx_story.specs.Story.{by as told_by, desk_of as desk_of_past};
-ghost use Rattle.gx_trace.specs.declared.seen.SeenMark.TheVariants.{Whole};
+ghost use Rattle.gx_story.specs.Desks.{changed, no_line};
+ghost use Rattle.gx_story.specs.Now as of;
+ghost use Rattle.gx_story.specs.Told.{line_of as line_in};
 
-use crate::claims::{grant, whom, withdraw};
+use crate::claims::{in_the_way, is_held, with_claim, without};
 use crate::desk::{Change, Desk};
-use crate::desks::{no_desks, turn};
-use crate::told::{By, Claimed, Reported, Resumed, Waiting};
-use gx_ids::{Gxid, Mem, Node, SessionId};
+use crate::names::{Names, session_of};
+use crate::told::{Claimed, Resumed, Waiting};
+use gx_ids::{Gxid, Mem, Node, Seq, SessionId};
 use gx_modes::Mode;
 use gx_store::{Event, Mark};
 use gx_trace::SeenMark;
-use gx_waits::{Claim, Edge, LocalGraph, Object};
+use gx_waits::{Claim, LocalGraph, Object, PlacedEdge};
 use std::alloc::Global;
 
-/// Whose the transactions are, in the order in which they began; what is locked; what nodes have reported since the last round began; and a desk for
-/// each number that a session may have.
+/// The locks at each node, what nodes have reported since the last round began, and a desk for each number that a session may have.
 #[derive(Drop)]
 pub struct Known {
-    pub begun: Vec<SessionId>,
-    pub claims: Vec<Claimed>,
-    pub edges: Vec<Reported>,
+    pub claims: Vec<Seq<Claimed>>,
+    pub edges: Vec<PlacedEdge>,
     pub desks: Vec<Desk>,
 }
 
 /// What is known before anything has happened.
 pub(crate) fn new_known(alloc: Global) -> Mem<Known>
-    ensures { IfOk result (λ known. Knows known []) }
+    ensures { IfOk result (λ known. of.now_of known ≡ of.nothing) }
 {
-    let begun = Vec::new(alloc);
-    let claims = Vec::new(alloc);
-    let edges = Vec::new(alloc);
-    let desks = no_desks(alloc)?;
+    let mut claims = Vec::new(alloc);
+    let mut desks = Vec::new(alloc);
+    for _number in 0..256usize {
+        claims.push(Seq::new(alloc))?;
+        desks.push(Desk::new(alloc))?;
+    }
     Ok(Known {
-        begun,
         claims,
-        edges,
+        edges: Vec::new(alloc),
         desks,
     })
 }
 
-/// The session of a transaction.
-fn session_of(known: &Known, gxid: Gxid) -> Option<SessionId>
-    ensures { result ≡ slice_get known.now.begun.items (gxid.0 - 1) }
+// LOCKS
+/// The locks at a node.
+pub(crate) fn claims_at(known: &Known, node: Node) -> &[Claimed]
+    ensures { result.now ≡ of.claims_at (of.now_of known.now) node }
 {
-    known
-        .begun
-        .as_slice()
-        .get((gxid.0 as usize).saturating_sub(1))
-        .copied()
+    match known.claims.as_slice().get(usize::from(node.0)) {
+        Some(claims) => claims.as_slice(),
+        None => &[],
+    }
 }
 
-/// The desk of a transaction's session.
-pub(crate) fn desk_of(known: &Known, gxid: Gxid) -> Option<&Desk>
-    ensures { (past : List Past) → Knows known.now past → unwrap_or (option_copied result) of.no_line ≡ desk_of_past past gxid }
+fn put_at(lists: &mut Vec<Seq<Claimed>>, place: usize, claims: Seq<Claimed>)
+    requires { place < length lists.old.items }
+    ensures { lists.new.items ≡ slice_set lists.old.items place claims }
 {
-    match session_of(known, gxid) {
+    lists[place] = claims;
+}
+
+fn put_claims(known: &mut Known, node: Node, claims: Vec<Claimed>)
+    ensures { of.now_of known.new ≡ of.put_claims node claims.items (of.now_of known.old) }
+{
+    if usize::from(node.0) < known.claims.len() {
+        put_at(
+            &mut known.claims,
+            usize::from(node.0),
+            Seq::from_vec(claims),
+        );
+    } else {
+        drop(claims);
+    }
+}
+
+fn note_hold(alloc: Global, known: &mut Known, at: usize, node: Node, claim: Claim) -> Mem<()>
+    ensures { OnOk result (of.now_of known.new ≡ of.granted at node claim (of.now_of known.old)) }
+{
+    if is_held(claims_at(known, node), &claim) {
+        return Ok(());
+    }
+    let claims = with_claim(alloc, at, claims_at(known, node), claim, true)?;
+    put_claims(known, node, claims);
+    Ok(())
+}
+
+fn note_queued(alloc: Global, known: &mut Known, at: usize, node: Node, claim: Claim) -> Mem<()>
+    ensures { OnOk result (of.now_of known.new ≡ of.queued at node claim (of.now_of known.old)) }
+{
+    let claims = with_claim(alloc, at, claims_at(known, node), claim, false)?;
+    put_claims(known, node, claims);
+    Ok(())
+}
+
+fn note_release(alloc: Global, known: &mut Known, node: Node, claim: &Claim) -> Mem<()>
+    ensures { OnOk result (of.now_of known.new ≡ of.released node claim.now (of.now_of known.old)) }
+{
+    let claims = without(alloc, claims_at(known, node), claim)?;
+    put_claims(known, node, claims);
+    Ok(())
+}
+
+// SESSIONS
+/// The desk of a session, where there is one.
+pub(crate) fn desk_of(known: &Known, session: Option<SessionId>) -> Option<&Desk>
+    ensures { unwrap_or (option_copied result) no_line ≡ of.desk_of (of.now_of known.now) session }
+{
+    match session {
         Some(session) => known.desks.as_slice().get(usize::from(session.0)),
         None => None,
     }
 }
 
-/// A transaction, in the line that it stands in.
-pub(crate) fn by(known: &Known, gxid: Gxid) -> By
-    ensures { (past : List Past) → Knows known.now past → result ≡ told_by past gxid }
+/// Which line of its session a transaction stands in, from 1.
+pub(crate) fn line_of(names: &Names, known: &Known, gxid: Gxid) -> usize
+    ensures { result ≡ line_in names.now (of.now_of known.now) gxid }
 {
-    match desk_of(known, gxid) {
-        Some(desk) => By {
-            gxid,
-            line: desk.starts.len(),
-        },
-        None => By { gxid, line: 0 },
+    match desk_of(known, session_of(names, gxid)) {
+        Some(desk) => desk.starts.len(),
+        None => 0,
     }
 }
 
+fn change_at(alloc: Global, desks: &mut Vec<Desk>, place: usize, change: Change) -> Mem<()>
+    requires { place < length desks.old.items }
+    ensures { OnOk result (desks.new.items ≡ slice_set desks.old.items place (changed change (slice_index_or desks.old.items place no_line))) }
+{
+    desks[place].change(alloc, change)
+}
+
 // Notes what becomes of a session's line.
-fn note_turn(
-    alloc: Global,
-    known: &mut Known,
-    session: Option<SessionId>,
-    change: Change,
-) -> Mem<()>
-    requires { length known.old.desks.items ≡ 256 }
-    ensures { OnOk result (IsTurned known.old known.new session change) }
+fn turn_at(alloc: Global, known: &mut Known, session: SessionId, change: Change) -> Mem<()>
+    ensures { OnOk result (of.now_of known.new ≡ of.turned_at session change (of.now_of known.old)) }
 {
-    turn(alloc, &mut known.desks, session, change)
+    if usize::from(session.0) < known.desks.len() {
+        change_at(alloc, &mut known.desks, usize::from(session.0), change)
+    } else {
+        drop(change);
+        Ok(())
+    }
 }
 
-fn note_start(alloc: Global, known: &mut Known, at: usize, session: SessionId) -> Mem<()>
-    requires { length known.old.desks.items ≡ 256 }
-    ensures whole { OnOk result (length known.new.desks.items ≡ 256) }
-    ensures known { OnOk result ((past : List Past) → Knows known.old past → Knows known.new (Happened at (Start session) ∷ past)) }
+fn turn(alloc: Global, known: &mut Known, session: Option<SessionId>, change: Change) -> Mem<()>
+    ensures { OnOk result (of.now_of known.new ≡ of.turned session change (of.now_of known.old)) }
 {
-    note_turn(alloc, known, Some(session), Change::Starts(at))?;
-    Ok(())
+    match session {
+        Some(session) => turn_at(alloc, known, session, change),
+        None => {
+            drop(change);
+            Ok(())
+        }
+    }
 }
 
-fn note_resume(alloc: Global, known: &mut Known, at: usize, node: Node, gxid: Gxid) -> Mem<()>
-    requires { length known.old.desks.items ≡ 256 }
-    ensures whole { OnOk result (length known.new.desks.items ≡ 256) }
-    ensures known { OnOk result ((past : List Past) → Knows known.old past → Knows known.new (Happened at (Resume node gxid) ∷ past)) }
-{
-    let session = session_of(known, gxid);
-    let resumed = Resumed { at, node, gxid };
-    note_turn(alloc, known, session, Change::GoesOn(resumed))?;
-    Ok(())
-}
-
-fn note_round(known: &mut Known, at: usize)
-    requires { length known.old.desks.items ≡ 256 }
-    ensures whole { length known.new.desks.items ≡ 256 }
-    ensures known { (past : List Past) → Knows known.old past → Knows known.new (Happened at Round ∷ past) }
-{
-    known.edges.clear();
-}
-
+// EVENTS AND MARKS
 /// Notes an event.
-pub(crate) fn note_event(alloc: Global, known: &mut Known, at: usize, event: Event) -> Mem<()>
-    requires { length known.old.desks.items ≡ 256 }
-    ensures whole { OnOk result (length known.new.desks.items ≡ 256) }
-    ensures known { OnOk result ((past : List Past) → Knows known.old past → Knows known.new (Happened at event ∷ past)) }
+pub(crate) fn note_event(
+    alloc: Global,
+    names: &Names,
+    known: &mut Known,
+    at: usize,
+    event: Event,
+) -> Mem<()>
+    ensures { OnOk result (of.now_of known.new ≡ of.behind_event names.now at event (of.now_of known.old)) }
 {
     match event {
-        Event::Start(session) => note_start(alloc, known, at, session),
-        Event::Resume { node, gxid } => note_resume(alloc, known, at, node, gxid),
+        Event::Start(session) => turn_at(alloc, known, session, Change::Starts(at)),
+        Event::Resume { node, gxid } => turn(
+            alloc,
+            known,
+            session_of(names, gxid),
+            Change::GoesOn(Resumed { at, node, gxid }),
+        ),
         Event::Round => {
-            note_round(known, at);
+            known.edges.clear();
             Ok(())
         }
         _ => Ok(()),
     }
+}
+
+fn note_wait(
+    alloc: Global,
+    names: &Names,
+    known: &mut Known,
+    at: usize,
+    node: Node,
+    claim: Claim,
+) -> Mem<()>
+    ensures { OnOk result (of.now_of known.new ≡ of.waited names.now at node claim (of.now_of known.old)) }
+{
+    let whom = in_the_way(alloc, claims_at(known, node), &claim)?;
+    let waiting = Waiting {
+        since: at,
+        node,
+        gxid: claim.gxid,
+        whom: Seq::from_vec(whom),
+    };
+    note_queued(alloc, known, at, node, claim)?;
+    turn(
+        alloc,
+        known,
+        session_of(names, claim.gxid),
+        Change::Waits(waiting),
+    )
+}
+
+fn add_edges(edges: &mut Vec<PlacedEdge>, graph: &LocalGraph) -> Mem<()>
+    ensures { OnOk result (edges.new.items ≡ edges.old.items ++ map (of.placed graph.now.node) graph.now.edges) }
+{
+    for edge in graph.edges.as_slice() {
+        edges.push(PlacedEdge {
+            node: graph.node,
+            edge: *edge,
+        })?;
+    }
+    Ok(())
+}
+
+fn note_graph(known: &mut Known, graph: &LocalGraph) -> Mem<()>
+    ensures { OnOk result (of.now_of known.new ≡ of.with_graph graph.now (of.now_of known.old)) }
+{
+    add_edges(&mut known.edges, graph)
 }
 
 pub(crate) fn claim_of(gxid: Gxid, object: Object, mode: Mode) -> Claim
@@ -145,143 +229,60 @@ pub(crate) fn claim_of(gxid: Gxid, object: Object, mode: Mode) -> Claim
     Claim { gxid, object, mode }
 }
 
-fn note_began(known: &mut Known, at: usize, gxid: Gxid, session: SessionId) -> Mem<()>
-    requires { length known.old.desks.items ≡ 256 }
-    ensures whole { OnOk result (length known.new.desks.items ≡ 256) }
-    ensures known { OnOk result ((past : List Past) → Knows known.old past → Knows known.new (Made at (Whole (mark.Start gxid session)) ∷ past)) }
-{
-    known.begun.push(session)?;
-    Ok(())
-}
-
-fn note_hold(known: &mut Known, at: usize, node: Node, claim: Claim) -> Mem<()>
-    requires { length known.old.desks.items ≡ 256 }
-    ensures whole { OnOk result (length known.new.desks.items ≡ 256) }
-    ensures known { OnOk result ((past : List Past) → Knows known.old past → Knows known.new (Made at (Whole (mark.Hold node claim.gxid claim.object claim.mode)) ∷ past)) }
-{
-    grant(&mut known.claims, at, node, claim)?;
-    Ok(())
-}
-
-fn note_release(known: &mut Known, at: usize, node: Node, claim: Claim)
-    requires { length known.old.desks.items ≡ 256 }
-    ensures whole { length known.new.desks.items ≡ 256 }
-    ensures known { (past : List Past) → Knows known.old past → Knows known.new (Made at (Whole (mark.Release node claim.gxid claim.object claim.mode)) ∷ past) }
-{
-    withdraw(&mut known.claims, node, claim);
-}
-
-fn note_report(known: &mut Known, at: usize, node: Node, round: u64, graph: &LocalGraph) -> Mem<()>
-    requires { length known.old.desks.items ≡ 256 }
-    ensures whole { OnOk result (length known.new.desks.items ≡ 256) }
-    ensures known { OnOk result ((past : List Past) → Knows known.old past → Knows known.new (Made at (Whole (mark.Report node round graph.now)) ∷ past)) }
-{
-    note_graph(&mut known.edges, node, graph)?;
-    Ok(())
-}
-
-fn note_decided(alloc: Global, known: &mut Known, at: usize, gxid: Gxid) -> Mem<()>
-    requires { length known.old.desks.items ≡ 256 }
-    ensures whole { OnOk result (length known.new.desks.items ≡ 256) }
-    ensures known { OnOk result ((past : List Past) → Knows known.old past → Knows known.new (Made at (Whole (mark.Decided gxid)) ∷ past)) }
-{
-    let session = session_of(known, gxid);
-    note_turn(alloc, known, session, Change::IsDecided)?;
-    Ok(())
-}
-
-fn note_local(alloc: Global, known: &mut Known, at: usize, node: Node, gxid: Gxid) -> Mem<()>
-    requires { length known.old.desks.items ≡ 256 }
-    ensures whole { OnOk result (length known.new.desks.items ≡ 256) }
-    ensures known { OnOk result ((past : List Past) → Knows known.old past → Knows known.new (Made at (Whole (mark.LocalCommit node gxid)) ∷ past)) }
-{
-    let session = session_of(known, gxid);
-    note_turn(alloc, known, session, Change::IsCommitted(node))?;
-    Ok(())
-}
-
-fn note_wait(alloc: Global, known: &mut Known, at: usize, node: Node, claim: Claim) -> Mem<()>
-    requires { length known.old.desks.items ≡ 256 }
-    ensures whole { OnOk result (length known.new.desks.items ≡ 256) }
-    ensures known { OnOk result ((past : List Past) → Knows known.old past → Knows known.new (Made at (Whole (mark.Wait node claim.gxid claim.object claim.mode)) ∷ past)) }
-{
-    let whom = whom(alloc, known.claims.as_slice(), node, claim)?;
-    let session = session_of(known, claim.gxid);
-    let waiting = Waiting {
-        since: at,
-        node,
-        gxid: claim.gxid,
-        whom,
-    };
-    note_turn(alloc, known, session, Change::Waits(waiting))?;
-    known.claims.push(Claimed {
-        since: at,
-        node,
-        claim,
-        held: false,
-    })?;
-    Ok(())
-}
-
-/// Notes a mark.
-pub(crate) fn note_mark(alloc: Global, known: &mut Known, at: usize, mark: &SeenMark) -> Mem<()>
-    requires { length known.old.desks.items ≡ 256 }
-    ensures whole { OnOk result (length known.new.desks.items ≡ 256) }
-    ensures known { OnOk result ((past : List Past) → Knows known.old past → Knows known.new (Made at mark.now ∷ past)) }
+fn note_whole(alloc: Global, names: &Names, known: &mut Known, at: usize, mark: &Mark) -> Mem<()>
+    ensures { OnOk result (of.now_of known.new ≡ of.behind_whole names.now at mark.now (of.now_of known.old)) }
 {
     match mark {
-        SeenMark::Whole(mark) => note_whole(alloc, known, at, mark),
-        _ => Ok(()),
-    }
-}
-
-fn note_whole(alloc: Global, known: &mut Known, at: usize, mark: &Mark) -> Mem<()>
-    requires { length known.old.desks.items ≡ 256 }
-    ensures whole { OnOk result (length known.new.desks.items ≡ 256) }
-    ensures known { OnOk result ((past : List Past) → Knows known.old past → Knows known.new (Made at (Whole mark.now) ∷ past)) }
-{
-    match mark {
-        Mark::Start { gxid, session } => note_began(known, at, *gxid, *session),
-        Mark::Report { node, round, graph } => note_report(known, at, *node, *round, graph),
-        Mark::Decided { gxid } => note_decided(alloc, known, at, *gxid),
-        Mark::LocalCommit { node, gxid } => note_local(alloc, known, at, *node, *gxid),
         Mark::Hold {
             node,
             gxid,
             object,
             mode,
-        } => note_hold(known, at, *node, claim_of(*gxid, *object, *mode)),
+        } => note_hold(alloc, known, at, *node, claim_of(*gxid, *object, *mode)),
         Mark::Wait {
             node,
             gxid,
             object,
             mode,
-        } => note_wait(alloc, known, at, *node, claim_of(*gxid, *object, *mode)),
+        } => note_wait(
+            alloc,
+            names,
+            known,
+            at,
+            *node,
+            claim_of(*gxid, *object, *mode),
+        ),
         Mark::Release {
             node,
             gxid,
             object,
             mode,
-        } => {
-            note_release(known, at, *node, claim_of(*gxid, *object, *mode));
-            Ok(())
-        }
+        } => note_release(alloc, known, *node, &claim_of(*gxid, *object, *mode)),
+        Mark::Report { graph, .. } => note_graph(known, graph),
+        Mark::Recheck { own, .. } => note_graph(known, own.get()),
+        Mark::Decided { gxid } => turn(alloc, known, session_of(names, *gxid), Change::IsDecided),
+        Mark::LocalCommit { gxid, .. } => turn(
+            alloc,
+            known,
+            session_of(names, *gxid),
+            Change::IsCommitted,
+        ),
         _ => Ok(()),
     }
 }
 
-fn note_graph(edges: &mut Vec<Reported>, node: Node, graph: &LocalGraph) -> Mem<()>
-    ensures { OnOk result (edges.new.items ≡ edges.old.items ++ map (of.reported node) graph.now.edges) }
+/// Notes a mark.
+pub(crate) fn note_mark(
+    alloc: Global,
+    names: &Names,
+    known: &mut Known,
+    at: usize,
+    mark: &SeenMark,
+) -> Mem<()>
+    ensures { OnOk result (of.now_of known.new ≡ of.behind_mark names.now at mark.now (of.now_of known.old)) }
 {
-    note_edges(edges, node, graph.edges.as_slice())
-}
-
-/// Adds the edges of a node.
-pub(crate) fn note_edges(edges: &mut Vec<Reported>, node: Node, more: &[Edge]) -> Mem<()>
-    ensures { OnOk result (edges.new.items ≡ edges.old.items ++ map (of.reported node) more.now) }
-{
-    for edge in more {
-        edges.push(Reported { node, edge: *edge })?;
+    match mark {
+        SeenMark::Whole(mark) => note_whole(alloc, names, known, at, mark),
+        _ => Ok(()),
     }
-    Ok(())
 }

@@ -1,104 +1,57 @@
 // The line of each told thing.
-ghost use Rattle.std.specs.Prelude.{◌≡◌, ◌++◌, codes, OnOk};
+ghost use Rattle.std.specs.Prelude.{◌≡◌, ◌++◌, Some, find, length, OnOk};
+ghost use Rattle.std.specs.Option.{option_copied};
 ghost use Rattle.std.specs.List.{flat_map};
-ghost use Rattle.gx_story.specs.declared.told.What.TheVariants.{Wrote};
-ghost use Rattle.gx_report.specs.Words.{table_name};
-ghost use Rattle.gx_story.specs.Answers.{line_at as line_there};
+ghost use Rattle.gx_store.specs.declared.mark.Mark.TheVariants as mark;
+ghost use Rattle.gx_story.specs.Answers.{said_text};
 ghost use Rattle.gx_story.specs.Lines as of;
-ghost use Rattle.gx_story.specs.Naming.{by_text, counted, node_text, row_text, statement};
+ghost use Rattle.gx_story.specs.Naming.{node_text, row_text, statement};
+ghost use Rattle.gx_story.specs.Now.{claims_at as standing, desk_at, in_the_way as whom_of, now_of};
+ghost use Rattle.gx_story.specs.Told as told;
 
-use crate::answers::push_answered;
-use crate::names::{Names, line_at};
-use crate::told::{By, Claimed, Reported, Told, What};
+use crate::answers::push_answer;
+use crate::claims::{in_the_way, row_locked};
+use crate::known::{Known, claim_of, claims_at, desk_of, line_of};
+use crate::names::{Names, answer_at, line_at, session_of};
+use crate::told::Claimed;
 use crate::words::{
-    push_at, push_by, push_counted, push_node, push_row, push_session, push_statement, push_table,
-    push_who,
+    push_at, push_counted, push_node, push_row, push_session, push_statement, push_table, push_who,
 };
-use gx_ids::{Gxid, Mem, Node, Rid, SessionId, Table};
+use gx_dsnap::Snapshot;
+use gx_ids::{Gxid, Mem, Node, Rid, SessionId};
 use gx_msg::push_image;
-use gx_script::Script;
-use gx_text::{push_bytes, push_count};
-use gx_trace::Seen;
+use gx_print::print_stmt;
+use gx_script::{Line, LinkFault, Script};
+use gx_store::{Event, Mark};
+use gx_text::push_bytes;
+use gx_trace::{Seen, SeenAnswer, SeenMark};
 use gx_tree::{Row, Txt};
-use gx_waits::{Object, Verdict};
+use gx_waits::{Claim, Object, PlacedEdge, Verdict};
+use std::alloc::Global;
 
-fn push_started(
+// PARTS
+fn push_start(text: &mut Vec<u8>, at: usize) -> Mem<()>
+    ensures { OnOk result (text.new.items ≡ text.old.items ++ of.start_text at) }
+{
+    push_at(text, at)?;
+    push_bytes(text, b"  ")
+}
+
+// The event, and a transaction's statement.
+fn push_by(
     text: &mut Vec<u8>,
     script: &Script,
     names: &Names,
-    session: SessionId,
-    number: usize,
-) -> Mem<()>
-    ensures { OnOk result (text.new.items ≡ text.old.items ++ statement script.now session number ++ of.line_text (line_there names.now session number)) }
-{
-    push_statement(text, script, session, number)?;
-    match line_at(names, session, number) {
-        Some(line) => push_bytes(text, line.as_slice()),
-        None => Ok(()),
-    }
-}
-
-fn push_left(text: &mut Vec<u8>, script: &Script, session: SessionId) -> Mem<()>
-    ensures { OnOk result (text.new.items ≡ text.old.items ++ of.left_text script.now session) }
-{
-    push_session(text, script, session)?;
-    push_bytes(text, b"  has no line left, and its block is rolled back")
-}
-
-fn push_went_on(
-    text: &mut Vec<u8>,
-    script: &Script,
-    names: &Names,
+    known: &Known,
     at: usize,
-    by: By,
-    node: Node,
-    since: Option<usize>,
+    gxid: Gxid,
 ) -> Mem<()>
-    ensures { OnOk result (text.new.items ≡ text.old.items ++ by_text script.now names.now by ++ codes "goes on at " ++ node_text node ++ of.after_text at since) }
+    ensures { OnOk result (text.new.items ≡ text.old.items ++ of.start_text at ++ of.by_text script.now names.now (told.by names.now (now_of known.now) gxid)) }
 {
-    push_by(text, script, names, by)?;
-    push_bytes(text, b"goes on at ")?;
-    push_node(text, node)?;
-    match since {
-        Some(since) => {
-            push_counted(text, b", after ", at.saturating_sub(since))?;
-            push_bytes(text, b" events")
-        }
-        None => Ok(()),
-    }
-}
-
-fn push_resent(
-    text: &mut Vec<u8>,
-    script: &Script,
-    names: &Names,
-    segment: Node,
-    gxid: Option<Gxid>,
-) -> Mem<()>
-    ensures { OnOk result (text.new.items ≡ text.old.items ++ of.resent_text script.now names.now segment gxid) }
-{
-    match gxid {
-        Some(gxid) => {
-            push_bytes(text, b" about ")?;
-            push_who(text, script, names, gxid)
-        }
-        None => push_bytes(text, b" for the round"),
-    }
-}
-
-fn push_again(
-    text: &mut Vec<u8>,
-    script: &Script,
-    names: &Names,
-    segment: Node,
-    gxid: Option<Gxid>,
-) -> Mem<()>
-    ensures { OnOk result (text.new.items ≡ text.old.items ++ of.again_text script.now names.now segment gxid) }
-{
-    push_bytes(text, b"sent again ")?;
-    push_bytes(text, b"to ")?;
-    push_node(text, segment)?;
-    push_resent(text, script, names, segment, gxid)
+    push_start(text, at)?;
+    push_who(text, script, names, gxid)?;
+    push_counted(text, b".", line_of(names, known, gxid) as u128)?;
+    push_bytes(text, b"  ")
 }
 
 fn push_each(text: &mut Vec<u8>, script: &Script, names: &Names, gxid: Gxid) -> Mem<()>
@@ -117,72 +70,6 @@ fn push_all(text: &mut Vec<u8>, script: &Script, names: &Names, gxids: &[Gxid]) 
     Ok(())
 }
 
-fn push_unseen(text: &mut Vec<u8>, script: &Script, names: &Names, running: &[Gxid]) -> Mem<()>
-    ensures { OnOk result (text.new.items ≡ text.old.items ++ of.unseen_text script.now names.now running.now) }
-{
-    if running.is_empty() {
-        return Ok(());
-    }
-    push_bytes(text, b", without")?;
-    push_all(text, script, names, running)
-}
-
-fn push_snapped(
-    text: &mut Vec<u8>,
-    script: &Script,
-    names: &Names,
-    by: By,
-    least: Gxid,
-    running: &[Gxid],
-) -> Mem<()>
-    ensures { OnOk result (text.new.items ≡ text.old.items ++ by_text script.now names.now by ++ counted (codes "takes a snapshot of what has committed below transaction ") least.0 ++ of.unseen_text script.now names.now running.now) }
-{
-    push_by(text, script, names, by)?;
-    push_counted(
-        text,
-        b"takes a snapshot of what has committed below transaction ",
-        least.0 as usize,
-    )?;
-    push_unseen(text, script, names, running)
-}
-
-fn push_wrote(
-    text: &mut Vec<u8>,
-    script: &Script,
-    names: &Names,
-    by: By,
-    node: Node,
-    rid: Rid,
-    image: &Option<Row>,
-) -> Mem<()>
-    ensures { OnOk result (text.new.items ≡ text.old.items ++ of.deed_text script.now names.now (Wrote by node rid image.now)) }
-{
-    push_by(text, script, names, by)?;
-    push_bytes(text, b"writes ")?;
-    push_row(text, script, names, rid)?;
-    push_bytes(text, b" at ")?;
-    push_node(text, node)?;
-    push_bytes(text, b": ")?;
-    push_image(text, image)
-}
-
-fn push_of_row(
-    text: &mut Vec<u8>,
-    script: &Script,
-    names: &Names,
-    by: By,
-    before: &[u8],
-    rid: Rid,
-    behind: &[u8],
-) -> Mem<()>
-    ensures { OnOk result (text.new.items ≡ text.old.items ++ by_text script.now names.now by ++ before.now ++ row_text script.now names.now rid ++ behind.now) }
-{
-    push_by(text, script, names, by)?;
-    push_bytes(text, before)?;
-    push_row(text, script, names, rid)?;
-    push_bytes(text, behind)
-}
-
 fn push_claimed(text: &mut Vec<u8>, script: &Script, names: &Names, claimed: &Claimed) -> Mem<()>
     ensures { OnOk result (text.new.items ≡ text.old.items ++ of.claimed_text script.now names.now claimed.now) }
 {
@@ -197,7 +84,12 @@ fn push_claimed(text: &mut Vec<u8>, script: &Script, names: &Names, claimed: &Cl
     push_bytes(text, b")")
 }
 
-fn push_whom(text: &mut Vec<u8>, script: &Script, names: &Names, whom: &[Claimed]) -> Mem<()>
+pub(crate) fn push_whom(
+    text: &mut Vec<u8>,
+    script: &Script,
+    names: &Names,
+    whom: &[Claimed],
+) -> Mem<()>
     ensures { OnOk result (text.new.items ≡ text.old.items ++ flat_map (of.claimed_text script.now names.now) whom.now) }
 {
     for claimed in whom {
@@ -207,7 +99,7 @@ fn push_whom(text: &mut Vec<u8>, script: &Script, names: &Names, whom: &[Claimed
 }
 
 fn push_over_row(text: &mut Vec<u8>, script: &Script, names: &Names, row: Option<Rid>) -> Mem<()>
-    ensures { OnOk result (text.new.items ≡ text.old.items ++ of.over_row script.now names.now row) }
+    ensures { OnOk result (text.new.items ≡ text.old.items ++ of.over_text script.now names.now (told.over_row row)) }
 {
     match row {
         Some(rid) => {
@@ -218,107 +110,43 @@ fn push_over_row(text: &mut Vec<u8>, script: &Script, names: &Names, row: Option
     }
 }
 
-fn push_table_behind(text: &mut Vec<u8>, script: &Script, before: &[u8], table: Table) -> Mem<()>
-    ensures { OnOk result (text.new.items ≡ text.old.items ++ before.now ++ table_name script.now table) }
-{
-    push_bytes(text, before)?;
-    push_table(text, script, table)
-}
-
 fn push_over(
     text: &mut Vec<u8>,
     script: &Script,
     names: &Names,
+    claims: &[Claimed],
+    gxid: Gxid,
     object: Object,
-    row: Option<Rid>,
 ) -> Mem<()>
-    ensures { OnOk result (text.new.items ≡ text.old.items ++ of.over_text script.now names.now object row) }
+    ensures { OnOk result (text.new.items ≡ text.old.items ++ of.over_text script.now names.now (told.over claims.now gxid object)) }
 {
     match object {
-        Object::Relation(table) => push_table_behind(text, script, b", over table ", table),
-        _ => push_over_row(text, script, names, row),
+        Object::Relation(table) => {
+            push_bytes(text, b", over table ")?;
+            push_table(text, script, table)
+        }
+        Object::Tuple(rid) => push_over_row(text, script, names, Some(rid)),
+        Object::Transaction(_) => push_over_row(text, script, names, row_locked(claims, gxid)),
     }
 }
 
-fn push_waited(
-    text: &mut Vec<u8>,
-    script: &Script,
-    names: &Names,
-    by: By,
-    node: Node,
-    object: Object,
-    row: Option<Rid>,
-    whom: &[Claimed],
-) -> Mem<()>
-    ensures { OnOk result (text.new.items ≡ text.old.items ++ by_text script.now names.now by ++ codes "waits at " ++ node_text node ++ of.over_text script.now names.now object row ++ flat_map (of.claimed_text script.now names.now) whom.now) }
-{
-    push_by(text, script, names, by)?;
-    push_bytes(text, b"waits at ")?;
-    push_node(text, node)?;
-    push_over(text, script, names, object, row)?;
-    push_whom(text, script, names, whom)
-}
-
-fn push_at_node(text: &mut Vec<u8>, node: Node) -> Mem<()>
-    ensures { OnOk result (text.new.items ≡ text.old.items ++ of.at_node node) }
-{
-    push_bytes(text, b", at ")?;
-    push_node(text, node)
-}
-
-fn push_nodes(text: &mut Vec<u8>, nodes: &[Node]) -> Mem<()>
-    ensures { OnOk result (text.new.items ≡ text.old.items ++ flat_map of.at_node nodes.now) }
-{
-    for node in nodes {
-        push_at_node(text, *node)?;
-    }
-    Ok(())
-}
-
-fn push_phases(text: &mut Vec<u8>, nodes: &[Node], decided: bool) -> Mem<()>
-    ensures { OnOk result (text.new.items ≡ text.old.items ++ of.phases_text nodes.now decided) }
-{
-    if decided {
-        push_bytes(text, b"commits in two phases")
-    } else if nodes.is_empty() {
-        push_bytes(text, b"commits, with nothing written")
-    } else {
-        push_bytes(text, b"commits in one phase")
-    }
-}
-
-fn push_committed(
-    text: &mut Vec<u8>,
-    script: &Script,
-    names: &Names,
-    by: By,
-    nodes: &[Node],
-    decided: bool,
-) -> Mem<()>
-    ensures { OnOk result (text.new.items ≡ text.old.items ++ by_text script.now names.now by ++ of.phases_text nodes.now decided ++ flat_map of.at_node nodes.now) }
-{
-    push_by(text, script, names, by)?;
-    push_phases(text, nodes, decided)?;
-    push_nodes(text, nodes)
-}
-
-fn push_edge(text: &mut Vec<u8>, script: &Script, names: &Names, reported: &Reported) -> Mem<()>
-    ensures { OnOk result (text.new.items ≡ text.old.items ++ of.edge_text script.now names.now reported.now) }
+fn push_edge(text: &mut Vec<u8>, script: &Script, names: &Names, placed: &PlacedEdge) -> Mem<()>
+    ensures { OnOk result (text.new.items ≡ text.old.items ++ of.edge_text script.now names.now placed.now) }
 {
     push_bytes(text, b" (")?;
-    push_who(text, script, names, reported.edge.waiter)?;
+    push_who(text, script, names, placed.edge.waiter)?;
     push_bytes(text, b" waits for ")?;
-    push_who(text, script, names, reported.edge.holder)?;
+    push_who(text, script, names, placed.edge.holder)?;
     push_bytes(text, b" at ")?;
-    push_node(text, reported.node)?;
+    push_node(text, placed.node)?;
     push_bytes(text, b")")
 }
 
-fn push_edges(text: &mut Vec<u8>, script: &Script, names: &Names, edges: &[Reported]) -> Mem<()>
+fn push_edges(text: &mut Vec<u8>, script: &Script, names: &Names, edges: &[PlacedEdge]) -> Mem<()>
     ensures { OnOk result (text.new.items ≡ text.old.items ++ flat_map (of.edge_text script.now names.now) edges.now) }
 {
-    for reported in edges {
-        push_edge(text, script, names, reported)?;
+    for placed in edges {
+        push_edge(text, script, names, placed)?;
     }
     Ok(())
 }
@@ -339,183 +167,542 @@ fn push_verdict(text: &mut Vec<u8>, script: &Script, names: &Names, verdict: &Ve
     }
 }
 
+fn push_about(text: &mut Vec<u8>, script: &Script, names: &Names, gxid: Option<Gxid>) -> Mem<()>
+    ensures { OnOk result (text.new.items ≡ text.old.items ++ of.about_text script.now names.now gxid) }
+{
+    match gxid {
+        Some(gxid) => {
+            push_bytes(text, b" about ")?;
+            push_who(text, script, names, gxid)
+        }
+        None => push_bytes(text, b" for the round"),
+    }
+}
+
+// LINES OF A TRANSACTION
+fn push_words(
+    text: &mut Vec<u8>,
+    script: &Script,
+    names: &Names,
+    known: &Known,
+    at: usize,
+    gxid: Gxid,
+    words: &[u8],
+) -> Mem<()>
+    ensures { OnOk result (text.new.items ≡ text.old.items ++ of.line_behind at (of.by_text script.now names.now (told.by names.now (now_of known.now) gxid) ++ words.now)) }
+{
+    push_by(text, script, names, known, at, gxid)?;
+    push_bytes(text, words)?;
+    push_bytes(text, b"\n")
+}
+
+fn push_at_node(
+    text: &mut Vec<u8>,
+    script: &Script,
+    names: &Names,
+    known: &Known,
+    at: usize,
+    gxid: Gxid,
+    words: &[u8],
+    node: Node,
+) -> Mem<()>
+    ensures { OnOk result (text.new.items ≡ text.old.items ++ of.line_behind at (of.by_text script.now names.now (told.by names.now (now_of known.now) gxid) ++ words.now ++ node_text node)) }
+{
+    push_by(text, script, names, known, at, gxid)?;
+    push_bytes(text, words)?;
+    push_node(text, node)?;
+    push_bytes(text, b"\n")
+}
+
+fn push_at_row(
+    text: &mut Vec<u8>,
+    script: &Script,
+    names: &Names,
+    known: &Known,
+    at: usize,
+    gxid: Gxid,
+    words: &[u8],
+    rid: Rid,
+) -> Mem<()>
+    ensures { OnOk result (text.new.items ≡ text.old.items ++ of.line_behind at (of.by_text script.now names.now (told.by names.now (now_of known.now) gxid) ++ words.now ++ row_text script.now names.now rid)) }
+{
+    push_by(text, script, names, known, at, gxid)?;
+    push_bytes(text, words)?;
+    push_row(text, script, names, rid)?;
+    push_bytes(text, b"\n")
+}
+
+fn push_began(
+    text: &mut Vec<u8>,
+    script: &Script,
+    names: &Names,
+    known: &Known,
+    at: usize,
+    gxid: Gxid,
+) -> Mem<()>
+    ensures { OnOk result (text.new.items ≡ text.old.items ++ of.line_behind at (of.began_text script.now names.now (told.by names.now (now_of known.now) gxid))) }
+{
+    push_by(text, script, names, known, at, gxid)?;
+    push_counted(text, b"begins transaction ", u128::from(gxid.0))?;
+    push_bytes(text, b"\n")
+}
+
+fn push_snapped(
+    text: &mut Vec<u8>,
+    script: &Script,
+    names: &Names,
+    known: &Known,
+    at: usize,
+    gxid: Gxid,
+    snapshot: &Snapshot,
+) -> Mem<()>
+    ensures { OnOk result (text.new.items ≡ text.old.items ++ of.line_behind at (of.snapped_text script.now names.now (told.by names.now (now_of known.now) gxid) snapshot.now)) }
+{
+    push_by(text, script, names, known, at, gxid)?;
+    push_counted(
+        text,
+        b"takes a snapshot of what has committed below transaction ",
+        u128::from(snapshot.xmax.0),
+    )?;
+    push_bytes(text, b", beside")?;
+    push_all(text, script, names, snapshot.running.get().as_slice())?;
+    push_bytes(text, b"\n")
+}
+
+fn push_wrote(
+    text: &mut Vec<u8>,
+    script: &Script,
+    names: &Names,
+    known: &Known,
+    at: usize,
+    gxid: Gxid,
+    node: Node,
+    rid: Rid,
+    image: &Option<Row>,
+) -> Mem<()>
+    ensures { OnOk result (text.new.items ≡ text.old.items ++ of.line_behind at (of.wrote_text script.now names.now (told.by names.now (now_of known.now) gxid) node rid image.now)) }
+{
+    push_by(text, script, names, known, at, gxid)?;
+    push_bytes(text, b"writes ")?;
+    push_row(text, script, names, rid)?;
+    push_bytes(text, b" at ")?;
+    push_node(text, node)?;
+    push_bytes(text, b": ")?;
+    push_image(text, image)?;
+    push_bytes(text, b"\n")
+}
+
+fn push_waited(
+    alloc: Global,
+    text: &mut Vec<u8>,
+    script: &Script,
+    names: &Names,
+    known: &Known,
+    at: usize,
+    node: Node,
+    claim: Claim,
+) -> Mem<()>
+    ensures { OnOk result (text.new.items ≡ text.old.items ++ of.line_behind at (of.waited_text script.now names.now (told.by names.now (now_of known.now) claim.gxid) node (told.over (standing (now_of known.now) node) claim.gxid claim.object) (whom_of (now_of known.now) node claim))) }
+{
+    let claims = claims_at(known, node);
+    let whom = in_the_way(alloc, claims, &claim)?;
+    push_by(text, script, names, known, at, claim.gxid)?;
+    push_bytes(text, b"waits at ")?;
+    push_node(text, node)?;
+    push_over(text, script, names, claims, claim.gxid, claim.object)?;
+    push_whom(text, script, names, whom.as_slice())?;
+    push_bytes(text, b"\n")
+}
+
+fn phases(decided: bool, wrote: bool) -> &'static [u8]
+    ensures { result.now ≡ of.phases decided wrote }
+{
+    if decided {
+        b"commits in two phases"
+    } else if wrote {
+        b"commits in one phase"
+    } else {
+        b"commits, with nothing written"
+    }
+}
+
+fn push_committed(
+    text: &mut Vec<u8>,
+    script: &Script,
+    names: &Names,
+    known: &Known,
+    at: usize,
+    gxid: Gxid,
+) -> Mem<()>
+    ensures { OnOk result (text.new.items ≡ text.old.items ++ of.line_of script.now names.now at (told.what_of names.now (now_of known.now) (mark.Commit gxid))) }
+{
+    let words = match desk_of(known, session_of(names, gxid)) {
+        Some(desk) => phases(desk.decided, desk.wrote),
+        None => phases(false, false),
+    };
+    push_words(text, script, names, known, at, gxid, words)
+}
+
+// OTHER LINES
 fn push_judged(
     text: &mut Vec<u8>,
     script: &Script,
     names: &Names,
+    at: usize,
     round: u64,
-    edges: &[Reported],
+    edges: &[PlacedEdge],
     verdict: &Verdict,
 ) -> Mem<()>
-    ensures { OnOk result (text.new.items ≡ text.old.items ++ counted (codes "round ") round ++ flat_map (of.edge_text script.now names.now) edges.now ++ of.verdict_text script.now names.now verdict.now) }
+    ensures { OnOk result (text.new.items ≡ text.old.items ++ of.line_behind at (of.judged_text script.now names.now round edges.now verdict.now)) }
 {
-    push_counted(text, b"round ", round as usize)?;
+    push_start(text, at)?;
+    push_counted(text, b"round ", u128::from(round))?;
     push_edges(text, script, names, edges)?;
-    push_verdict(text, script, names, verdict)
+    push_verdict(text, script, names, verdict)?;
+    push_bytes(text, b"\n")
 }
 
-fn push_faulty(text: &mut Vec<u8>, from: Node, to: Node, message: &Txt, repeat: bool) -> Mem<()>
-    ensures { OnOk result (text.new.items ≡ text.old.items ++ node_text from ++ codes "  its message '" ++ message.now ++ codes "' to " ++ node_text to ++ of.fault_text repeat) }
+fn push_plain(text: &mut Vec<u8>, at: usize, words: &[u8]) -> Mem<()>
+    ensures { OnOk result (text.new.items ≡ text.old.items ++ of.line_behind at words.now) }
 {
+    push_start(text, at)?;
+    push_bytes(text, words)?;
+    push_bytes(text, b"\n")
+}
+
+fn push_started(
+    alloc: Global,
+    text: &mut Vec<u8>,
+    script: &Script,
+    names: &Names,
+    at: usize,
+    session: SessionId,
+    number: usize,
+) -> Mem<()>
+    ensures { OnOk result (text.new.items ≡ text.old.items ++ of.line_of script.now names.now at (Some (told.Started session number))) }
+{
+    push_start(text, at)?;
+    push_statement(text, script, session, number)?;
+    push_stmt(alloc, text, script, line_at(script, names, session, number))?;
+    push_bytes(text, b"\n")
+}
+
+fn push_stmt(alloc: Global, text: &mut Vec<u8>, script: &Script, line: Option<&Line>) -> Mem<()>
+    ensures { OnOk result (text.new.items ≡ text.old.items ++ of.line_text script.now (option_copied line)) }
+{
+    match line {
+        Some(line) => {
+            let printed = print_stmt(alloc, script.tables.as_slice(), &line.stmt)?;
+            push_bytes(text, printed.as_slice())
+        }
+        None => Ok(()),
+    }
+}
+
+fn push_left(text: &mut Vec<u8>, script: &Script, at: usize, session: SessionId) -> Mem<()>
+    ensures { OnOk result (text.new.items ≡ text.old.items ++ of.line_behind at (of.left_text script.now session)) }
+{
+    push_start(text, at)?;
+    push_session(text, script, session)?;
+    push_bytes(text, b"  has no line left, and its block is rolled back")?;
+    push_bytes(text, b"\n")
+}
+
+fn push_again(
+    text: &mut Vec<u8>,
+    script: &Script,
+    names: &Names,
+    at: usize,
+    segment: Node,
+    gxid: Option<Gxid>,
+) -> Mem<()>
+    ensures { OnOk result (text.new.items ≡ text.old.items ++ of.line_of script.now names.now at (Some (told.SentAgain segment gxid))) }
+{
+    push_start(text, at)?;
+    push_bytes(text, b"sent again to ")?;
+    push_node(text, segment)?;
+    push_about(text, script, names, gxid)?;
+    push_bytes(text, b"\n")
+}
+
+fn push_fault(
+    text: &mut Vec<u8>,
+    at: usize,
+    from: Node,
+    to: Node,
+    message: &Txt,
+    fault: LinkFault,
+) -> Mem<()>
+    ensures { OnOk result (text.new.items ≡ text.old.items ++ of.line_behind at (of.faulty_text from to message.now fault)) }
+{
+    push_start(text, at)?;
     push_node(text, from)?;
     push_bytes(text, b"  its message '")?;
     push_bytes(text, message.as_slice())?;
     push_bytes(text, b"' to ")?;
     push_node(text, to)?;
-    if repeat {
-        push_bytes(text, b" will come twice")
+    if fault.repeat {
+        push_bytes(text, b" will come twice")?;
     } else {
-        push_bytes(text, b" is lost")
+        push_bytes(text, b" is lost")?;
     }
+    push_bytes(text, b"\n")
 }
 
-fn push_by_at(
+fn is_faulty(from: Node, to: Node, number: u64, fault: &LinkFault) -> bool
+    ensures { result ≡ told.is_faulty from to number fault.now }
+{
+    fault.number == number
+        && if fault.to_segment {
+            fault.segment == to && from == Node(0)
+        } else {
+            fault.segment == from && to == Node(0)
+        }
+}
+
+fn fault_of(script: &Script, from: Node, to: Node, number: u64) -> Option<LinkFault>
+    ensures { result ≡ find (told.is_faulty from to number) script.now.faults }
+{
+    for fault in script.faults.as_slice() {
+        if is_faulty(from, to, number, fault) {
+            return Some(*fault);
+        }
+    }
+    None
+}
+
+fn push_sent(
     text: &mut Vec<u8>,
     script: &Script,
     names: &Names,
-    by: By,
-    before: &[u8],
-    node: Node,
-    behind: &[u8],
+    at: usize,
+    from: Node,
+    to: Node,
+    number: u64,
+    message: &Txt,
 ) -> Mem<()>
-    ensures { OnOk result (text.new.items ≡ text.old.items ++ by_text script.now names.now by ++ before.now ++ node_text node ++ behind.now) }
+    ensures { OnOk result (text.new.items ≡ text.old.items ++ of.line_of script.now names.now at (told.faulty from to message.now (find (told.is_faulty from to number) script.now.faults))) }
 {
-    push_by(text, script, names, by)?;
-    push_bytes(text, before)?;
-    push_node(text, node)?;
-    push_bytes(text, behind)
+    match fault_of(script, from, to, number) {
+        Some(fault) => push_fault(text, at, from, to, message, fault),
+        None => Ok(()),
+    }
 }
 
-fn push_plain(text: &mut Vec<u8>, script: &Script, names: &Names, by: By, words: &[u8]) -> Mem<()>
-    ensures { OnOk result (text.new.items ≡ text.old.items ++ by_text script.now names.now by ++ words.now) }
+fn push_said(
+    text: &mut Vec<u8>,
+    script: &Script,
+    names: &Names,
+    said: Option<&SeenAnswer>,
+) -> Mem<()>
+    ensures { OnOk result (text.new.items ≡ text.old.items ++ said_text script.now names.now (option_copied said)) }
 {
-    push_by(text, script, names, by)?;
-    push_bytes(text, words)
+    match said {
+        Some(said) => push_answer(text, script, names, &said.answer),
+        None => Ok(()),
+    }
 }
 
-fn push_began(text: &mut Vec<u8>, script: &Script, names: &Names, by: By) -> Mem<()>
-    ensures { OnOk result (text.new.items ≡ text.old.items ++ by_text script.now names.now by ++ counted (codes "begins transaction ") by.gxid.0) }
+fn push_answered(
+    text: &mut Vec<u8>,
+    script: &Script,
+    names: &Names,
+    at: usize,
+    session: SessionId,
+    number: u32,
+    said: Option<&SeenAnswer>,
+) -> Mem<()>
+    ensures { OnOk result (text.new.items ≡ text.old.items ++ of.line_behind at (statement script.now session number ++ said_text script.now names.now (option_copied said))) }
 {
-    push_by(text, script, names, by)?;
-    push_counted(text, b"begins transaction ", by.gxid.0 as usize)
+    push_start(text, at)?;
+    push_statement(text, script, session, number as usize)?;
+    push_said(text, script, names, said)?;
+    push_bytes(text, b"\n")
 }
 
-fn push_what(
+// EACH
+/// Adds the line of an event, by what stands behind it.
+pub(crate) fn push_event(
+    alloc: Global,
+    text: &mut Vec<u8>,
+    script: &Script,
+    names: &Names,
+    known: &Known,
+    at: usize,
+    event: Event,
+) -> Mem<()>
+    ensures { OnOk result (text.new.items ≡ text.old.items ++ of.line_of script.now names.now at (told.what_happened names.now (now_of known.now) event)) }
+{
+    match event {
+        Event::Receive { .. } => Ok(()),
+        Event::Resume { node, gxid } => {
+            push_at_node(text, script, names, known, at, gxid, b"goes on at ", node)
+        }
+        Event::Start(session) => push_started(
+            alloc,
+            text,
+            script,
+            names,
+            at,
+            session,
+            lines_of(known, session),
+        ),
+        Event::End(session) => push_left(text, script, at, session),
+        Event::Resend { segment, gxid } => push_again(text, script, names, at, segment, gxid),
+        Event::Round => push_plain(text, at, b"a round begins"),
+    }
+}
+
+fn lines_of(known: &Known, session: SessionId) -> usize
+    ensures { result ≡ length (desk_at (now_of known.now) session).starts }
+{
+    match desk_of(known, Some(session)) {
+        Some(desk) => desk.starts.len(),
+        None => 0,
+    }
+}
+
+/// Adds the line of a mark of an event at a node, by what stands behind it.
+pub(crate) fn push_mark(
+    alloc: Global,
     text: &mut Vec<u8>,
     script: &Script,
     seen: &Seen,
     names: &Names,
-    told: &Told,
+    known: &Known,
+    at: usize,
+    node: Node,
+    mark: &SeenMark,
 ) -> Mem<()>
-    ensures { OnOk result (text.new.items ≡ text.old.items ++ of.what_text script.now seen.now names.now told.now.at told.now.what) }
+    ensures { OnOk result (text.new.items ≡ text.old.items ++ of.line_of script.now names.now at (told.what_made script.now seen.now names.now node (now_of known.now) mark.now)) }
 {
-    match &told.what {
-        What::Started(session, number) => { push_started(text, script, names, *session, *number) }
-        What::Left(session) => push_left(text, script, *session),
-        What::WentOn(by, node, since) => {
-            push_went_on(text, script, names, told.at, *by, *node, *since)
-        }
-        What::SentAgain(segment, gxid) => push_again(text, script, names, *segment, *gxid),
-        What::RoundBegan => push_bytes(text, b"a round begins"),
-        What::Answered(session, number, _, _) => {
-            push_answered(text, script, seen, names, *session, *number)
-        }
-        What::Faulty(from, to, message, repeat) => {
-            push_faulty(text, *from, *to, message, *repeat)
-        }
-        What::Judged(round, edges, verdict) => {
-            push_judged(text, script, names, *round, edges.as_slice(), verdict)
-        }
-        what => push_deed(text, script, names, what),
+    match mark {
+        SeenMark::Whole(mark) => push_whole(alloc, text, script, names, known, at, mark),
+        SeenMark::Sent {
+            to,
+            number,
+            message,
+        } => push_sent(text, script, names, at, node, *to, *number, message),
+        SeenMark::Answer { session, number } => push_answered(
+            text,
+            script,
+            names,
+            at,
+            *session,
+            *number,
+            answer_at(seen, names, *session, *number),
+        ),
     }
 }
 
-fn push_deed(text: &mut Vec<u8>, script: &Script, names: &Names, what: &What) -> Mem<()>
-    ensures { OnOk result (text.new.items ≡ text.old.items ++ of.deed_text script.now names.now what.now) }
+fn push_whole(
+    alloc: Global,
+    text: &mut Vec<u8>,
+    script: &Script,
+    names: &Names,
+    known: &Known,
+    at: usize,
+    mark: &Mark,
+) -> Mem<()>
+    ensures { OnOk result (text.new.items ≡ text.old.items ++ of.line_of script.now names.now at (told.what_of names.now (now_of known.now) mark.now)) }
 {
-    match what {
-        What::Began(by) => push_began(text, script, names, *by),
-        What::Snapped(by, least, running) => {
-            push_snapped(text, script, names, *by, *least, running.as_slice())
+    match mark {
+        Mark::Start { gxid, .. } => push_began(text, script, names, known, at, *gxid),
+        Mark::Snap { gxid, snapshot, .. } => {
+            push_snapped(text, script, names, known, at, *gxid, snapshot)
         }
-        What::Wrote(by, node, rid, image) => {
-            push_wrote(text, script, names, *by, *node, *rid, image)
-        }
-        What::Skipped(by, rid) => push_of_row(
+        Mark::Write {
+            gxid,
+            node,
+            rid,
+            image,
+            ..
+        } => push_wrote(text, script, names, known, at, *gxid, *node, *rid, image),
+        Mark::Skip { gxid, rid, .. } => push_at_row(
             text,
             script,
             names,
-            *by,
-            b"looks again at ",
+            known,
+            at,
+            *gxid,
+            b"looks again, and leaves alone ",
             *rid,
-            b", and leaves it alone",
         ),
-        What::Faulted(by, rid) => push_of_row(
+        Mark::Fault { gxid, rid, .. } => push_at_row(
             text,
             script,
             names,
-            *by,
+            known,
+            at,
+            *gxid,
             b"fails to compute at ",
             *rid,
-            b"",
         ),
-        What::Waited(by, node, object, row, whom) => push_waited(
+        Mark::Prepared { node, gxid } => push_at_node(
             text,
             script,
             names,
-            *by,
+            known,
+            at,
+            *gxid,
+            b"may commit, promises ",
             *node,
-            *object,
-            *row,
-            whom.as_slice(),
         ),
-        What::Committed(by, nodes, decided) => {
-            push_committed(text, script, names, *by, nodes.as_slice(), *decided)
-        }
-        what => push_end(text, script, names, what),
-    }
-}
-
-fn push_end(text: &mut Vec<u8>, script: &Script, names: &Names, what: &What) -> Mem<()>
-    ensures { OnOk result (text.new.items ≡ text.old.items ++ of.end_text script.now names.now what.now) }
-{
-    match what {
-        What::Promised(by, node) => {
-            push_by_at(text, script, names, *by, b"", *node, b" promises to commit")
-        }
-        What::Decided(by) => push_plain(
+        Mark::Decided { gxid } => push_words(
             text,
             script,
             names,
-            *by,
+            known,
+            at,
+            *gxid,
             b"is to commit, since all who wrote have promised",
         ),
-        What::Aborted(by) => push_plain(text, script, names, *by, b"aborts"),
-        What::JournalFailed(by, node) => push_by_at(
+        Mark::LocalCommit { node, gxid } => push_at_node(
             text,
             script,
             names,
-            *by,
-            b"the journal of ",
+            known,
+            at,
+            *gxid,
+            b"is committed at ",
             *node,
-            b" fails",
+        ),
+        Mark::Commit { gxid } => push_committed(text, script, names, known, at, *gxid),
+        Mark::Abort { gxid } => push_words(text, script, names, known, at, *gxid, b"aborts"),
+        Mark::JournalFailed { node, gxid } => push_at_node(
+            text,
+            script,
+            names,
+            known,
+            at,
+            *gxid,
+            b"finds a failed journal at ",
+            *node,
+        ),
+        Mark::Wait {
+            node,
+            gxid,
+            object,
+            mode,
+        } => push_waited(
+            alloc,
+            text,
+            script,
+            names,
+            known,
+            at,
+            *node,
+            claim_of(*gxid, *object, *mode),
+        ),
+        Mark::Recheck { round, verdict, .. } => push_judged(
+            text,
+            script,
+            names,
+            at,
+            *round,
+            known.edges.as_slice(),
+            verdict,
         ),
         _ => Ok(()),
     }
-}
-
-/// The line of a told thing.
-pub(crate) fn push_line(
-    text: &mut Vec<u8>,
-    script: &Script,
-    seen: &Seen,
-    names: &Names,
-    told: &Told,
-) -> Mem<()>
-    ensures { OnOk result (text.new.items ≡ text.old.items ++ of.told_line script.now seen.now names.now told.now) }
-{
-    push_count(text, told.at as u128 + 1)?;
-    push_bytes(text, b"  ")?;
-    push_what(text, script, seen, names, told)?;
-    push_bytes(text, b"\n")
 }

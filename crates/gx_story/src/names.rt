@@ -3,15 +3,15 @@ ghost use Rattle.std.specs.Prelude.{◌≡◌, ◌++◌, ◌∷◌, [], ℕ, nat
 ghost use Rattle.std.specs.Option.{option_copied};
 ghost use Rattle.gx_ids.specs.declared.ids.Gxid.{Gxid as OneGxid};
 ghost use Rattle.gx_ids.specs.declared.rid.Rid.{Rid as OneRid};
-ghost use Rattle.gx_story.specs.Answers as answers;
+ghost use Rattle.gx_trace.specs.declared.seen.SeenMark.TheVariants.{Whole};
 ghost use Rattle.gx_story.specs.Names as of;
 ghost use Rattle.gx_story.specs.Naming.{session_of as session_in};
 
 use gx_ids::{Duplicate, Gxid, Mem, Rid, Seq, SessionId, Table};
 use gx_script::{Line, Script};
 use gx_store::Mark;
-use gx_trace::{Seen, SeenAnswer, SeenMark};
-use gx_tree::{Row, Txt};
+use gx_trace::{Seen, SeenAnswer, SeenMark, SeenStep};
+use gx_tree::Row;
 use std::alloc::Global;
 use std::collections::BTreeMap;
 
@@ -22,16 +22,20 @@ pub struct Named {
     pub row: Row,
 }
 
-/// Whose the transactions are, in the order in which they began; each row as it was first written; the event at which a transaction committed;
-/// the places of each session's lines in the script, and of its answers; and the texts of the script's lines.
+/// Whose the transactions are, in the order in which they began; each row as it was first written; and the event at which a transaction committed.
 #[derive(Drop)]
-pub struct Names {
+pub struct Called {
     pub begun: Vec<SessionId>,
     pub rows: BTreeMap<Rid, Named>,
     pub commits: BTreeMap<Gxid, usize>,
+}
+
+/// What is called how; and the places of each session's lines in the script, and of its answers.
+#[derive(Drop)]
+pub struct Names {
+    pub called: Called,
     pub lines: Vec<Seq<usize>>,
     pub answers: Vec<Seq<usize>>,
-    pub texts: Vec<Txt>,
 }
 
 fn no_places(alloc: Global) -> Mem<Vec<Seq<usize>>>
@@ -75,7 +79,7 @@ fn answer_places(alloc: Global, answers: &[SeenAnswer]) -> Mem<Vec<Seq<usize>>>
 }
 
 // Keeps a row as it is written, unless an earlier write of it is kept.
-fn name_row(
+fn keep_row(
     alloc: Global,
     rows: &mut BTreeMap<Rid, Named>,
     table: Table,
@@ -92,6 +96,21 @@ fn name_row(
     Ok(())
 }
 
+fn name_row(
+    alloc: Global,
+    rows: &mut BTreeMap<Rid, Named>,
+    table: Table,
+    rid: Rid,
+    image: &Option<Row>,
+) -> Mem<()>
+    ensures { OnOk result ((q : OneRid) → of.row_of rows.new.entries q ≡ of.or_else (of.row_of rows.old.entries q) (of.named_image rid table image.now q)) }
+{
+    match image {
+        Some(row) => keep_row(alloc, rows, table, rid, row),
+        None => Ok(()),
+    }
+}
+
 // Keeps where a transaction commits, unless it has before.
 fn note_commit(commits: &mut BTreeMap<Gxid, usize>, gxid: Gxid, at: usize) -> Mem<()>
     ensures { OnOk result ((q : OneGxid) → of.commit_of commits.new.entries q ≡ of.or_else (of.commit_of commits.old.entries q) (of.committed_as gxid at q)) }
@@ -103,62 +122,77 @@ fn note_commit(commits: &mut BTreeMap<Gxid, usize>, gxid: Gxid, at: usize) -> Me
     Ok(())
 }
 
-fn note_name(alloc: Global, names: &mut Names, at: usize, mark: &SeenMark) -> Mem<()>
-    ensures { OnOk result (of.IsNamedBy names.old names.new at (mark.now ∷ [])) }
+fn note_whole(alloc: Global, called: &mut Called, at: usize, mark: &Mark) -> Mem<()>
+    ensures { OnOk result (of.IsCalledBy called.old called.new at (Whole mark.now ∷ [])) }
 {
     match mark {
-        SeenMark::Whole(Mark::Start { session, .. }) => {
-            names.begun.push(*session)?;
+        Mark::Start { session, .. } => {
+            called.begun.push(*session)?;
             Ok(())
         }
-        SeenMark::Whole(Mark::Commit { gxid }) => note_commit(&mut names.commits, *gxid, at),
-        SeenMark::Whole(
-            Mark::Write {
-                table,
-                rid,
-                image: Some(row),
-                ..
-            },
-        ) => name_row(alloc, &mut names.rows, *table, *rid, row),
+        Mark::Commit { gxid } => note_commit(&mut called.commits, *gxid, at),
+        Mark::Write {
+            table,
+            rid,
+            image,
+            ..
+        } => name_row(alloc, &mut called.rows, *table, *rid, image),
         _ => Ok(()),
     }
 }
 
-fn note_names(alloc: Global, names: &mut Names, at: usize, marks: &[SeenMark]) -> Mem<()>
-    ensures { OnOk result (of.IsNamedBy names.old names.new at marks.now) }
+fn note_name(alloc: Global, called: &mut Called, at: usize, mark: &SeenMark) -> Mem<()>
+    ensures { OnOk result (of.IsCalledBy called.old called.new at (mark.now ∷ [])) }
+{
+    match mark {
+        SeenMark::Whole(mark) => note_whole(alloc, called, at, mark),
+        _ => Ok(()),
+    }
+}
+
+fn note_names(alloc: Global, called: &mut Called, at: usize, marks: &[SeenMark]) -> Mem<()>
+    ensures { OnOk result (of.IsCalledBy called.old called.new at marks.now) }
 {
     for mark in marks {
-        note_name(alloc, names, at, mark)?;
+        note_name(alloc, called, at, mark)?;
     }
     Ok(())
 }
 
-/// The names of what was seen of a script.
-#[tactic(auto, using(crate::proofs::NamedBy::none_named))]
-pub fn names_of(alloc: Global, script: &Script, seen: &Seen, texts: Vec<Txt>) -> Mem<Names>
-    ensures { IfOk result (of.AreNames script.now seen.now texts.items) }
+fn called_by(alloc: Global, steps: &[SeenStep]) -> Mem<Called>
+    ensures { IfOk result (λ called. of.AreCalled steps.now called) }
 {
-    let lines = line_places(alloc, script.lines.as_slice())?;
-    let answers = answer_places(alloc, seen.answers.as_slice())?;
-    let mut names = Names {
+    let mut called = Called {
         begun: Vec::new(alloc),
         rows: BTreeMap::new(alloc),
         commits: BTreeMap::new(alloc),
+    };
+    for (at, step) in steps.iter().enumerate() {
+        note_names(alloc, &mut called, at, step.marks.as_slice())?;
+    }
+    Ok(called)
+}
+
+/// The names of what was seen of a script.
+pub(crate) fn names_of(alloc: Global, script: &Script, seen: &Seen) -> Mem<Names>
+    ensures { IfOk result (λ names. of.AreNames script.now seen.now names) }
+{
+    let lines = line_places(alloc, script.lines.as_slice())?;
+    let answers = answer_places(alloc, seen.answers.as_slice())?;
+    let called = called_by(alloc, seen.steps.as_slice())?;
+    Ok(Names {
+        called,
         lines,
         answers,
-        texts,
-    };
-    for (at, step) in seen.steps.as_slice().iter().enumerate() {
-        note_names(alloc, &mut names, at, step.marks.as_slice())?;
-    }
-    Ok(names)
+    })
 }
 
 /// The session of a transaction.
-pub fn session_of(names: &Names, gxid: Gxid) -> Option<SessionId>
+pub(crate) fn session_of(names: &Names, gxid: Gxid) -> Option<SessionId>
     ensures { result ≡ session_in names.now gxid }
 {
     names
+        .called
         .begun
         .as_slice()
         .get((gxid.0 as usize).saturating_sub(1))
@@ -166,7 +200,7 @@ pub fn session_of(names: &Names, gxid: Gxid) -> Option<SessionId>
 }
 
 fn nth(places: &[Seq<usize>], session: SessionId, number: usize) -> Option<usize>
-    ensures { result ≡ answers.nth places.now session number }
+    ensures { result ≡ of.nth places.now session number }
 {
     match places.get(usize::from(session.0)) {
         Some(places) => places.as_slice().get(number.saturating_sub(1)).copied(),
@@ -174,24 +208,29 @@ fn nth(places: &[Seq<usize>], session: SessionId, number: usize) -> Option<usize
     }
 }
 
-/// The text of the line of this number of a session.
-pub fn line_at(names: &Names, session: SessionId, number: usize) -> Option<&Txt>
-    ensures { option_copied result ≡ answers.line_at names.now session number }
+/// The line of this number of a session.
+pub(crate) fn line_at<'a>(
+    script: &'a Script,
+    names: &Names,
+    session: SessionId,
+    number: usize,
+) -> Option<&'a Line>
+    ensures { option_copied result ≡ of.line_at script.now names.now session number }
 {
     match nth(names.lines.as_slice(), session, number) {
-        Some(place) => names.texts.as_slice().get(place),
+        Some(place) => script.lines.as_slice().get(place),
         None => None,
     }
 }
 
 /// The answer to the line of this number of a session.
-pub fn answer_at<'a>(
+pub(crate) fn answer_at<'a>(
     seen: &'a Seen,
     names: &Names,
     session: SessionId,
     number: u32,
 ) -> Option<&'a SeenAnswer>
-    ensures { option_copied result ≡ answers.answer_at seen.now names.now session number }
+    ensures { option_copied result ≡ of.answer_at seen.now names.now session number }
 {
     match nth(names.answers.as_slice(), session, number as usize) {
         Some(place) => seen.answers.as_slice().get(place),

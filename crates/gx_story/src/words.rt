@@ -5,18 +5,17 @@ ghost use Rattle.gx_report.specs.Words.{session_name, table_name};
 ghost use Rattle.gx_story.specs.Naming as of;
 
 use crate::names::{Named, Names, session_of};
-use crate::told::By;
 use gx_ids::{Gxid, Mem, Node, Rid, SessionId, Table};
 use gx_script::Script;
 use gx_text::{push_bytes, push_count, push_integer, push_quoted};
 use gx_tree::{Dist, Schema, Value};
 
 /// A count behind a text.
-pub(crate) fn push_counted(text: &mut Vec<u8>, before: &[u8], count: usize) -> Mem<()>
+pub(crate) fn push_counted(text: &mut Vec<u8>, before: &[u8], count: u128) -> Mem<()>
     ensures { OnOk result (text.new.items ≡ text.old.items ++ of.counted before.now count) }
 {
     push_bytes(text, before)?;
-    push_count(text, count as u128)
+    push_count(text, count)
 }
 
 /// An event of this place, numbered from 1.
@@ -41,7 +40,7 @@ pub(crate) fn push_who(text: &mut Vec<u8>, script: &Script, names: &Names, gxid:
 {
     match session_of(names, gxid) {
         Some(session) => push_session(text, script, session),
-        None => push_counted(text, b"transaction ", gxid.0 as usize),
+        None => push_counted(text, b"transaction ", u128::from(gxid.0)),
     }
 }
 
@@ -54,16 +53,7 @@ pub(crate) fn push_statement(
     ensures { OnOk result (text.new.items ≡ text.old.items ++ of.statement script.now session number) }
 {
     push_session(text, script, session)?;
-    push_counted(text, b".", number)?;
-    push_bytes(text, b"  ")
-}
-
-/// A transaction's statement.
-pub(crate) fn push_by(text: &mut Vec<u8>, script: &Script, names: &Names, by: By) -> Mem<()>
-    ensures { OnOk result (text.new.items ≡ text.old.items ++ of.by_text script.now names.now by) }
-{
-    push_who(text, script, names, by.gxid)?;
-    push_counted(text, b".", by.line)?;
+    push_counted(text, b".", number as u128)?;
     push_bytes(text, b"  ")
 }
 
@@ -73,7 +63,7 @@ pub(crate) fn push_node(text: &mut Vec<u8>, node: Node) -> Mem<()>
     if node == Node(0) {
         return push_bytes(text, b"the coordinator");
     }
-    push_counted(text, b"segment ", usize::from(node.0))
+    push_counted(text, b"segment ", u128::from(node.0))
 }
 
 pub(crate) fn push_value(text: &mut Vec<u8>, value: &Value) -> Mem<()>
@@ -98,8 +88,8 @@ fn push_rid(text: &mut Vec<u8>, rid: Rid) -> Mem<()>
     ensures { OnOk result (text.new.items ≡ text.old.items ++ rid_text rid) }
 {
     push_count(text, u128::from(rid.gxid.0))?;
-    push_counted(text, b".", rid.cid.0 as usize)?;
-    push_counted(text, b".", rid.ordinal as usize)
+    push_counted(text, b".", u128::from(rid.cid.0))?;
+    push_counted(text, b".", u128::from(rid.ordinal))
 }
 
 fn push_unnamed(text: &mut Vec<u8>, rid: Rid) -> Mem<()>
@@ -151,7 +141,7 @@ fn push_named(text: &mut Vec<u8>, schema: &Schema, rid: Rid, named: &Named) -> M
 pub(crate) fn push_row(text: &mut Vec<u8>, script: &Script, names: &Names, rid: Rid) -> Mem<()>
     ensures { OnOk result (text.new.items ≡ text.old.items ++ of.row_text script.now names.now rid) }
 {
-    match names.rows.get(&rid) {
+    match names.called.rows.get(&rid) {
         Some(named) => match script.tables.as_slice().get(usize::from(named.table.0)) {
             Some(schema) => push_named(text, schema, rid, named),
             None => push_unnamed(text, rid),

@@ -1,7 +1,8 @@
 use Rattle.std.proofs.Common.{rules}
-use Rattle.gx_story.specs.Graphs.{cancelled_line}
+use Rattle.gx_story.specs.Log.{cancelled_line}
 use Rattle.gx_report.proofs.Adding.{added-next}
 use Rattle.gx_story.proofs.graphs.push_all_cancelled.Goals as goal
 
 pub loop-gxid-preserved : goal.loop-gxid-preserved
-loop-gxid-preserved c = added-next (cancelled_line c.args.script.now c.args.names.now) c.args.gxids.now c.loop-gxid.gxid-index _ _ _ _ c.loop-gxid-test.true (search rules) c.loop-gxid.invariant c.in_ok-push_cancelled.ensures
+loop-gxid-preserved c =
+    added-next (cancelled_line c.args.script.now c.args.names.now) c.args.gxids.now c.loop-gxid.gxid-index c.gxid-item.result _ _ _ c.loop-gxid-test.true c.gxid-item.is c.loop-gxid.invariant (search rules)

@@ -1,6 +1,6 @@
 use Rattle.std.proofs.Common.{◌≡◌, ◌++◌, take}
 use Rattle.std.specs.List.{flat_map}
-use Rattle.gx_story.specs.Graphs.{cancelled_line}
+use Rattle.gx_story.specs.Log.{cancelled_line}
 use Rattle.gx_story.proofs.graphs.push_all_cancelled.Given as goal
 
 abbrev pub invariant-loop-gxid : goal.invariant-loop-gxid

@@ -3,5 +3,6 @@ use Rattle.gx_story.specs.Lines.{edge_text}
 use Rattle.gx_report.proofs.Adding.{added-next}
 use Rattle.gx_story.proofs.lines.push_edges.Goals as goal
 
-pub loop-reported-preserved : goal.loop-reported-preserved
-loop-reported-preserved c = added-next (edge_text c.args.script.now c.args.names.now) c.args.edges.now c.loop-reported.reported-index c.reported-item.result _ _ _ c.loop-reported-test.true c.reported-item.is c.loop-reported.invariant c.in_ok-push_edge.ensures
+pub loop-placed-preserved : goal.loop-placed-preserved
+loop-placed-preserved c =
+    added-next (edge_text c.args.script.now c.args.names.now) c.args.edges.now c.loop-placed.placed-index c.placed-item.result _ _ _ c.loop-placed-test.true c.placed-item.is c.loop-placed.invariant (search rules)

@@ -1,7 +1,0 @@
-use Rattle.std.proofs.Common.{rules}
-use Rattle.gx_story.specs.Log.{for_whom}
-use Rattle.gx_report.proofs.Adding.{added-next}
-use Rattle.gx_story.proofs.log.push_names_of.Goals as goal
-
-pub loop-claimed-preserved : goal.loop-claimed-preserved
-loop-claimed-preserved c = added-next (for_whom c.args.script.now c.args.names.now) c.args.whom.now c.loop-claimed.claimed-index c.claimed-item.result _ _ _ c.loop-claimed-test.true c.claimed-item.is c.loop-claimed.invariant c.in_ok-push_for.ensures

@@ -1,7 +1,0 @@
-use Rattle.std.proofs.Common.{rules}
-use Rattle.gx_story.specs.Log.{each_wait}
-use Rattle.gx_report.proofs.Adding.{added-next}
-use Rattle.gx_story.proofs.log.push_waits.Goals as goal
-
-pub loop-wait-preserved : goal.loop-wait-preserved
-loop-wait-preserved c = added-next (each_wait c.args.script.now c.args.names.now c.args.resumes.now c.args.answered) c.args.waits.now c.loop-wait.wait-index c.wait-item.result _ _ _ c.loop-wait-test.true c.wait-item.is c.loop-wait.invariant c.in_ok-push_each_wait.ensures
