@@ -15,7 +15,7 @@ use Rattle.gx_judging.specs.declared.verdicts.Verdict.TheVariants as verdict
 use Rattle.gx_check.specs.declared.attempt.Attempt.{Attempt}
 use Rattle.gx_check.specs.declared.attempt.Attempt.TheVariants.{Legal, Usage, Refused, ReadFault, TooLarge, NotATrace, NotLegal, OutOfMemory}
 use Rattle.gx_check.specs.Parts.{IsJudged, IsNoTraceAt, IsNotLegalBy, IsOfFront, IsOfParts, IsOfTrace, IsRefusal, refused_as}
-use Rattle.gx_check.specs.Splitting.{IsSplit, IsUnsplit}
+use Rattle.gx_split.specs.Splitting.{IsSplit, IsUnsplit}
 use Rattle.gx_check.specs.Top.{IsAttempt, IsOfBytes, IsRead, work}
 
 pub of_bytes : {A : Type 0} (words : List A) (left after : Option (List ℕ)) (before now : ℕ) (bytes : List ℕ) → IsRead left after bytes → now ≡ before → (a : Attempt) → IsOfBytes bytes a → IsAttempt (work words left after before now) a

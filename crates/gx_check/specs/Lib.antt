@@ -1,3 +1,2 @@
-pub mod Splitting
 pub mod Parts
 pub mod Top

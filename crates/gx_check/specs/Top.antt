@@ -15,7 +15,7 @@ use Rattle.gx_judging.specs.Verdicts.{IsVerdictOf}
 use Rattle.gx_judging.specs.declared.verdicts.Definition.{Definition}
 use Rattle.gx_judging.specs.declared.verdicts.Verdict.TheVariants as verdict
 use Rattle.gx_check.specs.Parts.{no_trace_text, not_legal_text}
-use Rattle.gx_check.specs.Splitting.{IsSplit, IsUnsplit}
+use Rattle.gx_split.specs.Splitting.{IsSplit, IsUnsplit}
 use Rattle.gx_check.specs.declared.attempt.Attempt.{Attempt}
 use Rattle.gx_check.specs.declared.attempt.Attempt.TheVariants.{Legal, Usage, Refused, ReadFault, TooLarge, NotATrace, NotLegal, OutOfMemory}
 

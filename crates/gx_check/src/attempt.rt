@@ -5,13 +5,13 @@ ghost use Rattle.gx_store.specs.Language.{IsScript};
 ghost use Rattle.gx_check.specs.Parts.{IsNoTraceAt, IsNotLegalBy, IsOfFront, IsOfParts, IsOfTrace, IsScriptOf, refused_as};
 ghost use Rattle.gx_check.specs.Top.{IsAttempt, IsOfBytes, work};
 
-use crate::splitting::split;
 use gx_ids::{Mem, OutOfMemory};
 use gx_judging::{Definition, Verdict, check};
 use gx_outside::{ReadFault, Source, read_up_to};
 use gx_read_trace::{TraceFault, read_trace};
 use gx_refusals::refusal_text;
 use gx_script::Script;
+use gx_split::split;
 use gx_sql::parse_script;
 use gx_text::{push_bytes, push_count};
 use std::alloc::Global;

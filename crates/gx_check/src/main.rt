@@ -3,7 +3,6 @@
 #![tactic(auto)]
 
 mod attempt;
-mod splitting;
 mod top;
 
 use gx_outside::{StdinSource, StdoutSink};

@@ -1,5 +1,5 @@
 -- What is called how, behind more marks, and behind one step more.
-use Rattle.std.proofs.Common.{◌≡◌, ◌<◌, ℕ, ◌+◌, Bool, true, false, ◌||◌, if◌then◌else◌, List, [], ◌∷◌, ◌++◌, length, take, get_or, Option, None, Some, refl, sym, ap, ◌∙◌, arith, append-nil, append_assoc}
+use Rattle.std.proofs.Common.{◌≡◌, ◌<◌, ℕ, ◌+◌, Bool, true, false, cond, if◌then◌else◌, List, [], ◌∷◌, ◌++◌, length, take, get_or, Option, None, Some, refl, sym, ap, ◌∙◌, arith, append-nil, append_assoc}
 use Rattle.std.proofs.lemmas.Grind.{flat_map-append}
 use Rattle.std.proofs.lemmas.List.{length-take-le, take_more}
 use Rattle.std.specs.List.{flat_map}
@@ -7,7 +7,7 @@ use Rattle.gx_ids.specs.declared.ids.Gxid.{Gxid}
 use Rattle.gx_ids.specs.declared.rid.Rid.{Rid}
 use Rattle.gx_trace.specs.declared.seen.SeenMark.{SeenMark}
 use Rattle.gx_trace.specs.declared.seen.SeenStep.{SeenStep}
-use Rattle.gx_story.specs.Names.{AreCalled, IsCalledBy, first_named, commit_among, commit_in, first_commit, marks_of, named_in, or_else, row_of, starts, commit_of}
+use Rattle.gx_story.specs.Names.{AreCalled, IsCalledBy, last_named, commit_among, commit_in, last_commit, marks_of, named_in, or_else, row_of, starts, commit_of}
 use Rattle.gx_story.specs.declared.names.Called.{Called}
 
 or_else-none : {X : Type 0} (o : Option X) → o ≡ or_else o None
@@ -18,20 +18,25 @@ or_else-assoc : {X : Type 0} (a b c : Option X) → or_else (or_else a b) c ≡ 
 or_else-assoc None b c = refl
 or_else-assoc (Some x) b c = refl
 
-first_named-append : (rid : Rid) (xs ys : List SeenMark) → first_named rid (xs ++ ys) ≡ or_else (first_named rid xs) (first_named rid ys)
-first_named-append rid [] ys = refl
-first_named-append rid (x ∷ xs) ys = ap (or_else (named_in rid x)) (first_named-append rid xs ys) ∙ sym (or_else-assoc (named_in rid x) (first_named rid xs) (first_named rid ys))
+-- at a key that is written, and at every other
+pub at_key : {X : Type 0} (b : Bool) (x : X) (old : Option X) → cond b (Some x) old ≡ or_else (if b then Some x else None) old
+at_key true x old = refl
+at_key false x old = refl
+
+last_named-append : (rid : Rid) (xs ys : List SeenMark) → last_named rid (xs ++ ys) ≡ or_else (last_named rid ys) (last_named rid xs)
+last_named-append rid [] ys = or_else-none (last_named rid ys)
+last_named-append rid (x ∷ xs) ys = ap (λ o. or_else o (named_in rid x)) (last_named-append rid xs ys) ∙ or_else-assoc (last_named rid ys) (last_named rid xs) (named_in rid x)
+
+commit_among-append : (w : Gxid) (at : ℕ) (xs ys : List SeenMark) → commit_among w at (xs ++ ys) ≡ or_else (commit_among w at ys) (commit_among w at xs)
+commit_among-append w at [] ys = or_else-none (commit_among w at ys)
+commit_among-append w at (x ∷ xs) ys = ap (λ o. or_else o (commit_in w at x)) (commit_among-append w at xs ys) ∙ or_else-assoc (commit_among w at ys) (commit_among w at xs) (commit_in w at x)
 
 pub nothing_named : (names : Called) (at : ℕ) → IsCalledBy names names at []
 nothing_named names at = record {
   begun = sym (append-nil names.begun.items);
-  rows = λ rid. or_else-none (row_of names.rows.entries rid);
-  commits = λ w. or_else-none (commit_of names.commits.entries w);
+  rows = λ rid. refl;
+  commits = λ w. refl;
 }
-
-commit_among-append : (w : Gxid) (at : ℕ) (xs ys : List SeenMark) → commit_among w at (xs ++ ys) ≡ or_else (commit_among w at xs) (commit_among w at ys)
-commit_among-append w at [] ys = refl
-commit_among-append w at (x ∷ xs) ys = ap (or_else (commit_in w at x)) (commit_among-append w at xs ys) ∙ sym (or_else-assoc (commit_in w at x) (commit_among w at xs) (commit_among w at ys))
 
 named_both : (a b c : Called) (at : ℕ) (xs ys : List SeenMark) → IsCalledBy a b at xs → IsCalledBy b c at ys → IsCalledBy a c at (xs ++ ys)
 named_both a b c at xs ys p q = record {
@@ -39,23 +44,23 @@ named_both a b c at xs ys p q = record {
       q.begun ∙ ap (λ l. l ++ flat_map starts ys) p.begun ∙ append_assoc a.begun.items (flat_map starts xs) (flat_map starts ys)
       ∙ ap (λ l. a.begun.items ++ l) (sym (flat_map-append starts xs ys));
   rows = λ rid.
-      q.rows rid ∙ ap (λ o. or_else o (first_named rid ys)) (p.rows rid) ∙ or_else-assoc (row_of a.rows.entries rid) (first_named rid xs) (first_named rid ys)
-      ∙ ap (or_else (row_of a.rows.entries rid)) (sym (first_named-append rid xs ys));
+      q.rows rid ∙ ap (or_else (last_named rid ys)) (p.rows rid) ∙ sym (or_else-assoc (last_named rid ys) (last_named rid xs) (row_of a.rows.entries rid))
+      ∙ ap (λ o. or_else o (row_of a.rows.entries rid)) (sym (last_named-append rid xs ys));
   commits = λ w.
-      q.commits w ∙ ap (λ o. or_else o (commit_among w at ys)) (p.commits w) ∙ or_else-assoc (commit_of a.commits.entries w) (commit_among w at xs) (commit_among w at ys)
-      ∙ ap (or_else (commit_of a.commits.entries w)) (sym (commit_among-append w at xs ys));
+      q.commits w ∙ ap (or_else (commit_among w at ys)) (p.commits w) ∙ sym (or_else-assoc (commit_among w at ys) (commit_among w at xs) (commit_of a.commits.entries w))
+      ∙ ap (λ o. or_else o (commit_of a.commits.entries w)) (sym (commit_among-append w at xs ys));
 }
 
 pub named-next : (a b c : Called) (at : ℕ) (marks : List SeenMark) (i : ℕ) (m : SeenMark) → i < length marks → m ≡ get_or marks i m → IsCalledBy a b at (take i marks) → IsCalledBy b c at (m ∷ []) → IsCalledBy a c at (take (i + 1) marks)
 named-next a b c at marks i m inside is p q = rw (take_more marks i m inside ∙ ap (λ y. take i marks ++ y ∷ []) (sym is)) (named_both a b c at (take i marks) (m ∷ []) p q)
 
 -- STEPS
-first_commit-last : (w : Gxid) (at : ℕ) (ss : List SeenStep) (s : SeenStep) → first_commit w at (ss ++ s ∷ []) ≡ or_else (first_commit w at ss) (commit_among w (at + length ss) s.marks)
-first_commit-last w at [] s = sym (or_else-none (commit_among w at s.marks)) ∙ ap (λ n. commit_among w n s.marks) (omega arith)
-first_commit-last w at (x ∷ ss) s =
-    ap (or_else (commit_among w at x.marks)) (first_commit-last w (at + 1) ss s)
-    ∙ sym (or_else-assoc (commit_among w at x.marks) (first_commit w (at + 1) ss) (commit_among w (at + 1 + length ss) s.marks))
-    ∙ ap (λ n. or_else (first_commit w at (x ∷ ss)) (commit_among w n s.marks)) (omega arith)
+last_commit-last : (w : Gxid) (at : ℕ) (ss : List SeenStep) (s : SeenStep) → last_commit w at (ss ++ s ∷ []) ≡ or_else (commit_among w (at + length ss) s.marks) (last_commit w at ss)
+last_commit-last w at [] s = or_else-none (commit_among w at s.marks) ∙ ap (λ n. or_else (commit_among w n s.marks) None) (omega arith)
+last_commit-last w at (x ∷ ss) s =
+    ap (λ o. or_else o (commit_among w at x.marks)) (last_commit-last w (at + 1) ss s)
+    ∙ or_else-assoc (commit_among w (at + 1 + length ss) s.marks) (last_commit w (at + 1) ss) (commit_among w at x.marks)
+    ∙ ap (λ n. or_else (commit_among w n s.marks) (last_commit w at (x ∷ ss))) (omega arith)
 
 pub named_steps_next : (old new : Called) (steps : List SeenStep) (i : ℕ) (s : SeenStep) → i < length steps → s ≡ get_or steps i s → AreCalled (take i steps) old → IsCalledBy old new i s.marks → AreCalled (take (i + 1) steps) new
 named_steps_next old new steps i s inside is a p = rw (take_more steps i s inside ∙ ap (λ y. take i steps ++ y ∷ []) (sym is)) all
@@ -71,21 +76,24 @@ named_steps_next old new steps i s inside is a p = rw (take_more steps i s insid
       begun =
           p.begun ∙ ap (λ l. l ++ flat_map starts s.marks) a.begun ∙ sym (flat_map-append starts (flat_map marks_of (take i steps)) s.marks) ∙ ap (flat_map starts) (sym marks);
       rows = λ rid.
-          p.rows rid ∙ ap (λ o. or_else o (first_named rid s.marks)) (a.rows rid) ∙ sym (first_named-append rid (flat_map marks_of (take i steps)) s.marks)
-          ∙ ap (first_named rid) (sym marks);
+          p.rows rid ∙ ap (or_else (last_named rid s.marks)) (a.rows rid) ∙ sym (last_named-append rid (flat_map marks_of (take i steps)) s.marks)
+          ∙ ap (last_named rid) (sym marks);
       commits = λ w.
-          p.commits w ∙ ap (λ o. or_else o (commit_among w i s.marks)) (a.commits w)
-          ∙ ap (λ n. or_else (first_commit w 0 (take i steps)) (commit_among w n s.marks)) (sym count) ∙ sym (first_commit-last w 0 (take i steps) s);
+          p.commits w ∙ ap (or_else (commit_among w i s.marks)) (a.commits w)
+          ∙ ap (λ n. or_else (commit_among w n s.marks) (last_commit w 0 (take i steps))) (sym count) ∙ sym (last_commit-last w 0 (take i steps) s);
     }
 
-pub none_named : (names : Called) (steps : List SeenStep) → names.begun.items ≡ [] → names.rows.entries ≡ [] → names.commits.entries ≡ [] → AreCalled (take 0 steps) names
-none_named names [] begun rows commits = record {
+none_called : (called : Called) → called.begun.items ≡ [] → called.rows.entries ≡ [] → called.commits.entries ≡ [] → AreCalled [] called
+none_called called begun rows commits = record {
   begun = begun;
   rows = λ rid. ap (λ es. row_of es rid) rows;
   commits = λ w. ap (λ es. commit_of es w) commits;
 }
-none_named names (s ∷ ss) begun rows commits = record {
-  begun = begun;
-  rows = λ rid. ap (λ es. row_of es rid) rows;
-  commits = λ w. ap (λ es. commit_of es w) commits;
-}
+
+pub none_named : (called : Called) (steps : List SeenStep) → called.begun.items ≡ [] → called.rows.entries ≡ [] → called.commits.entries ≡ [] → AreCalled (take 0 steps) called
+none_named called [] begun rows commits = none_called called begun rows commits
+none_named called (s ∷ ss) begun rows commits = none_called called begun rows commits
+
+-- TWO TEXTS
+pub two_added : (old mid new a b : List ℕ) → mid ≡ old ++ a → new ≡ mid ++ b → new ≡ old ++ a ++ b
+two_added old mid new a b first second = second ∙ ap (λ l. l ++ b) first ∙ append_assoc old a b

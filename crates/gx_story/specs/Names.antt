@@ -40,7 +40,7 @@ abbrev pub row_of : List (Rid × Named) → Rid → Option Named
 row_of rows rid = lookup (is_at (rid_order rid)) rows
 
 abbrev pub named_as : Rid → Named → Rid → Option Named
-named_as other named rid = if is_at (rid_order rid) other then Some named else None
+named_as other named rid = if is_at (rid_order other) rid then Some named else None
 
 -- a row as a mark writes it, where it does
 abbrev pub named_image : Rid → Table → Option (List Value) → Rid → Option Named
@@ -55,32 +55,32 @@ abbrev pub or_else : {X : Type 0} → Option X → Option X → Option X
 or_else None y = y
 or_else (Some x) y = Some x
 
--- and as it is written first
-abbrev pub first_named : Rid → List SeenMark → Option Named
-first_named rid [] = None
-first_named rid (m ∷ ms) = or_else (named_in rid m) (first_named rid ms)
+-- and as it is written last: what names it, the column by which its table is distributed, is never changed
+abbrev pub last_named : Rid → List SeenMark → Option Named
+last_named rid [] = None
+last_named rid (m ∷ ms) = or_else (last_named rid ms) (named_in rid m)
 
 -- COMMITS
 abbrev pub commit_of : List (Gxid × ℕ) → Gxid → Option ℕ
 commit_of commits gxid = lookup (is_at (gxid_cmp gxid)) commits
 
 abbrev pub committed_as : Gxid → ℕ → Gxid → Option ℕ
-committed_as other at gxid = if is_at (gxid_cmp gxid) other then Some at else None
+committed_as other at gxid = if is_at (gxid_cmp other) gxid then Some at else None
 
 -- where a transaction commits, if the mark of an event at this place is its commit
 abbrev pub commit_in : Gxid → ℕ → SeenMark → Option ℕ
 commit_in gxid at (Whole (mark.Commit other)) = committed_as other at gxid
 commit_in gxid at _ = None
 
--- and where the first mark is that is
+-- and where the last mark is that is
 abbrev pub commit_among : Gxid → ℕ → List SeenMark → Option ℕ
 commit_among gxid at [] = None
-commit_among gxid at (m ∷ ms) = or_else (commit_in gxid at m) (commit_among gxid at ms)
+commit_among gxid at (m ∷ ms) = or_else (commit_among gxid at ms) (commit_in gxid at m)
 
 -- the same of steps, where the first is of this place
-abbrev pub first_commit : Gxid → ℕ → List SeenStep → Option ℕ
-first_commit gxid at [] = None
-first_commit gxid at (s ∷ ss) = or_else (commit_among gxid at s.marks) (first_commit gxid (at + 1) ss)
+abbrev pub last_commit : Gxid → ℕ → List SeenStep → Option ℕ
+last_commit gxid at [] = None
+last_commit gxid at (s ∷ ss) = or_else (last_commit gxid (at + 1) ss) (commit_among gxid at s.marks)
 
 -- LINES AND ANSWERS
 abbrev pub line_session : Line → SessionId
@@ -106,14 +106,14 @@ pub record ArePlaces {X : Type 0} (of : X → SessionId) (xs : List X) (index : 
 -- with what a step's marks call
 pub record IsCalledBy (old new : Called) (at : ℕ) (marks : List SeenMark) : Type 0 where
   pub begun : new.begun.items ≡ old.begun.items ++ flat_map starts marks
-  pub rows : (rid : Rid) → row_of new.rows.entries rid ≡ or_else (row_of old.rows.entries rid) (first_named rid marks)
-  pub commits : (gxid : Gxid) → commit_of new.commits.entries gxid ≡ or_else (commit_of old.commits.entries gxid) (commit_among gxid at marks)
+  pub rows : (rid : Rid) → row_of new.rows.entries rid ≡ or_else (last_named rid marks) (row_of old.rows.entries rid)
+  pub commits : (gxid : Gxid) → commit_of new.commits.entries gxid ≡ or_else (commit_among gxid at marks) (commit_of old.commits.entries gxid)
 
 -- what steps call
 pub record AreCalled (steps : List SeenStep) (called : Called) : Type 0 where
   pub begun : called.begun.items ≡ flat_map starts (flat_map marks_of steps)
-  pub rows : (rid : Rid) → row_of called.rows.entries rid ≡ first_named rid (flat_map marks_of steps)
-  pub commits : (gxid : Gxid) → commit_of called.commits.entries gxid ≡ first_commit gxid 0 steps
+  pub rows : (rid : Rid) → row_of called.rows.entries rid ≡ last_named rid (flat_map marks_of steps)
+  pub commits : (gxid : Gxid) → commit_of called.commits.entries gxid ≡ last_commit gxid 0 steps
 
 pub record AreNames (script : Script) (seen : Seen) (names : Names) : Type 0 where
   pub called : AreCalled seen.steps names.called

@@ -54,6 +54,20 @@ fn push_wait(
     push_whom(text, script, names, wait.whom.as_slice())
 }
 
+fn push_each_wait(
+    text: &mut Vec<u8>,
+    script: &Script,
+    names: &Names,
+    answered: usize,
+    resumes: &[Resumed],
+    wait: &Waiting,
+) -> Mem<()>
+    ensures { OnOk result (text.new.items ≡ text.old.items ++ of.each_wait script.now names.now answered resumes.now wait.now) }
+{
+    let end = end_of(answered, wait, resumes);
+    push_wait(text, script, names, wait, end)
+}
+
 fn push_waits(
     text: &mut Vec<u8>,
     script: &Script,
@@ -65,13 +79,13 @@ fn push_waits(
     ensures { OnOk result (text.new.items ≡ text.old.items ++ flat_map (of.each_wait script.now names.now answered resumes.now) waits.now) }
 {
     for wait in waits {
-        push_wait(text, script, names, wait, end_of(answered, wait, resumes))?;
+        push_each_wait(text, script, names, answered, resumes, wait)?;
     }
     Ok(())
 }
 
 fn waits_of(desk: Option<&Desk>) -> &[Waiting]
-    ensures { result.now ≡ (unwrap_or (option_copied desk) no_line).waits }
+    ensures { result.now ≡ (unwrap_or (option_copied desk.entry) no_line).waits }
 {
     match desk {
         Some(desk) => desk.waits.as_slice(),
@@ -80,7 +94,7 @@ fn waits_of(desk: Option<&Desk>) -> &[Waiting]
 }
 
 fn resumes_of(desk: Option<&Desk>) -> &[Resumed]
-    ensures { result.now ≡ (unwrap_or (option_copied desk) no_line).resumes }
+    ensures { result.now ≡ (unwrap_or (option_copied desk.entry) no_line).resumes }
 {
     match desk {
         Some(desk) => desk.resumes.as_slice(),

@@ -17,5 +17,5 @@ mod words;
 pub use desk::{Change, Desk};
 pub use known::Known;
 pub use names::{Called, Named, Names};
-pub use story::{Page, graphs, log};
+pub use story::{Page, graphs_of, log_of};
 pub use told::{Claimed, Resumed, Waiting};

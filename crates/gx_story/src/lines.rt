@@ -388,7 +388,7 @@ fn push_started(
 }
 
 fn push_stmt(alloc: Global, text: &mut Vec<u8>, script: &Script, line: Option<&Line>) -> Mem<()>
-    ensures { OnOk result (text.new.items ≡ text.old.items ++ of.line_text script.now (option_copied line)) }
+    ensures { OnOk result (text.new.items ≡ text.old.items ++ of.line_text script.now (option_copied line.entry)) }
 {
     match line {
         Some(line) => {
@@ -495,7 +495,7 @@ fn push_said(
     names: &Names,
     said: Option<&SeenAnswer>,
 ) -> Mem<()>
-    ensures { OnOk result (text.new.items ≡ text.old.items ++ said_text script.now names.now (option_copied said)) }
+    ensures { OnOk result (text.new.items ≡ text.old.items ++ said_text script.now names.now (option_copied said.entry)) }
 {
     match said {
         Some(said) => push_answer(text, script, names, &said.answer),
@@ -512,7 +512,7 @@ fn push_answered(
     number: u32,
     said: Option<&SeenAnswer>,
 ) -> Mem<()>
-    ensures { OnOk result (text.new.items ≡ text.old.items ++ of.line_behind at (statement script.now session number ++ said_text script.now names.now (option_copied said))) }
+    ensures { OnOk result (text.new.items ≡ text.old.items ++ of.line_behind at (statement script.now session number ++ said_text script.now names.now (option_copied said.entry))) }
 {
     push_start(text, at)?;
     push_statement(text, script, session, number as usize)?;

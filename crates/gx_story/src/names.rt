@@ -15,14 +15,14 @@ use gx_tree::Row;
 use std::alloc::Global;
 use std::collections::BTreeMap;
 
-/// A row as it was first written.
+/// A row as it was last written.
 #[derive(Drop)]
 pub struct Named {
     pub table: Table,
     pub row: Row,
 }
 
-/// Whose the transactions are, in the order in which they began; each row as it was first written; and the event at which a transaction committed.
+/// Whose the transactions are, in the order in which they began; each row as it was last written; and the event at which a transaction committed.
 #[derive(Drop)]
 pub struct Called {
     pub begun: Vec<SessionId>,
@@ -78,7 +78,7 @@ fn answer_places(alloc: Global, answers: &[SeenAnswer]) -> Mem<Vec<Seq<usize>>>
     Ok(places)
 }
 
-// Keeps a row as it is written, unless an earlier write of it is kept.
+// Keeps a row as it is written.
 fn keep_row(
     alloc: Global,
     rows: &mut BTreeMap<Rid, Named>,
@@ -86,11 +86,8 @@ fn keep_row(
     rid: Rid,
     row: &Row,
 ) -> Mem<()>
-    ensures { OnOk result ((q : OneRid) → of.row_of rows.new.entries q ≡ of.or_else (of.row_of rows.old.entries q) (of.named_as rid (of.named table row.now) q)) }
+    ensures { OnOk result ((q : OneRid) → of.row_of rows.new.entries q ≡ of.or_else (of.named_as rid (of.named table row.now) q) (of.row_of rows.old.entries q)) }
 {
-    if rows.contains_key(&rid) {
-        return Ok(());
-    }
     let row = row.copy(alloc)?;
     drop(rows.insert(rid, Named { table, row })?);
     Ok(())
@@ -103,7 +100,7 @@ fn name_row(
     rid: Rid,
     image: &Option<Row>,
 ) -> Mem<()>
-    ensures { OnOk result ((q : OneRid) → of.row_of rows.new.entries q ≡ of.or_else (of.row_of rows.old.entries q) (of.named_image rid table image.now q)) }
+    ensures { OnOk result ((q : OneRid) → of.row_of rows.new.entries q ≡ of.or_else (of.named_image rid table image.now q) (of.row_of rows.old.entries q)) }
 {
     match image {
         Some(row) => keep_row(alloc, rows, table, rid, row),
@@ -111,13 +108,10 @@ fn name_row(
     }
 }
 
-// Keeps where a transaction commits, unless it has before.
+// Keeps where a transaction commits.
 fn note_commit(commits: &mut BTreeMap<Gxid, usize>, gxid: Gxid, at: usize) -> Mem<()>
-    ensures { OnOk result ((q : OneGxid) → of.commit_of commits.new.entries q ≡ of.or_else (of.commit_of commits.old.entries q) (of.committed_as gxid at q)) }
+    ensures { OnOk result ((q : OneGxid) → of.commit_of commits.new.entries q ≡ of.or_else (of.committed_as gxid at q) (of.commit_of commits.old.entries q)) }
 {
-    if commits.contains_key(&gxid) {
-        return Ok(());
-    }
     commits.insert(gxid, at)?;
     Ok(())
 }

@@ -160,7 +160,7 @@ fn page_of(alloc: Global, script: &Script, seen: &Seen, names: &Names) -> Mem<Pa
 }
 
 /// The log of what was seen: a line for each told thing, and then how long each statement waited.
-pub fn log(alloc: Global, script: &Script, seen: &Seen) -> Mem<Vec<u8>>
+pub fn log_of(alloc: Global, script: &Script, seen: &Seen) -> Mem<Vec<u8>>
     ensures { IfOk result (λ text. of.IsLog script.now seen.now text.items) }
 {
     let names = names_of(alloc, script, seen)?;
@@ -176,7 +176,7 @@ pub fn log(alloc: Global, script: &Script, seen: &Seen) -> Mem<Vec<u8>>
 }
 
 /// The wait graphs of each round that was seen.
-pub fn graphs(alloc: Global, script: &Script, seen: &Seen) -> Mem<Vec<u8>>
+pub fn graphs_of(alloc: Global, script: &Script, seen: &Seen) -> Mem<Vec<u8>>
     ensures { IfOk result (λ text. of.AreGraphs script.now seen.now text.items) }
 {
     let names = names_of(alloc, script, seen)?;

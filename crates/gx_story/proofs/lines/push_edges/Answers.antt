@@ -5,4 +5,4 @@ use Rattle.gx_story.proofs.lines.push_edges.Goals as goal
 
 pub loop-placed-preserved : goal.loop-placed-preserved
 loop-placed-preserved c =
-    added-next (edge_text c.args.script.now c.args.names.now) c.args.edges.now c.loop-placed.placed-index c.placed-item.result _ _ _ c.loop-placed-test.true c.placed-item.is c.loop-placed.invariant (search rules)
+    added-next (edge_text c.args.script.now c.args.names.now) c.args.edges.now c.loop-placed.placed-index _ _ _ _ c.loop-placed-test.true (search rules) c.loop-placed.invariant c.in_ok-push_edge.ensures

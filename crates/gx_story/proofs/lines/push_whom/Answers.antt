@@ -5,4 +5,4 @@ use Rattle.gx_story.proofs.lines.push_whom.Goals as goal
 
 pub loop-claimed-preserved : goal.loop-claimed-preserved
 loop-claimed-preserved c =
-    added-next (claimed_text c.args.script.now c.args.names.now) c.args.whom.now c.loop-claimed.claimed-index c.claimed-item.result _ _ _ c.loop-claimed-test.true c.claimed-item.is c.loop-claimed.invariant (search rules)
+    added-next (claimed_text c.args.script.now c.args.names.now) c.args.whom.now c.loop-claimed.claimed-index _ _ _ _ c.loop-claimed-test.true (search rules) c.loop-claimed.invariant c.in_ok-push_claimed.ensures

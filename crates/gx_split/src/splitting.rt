@@ -1,7 +1,7 @@
 // Where the trace begins.
 ghost use Rattle.std.specs.Bool.{Decides};
 ghost use Rattle.std.specs.Prelude.{◌≡◌, MatchOption};
-ghost use Rattle.gx_check.specs.Splitting as of;
+ghost use Rattle.gx_split.specs.Splitting as of;
 
 use gx_read_trace::first_line;
 

@@ -1,5 +1,5 @@
-use Rattle.gx_check.proofs.Cut.{never, others_more, split_here}
-use Rattle.gx_check.proofs.splitting.split.Goals as goal
+use Rattle.gx_split.proofs.Cut.{never, others_more, split_here}
+use Rattle.gx_split.proofs.splitting.split.Goals as goal
 
 pub returns-then-is_same : goal.returns-then-is_same
 returns-then-is_same c =

@@ -1,6 +1,6 @@
 use Rattle.std.proofs.Common.{length}
-use Rattle.gx_check.proofs.Cut.{AreOthers}
-use Rattle.gx_check.proofs.splitting.split.Given as goal
+use Rattle.gx_split.proofs.Cut.{AreOthers}
+use Rattle.gx_split.proofs.splitting.split.Given as goal
 
 -- so far no line is `trace:`
 abbrev pub invariant-loop-line : goal.invariant-loop-line

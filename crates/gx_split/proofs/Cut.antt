@@ -6,7 +6,7 @@ use Rattle.std.proofs.lemmas.List.Elements.{All-append, All-cons, All-nil}
 use Rattle.gx_trace.specs.Lawful.{IsLine}
 use Rattle.gx_read_trace.specs.Lines.{fed, fed_line}
 use Rattle.gx_read_trace.specs.Rests.{BeginWith}
-use Rattle.gx_check.specs.Splitting.{IsOther, IsSplit, IsUnsplit}
+use Rattle.gx_split.specs.Splitting.{IsOther, IsSplit, IsUnsplit}
 
 -- so far no line is `trace:`
 pub record AreOthers (bytes rest : List ℕ) : Type 0 where
