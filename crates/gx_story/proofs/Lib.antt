@@ -1,3 +1,4 @@
+mod Adding
 mod Beyond
 mod NamedBy
 mod Places

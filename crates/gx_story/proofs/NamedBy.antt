@@ -93,7 +93,3 @@ none_called called begun rows commits = record {
 pub none_named : (called : Called) (steps : List SeenStep) → called.begun.items ≡ [] → called.rows.entries ≡ [] → called.commits.entries ≡ [] → AreCalled (take 0 steps) called
 none_named called [] begun rows commits = none_called called begun rows commits
 none_named called (s ∷ ss) begun rows commits = none_called called begun rows commits
-
--- TWO TEXTS
-pub two_added : (old mid new a b : List ℕ) → mid ≡ old ++ a → new ≡ mid ++ b → new ≡ old ++ a ++ b
-two_added old mid new a b first second = second ∙ ap (λ l. l ++ b) first ∙ append_assoc old a b

@@ -80,10 +80,14 @@ fault_text false = codes " is lost"
 abbrev pub began_text : Script → Names → By → List ℕ
 began_text script names by = by_text script names by ++ counted (codes "begins transaction ") by.gxid.0
 
+-- those who run beside it, of whom it sees nothing
+abbrev pub beside_text : Script → Names → List Gxid → List ℕ
+beside_text script names gxids = if length gxids == 0 then [] else codes ", beside" ++ flat_map (each_who script names) gxids
+
 abbrev pub snapped_text : Script → Names → By → Snapshot → List ℕ
 snapped_text script names by snapshot =
-    by_text script names by ++ counted (codes "takes a snapshot of what has committed below transaction ") snapshot.xmax.0 ++ codes ", beside"
-    ++ flat_map (each_who script names) snapshot.running
+    by_text script names by ++ counted (codes "takes a snapshot of what has committed below transaction ") snapshot.xmax.0
+    ++ beside_text script names snapshot.running
 
 abbrev pub wrote_text : Script → Names → By → Node → Rid → Option (List Value) → List ℕ
 wrote_text script names by node rid image =

@@ -68,7 +68,8 @@ fn push_ended(text: &mut Vec<u8>, ended: Option<usize>) -> Mem<()>
     match ended {
         Some(at) => {
             push_bytes(text, b", who committed at ")?;
-            push_at(text, at)
+            push_at(text, at)?;
+            Ok(())
         }
         None => Ok(()),
     }

@@ -52,22 +52,18 @@ pub(crate) fn claims_at(known: &Known, node: Node) -> &[Claimed]
     }
 }
 
-fn put_at(lists: &mut Vec<Seq<Claimed>>, place: usize, claims: Seq<Claimed>)
-    requires { place < length lists.old.items }
-    ensures { lists.new.items ≡ slice_set lists.old.items place claims }
+fn put_at(lists: &mut Vec<Seq<Claimed>>, node: Node, claims: Seq<Claimed>)
+    requires { node.0 < length lists.old.items }
+    ensures { lists.new.items ≡ slice_set lists.old.items node.0 claims }
 {
-    lists[place] = claims;
+    lists[usize::from(node.0)] = claims;
 }
 
 fn put_claims(known: &mut Known, node: Node, claims: Vec<Claimed>)
     ensures { of.now_of known.new ≡ of.put_claims node claims.items (of.now_of known.old) }
 {
     if usize::from(node.0) < known.claims.len() {
-        put_at(
-            &mut known.claims,
-            usize::from(node.0),
-            Seq::from_vec(claims),
-        );
+        put_at(&mut known.claims, node, Seq::from_vec(claims));
     } else {
         drop(claims);
     }
@@ -121,11 +117,11 @@ pub(crate) fn line_of(names: &Names, known: &Known, gxid: Gxid) -> usize
     }
 }
 
-fn change_at(alloc: Global, desks: &mut Vec<Desk>, place: usize, change: Change) -> Mem<()>
-    requires { place < length desks.old.items }
-    ensures { OnOk result (desks.new.items ≡ slice_set desks.old.items place (changed change (slice_index_or desks.old.items place no_line))) }
+fn change_at(alloc: Global, desks: &mut Vec<Desk>, session: SessionId, change: Change) -> Mem<()>
+    requires { session.0 < length desks.old.items }
+    ensures { OnOk result (desks.new.items ≡ slice_set desks.old.items session.0 (changed change (slice_index_or desks.old.items session.0 no_line))) }
 {
-    desks[place].change(alloc, change)
+    desks[usize::from(session.0)].change(alloc, change)
 }
 
 // Notes what becomes of a session's line.
@@ -133,11 +129,11 @@ fn turn_at(alloc: Global, known: &mut Known, session: SessionId, change: Change)
     ensures { OnOk result (of.now_of known.new ≡ of.turned_at session change (of.now_of known.old)) }
 {
     if usize::from(session.0) < known.desks.len() {
-        change_at(alloc, &mut known.desks, usize::from(session.0), change)
+        change_at(alloc, &mut known.desks, session, change)?;
     } else {
         drop(change);
-        Ok(())
     }
+    Ok(())
 }
 
 fn turn(alloc: Global, known: &mut Known, session: Option<SessionId>, change: Change) -> Mem<()>

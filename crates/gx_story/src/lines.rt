@@ -15,7 +15,8 @@ use crate::known::{Known, claim_of, claims_at, desk_of, line_of};
 use crate::names::{Names, answer_at, line_at, session_of};
 use crate::told::Claimed;
 use crate::words::{
-    push_at, push_counted, push_node, push_row, push_session, push_statement, push_table, push_who,
+    push_at, push_counted, push_node, push_row, push_session, push_statement, push_table,
+    push_transaction, push_who,
 };
 use gx_dsnap::Snapshot;
 use gx_ids::{Gxid, Mem, Node, Rid, SessionId};
@@ -123,7 +124,8 @@ fn push_over(
     match object {
         Object::Relation(table) => {
             push_bytes(text, b", over table ")?;
-            push_table(text, script, table)
+            push_table(text, script, table)?;
+            Ok(())
         }
         Object::Tuple(rid) => push_over_row(text, script, names, Some(rid)),
         Object::Transaction(_) => push_over_row(text, script, names, row_locked(claims, gxid)),
@@ -145,8 +147,8 @@ fn push_edge(text: &mut Vec<u8>, script: &Script, names: &Names, placed: &Placed
 fn push_edges(text: &mut Vec<u8>, script: &Script, names: &Names, edges: &[PlacedEdge]) -> Mem<()>
     ensures { OnOk result (text.new.items ≡ text.old.items ++ flat_map (of.edge_text script.now names.now) edges.now) }
 {
-    for placed in edges {
-        push_edge(text, script, names, placed)?;
+    for place in 0..edges.len() {
+        push_edge(text, script, names, &edges[place])?;
     }
     Ok(())
 }
@@ -243,8 +245,25 @@ fn push_began(
     ensures { OnOk result (text.new.items ≡ text.old.items ++ of.line_behind at (of.began_text script.now names.now (told.by names.now (now_of known.now) gxid))) }
 {
     push_by(text, script, names, known, at, gxid)?;
-    push_counted(text, b"begins transaction ", u128::from(gxid.0))?;
-    push_bytes(text, b"\n")
+    push_transaction(text, b"begins transaction ", gxid)?;
+    push_bytes(text, b"\n")?;
+    Ok(())
+}
+
+fn push_beside(text: &mut Vec<u8>, script: &Script, names: &Names, running: &[Gxid]) -> Mem<()>
+    ensures { OnOk result (text.new.items ≡ text.old.items ++ of.beside_text script.now names.now running.now) }
+{
+    if running.is_empty() {
+        return Ok(());
+    }
+    push_bytes(text, b", beside")?;
+    push_all(text, script, names, running)
+}
+
+fn push_running(text: &mut Vec<u8>, script: &Script, names: &Names, snapshot: &Snapshot) -> Mem<()>
+    ensures { OnOk result (text.new.items ≡ text.old.items ++ of.beside_text script.now names.now snapshot.now.running) }
+{
+    push_beside(text, script, names, snapshot.running.get().as_slice())
 }
 
 fn push_snapped(
@@ -259,14 +278,14 @@ fn push_snapped(
     ensures { OnOk result (text.new.items ≡ text.old.items ++ of.line_behind at (of.snapped_text script.now names.now (told.by names.now (now_of known.now) gxid) snapshot.now)) }
 {
     push_by(text, script, names, known, at, gxid)?;
-    push_counted(
+    push_transaction(
         text,
         b"takes a snapshot of what has committed below transaction ",
-        u128::from(snapshot.xmax.0),
+        snapshot.xmax,
     )?;
-    push_bytes(text, b", beside")?;
-    push_all(text, script, names, snapshot.running.get().as_slice())?;
-    push_bytes(text, b"\n")
+    push_running(text, script, names, snapshot)?;
+    push_bytes(text, b"\n")?;
+    Ok(())
 }
 
 fn push_wrote(
@@ -425,6 +444,16 @@ fn push_again(
     push_bytes(text, b"\n")
 }
 
+fn fate(repeat: bool) -> &'static [u8]
+    ensures { result.now ≡ of.fault_text repeat }
+{
+    if repeat {
+        b" will come twice"
+    } else {
+        b" is lost"
+    }
+}
+
 fn push_fault(
     text: &mut Vec<u8>,
     at: usize,
@@ -441,12 +470,9 @@ fn push_fault(
     push_bytes(text, message.as_slice())?;
     push_bytes(text, b"' to ")?;
     push_node(text, to)?;
-    if fault.repeat {
-        push_bytes(text, b" will come twice")?;
-    } else {
-        push_bytes(text, b" is lost")?;
-    }
-    push_bytes(text, b"\n")
+    push_bytes(text, fate(fault.repeat))?;
+    push_bytes(text, b"\n")?;
+    Ok(())
 }
 
 fn is_faulty(from: Node, to: Node, number: u64, fault: &LinkFault) -> bool

@@ -50,7 +50,8 @@ fn print_mark(
         mark,
     )?;
     push_closing(&mut page.closings, script, names, known, at, mark)?;
-    push_graph(&mut page.graphs, script, names, known, mark)
+    push_graph(&mut page.graphs, script, names, known, mark)?;
+    Ok(())
 }
 
 fn print_event(
@@ -64,7 +65,8 @@ fn print_event(
 ) -> Mem<()>
     ensures { OnOk result (of.IsPrinted script.now names.now page.old page.new (told.told at (told.what_happened names.now (now.now_of known.now) step.now.event) ∷ [])) }
 {
-    push_event(alloc, &mut page.lines, script, names, known, at, step.event)
+    push_event(alloc, &mut page.lines, script, names, known, at, step.event)?;
+    Ok(())
 }
 
 fn add_marks(

@@ -18,6 +18,13 @@ pub(crate) fn push_counted(text: &mut Vec<u8>, before: &[u8], count: u128) -> Me
     push_count(text, count)
 }
 
+/// A transaction's number behind a text.
+pub(crate) fn push_transaction(text: &mut Vec<u8>, before: &[u8], gxid: Gxid) -> Mem<()>
+    ensures { OnOk result (text.new.items ≡ text.old.items ++ of.counted before.now gxid.0) }
+{
+    push_counted(text, before, u128::from(gxid.0))
+}
+
 /// An event of this place, numbered from 1.
 pub(crate) fn push_at(text: &mut Vec<u8>, at: usize) -> Mem<()>
     ensures { OnOk result (text.new.items ≡ text.old.items ++ of.at_text at) }
@@ -40,7 +47,7 @@ pub(crate) fn push_who(text: &mut Vec<u8>, script: &Script, names: &Names, gxid:
 {
     match session_of(names, gxid) {
         Some(session) => push_session(text, script, session),
-        None => push_counted(text, b"transaction ", u128::from(gxid.0)),
+        None => push_transaction(text, b"transaction ", gxid),
     }
 }
 

@@ -1,8 +1,8 @@
-use Rattle.std.proofs.Common.{rules}
 use Rattle.gx_story.specs.Lines.{edge_text}
 use Rattle.gx_report.proofs.Adding.{added-next}
 use Rattle.gx_story.proofs.lines.push_edges.Goals as goal
 
-pub loop-placed-preserved : goal.loop-placed-preserved
-loop-placed-preserved c =
-    added-next (edge_text c.args.script.now c.args.names.now) c.args.edges.now c.loop-placed.placed-index _ _ _ _ c.loop-placed-test.true (search rules) c.loop-placed.invariant c.in_ok-push_edge.ensures
+pub loop-place-preserved : goal.loop-place-preserved
+loop-place-preserved c =
+    added-next (edge_text c.args.script.now c.args.names.now) c.args.edges.now c.loop-place.place c.index-edges-place.result _ _ _ c.loop-place-test.true c.index-edges-place.is
+    c.loop-place.invariant c.in_ok-push_edge.ensures

@@ -3,5 +3,5 @@ use Rattle.std.specs.List.{flat_map}
 use Rattle.gx_story.specs.Lines.{edge_text}
 use Rattle.gx_story.proofs.lines.push_edges.Given as goal
 
-abbrev pub invariant-loop-placed : goal.invariant-loop-placed
-invariant-loop-placed l = l.text.items ≡ l.initial.text.items ++ flat_map (edge_text l.script l.names) (take l.placed-index l.edges)
+abbrev pub invariant-loop-place : goal.invariant-loop-place
+invariant-loop-place l = l.text.items ≡ l.initial.text.items ++ flat_map (edge_text l.script l.names) (take l.place l.edges)

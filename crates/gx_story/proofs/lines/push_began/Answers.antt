@@ -1,0 +1,5 @@
+use Rattle.gx_story.proofs.Adding.{line_added}
+use Rattle.gx_story.proofs.lines.push_began.Goals as goal
+
+pub returns : goal.returns
+returns c = line_added _ _ _ _ _ _ _ _ c.in_ok-push_by.ensures c.in_ok-push_transaction.ensures c.in_ok-push_bytes.ensures
