@@ -104,6 +104,7 @@ received-is before segment round (s ∷ ss) = by_event s.event (received-is (bef
         by_test : (b : Bool) → b ≡ is_some (if b then Some graph else None)
         by_test true = refl
         by_test false = refl
+    of-message (Some message.Up) = refl
     of-message (Some (message.Exec g c level x h y)) = refl
     of-message (Some (message.Prepare g)) = refl
     of-message (Some (message.Commit g)) = refl

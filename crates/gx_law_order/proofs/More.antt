@@ -93,6 +93,7 @@ letter-more script ss ms l e =
             (get-append e.sending.sender.marks h.is.added e.mark (Sent l.to l.envelope.number l.envelope.message) e.sending.sent);
       };
       clock = ap (λ (x : Stamp). x.clock) h.is.stamp ∙ e.clock;
+      incarnation = e.incarnation;
     }
 
 -- what was sent in all

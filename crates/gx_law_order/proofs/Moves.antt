@@ -127,6 +127,7 @@ graph-names c from round graph = by_report (is_report c from round graph)
 
 message-names : (c : Coord) (from : Node) (fails : Bool) (m : Message) → AreNamed (on_message c from fails m) (victims_on_message c from m)
 message-names c from fails (message.Graph round graph) = graph-names c from round graph
+message-names c from fails message.Up = tt
 message-names c from fails (message.Answer g r) = tt
 message-names c from fails (message.Exec g cid level x h y) = tt
 message-names c from fails (message.Prepare g) = tt

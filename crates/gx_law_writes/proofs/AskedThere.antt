@@ -106,6 +106,7 @@ module _ (script : Script) (ms : List Mark) (locals : ℕ → ℕ → Local) (no
   untold-marks (mark.Sent to number (message.Answer h reply.Committed) ∷ xs) e = untold-marks xs e.1
   untold-marks (mark.Sent to number (message.Answer h reply.Jfault) ∷ xs) e = untold-marks xs e.1
   untold-marks (mark.Sent to number (message.Answer h reply.Again) ∷ xs) e = untold-marks xs e.1
+  untold-marks (mark.Sent to number (message.Answer h reply.Restarted) ∷ xs) e = untold-marks xs e.1
   untold-marks (mark.Sent to number (message.Answer h reply.Aborted) ∷ xs) e = untold-marks xs e.1
   untold-marks (mark.Sent to number (message.Answer h reply.Forgotten) ∷ xs) e = untold-marks xs e.1
   untold-marks (mark.Sent to number (message.Exec h d l x y z) ∷ xs) e = untold-marks xs e.1
@@ -116,6 +117,7 @@ module _ (script : Script) (ms : List Mark) (locals : ℕ → ℕ → Local) (no
   untold-marks (mark.Sent to number (message.Forget h) ∷ xs) e = untold-marks xs e.1
   untold-marks (mark.Sent to number (message.Collect r) ∷ xs) e = untold-marks xs e.1
   untold-marks (mark.Sent to number (message.Graph r x) ∷ xs) e = untold-marks xs e.1
+  untold-marks (mark.Sent to number message.Up ∷ xs) e = untold-marks xs e.1
   untold-marks (mark.Start h s ∷ xs) e = untold-marks xs e.1
   untold-marks (mark.Snap h d x ∷ xs) e = untold-marks xs e.1
   untold-marks (mark.Write h d n t r x ∷ xs) e = untold-marks xs e.1

@@ -42,8 +42,8 @@ pub struct Out {
     pub message: Message,
 }
 
-/// A message on its link, with its number there, from 1, and the sender's clock. The incarnation is the segment's: its own
-/// where it sends, and where it is sent to, the one that the coordinator has known for the message's transaction.
+/// A message on its link, with its number there, from 1, and the sender's clock. The incarnation is a segment's: that of the sender,
+/// or, of a message to a segment, the one in which the segment has come to know the message's transaction.
 #[derive(Drop)]
 pub struct Envelope {
     pub number: u64,

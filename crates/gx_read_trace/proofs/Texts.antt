@@ -69,6 +69,7 @@ refused-fed refused.DivisionByZero = refl
 refused-fed refused.InFailedBlock = refl
 refused-fed (refused.JournalFault node) = ap (λ y. codes "ERROR 6 journal of node " ++ y) (append_assoc (decimal node.0) (codes " failed") (codes "\n"))
 refused-fed refused.NotInBlock = refl
+refused-fed (refused.Restarted node) = ap (λ y. codes "ERROR 8 segment " ++ y) (append_assoc (decimal node.0) (codes " restarted") (codes "\n"))
 
 head-fed : (name : List ℕ) (number : ℕ) (h : AnswerHead) (more t : List ℕ) → head_text h ++ codes "\n" ≡ t → fed_line (answer_head_text name number h) ++ more ≡ name ++ codes "." ++ decimal number ++ codes " " ++ t ++ more
 head-fed name number h more t e = parted ∙ ap (λ y. name ++ codes "." ++ decimal number ++ codes " " ++ y ++ more) e

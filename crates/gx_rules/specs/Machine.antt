@@ -41,11 +41,12 @@ abbrev pub new_world : World
 new_world = record { coord = new_coordinator; segs = λ i. new_segment (record { 0 = i }); steps = []; sent = [] }
 
 -- MESSAGES
--- what the marks of a node's step have sent, on top of what was sent before
+-- What the marks of a node's step have sent, on top of what was sent before. No segment has restarted, so all are in their first
+-- incarnation.
 abbrev pub posted : Node → ℕ → List Mark → List Letter → List Letter
 posted from clock [] sent = sent
 posted from clock (Sent to number message ∷ ms) sent =
-    posted from clock ms (record { from = from; to = to; envelope = record { number = number; clock = clock; message = message } } ∷ sent)
+    posted from clock ms (record { from = from; to = to; envelope = record { number = number; clock = clock; incarnation = 1; message = message } } ∷ sent)
 posted from clock (_ ∷ ms) sent = posted from clock ms sent
 
 abbrev pub is_at : Node → Node → ℕ → Letter → Bool

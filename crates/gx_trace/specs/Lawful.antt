@@ -110,6 +110,7 @@ abbrev pub IsRefused : Refused → Type 0
 IsRefused (refused.Serialization rid newer) = IsRid rid × IsGxid newer
 IsRefused (refused.Victim round) = round < 2 ^ 64
 IsRefused (refused.JournalFault node) = IsNode node
+IsRefused (refused.Restarted segment) = IsNode segment
 IsRefused _ = Unit {0}
 
 -- counts are below 2 ^ 64
@@ -171,6 +172,7 @@ IsMessage (message.Forget gxid) = IsGxid gxid
 IsMessage (message.Collect round) = round < 2 ^ 64
 IsMessage (message.Answer gxid reply) = IsGxid gxid × IsReply reply
 IsMessage (message.Graph round graph) = round < 2 ^ 64
+IsMessage message.Up = Unit {0}
 
 -- a message's name and numbers, as printed
 abbrev pub IsMessageText : List ℕ → Type 0

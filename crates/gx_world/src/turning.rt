@@ -152,9 +152,19 @@ fn coord_receives<J: Journal>(
     let Letter {
         number,
         clock,
+        incarnation,
         message,
     } = letter;
-    coord.receive(script, from, number, clock, message, journal, marks)
+    coord.receive(
+        script,
+        from,
+        number,
+        clock,
+        incarnation,
+        message,
+        journal,
+        marks,
+    )
 }
 
 // A segment does an event.
@@ -274,9 +284,19 @@ fn seg_receives<J: Journal, G: Gate>(
     let Letter {
         number,
         clock,
+        incarnation,
         message,
     } = letter;
-    segment.receive(from, number, clock, message, journal, gate, marks)
+    segment.receive(
+        from,
+        number,
+        clock,
+        incarnation,
+        message,
+        journal,
+        gate,
+        marks,
+    )
 }
 
 // The step of a node's event.
