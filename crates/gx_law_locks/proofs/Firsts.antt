@@ -177,6 +177,7 @@ module _ (script : Script) (all : List Step) (ordered : AreOrdered script [] all
       by_event (event.End x) a e = absurd (cc)
       by_event (event.Resend i g) a e = absurd (cc)
       by_event event.Round a e = absurd (cc)
+      by_event (event.Restart n) a e = absurd (cc)
 
   -- and the other way round
   brought-from : (k : ℕ) (e : Event) (graph : LocalGraph) → Receives (take k all) e segment the_coordinator (message.Graph round graph) → graph_by (take k all) segment round e ≡ Some graph

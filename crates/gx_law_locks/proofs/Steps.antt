@@ -131,6 +131,7 @@ received-is before segment round (s ∷ ss) = by_event s.event (received-is (bef
     by_event (event.End x) e = e
     by_event (event.Resend i g) e = e
     by_event event.Round e = e
+    by_event (event.Restart n) e = e
 
 -- WHAT A SEGMENT HAS REPORTED
 pub round-append : (node : Node) (round : ℕ) (xs ys : List Mark) → last_round node round (xs ++ ys) ≡ last_round node (last_round node round xs) ys

@@ -58,6 +58,7 @@ event_in post (event.Start s) = Some (node.Start s)
 event_in post (event.End s) = Some (node.End s)
 event_in post (event.Resend i g) = Some (node.Resend i g)
 event_in post event.Round = Some node.Round
+event_in post (event.Restart n) = None
 
 -- and what a step is
 abbrev pub here_in : Post → Step → Option NodeEvent

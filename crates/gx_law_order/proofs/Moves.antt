@@ -219,6 +219,7 @@ comes w (event.Start s) x q = subst (Comes w (event.Start s) the_coordinator) (s
 comes w (event.End s) x q = subst (Comes w (event.End s) the_coordinator) (some-same (here.End s) x q) refl
 comes w (event.Resend i g) x q = subst (Comes w (event.Resend i g) the_coordinator) (some-same (here.Resend i g) x q) refl
 comes w event.Round x q = subst (Comes w event.Round the_coordinator) (some-same here.Round x q) refl
+comes w (event.Restart n) x q = absurd (cc)
 
 -- ONE MOVE, AND ALL
 -- An event is nothing, or the coordinator's, or a segment's.

@@ -156,6 +156,7 @@ event-plain script (event.End session) is = (cat (lit (codes "end") refl) (of-wo
 event-plain script (event.Resend segment (Some gxid)) is = (two (lit (codes "resend") refl) (of-node segment is.0) (of-gxid gxid is.1)).1
 event-plain script (event.Resend segment None) is = (cat (one (lit (codes "resend") refl) (of-node segment is)) (lit (codes " round") refl)).1
 event-plain script event.Round is = from-test (codes "round") refl
+event-plain script (event.Restart node) is = (one (lit (codes "restart") refl) (of-node node is)).1
 
 moment-plain : (script : Script) (step : SeenStep) → IsSeenStep script step → IsLine (moment_text script (moment_of_step step))
 moment-plain script step is =

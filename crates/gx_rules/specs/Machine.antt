@@ -66,8 +66,9 @@ node_of (event.Start session) = the_coordinator
 node_of (event.End session) = the_coordinator
 node_of (event.Resend segment g) = the_coordinator
 node_of event.Round = the_coordinator
+node_of (event.Restart n) = n
 
--- what happens at that node; a delivery names a message that was sent
+-- what happens at that node; a delivery names a message that was sent, and no node has a rule for restarts yet
 abbrev pub delivered : Node → Option Envelope → Option NodeEvent
 delivered from None = None
 delivered from (Some envelope) = Some (node.Deliver from envelope)
@@ -79,6 +80,7 @@ at_node w (event.Start s) = Some (node.Start s)
 at_node w (event.End s) = Some (node.End s)
 at_node w (event.Resend i g) = Some (node.Resend i g)
 at_node w event.Round = Some node.Round
+at_node w (event.Restart n) = None
 
 -- A segment takes deliveries, and, where it is one of the script's, resumes whoever has a wait there whose way is clear. What the
 -- coordinator admits, it says itself.

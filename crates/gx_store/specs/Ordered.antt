@@ -74,6 +74,7 @@ IsEventAt script steps step (event.Start session) = step.stamp.node ≡ the_coor
 IsEventAt script steps step (event.End session) = step.stamp.node ≡ the_coordinator
 IsEventAt script steps step (event.Resend segment g) = step.stamp.node ≡ the_coordinator
 IsEventAt script steps step event.Round = step.stamp.node ≡ the_coordinator
+IsEventAt script steps step (event.Restart segment) = step.stamp.node ≡ segment
 
 -- the clock of a node's last step, or 0
 abbrev pub clock_of : Node → List Step → ℕ

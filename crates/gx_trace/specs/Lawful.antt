@@ -131,6 +131,7 @@ IsEvent script (event.End session) = IsSession script session
 IsEvent script (event.Resend segment (Some gxid)) = IsNode segment × IsGxid gxid
 IsEvent script (event.Resend segment None) = IsNode segment
 IsEvent script event.Round = Unit {0}
+IsEvent script (event.Restart segment) = IsNode segment
 
 -- MARKS
 -- its own conditions (who runs rises, below its bounds) are the type's

@@ -122,6 +122,7 @@ fn coord_event<J: Journal>(
             Some(letter) => coord_receives(script, coord, from, letter, journal, marks),
             None => unreachable!(),
         },
+        Event::Restart(_) => unreachable!(),
         _ => coord.step(script, own_event(event), journal, marks),
     }
 }
@@ -258,6 +259,7 @@ fn seg_event<J: Journal, G: Gate>(
             Some(letter) => seg_receives(segment, from, letter, journal, gate, marks),
             None => unreachable!(),
         },
+        Event::Restart(_) => unreachable!(),
         _ => segment.step(own_event(event), journal, gate, marks),
     }
 }
