@@ -99,6 +99,7 @@ module _ (script : Script) (steps : List Step) (to : Node) (e : Event) (one : 1 
   one-rest point (mark.LocalCommit n a') a b p = tt
   one-rest point (mark.Decided a') a b p = tt
   one-rest point (mark.JournalFailed n a') a b p = tt
+  one-rest point (mark.Restart n) a b p = tt
   one-rest point (mark.Sent a' c d) a b p = tt
   one-rest point (mark.Report n x y) a b p = tt
 

@@ -155,6 +155,7 @@ module _ (script : Script) (numbered : AreLinesNumbered [] script.lines) (ms ns 
     sent-more node (mark.LocalCommit n g) d = tt
     sent-more node (mark.Decided g) d = tt
     sent-more node (mark.JournalFailed n g) d = tt
+    sent-more node (mark.Restart n) d = tt
     sent-more node (mark.Report n x y) d = tt
     sent-more node (mark.Recheck x y z) d = tt
 

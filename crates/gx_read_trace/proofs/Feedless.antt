@@ -255,6 +255,7 @@ module _ (script : Script) where
   mark-plain (seen.Whole (mark.LocalCommit k g)) is = sole _ (blank (two (lit (codes "local") refl) (of-node k is.0) (of-gxid g is.1))).1
   mark-plain (seen.Whole (mark.Decided g)) is = sole _ (blank (one (lit (codes "decided") refl) (of-gxid g is))).1
   mark-plain (seen.Whole (mark.JournalFailed k g)) is = sole _ (blank (two (lit (codes "journal") refl) (of-node k is.0) (of-gxid g is.1))).1
+  mark-plain (seen.Whole (mark.Restart k)) is = sole _ (blank (one (lit (codes "restart") refl) (of-node k is))).1
   mark-plain (seen.Whole (mark.Report k r graph)) is = sole _ (blank (cat (cat (two (lit (codes "report") refl) (of-node k is.0) (number r is.2)) colon)
       (flat_map edge_text (in_order edge_order graph.edges), each-in IsEdge edge_text edge-plain (in_order edge_order graph.edges) (subst (All IsEdge) (sym is.3.order) is.3.edges)))).1
   mark-plain (seen.Whole (mark.Answer session n said)) is = absurd is

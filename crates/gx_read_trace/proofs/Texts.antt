@@ -126,6 +126,7 @@ module _ (script : Script) where
   mark-fed (seen.Whole (mark.LocalCommit k g)) is = one-line (seen_mark_text script (seen.Whole (mark.LocalCommit k g)))
   mark-fed (seen.Whole (mark.Decided g)) is = one-line (seen_mark_text script (seen.Whole (mark.Decided g)))
   mark-fed (seen.Whole (mark.JournalFailed k g)) is = one-line (seen_mark_text script (seen.Whole (mark.JournalFailed k g)))
+  mark-fed (seen.Whole (mark.Restart k)) is = one-line (seen_mark_text script (seen.Whole (mark.Restart k)))
   mark-fed (seen.Whole (mark.Report k r graph)) is = one-line (seen_mark_text script (seen.Whole (mark.Report k r graph)))
   mark-fed (seen.Whole (mark.Answer session number said)) is = absurd is
   mark-fed (seen.Whole (mark.Sent to number message)) is = absurd is

@@ -27,6 +27,7 @@ IsAtNode script node (mark.Wait n g object mode) = n ≡ node
 IsAtNode script node (mark.Release n g object mode) = n ≡ node
 IsAtNode script node (mark.Prepared n g) = (n ≡ node) × IsSegment script node
 IsAtNode script node (mark.LocalCommit n g) = (n ≡ node) × IsSegment script node
+IsAtNode script node (mark.Restart n) = (n ≡ node) × IsSegment script node
 IsAtNode script node (mark.JournalFailed n g) = n ≡ node
 IsAtNode script node (mark.Report n round graph) = n ≡ node
 IsAtNode script node (mark.Sent to number told) = IsLink script node to

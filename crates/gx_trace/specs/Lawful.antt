@@ -200,6 +200,7 @@ IsWhole script (mark.Prepared node gxid) = IsNode node × IsGxid gxid
 IsWhole script (mark.LocalCommit node gxid) = IsNode node × IsGxid gxid
 IsWhole script (mark.Decided gxid) = IsGxid gxid
 IsWhole script (mark.JournalFailed node gxid) = IsNode node × IsGxid gxid
+IsWhole script (mark.Restart node) = IsNode node
 IsWhole script (mark.Sent to number message) = ⊥
 IsWhole script (mark.Report node round graph) = IsNode node × (node ≢ the_coordinator) × (round < 2 ^ 64) × IsGraph node graph
 IsWhole script (mark.Recheck round own verdict) = (round < 2 ^ 64) × IsGraph the_coordinator own × IsVerdict verdict
