@@ -37,9 +37,12 @@ pub fn make_attempt<S: Source>(alloc: Global, source: &mut S) -> Attempt
         Err(ReadFault::OutOfMemory) => return Attempt::OutOfMemory,
     };
     if bytes.len() > LIMIT {
+        drop(bytes);
         return Attempt::TooLarge;
     }
-    explained(alloc, bytes.as_slice())
+    let attempt = explained(alloc, bytes.as_slice());
+    drop(bytes);
+    attempt
 }
 
 // What these bytes are.

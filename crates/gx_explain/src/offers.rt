@@ -2,7 +2,7 @@
 use crate::hints::{Stray, hint};
 use crate::spelled::sign_text;
 use crate::words::Words;
-use gx_grammar::{Fault, ReadError};
+use gx_grammar::ReadError;
 use gx_ids::Mem;
 use gx_lex::{Name, Symbol, Token, WORDS, Word};
 use gx_lines::{LineSyn, read_head_line, read_segments_line, read_session_line};
@@ -17,9 +17,6 @@ const NEAR: usize = 20_000;
 
 // What stands before offers.
 const OFFERED: &[u8] = b"  could stand there:";
-
-// The same, and behind it that a name could stand there, which is offered first.
-const NAMED: &[u8] = b"  could stand there:  a name";
 
 // The most bytes of a line of offers, but for its end.
 const ROOM: usize = 98;
@@ -87,40 +84,42 @@ pub fn front_of(progress: &Progress) -> Front {
     }
 }
 
-// Whether a line was read.
-fn is_line(read: Result<LineSyn, ReadError>) -> Result<(), ReadError> {
-    match read {
-        Ok(line) => {
-            drop_line(line);
-            Ok(())
+// What a reading that ended with this error says of its tokens.
+fn going_of(error: ReadError, words: &mut Words) -> Going {
+    match error {
+        ReadError::Fault(_, 0) => Going::On,
+        ReadError::Fault(_, _) => Going::Not,
+        ReadError::OutOfMemory => {
+            words.cut_short();
+            Going::Not
         }
-        Err(error) => Err(error),
     }
 }
 
-// Reads the tokens as a line there.
-fn read_at(alloc: Global, front: Front, tokens: &[Token]) -> Result<(), ReadError> {
-    match front {
-        Front::Segments => match read_segments_line(alloc, limits(), tokens) {
-            Ok(_) => Ok(()),
-            Err(error) => Err(error),
-        },
-        Front::Heads(0) => Err(ReadError::Fault(Fault::Syntax, 1)),
-        Front::Heads(segments) => is_line(read_head_line(alloc, segments, limits(), tokens)),
-        Front::Lines => is_line(read_session_line(alloc, limits(), tokens)),
+// What a reading of a line says of its tokens.
+fn going_by(read: Result<LineSyn, ReadError>, words: &mut Words) -> Going {
+    match read {
+        Ok(line) => {
+            drop_line(line);
+            Going::Whole
+        }
+        Err(error) => going_of(error, words),
     }
 }
 
 // How far the tokens are a line there.
 fn how_far(alloc: Global, front: Front, tokens: &[Token], words: &mut Words) -> Going {
-    match read_at(alloc, front, tokens) {
-        Ok(()) => Going::Whole,
-        Err(ReadError::Fault(_, 0)) => Going::On,
-        Err(ReadError::Fault(_, _)) => Going::Not,
-        Err(ReadError::OutOfMemory) => {
-            words.cut_short();
-            Going::Not
-        }
+    match front {
+        Front::Segments => match read_segments_line(alloc, limits(), tokens) {
+            Ok(_) => Going::Whole,
+            Err(error) => going_of(error, words),
+        },
+        Front::Heads(0) => Going::Not,
+        Front::Heads(segments) => going_by(
+            read_head_line(alloc, segments, limits(), tokens),
+            words,
+        ),
+        Front::Lines => going_by(read_session_line(alloc, limits(), tokens), words),
     }
 }
 
@@ -146,10 +145,10 @@ fn push_offer(words: &mut Words, going: Going, spelling: &[u8]) {
     if let Going::Not = going {
         return;
     }
-    if words.is_empty() {
+    if words.len() == 0 {
         words.push(OFFERED);
     }
-    if words.as_slice().len().saturating_add(spelling.len()) <= ROOM {
+    if words.len().saturating_add(spelling.len()) <= ROOM {
         words.push(b"  ");
         words.push(spelling);
     }
@@ -170,17 +169,21 @@ fn offer(alloc: Global, front: Front, tokens: &mut Vec<Token>, number: usize, wo
     tokens.truncate(place);
 }
 
-// Gives a line of what could stand behind these tokens, the end where they are a line, where anything could.
-fn push_offers(alloc: Global, words: &mut Words, front: Front, tokens: &mut Vec<Token>) {
-    for number in 0..CANDIDATES {
+// Gives a line of what could stand behind these tokens, the end where they are a line, where anything could; and says whether a
+// name could, which is offered first.
+fn push_offers(alloc: Global, words: &mut Words, front: Front, tokens: &mut Vec<Token>) -> bool {
+    offer(alloc, front, tokens, 0, words);
+    let named = words.len() != 0;
+    for number in 1..CANDIDATES {
         offer(alloc, front, tokens, number, words);
     }
     if let Going::Whole = how_far(alloc, front, tokens.as_slice(), words) {
         push_offer(words, Going::Whole, b"the end");
     }
-    if !words.is_empty() {
+    if words.len() != 0 {
         words.push(b"\n");
     }
+    named
 }
 
 // Whether a fault may be one of the grammar.
@@ -213,27 +216,6 @@ fn stray_at(
     }
 }
 
-// Gives what could stand behind so many of these tokens, where it isn't what stands there, and says how that came to be there
-// which does. No more of them are left then.
-fn push_offers_at(
-    alloc: Global,
-    words: &mut Words,
-    front: Front,
-    tokens: &mut Vec<Token>,
-    place: usize,
-) -> Stray {
-    let stray = stray_at(alloc, front, tokens.as_slice(), place, words);
-    tokens.truncate(place);
-    if let Stray::Fitting = stray {
-        return stray;
-    }
-    push_offers(alloc, words, front, tokens);
-    match stray {
-        Stray::Keyword if place == 0 || !words.as_slice().starts_with(NAMED) => Stray::Other,
-        _ => stray,
-    }
-}
-
 fn front_name(front: Front) -> &'static [u8] {
     match front {
         Front::Segments => b"segments",
@@ -252,11 +234,19 @@ fn stray_behind(
     tokens: &mut Vec<Token>,
     place: usize,
 ) -> Stray {
-    if is_of_tokens(fault) && place <= NEAR {
-        push_offers_at(alloc, words, front, tokens, place)
-    } else {
+    if !is_of_tokens(fault) || NEAR < place {
         tokens.truncate(place);
-        Stray::Other
+        return Stray::Other;
+    }
+    let stray = stray_at(alloc, front, tokens.as_slice(), place, words);
+    tokens.truncate(place);
+    if let Stray::Fitting = stray {
+        return stray;
+    }
+    let named = push_offers(alloc, words, front, tokens);
+    match stray {
+        Stray::Keyword if place == 0 || !named => Stray::Other,
+        _ => stray,
     }
 }
 
@@ -271,7 +261,8 @@ pub fn words_on(
 ) -> Mem<Vec<u8>> {
     let mut words = Words::new(alloc);
     let stray = stray_behind(alloc, &mut words, front, fault, tokens, place);
-    if let Some(hint) = hint(fault, stray, front_name(front), tokens.as_slice(), tail) {
+    let hint = hint(fault, stray, front_name(front), tokens.as_slice(), tail);
+    if !hint.is_empty() {
         words.push(b"  hint: ");
         words.push(hint);
         words.push(b"\n");

@@ -22,7 +22,11 @@ fn told_of<K: Sink>(attempt: Attempt, sink: &mut K) -> u8
 {
     match attempt {
         Attempt::IsScript => told(0, b"a script\n", sink),
-        Attempt::Refused(text) => told(3, text.as_slice(), sink),
+        Attempt::Refused(text) => {
+            let status = told(3, text.as_slice(), sink);
+            drop(text);
+            status
+        }
         Attempt::ReadFault => told(4, b"read fault\n", sink),
         Attempt::TooLarge => told(9, b"too large\n", sink),
         Attempt::OutOfMemory => 6,

@@ -32,14 +32,9 @@ impl Words {
         }
     }
 
-    /// The bytes so far.
-    pub fn as_slice(&self) -> &[u8] {
-        self.bytes.as_slice()
-    }
-
-    /// Whether there are none.
-    pub fn is_empty(&self) -> bool {
-        self.bytes.is_empty()
+    /// How many bytes there are.
+    pub fn len(&self) -> usize {
+        self.bytes.len()
     }
 
     /// The words, where all of them stand there.

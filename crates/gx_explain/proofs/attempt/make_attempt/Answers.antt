@@ -7,4 +7,4 @@ pub returns : goal.returns
 returns g c =
     let read : IsRead (g.S.Source.left c.args.source.now) (g.S.Source.left c.read_up_to.new.source) c.in-Ok.bytes.items = search (rules, arith) in
     let calm : g.S.Source.fault_count c.read_up_to.new.source ≡ g.S.Source.fault_count c.args.source.now = search (rules, arith) in
-    of-bytes _ _ _ _ _ read calm c.explained.result (subst (λ (bytes : List ℕ). IsOfBytes bytes c.explained.result) c.as_slice.ensures.value c.explained.ensures)
+    of-bytes _ _ _ _ _ read calm c.explained-attempt.result (subst (λ (bytes : List ℕ). IsOfBytes bytes c.explained-attempt.result) c.as_slice.ensures.value c.explained-attempt.ensures)
