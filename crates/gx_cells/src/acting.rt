@@ -63,8 +63,13 @@ fn do_own<R: Wait, J: Journal>(
 {
     let event = event_of(&here);
     let mut marks = history.steps.blank(history.alloc);
-    coord.step(&history.script, here, journal, &mut marks)?;
-    tell_all(rt, history, coord.clock, event, marks)
+    match coord.step(&history.script, here, journal, &mut marks) {
+        Ok(()) => tell_all(rt, history, coord.clock, event, marks),
+        Err(fault) => {
+            drop(marks);
+            Err(fault)
+        }
+    }
 }
 
 // Whether the groups let an event: where it starts a line, its session may have to wait for a slot.

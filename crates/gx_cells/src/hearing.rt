@@ -49,7 +49,7 @@ fn deliver<R: Wait, J: Journal>(
     ensures steps { OnOk result (IsLonger (Receive from the_coordinator (length inbox.now.source.received)) history.old.steps history.new.steps) }
 {
     let mut marks = history.steps.blank(history.alloc);
-    coord.receive(
+    match coord.receive(
         &history.script,
         from,
         envelope.number,
@@ -57,13 +57,20 @@ fn deliver<R: Wait, J: Journal>(
         &envelope.message,
         journal,
         &mut marks,
-    )?;
-    let event = Event::Receive {
-        from,
-        to: Node(0),
-        number: inbox.source.count(),
-    };
-    tell_all(rt, history, coord.clock, event, marks)
+    ) {
+        Ok(()) => {
+            let event = Event::Receive {
+                from,
+                to: Node(0),
+                number: inbox.source.count(),
+            };
+            tell_all(rt, history, coord.clock, event, marks)
+        }
+        Err(fault) => {
+            drop(marks);
+            Err(fault)
+        }
+    }
 }
 
 // It receives it, unless it is worn.
@@ -133,9 +140,16 @@ fn receive_new<R: Wait, J: Journal>(
         drop(envelope);
         return Ok(Looked::Lost);
     }
-    let looked = deliver_unless_worn(rt, history, inbox, coord, from, &envelope, journal)?;
-    keep(inbox, looked, times, envelope);
-    Ok(looked)
+    match deliver_unless_worn(rt, history, inbox, coord, from, &envelope, journal) {
+        Ok(looked) => {
+            keep(inbox, looked, times, envelope);
+            Ok(looked)
+        }
+        Err(fault) => {
+            drop(envelope);
+            Err(fault)
+        }
+    }
 }
 
 // The next envelope of a segment is received: the one that is to come once more, or else the link's next.
@@ -165,7 +179,9 @@ fn receive_next<R: Wait, J: Journal>(
     if is_new {
         receive_new(rt, history, inbox, coord, faults, from, envelope, journal)
     } else {
-        deliver_unless_worn(rt, history, inbox, coord, from, &envelope, journal)
+        let looked = deliver_unless_worn(rt, history, inbox, coord, from, &envelope, journal);
+        drop(envelope);
+        looked
     }
 }
 

@@ -31,7 +31,7 @@ pub(crate) fn keep(inbox: &mut Inbox, looked: Looked, times: u8, envelope: Envel
     ensures again { inbox.new.again ≡ kept_if looked times envelope inbox.old.again }
 {
     match looked {
-        Looked::Stepped if times == 2 => inbox.again = Some(envelope),
+        Looked::Stepped if times == 2 => drop(inbox.again.replace(envelope)),
         _ => drop(envelope),
     }
 }

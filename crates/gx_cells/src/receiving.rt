@@ -47,7 +47,7 @@ fn deliver<R: Wait, J: Journal, G: Gate>(
     ensures steps { OnOk result (IsLonger (Receive the_coordinator history.old.node (length inbox.now.source.received)) history.old.steps history.new.steps) }
 {
     let mut marks = history.steps.blank(history.alloc);
-    segment.receive(
+    match segment.receive(
         Node(0),
         envelope.number,
         envelope.clock,
@@ -55,13 +55,20 @@ fn deliver<R: Wait, J: Journal, G: Gate>(
         journal,
         gate,
         &mut marks,
-    )?;
-    let event = Event::Receive {
-        from: Node(0),
-        to: history.node,
-        number: inbox.source.count(),
-    };
-    tell(rt, history, segment.clock, event, marks)
+    ) {
+        Ok(()) => {
+            let event = Event::Receive {
+                from: Node(0),
+                to: history.node,
+                number: inbox.source.count(),
+            };
+            tell(rt, history, segment.clock, event, marks)
+        }
+        Err(fault) => {
+            drop(marks);
+            Err(fault)
+        }
+    }
 }
 
 // It receives it, unless it is worn.
@@ -129,9 +136,16 @@ fn receive_new<R: Wait, J: Journal, G: Gate>(
         drop(envelope);
         return Ok(Looked::Lost);
     }
-    let looked = deliver_unless_worn(rt, history, inbox, segment, &envelope, journal, gate)?;
-    keep(inbox, looked, times, envelope);
-    Ok(looked)
+    match deliver_unless_worn(rt, history, inbox, segment, &envelope, journal, gate) {
+        Ok(looked) => {
+            keep(inbox, looked, times, envelope);
+            Ok(looked)
+        }
+        Err(fault) => {
+            drop(envelope);
+            Err(fault)
+        }
+    }
 }
 
 // The next envelope is received: the one that is to come once more, or else the link's next.
@@ -160,6 +174,8 @@ pub(crate) fn receive_next<R: Wait, J: Journal, G: Gate>(
     if is_new {
         receive_new(rt, history, inbox, segment, faults, envelope, journal, gate)
     } else {
-        deliver_unless_worn(rt, history, inbox, segment, &envelope, journal, gate)
+        let looked = deliver_unless_worn(rt, history, inbox, segment, &envelope, journal, gate);
+        drop(envelope);
+        looked
     }
 }

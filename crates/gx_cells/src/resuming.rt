@@ -38,12 +38,19 @@ fn go_on<R: Wait, J: Journal, G: Gate>(
     ensures steps { OnOk result (IsLonger (Resume history.old.node gxid) history.old.steps history.new.steps) }
 {
     let mut marks = history.steps.blank(history.alloc);
-    segment.step(NodeEvent::Resume(gxid), journal, gate, &mut marks)?;
-    let event = Event::Resume {
-        node: history.node,
-        gxid,
-    };
-    tell(rt, history, segment.clock, event, marks)
+    match segment.step(NodeEvent::Resume(gxid), journal, gate, &mut marks) {
+        Ok(()) => {
+            let event = Event::Resume {
+                node: history.node,
+                gxid,
+            };
+            tell(rt, history, segment.clock, event, marks)
+        }
+        Err(fault) => {
+            drop(marks);
+            Err(fault)
+        }
+    }
 }
 
 // The least transaction whose wait is ready resumes.

@@ -35,7 +35,10 @@ fn send<R: Wait>(rt: &R, out: &mut LinkOut, envelope: Envelope) -> Mem<()>
     }
     match out.send(rt, envelope) {
         Ok(()) => Ok(()),
-        Err(_back) => Err(OutOfMemory),
+        Err(back) => {
+            drop(back);
+            Err(OutOfMemory)
+        }
     }
 }
 
@@ -92,13 +95,18 @@ pub(crate) fn tell<R: Wait>(
     ensures steps { OnOk result (history.new.steps ≡ history.old.steps ++ record { stamp = record { clock = clock; node = history.old.node }; event = event; marks = marks.items } ∷ []) }
 {
     let node = history.node;
-    send_marks(
+    match send_marks(
         rt,
         history.alloc,
         &mut history.out,
         Node(0),
         clock,
         marks.as_slice(),
-    )?;
-    history.steps.push(Stamp { clock, node }, event, marks)
+    ) {
+        Ok(()) => history.steps.push(Stamp { clock, node }, event, marks),
+        Err(fault) => {
+            drop(marks);
+            Err(fault)
+        }
+    }
 }

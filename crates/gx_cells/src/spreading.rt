@@ -56,19 +56,26 @@ pub(crate) fn tell_all<R: Wait>(
     ensures steps { OnOk result (history.new.steps ≡ history.old.steps ++ record { stamp = record { clock = clock; node = the_coordinator }; event = event; marks = marks.items } ∷ []) }
     ensures slots { OnOk result (AreOwnSlots history.old.script.value history.old.steps history.old.slots → AreOwnSlots history.old.script.value history.new.steps history.new.slots) }
 {
-    spread(
+    match spread(
         rt,
         history.alloc,
         &mut history.outs,
         clock,
         marks.as_slice(),
-    )?;
-    let stamp = Stamp {
-        clock,
-        node: Node(0),
-    };
-    history.steps.push(stamp, event, marks)?;
-    tell_last(&history.script, &history.steps, &mut history.slots)
+    ) {
+        Ok(()) => {
+            let stamp = Stamp {
+                clock,
+                node: Node(0),
+            };
+            history.steps.push(stamp, event, marks)?;
+            tell_last(&history.script, &history.steps, &mut history.slots)
+        }
+        Err(fault) => {
+            drop(marks);
+            Err(fault)
+        }
+    }
 }
 
 // The last step tells the slots.

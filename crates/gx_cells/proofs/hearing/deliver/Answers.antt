@@ -48,8 +48,8 @@ tell_all-requires-clause-few g c = few-links c.args.history.now (inboxes_with g.
 pub tell_all-requires-clause-language : goal.tell_all-requires-clause-language
 tell_all-requires-clause-language g c = apart-language c.args.history.now (inboxes_with g.there c.args.inbox.now) c.args.coord.now (g.J.Journal.shelf c.args.journal.now) c.requires.1.1.0
 
-pub returns-clause-apart : goal.returns-clause-apart
-returns-clause-apart g c =
+pub returns-in-Ok-clause-apart : goal.returns-in-Ok-clause-apart
+returns-in-Ok-clause-apart g c =
     let history = c.args.history.now in
     let inbox = c.args.inbox.now in
     let inboxes = inboxes_with g.there inbox in
@@ -66,6 +66,6 @@ returns-clause-apart g c =
     on_ok c.tell_all.result _ _ (both_ok c.tell_all.result _ _ c.tell_all.ensures.sent (both_ok c.tell_all.result _ _ c.tell_all.ensures.steps c.tell_all.ensures.slots))
     (λ e.
     coord-next history inboxes c.args.coord.now new here before after marks event apart may refl (takes-there g.there.inboxes g.there.place inbox c.args.from c.count.result c.args.envelope.now from.0 from.1 c.count.ensures c.requires.1.1.1.1.1.0)
-    (subst (λ (x : Coord). HasStepped c.args.coord.now new x here before after marks) is c.in_ok-receive.ensures.stepped) c.tell_all.new.history c.tell_all.ensures.gone e.0
+    (subst (λ (x : Coord). HasStepped c.args.coord.now new x here before after marks) is c.in-Ok.ensures.stepped) c.tell_all.new.history c.tell_all.ensures.gone e.0
     (e.1.0 ∙ ap (λ (ss : List Step). ss ++ told new.clock the_coordinator event marks ∷ []) c.blank-marks.ensures.steps) refl
     (subst (λ (ss : List Step). AreOwnSlots history.script.value ss history.slots → AreOwnSlots history.script.value c.tell_all.new.history.steps c.tell_all.new.history.slots) c.blank-marks.ensures.steps e.1.1))

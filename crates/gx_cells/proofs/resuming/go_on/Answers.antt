@@ -10,8 +10,8 @@ use Rattle.gx_cells.proofs.Answers.{both_ok, on_ok}
 use Rattle.gx_cells.proofs.AtSegments.{apart-next, may-resume, told}
 use Rattle.gx_cells.proofs.resuming.go_on.Goals as goal
 
-pub returns-clause-apart : goal.returns-clause-apart
-returns-clause-apart g c =
+pub returns-in-Ok-clause-apart : goal.returns-in-Ok-clause-apart
+returns-in-Ok-clause-apart g c =
     let history = c.args.history.now in
     let inbox = c.args.inbox.now in
     let new = c.step.new.self in
@@ -26,5 +26,5 @@ returns-clause-apart g c =
     on_ok c.tell.result _ _ (both_ok c.tell.result _ _ c.tell.ensures.sent c.tell.ensures.steps)
     (λ e.
     apart-next history inbox c.args.segment.now new here before after marks event apart (may-resume history.script.value history.node (segment_apart history inbox.source.received) c.args.gxid apart.place apart.named ready) refl refl
-    (subst (λ (s : Seg). HasStepped c.args.segment.now new s here before after marks) is c.in_ok-step.ensures.stepped) c.tell.new.history c.tell.ensures.gone e.0
+    (subst (λ (s : Seg). HasStepped c.args.segment.now new s here before after marks) is c.in-Ok.ensures.stepped) c.tell.new.history c.tell.ensures.gone e.0
     (e.1 ∙ ap (λ (ss : List Step). ss ++ told new.clock history.node event marks ∷ []) c.blank-marks.ensures.steps))
