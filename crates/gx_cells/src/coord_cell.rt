@@ -1,7 +1,11 @@
 ghost use Rattle.std.specs.Prelude.{◌≡◌, [], true, false, List, Some, IfOk, IsErr, OnErr, OnOk, length, slice_get, ℕ};
+ghost use Rattle.gx_agenda.specs.Faults.{AreFaultsOf};
+ghost use Rattle.gx_agenda.specs.OwnSlots.{AreOwnSlots};
 ghost use Rattle.gx_coord.specs.Room.{has_room};
+ghost use Rattle.gx_coord.specs.Steps.{IsCoord};
 ghost use Rattle.gx_links.specs.Ends.{OutEnd};
 ghost use Rattle.gx_locks.specs.Locks.{next_ready};
+ghost use Rattle.gx_rules.specs.Coordinators.{new_coordinator};
 ghost use Rattle.gx_store.specs.Language.{IsScript};
 ghost use Rattle.gx_store.specs.Refusals.{the_coordinator};
 ghost use Rattle.gx_store.specs.declared.node.NodeEvent.TheVariants as node;
@@ -76,6 +80,21 @@ impl<J: Journal> Model for CoordCell<J> {
     ghost invariant = { λ c. AreFaultsOf c.history.script.value c.faults × (c.spent ≡ false → IsCoordApart c.history c.inboxes.items c.coord (J.shelf c.journal)) };
 }
 
+// What a coordinator begins with.
+fn begun(alloc: Global, script: &Arc<Script, Global>) -> Mem<(Faults, OwnSlots, Coord)>
+    requires { IsScript script.now.value }
+    ensures faults { IfOk result (λ parts. AreFaultsOf script.now.value parts.0) }
+    ensures slots { IfOk result (λ parts. AreOwnSlots script.now.value [] parts.1) }
+    ensures new { IfOk result (λ parts. IsCoord parts.2 new_coordinator) }
+    ensures fresh { IfOk result (λ parts. parts.2.spent ≡ false) }
+    ensures of { IfOk result (λ parts. parts.2.script.value ≡ script.now.value) }
+{
+    let faults = Faults::new(alloc, script.faults.as_slice())?;
+    let slots = OwnSlots::new(alloc, script)?;
+    let coord = Coord::new(alloc, script.clone()?)?;
+    Ok((faults, slots, coord))
+}
+
 impl<J: Journal> CoordCell<J> {
     /// A coordinator that has done nothing, with ends of links to and from each segment, in their order, on which nothing was sent, and
     /// a journal that holds no item.
@@ -102,9 +121,14 @@ impl<J: Journal> CoordCell<J> {
           shelf = J.shelf journal;
         }) }
     {
-        let faults = Faults::new(alloc, script.faults.as_slice())?;
-        let coord = Coord::new(alloc, script.clone()?)?;
-        let slots = OwnSlots::new(alloc, &script)?;
+        let Ok(parts) = begun(alloc, &script) else {
+            drop(script);
+            drop(outs);
+            drop(inboxes);
+            drop(journal);
+            return Err(OutOfMemory);
+        };
+        let (faults, slots, coord) = parts;
         let first = journal.faults();
         let history = CoordHistory {
             alloc,
@@ -225,19 +249,32 @@ impl<J: Journal> CoordCell<J> {
         ensures shelf { IfOk result (λ parts. J.shelf parts.journal ≡ self.shelf) }
     {
         if self.spent {
+            drop(self);
             return Err(OutOfMemory);
         }
         let CoordCell {
             history,
             inboxes,
-            coord: _,
-            faults: _,
+            coord,
+            faults,
             journal,
             spent: _,
         } = self;
+        drop(coord);
+        drop(faults);
+        let CoordHistory {
+            alloc: _,
+            script,
+            first: _,
+            steps,
+            outs,
+            slots,
+        } = history;
+        drop(script);
+        drop(slots);
         Ok(CoordParts {
-            steps: history.steps,
-            outs: history.outs,
+            steps,
+            outs,
             inboxes,
             journal,
         })

@@ -1,6 +1,9 @@
 ghost use Rattle.std.specs.Prelude.{◌≡◌, [], true, false, None, IfOk, IsErr, OnErr, OnOk};
 ghost use Rattle.gx_locks.specs.Locks.{next_ready};
+ghost use Rattle.gx_agenda.specs.Faults.{AreFaultsOf};
+ghost use Rattle.gx_rules.specs.Segments.{new_segment};
 ghost use Rattle.gx_segment.specs.Room.{has_room};
+ghost use Rattle.gx_segment.specs.Steps.{IsSegment};
 ghost use Rattle.gx_store.specs.Ordered.{IsSegment as IsPlace};
 ghost use Rattle.gx_store.specs.Refusals.{the_coordinator};
 ghost use Rattle.gx_cells.specs.Closed.{IsSegmentKept, inbox_of};
@@ -76,6 +79,18 @@ impl<J: Journal> Model for SegmentCell<J> {
     ghost invariant = { λ c. AreFaultsOf c.history.script.value c.faults × (c.spent ≡ false → IsSegmentApart c.history c.inbox c.segment (J.shelf c.journal)) };
 }
 
+// What a segment begins with.
+fn begun(alloc: Global, script: &Arc<Script, Global>, node: Node) -> Mem<(Faults, Segment)>
+    ensures faults { IfOk result (λ parts. AreFaultsOf script.now.value parts.0) }
+    ensures new { IfOk result (λ parts. IsSegment parts.1 (new_segment node)) }
+    ensures fresh { IfOk result (λ parts. parts.1.spent ≡ false) }
+    ensures of { IfOk result (λ parts. parts.1.script.value ≡ script.now.value) }
+{
+    let faults = Faults::new(alloc, script.faults.as_slice())?;
+    let segment = Segment::new(alloc, node, script.clone()?)?;
+    Ok((faults, segment))
+}
+
 impl<J: Journal> SegmentCell<J> {
     /// A segment to which nothing has come, with ends of links on which nothing was sent, and a journal that holds no item.
     pub fn new(
@@ -102,8 +117,14 @@ impl<J: Journal> SegmentCell<J> {
           shelf = J.shelf journal;
         }) }
     {
-        let faults = Faults::new(alloc, script.faults.as_slice())?;
-        let segment = Segment::new(alloc, node, script.clone()?)?;
+        let Ok(parts) = begun(alloc, &script, node) else {
+            drop(script);
+            drop(out);
+            drop(source);
+            drop(journal);
+            return Err(OutOfMemory);
+        };
+        let (faults, segment) = parts;
         let first = journal.faults();
         let history = History {
             alloc,
@@ -201,20 +222,32 @@ impl<J: Journal> SegmentCell<J> {
         ensures shelf { IfOk result (λ parts. J.shelf parts.journal ≡ self.shelf) }
     {
         if self.spent {
+            drop(self);
             return Err(OutOfMemory);
         }
         let SegmentCell {
             history,
             inbox,
-            segment: _,
-            faults: _,
+            segment,
+            faults,
             journal,
             spent: _,
         } = self;
+        drop(segment);
+        drop(faults);
+        let History {
+            alloc: _,
+            script,
+            node,
+            first: _,
+            steps,
+            out,
+        } = history;
+        drop(script);
         Ok(SegmentParts {
-            node: history.node,
-            steps: history.steps,
-            out: history.out,
+            node,
+            steps,
+            out,
             inbox,
             journal,
         })
