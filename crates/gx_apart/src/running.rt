@@ -8,9 +8,8 @@ ghost use Rattle.gx_apart.specs.Made.{IsMade};
 ghost use Rattle.gx_cells.specs.Closed.{AreFailuresFew};
 
 use crate::driving::drive;
-use gx_cells::Cells;
+use gx_cells::{Cells, CellsEnd, end_cells, forget_histories};
 use gx_ids::Mem;
-use gx_merge::merge;
 use gx_outside::{Gate, Journal};
 use gx_script::Script;
 use gx_store::Run;
@@ -49,15 +48,23 @@ pub fn run_apart<R: Wait, J: Journal, G: Gate>(
     ensures rows { IfOk result (λ apart. AreFinalFrom 0 (marks_in apart.run.steps) apart.tables.items) }
 {
     let mut cells = Cells::new(alloc, script.clone()?, journal, journals)?;
-    drive(rt, alloc, script, &mut cells, gate, turns)?;
+    if let Err(fault) = drive(rt, alloc, script, &mut cells, gate, turns) {
+        cells.forget();
+        return Err(fault);
+    }
     let unfinished = cells.coord().unfinished();
-    let tables = cells.tables(alloc)?;
-    let closed = cells.close(rt, alloc)?;
-    let run = merge(alloc, script, closed.histories.as_slice())?;
+    let end = end_cells(rt, alloc, script, cells)?;
+    let CellsEnd {
+        histories,
+        run,
+        tables,
+        journals,
+    } = end;
+    forget_histories(histories);
     Ok(ApartRun {
         run,
         is_whole: !unfinished,
         tables,
-        journals: closed.journals,
+        journals,
     })
 }

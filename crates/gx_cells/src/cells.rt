@@ -126,6 +126,13 @@ impl<J: Journal> Cells<J> {
         Cells { coord, segments }
     }
 
+    /// They are given up, with all that they have.
+    pub fn forget(self) {
+        let Cells { coord, segments } = self;
+        drop(coord);
+        drop(segments);
+    }
+
     /// The rows of each table in the order of the script, as all segments show them to a snapshot that is taken now. Where it meets a spent
     /// cell it answers `OutOfMemory` too.
     pub fn tables(&self, alloc: Global) -> Mem<Vec<Vec<KeyedRow>>>

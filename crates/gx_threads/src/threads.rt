@@ -18,9 +18,9 @@ ghost use Rattle.gx_threads.specs.Ends.{AreHeld, HaveNoOthers};
 ghost use Rattle.gx_threads.specs.Sets.{AreInOrder, IsSameSet};
 
 use crate::opening::{Work, opened};
-use gx_cells::{Cells, SegmentCell};
-use gx_ids::{Mem, OutOfMemory};
-use gx_merge::{NodeHistory, merge};
+use gx_cells::{Cells, CellsEnd, SegmentCell, end_cells};
+use gx_ids::Mem;
+use gx_merge::NodeHistory;
 use gx_outside::{Gate, Journal};
 use gx_script::Script;
 use gx_store::Run;
@@ -121,17 +121,18 @@ fn ended<R: Wait, J: Journal>(
     ensures held { IfOk result (λ end. AreHeld end.run.steps (map J.shelf end.journals.items)) }
     ensures failures { IfOk result (λ end. AreFailuresFew end.run.steps (firsts_of cells.coord cells.segments) (map J.shelf end.journals.items)) }
 {
-    let Ok(tables) = cells.tables(alloc) else {
-        drop(cells);
-        return Err(OutOfMemory);
-    };
-    let closed = cells.close(rt, alloc)?;
-    let run = merge(alloc, script, closed.histories.as_slice())?;
-    Ok(ThreadEnd {
-        histories: closed.histories,
+    let end = end_cells(rt, alloc, script, cells)?;
+    let CellsEnd {
+        histories,
         run,
         tables,
-        journals: closed.journals,
+        journals,
+    } = end;
+    Ok(ThreadEnd {
+        histories,
+        run,
+        tables,
+        journals,
     })
 }
 
