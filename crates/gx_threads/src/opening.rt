@@ -103,10 +103,19 @@ pub fn opened<
     ensures coordinator { IfOk result (λ cells. IsItsCoordinator N.coordinator cells.0) }
     ensures segments { IfOk result (λ cells. All (IsItsSegment N.segments) cells.1.items) }
 {
-    let posts = posts_for(alloc, segments.len(), work)?;
+    let Ok(posts) = posts_for(alloc, segments.len(), work) else {
+        drop(coord);
+        drop(segments);
+        return Err(OutOfMemory);
+    };
+    let Ok(locks) = locked(alloc, segments) else {
+        drop(coord);
+        drop(posts);
+        return Err(OutOfMemory);
+    };
     let hall: Hall<J, N> = Hall {
         coord: CoordLock::new(coord),
-        segments: locked(alloc, segments)?,
+        segments: locks,
         posts,
         grouped: work.grouped,
         over: AtomicBool::new(false),
@@ -131,14 +140,31 @@ fn open_hall<N: SetName, J: Journal>(
     let Hall {
         coord,
         segments,
-        posts: _,
+        posts,
         grouped: _,
         over: _,
         failed: _,
     } = hall;
+    drop(posts);
+    match unlocked(alloc, segments) {
+        Ok(cells) => Ok((coord.into_cell(), cells)),
+        Err(fault) => {
+            drop(coord);
+            Err(fault)
+        }
+    }
+}
+
+// The cells without their locks.
+fn unlocked<N: SetName, J: Journal>(
+    alloc: Global,
+    segments: Vec<SegmentLock<J, N>>,
+) -> Mem<Vec<SegmentCell<J>>>
+    ensures { IfOk result (λ cells. All (IsItsSegment N.segments) cells.items) }
+{
     let mut cells = Vec::new(alloc);
     for lock in segments {
         cells.push(lock.into_cell())?;
     }
-    Ok((coord.into_cell(), cells))
+    Ok(cells)
 }

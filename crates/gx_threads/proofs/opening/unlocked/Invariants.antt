@@ -1,6 +1,6 @@
 use Rattle.std.proofs.Common.{All}
 use Rattle.gx_threads.specs.Sets.{IsItsSegment}
-use Rattle.gx_threads.proofs.opening.open_hall.Given as goal
+use Rattle.gx_threads.proofs.opening.unlocked.Given as goal
 
 abbrev pub invariant-loop-lock : goal.invariant-loop-lock
 invariant-loop-lock g l =
