@@ -76,16 +76,20 @@ fn close_links<R: Wait>(rt: &R, outs: Vec<LinkOut>, inboxes: Vec<Inbox>)
     let mut outs = outs;
     let mut inboxes = inboxes;
     while let Some(out) = outs.pop() {
-        if let Some(inbox) = inboxes.pop() {
-            close_link(rt, out, inbox);
+        match inboxes.pop() {
+            Some(inbox) => close_link(rt, out, inbox),
+            None => drop(out),
         }
     }
+    drop(outs);
+    drop(inboxes);
 }
 
 fn close_link<R: Wait>(rt: &R, out: LinkOut, inbox: Inbox)
     requires { out.link ≡ inbox.source.link }
     ensures { IsBegun out inbox }
 {
-    let Inbox { source, again: _ } = inbox;
+    let Inbox { source, again } = inbox;
+    drop(again);
     close(rt, out, source);
 }
