@@ -52,6 +52,7 @@ due-may (Some (message.Forget g)) waits = refl
 due-may (Some (message.Collect round)) waits = refl
 due-may (Some (message.Answer g told)) waits = refl
 due-may (Some (message.Graph round graph)) waits = refl
+due-may (Some message.Up) waits = refl
 
 module _ (steps : List Step) where
   -- what is sent again is asked

@@ -54,6 +54,7 @@ fn deliver<R: Wait, J: Journal>(
         from,
         envelope.number,
         envelope.clock,
+        envelope.incarnation,
         &envelope.message,
         journal,
         &mut marks,

@@ -51,6 +51,7 @@ fn deliver<R: Wait, J: Journal, G: Gate>(
         Node(0),
         envelope.number,
         envelope.clock,
+        envelope.incarnation,
         &envelope.message,
         journal,
         gate,

@@ -20,6 +20,7 @@ fn envelope_of(alloc: Global, clock: u64, number: u64, message: &Message) -> Mem
     Ok(Envelope {
         number,
         clock,
+        incarnation: 1,
         message: message.copy(alloc)?,
     })
 }

@@ -109,6 +109,7 @@ module _ (c : Coord) (whole : IsWhole c.table) (e : AreSound c) (g : ℕ) where
   answer-sound i fails reply.Committed s = replies-sound c whole e g i _ fails
   answer-sound i fails reply.Jfault s = replies-sound c whole e g i _ fails
   answer-sound i fails reply.Again s = replies-sound c whole e g i _ fails
+  answer-sound i fails reply.Restarted s = replies-sound c whole e g i _ fails
   answer-sound i fails reply.Aborted s = replies-sound c whole e g i _ fails
   answer-sound i fails reply.Forgotten s = replies-sound c whole e g i _ fails
 
@@ -122,3 +123,4 @@ message-sound c whole e from fails (message.Abort g) s = e
 message-sound c whole e from fails (message.Forget g) s = e
 message-sound c whole e from fails (message.Collect round) s = e
 message-sound c whole e from fails (message.Graph round graph) s = graph-ways (λ turn. AreSound turn.coord) c from round graph e (λ r. e) (λ r a. e)
+message-sound c whole e from fails message.Up s = e

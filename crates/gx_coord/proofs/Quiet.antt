@@ -93,6 +93,7 @@ answer-quiet c g i reply.Prepared fails own = absurd own
 answer-quiet c g i reply.Committed fails own = absurd own
 answer-quiet c g i reply.Jfault fails own = absurd own
 answer-quiet c g i reply.Again fails own = absurd own
+answer-quiet c g i reply.Restarted fails own = absurd own
 answer-quiet c g i reply.Aborted fails own = absurd own
 answer-quiet c g i reply.Forgotten fails own = absurd own
 
@@ -112,6 +113,7 @@ for-status reply.Prepared a b = tt
 for-status reply.Committed a b = tt
 for-status reply.Jfault a b = tt
 for-status reply.Again a b = tt
+for-status reply.Restarted a b = tt
 for-status reply.Aborted a b = tt
 for-status reply.Forgotten a b = tt
 
@@ -122,6 +124,7 @@ status-turn c g i reply.Prepared fails own = refl
 status-turn c g i reply.Committed fails own = refl
 status-turn c g i reply.Jfault fails own = refl
 status-turn c g i reply.Again fails own = refl
+status-turn c g i reply.Restarted fails own = refl
 status-turn c g i reply.Aborted fails own = refl
 status-turn c g i reply.Forgotten fails own = refl
 

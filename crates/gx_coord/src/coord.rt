@@ -123,13 +123,14 @@ impl Coord {
         }
     }
 
-    /// The same step where a message comes that stands elsewhere, in an envelope of this number and clock.
+    /// The same step where a message comes that stands elsewhere, in an envelope of this number, clock and incarnation.
     pub fn receive<J: Journal>(
         &mut self,
         script: &Script,
         from: Node,
         number: u64,
         clock: u64,
+        incarnation: u64,
         message: &Message,
         journal: &mut J,
         marks: &mut Vec<Mark>,
@@ -137,14 +138,14 @@ impl Coord {
         ghost c: { RuleCoord }
         requires same { self.old.script.value ≡ script.now }
         requires is { self.old.spent ≡ false → IsCoord self.old c }
-        requires admitted { self.old.spent ≡ false → coord_can self.old.script.value c (NodeEvent.Deliver from (record { number = number; clock = clock; message = message.now })) ≡ true }
+        requires admitted { self.old.spent ≡ false → coord_can self.old.script.value c (NodeEvent.Deliver from (record { number = number; clock = clock; incarnation = incarnation; message = message.now })) ≡ true }
         requires clock { self.old.clock < 2 ^ 62 }
-        requires heard { heard_in (NodeEvent.Deliver from (record { number = number; clock = clock; message = message.now })) < 2 ^ 62 }
+        requires heard { heard_in (NodeEvent.Deliver from (record { number = number; clock = clock; incarnation = incarnation; message = message.now })) < 2 ^ 62 }
         requires numbers { All (λ sent. sent < 2 ^ 62) self.old.sent.items }
         requires drawn { self.old.dtx.next.0 < 2 ^ 62 }
         requires rounds { self.old.detector.begun < 2 ^ 62 }
         requires blank { marks.old.items ≡ [] }
-        ensures stepped { OnOk result (HasStepped self.old self.new c (NodeEvent.Deliver from (record { number = number; clock = clock; message = message.now }))
+        ensures stepped { OnOk result (HasStepped self.old self.new c (NodeEvent.Deliver from (record { number = number; clock = clock; incarnation = incarnation; message = message.now }))
             (J.shelf journal.old) (J.shelf journal.new) marks.new.items) }
         ensures later { IsLater (J.shelf journal.old) (J.shelf journal.new) }
         ensures item { IsLaterBy (J.shelf journal.old) (J.shelf journal.new)
@@ -156,7 +157,17 @@ impl Coord {
         if self.spent {
             return Err(OutOfMemory);
         }
-        match receive_on(script, self, from, number, clock, message, journal, marks) {
+        match receive_on(
+            script,
+            self,
+            from,
+            number,
+            clock,
+            incarnation,
+            message,
+            journal,
+            marks,
+        ) {
             Ok(()) => {
                 self.spent = false;
                 Ok(())

@@ -96,9 +96,20 @@ pub(crate) fn step_on<J: Journal>(
             let Envelope {
                 number,
                 clock,
+                incarnation,
                 message,
             } = envelope;
-            let received = receive_on(script, coord, from, number, clock, &message, journal, marks);
+            let received = receive_on(
+                script,
+                coord,
+                from,
+                number,
+                clock,
+                incarnation,
+                &message,
+                journal,
+                marks,
+            );
             drop(message);
             received
         }
@@ -106,13 +117,14 @@ pub(crate) fn step_on<J: Journal>(
     }
 }
 
-// The same where a message comes, in an envelope of this number and clock.
+// The same where a message comes, in an envelope of this number, clock and incarnation.
 pub(crate) fn receive_on<J: Journal>(
     script: &Script,
     coord: &mut Coord,
     from: Node,
     number: u64,
     clock: u64,
+    incarnation: u64,
     message: &Message,
     journal: &mut J,
     marks: &mut Vec<Mark>,
@@ -122,12 +134,12 @@ pub(crate) fn receive_on<J: Journal>(
     requires links { length coord.old.sent.items ≡ coord.old.script.value.segments + 1 }
     requires segments { coord.old.detector.segments ≡ coord.old.script.value.segments }
     requires sound { IsSound coord.old.script.value (coord_of coord.old) }
-    requires admitted { coord_can coord.old.script.value (coord_of coord.old) (NodeEvent.Deliver from (record { number = number; clock = clock; message = message.now })) ≡ true }
+    requires admitted { coord_can coord.old.script.value (coord_of coord.old) (NodeEvent.Deliver from (record { number = number; clock = clock; incarnation = incarnation; message = message.now })) ≡ true }
     requires clock { coord.old.clock < 2 ^ 62 }
-    requires heard { heard_in (NodeEvent.Deliver from (record { number = number; clock = clock; message = message.now })) < 2 ^ 62 }
+    requires heard { heard_in (NodeEvent.Deliver from (record { number = number; clock = clock; incarnation = incarnation; message = message.now })) < 2 ^ 62 }
     requires numbers { All (λ sent. sent < 2 ^ 62) coord.old.sent.items }
     requires blank { marks.old.items ≡ [] }
-    ensures gone { OnOk result (HasGone coord.old coord.new (NodeEvent.Deliver from (record { number = number; clock = clock; message = message.now }))
+    ensures gone { OnOk result (HasGone coord.old coord.new (NodeEvent.Deliver from (record { number = number; clock = clock; incarnation = incarnation; message = message.now }))
         (J.shelf journal.old) (J.shelf journal.new) marks.new.items) }
     ensures later { IsLaterBy (J.shelf journal.old) (J.shelf journal.new)
         (coord_rule coord.old.script.value (coord_of coord.old) (NodeEvent.Deliver from (record { number = number; clock = clock; message = message.now })) false).item }

@@ -1,7 +1,7 @@
 -- Kinds of marks.
 use Rattle.std.specs.Prelude.{Bool, true, false}
 use Rattle.gx_store.specs.declared.mark.Mark.{Mark}
-use Rattle.gx_store.specs.declared.mark.Mark.TheVariants.{Start, Snap, Write, Skip, Fault, Commit, Abort, Answer, Hold, Wait, Release, Prepared, LocalCommit, Decided, JournalFailed, Sent, Report, Recheck}
+use Rattle.gx_store.specs.declared.mark.Mark.TheVariants.{Start, Snap, Write, Skip, Fault, Commit, Abort, Answer, Hold, Wait, Release, Prepared, LocalCommit, Decided, JournalFailed, Restart, Sent, Report, Recheck}
 
 -- of a transaction's course
 abbrev pub is_of_transaction : Mark → Bool
@@ -25,13 +25,14 @@ is_of_claim (Hold node g object mode) = true
 is_of_claim (Wait node g object mode) = true
 is_of_claim _ = false
 
--- of what a node gives back, promises or decides
+-- of what a node gives back, promises, decides or loses
 abbrev pub is_of_node : Mark → Bool
 is_of_node (Release node g object mode) = true
 is_of_node (Prepared node g) = true
 is_of_node (LocalCommit node g) = true
 is_of_node (Decided g) = true
 is_of_node (JournalFailed node g) = true
+is_of_node (Restart node) = true
 is_of_node _ = false
 
 -- of a message or of the detector

@@ -172,6 +172,7 @@ fn node_copy(mark: &Mark) -> Mark
             node: *node,
             gxid: *gxid,
         },
+        Mark::Restart { node } => Mark::Restart { node: *node },
         _ => unreachable!(),
     }
 }
@@ -221,7 +222,8 @@ pub fn mark_copy(alloc: Global, mark: &Mark) -> Mem<Mark>
         | Mark::Prepared { .. }
         | Mark::LocalCommit { .. }
         | Mark::Decided { .. }
-        | Mark::JournalFailed { .. } => Ok(node_copy(mark)),
+        | Mark::JournalFailed { .. }
+        | Mark::Restart { .. } => Ok(node_copy(mark)),
         Mark::Sent { .. } | Mark::Report { .. } | Mark::Recheck { .. } => message_copy(alloc, mark),
     }
 }

@@ -45,6 +45,7 @@ module _ (script : Script) (some : 1 ≤ script.segments) (steps : List Step) (i
   here-alike (event.End session) = refl
   here-alike (event.Resend segment g) = refl
   here-alike event.Round = refl
+  here-alike (event.Restart node) = refl
 
   item-alike : (node : Node) (fails : Bool) (o : Option NodeEvent) → item_at script w node fails o ≡ item_at script v node fails o
   item-alike node fails None = refl

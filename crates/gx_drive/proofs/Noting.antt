@@ -64,6 +64,7 @@ module _ (script : Script) (some : 1 ≤ script.segments) where
     told-kept step (event.End session) admitted = refl
     told-kept step (event.Resend segment g) admitted = refl
     told-kept step event.Round admitted = refl
+    told-kept step (event.Restart node) admitted = refl
 
 -- what stands last in a list with one more
 pub last-is : (all steps : List Step) (step last : Step) → all ≡ steps ++ step ∷ [] → Some last ≡ slice_get all (length all - 1) → last ≡ step

@@ -40,6 +40,7 @@ module _ (script : Script) (off : script.detector ≡ false) where
   other w (event.Start s) ok = refl
   other w (event.End s) ok = refl
   other w (event.Resend i g) ok = refl
+  other w (event.Restart n) ok = refl
   other w event.Round ok = absurd (apart script.detector off (and_parts script.detector _ ok).0)
     where
       apart : (b : Bool) → b ≡ false → b ≡ true → ⊥

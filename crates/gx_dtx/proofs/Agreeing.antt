@@ -166,6 +166,7 @@ gone-more p i (answer.Done _ _ _ _) f gone = gone
 gone-more p i (answer.Failed _ _) f gone = gone
 gone-more p i answer.Jfault f gone = gone
 gone-more p i answer.Again f gone = gone
+gone-more p i answer.Restarted f gone = gone
 
 -- it leaves all but its own list
 pub fate-same : (p : Past) (i : Node) (a : Answer) → (answered i a p).fate ≡ p.fate
@@ -177,6 +178,7 @@ fate-same p i (answer.Done _ _ _ _) = refl
 fate-same p i (answer.Failed _ _) = refl
 fate-same p i answer.Jfault = refl
 fate-same p i answer.Again = refl
+fate-same p i answer.Restarted = refl
 
 decided-same : (p : Past) (i : Node) (a : Answer) → (answered i a p).decided ≡ p.decided
 decided-same p i answer.Prepared = refl
@@ -187,6 +189,7 @@ decided-same p i (answer.Done _ _ _ _) = refl
 decided-same p i (answer.Failed _ _) = refl
 decided-same p i answer.Jfault = refl
 decided-same p i answer.Again = refl
+decided-same p i answer.Restarted = refl
 
 stands-more : (p : Past) (ns : List Node) (i : Node) (ph : Phase) (a : Answer) → is_awaited ph i a ≡ false → Stands p ns ph → Stands (answered i a p) ns ph
 stands-more p ns i phase.Active a isnt s = (fate-same p i a ∙ s.0, decided-same p i a ∙ s.1)
@@ -214,6 +217,7 @@ stands-more p ns i ph (answer.Done _ _ _ _) isnt s = s
 stands-more p ns i ph (answer.Failed _ _) isnt s = s
 stands-more p ns i ph answer.Jfault isnt s = s
 stands-more p ns i ph answer.Again isnt s = s
+stands-more p ns i ph answer.Restarted isnt s = s
 
 known-more : (p : Past) (t : Txn) (i : Node) (a : Answer) → Stands (answered i a p) t.participants t.phase → Known p t → Known (answered i a p) t
 known-more p t i answer.Prepared s k = record { begun = k.begun; participants = k.participants; live = k.live; stands = s }
@@ -224,6 +228,7 @@ known-more p t i (answer.Done _ _ _ _) s k = k
 known-more p t i (answer.Failed _ _) s k = k
 known-more p t i answer.Jfault s k = k
 known-more p t i answer.Again s k = k
+known-more p t i answer.Restarted s k = k
 
 live-same : (p : Past) (i : Node) (a : Answer) → (answered i a p).live ≡ p.live
 live-same p i answer.Prepared = refl
@@ -234,6 +239,7 @@ live-same p i (answer.Done _ _ _ _) = refl
 live-same p i (answer.Failed _ _) = refl
 live-same p i answer.Jfault = refl
 live-same p i answer.Again = refl
+live-same p i answer.Restarted = refl
 
 replied_if : (p : Past) (t : Txn) (g : Gxid) (i : Node) (a : Answer) (fails : Bool) (b : Bool) → is_awaited t.phase i a ≡ b → Known p t → Turns (answered i a p) (Some t) (cond b (takes g t.participants i fails t.phase a) stays)
 replied_if p t g i a fails true is k = took g t p i fails k t.phase a k.stands is

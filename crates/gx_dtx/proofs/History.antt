@@ -62,6 +62,7 @@ answered-begun i (answer.Done _ _ _ _) p = refl
 answered-begun i (answer.Failed _ _) p = refl
 answered-begun i answer.Jfault p = refl
 answered-begun i answer.Again p = refl
+answered-begun i answer.Restarted p = refl
 
 begun_if : (b x : Bool) (p q : Past) → p.begun ≡ x → q.begun ≡ x → (cond b p q).begun ≡ x
 begun_if true x p q a c = a

@@ -154,6 +154,7 @@ ended-pending g ns i fails aw answer.Committed = refl
 ended-pending g ns i fails aw answer.Aborted = refl
 ended-pending g ns i fails aw answer.Jfault = refl
 ended-pending g ns i fails aw answer.Again = refl
+ended-pending g ns i fails aw answer.Restarted = refl
 ended-pending g ns i fails aw (answer.Done _ _ _ _) = refl
 ended-pending g ns i fails aw (answer.Failed _ _) = refl
 

@@ -97,6 +97,7 @@ sent-last (y ∷ own) last x (suc p) to number told silent e = next (length own)
     rest (mark.LocalCommit a b) s = s
     rest (mark.Decided a) s = s
     rest (mark.JournalFailed a b) s = s
+    rest (mark.Restart a) s = s
     rest (mark.Report a b d) s = s
     rest (mark.Recheck a b d) s = s
 

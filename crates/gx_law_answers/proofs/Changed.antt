@@ -182,6 +182,7 @@ change-truth before marks node g c level (Some v) (slice.Update t a d) k e r tru
     by_reply reply.Committed z = z
     by_reply reply.Jfault z = z
     by_reply reply.Again z = z
+    by_reply reply.Restarted z = z
     by_reply reply.Aborted z = z
     by_reply reply.Forgotten z = z
 change-truth before marks node g c level (Some v) (slice.Delete t d) k e r truth = by_reply r (subst (λ (z : Change). ChangeTruth before marks node g z r) (sym (some-same _ k e)) truth)
@@ -196,6 +197,7 @@ change-truth before marks node g c level (Some v) (slice.Delete t d) k e r truth
     by_reply reply.Committed z = z
     by_reply reply.Jfault z = z
     by_reply reply.Again z = z
+    by_reply reply.Restarted z = z
     by_reply reply.Aborted z = z
     by_reply reply.Forgotten z = z
 change-truth before marks node g c level (Some v) (slice.Select q) k e r truth = absurd (cc)
@@ -293,6 +295,7 @@ module _ (ms : List Mark) (node : Node) (g : Gxid) (k : Change) (turn : SegTurn)
       by_reply reply.Committed z = z
       by_reply reply.Jfault z = z
       by_reply reply.Again z = z
+      by_reply reply.Restarted z = z
       by_reply reply.Aborted z = z
       by_reply reply.Forgotten z = z
 

@@ -120,6 +120,7 @@ module _ (script : Script) (some : 1 ≤ script.segments) (numbered : AreLinesNu
         of_word reply.Committed e t = absurd e
         of_word reply.Jfault e t = absurd e
         of_word reply.Again e t = absurd e
+        of_word reply.Restarted e t = absurd e
         of_word reply.Aborted e t = absurd e
         of_word reply.Forgotten e t = absurd e
 
@@ -163,6 +164,7 @@ module _ (script : Script) (some : 1 ≤ script.segments) (numbered : AreLinesNu
   earned-of segment g c reply.Committed e t = absurd e
   earned-of segment g c reply.Jfault e t = absurd e
   earned-of segment g c reply.Again e t = absurd e
+  earned-of segment g c reply.Restarted e t = absurd e
   earned-of segment g c reply.Aborted e t = absurd e
   earned-of segment g c reply.Forgotten e t = absurd e
 

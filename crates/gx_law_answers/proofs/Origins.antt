@@ -118,6 +118,7 @@ module _ (script : Script) (es : Events) (x : Event × Bool) (node : Node) where
   answer-later g reply.Committed t = tt
   answer-later g reply.Jfault t = tt
   answer-later g reply.Again t = tt
+  answer-later g reply.Restarted t = tt
   answer-later g reply.Aborted t = tt
   answer-later g reply.Forgotten t = tt
 
@@ -293,6 +294,7 @@ module _ (script : Script) (some : 1 ≤ script.segments) (numbered_lines : AreL
     old-earned g reply.Committed o = tt
     old-earned g reply.Jfault o = tt
     old-earned g reply.Again o = tt
+    old-earned g reply.Restarted o = tt
     old-earned g reply.Aborted o = tt
     old-earned g reply.Forgotten o = tt
 
@@ -441,6 +443,7 @@ module _ (script : Script) (some : 1 ≤ script.segments) (numbered_lines : AreL
       reply-earned reply.Committed kind given taken = tt
       reply-earned reply.Jfault kind given taken = tt
       reply-earned reply.Again kind given taken = tt
+      reply-earned reply.Restarted kind given taken = tt
       reply-earned reply.Aborted kind given taken = tt
       reply-earned reply.Forgotten kind given taken = tt
 

@@ -99,6 +99,7 @@ module _ (script : Script) (steps : List Step) (to : Node) (e : Event) (one : 1 
   one-rest point (mark.LocalCommit n a') a b p = tt
   one-rest point (mark.Decided a') a b p = tt
   one-rest point (mark.JournalFailed n a') a b p = tt
+  one-rest point (mark.Restart n) a b p = tt
   one-rest point (mark.Sent a' c d) a b p = tt
   one-rest point (mark.Report n x y) a b p = tt
 
@@ -255,6 +256,7 @@ module _ (script : Script) (some : 1 ≤ script.segments) (numbered_lines : AreL
   segments-legal (event.Resume n g) x fails place is ok =
       let same = some-same (here.Resume g) x is in
       subst (λ y. IsRest (event.Resume n g) n y fails) same (resumed n g fails place (subst (λ y. seg_can script ((world_of script es).segs n.0) y ≡ true) (sym same) ok))
+  segments-legal (event.Restart n) x fails place is ok = absurd (cc)
   segments-legal (event.Start s) x fails place is ok = zero-one place.0
   segments-legal (event.End s) x fails place is ok = zero-one place.0
   segments-legal (event.Resend i g) x fails place is ok = zero-one place.0

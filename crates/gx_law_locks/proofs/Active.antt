@@ -123,6 +123,7 @@ module _ (script : Script) (w : World) (k : Knows script w) (v : Holds script w)
   asking g i (message.Collect round) q said e = absurd (cc)
   asking g i (message.Answer h r) q said e = absurd (cc)
   asking g i (message.Graph round graph) q said e = absurd (cc)
+  asking g i message.Up q said e = absurd (cc)
 
   live-uncommitting : (g : Gxid) → is_live (find_txn w.coord.table g) ≡ true → is_committing (marks_in w.steps) g ≡ false
   live-uncommitting g e = false_from_ne_true (is_committing (marks_in w.steps) g) (λ q. by_letter (has-asked (SaidIn w) g w.sent v.said (t.asked g q)))

@@ -180,6 +180,7 @@ module _ (c : Coord) where
     answered d g i fails reply.Committed e = status d g i _ fails e
     answered d g i fails reply.Jfault e = status d g i _ fails e
     answered d g i fails reply.Again e = status d g i _ fails e
+    answered d g i fails reply.Restarted e = status d g i _ fails e
     answered d g i fails reply.Aborted e = status d g i _ fails e
     answered d g i fails reply.Forgotten e = status d g i _ fails e
 
@@ -187,6 +188,7 @@ module _ (c : Coord) where
     by_message from fails (message.Answer g r) e = answered c g from fails r e
     by_message from fails (message.Graph round graph) e =
         graph-ways Asked c from round graph (rest c e) (λ q. record { closing = λ h q. inl (e.closing h q) }) (λ q a. record { closing = λ h q. inl (e.closing h q) })
+    by_message from fails message.Up e = rest c e
     by_message from fails (message.Exec g cid level snapshot h y) e = rest c e
     by_message from fails (message.Prepare g) e = rest c e
     by_message from fails (message.Commit g) e = rest c e

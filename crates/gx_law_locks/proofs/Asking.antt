@@ -78,10 +78,12 @@ sent-none f (o ∷ outs) e = by_message o.message e.0 (sent-none (counted f o) o
     by_message (message.Forget g) h later = later
     by_message (message.Answer g r) h later = later
     by_message (message.Graph round graph) h later = later
+    by_message message.Up h later = later
 
 of-one-asks-none : (m : Message) → OfOne m → AsksNone m
 of-one-asks-none (message.Collect round) e = absurd e
 of-one-asks-none (message.Graph round graph) e = absurd e
+of-one-asks-none message.Up e = absurd e
 of-one-asks-none (message.Exec g c level x k y) e = tt
 of-one-asks-none (message.Prepare g) e = tt
 of-one-asks-none (message.Commit g) e = tt

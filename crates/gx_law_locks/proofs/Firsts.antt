@@ -143,6 +143,7 @@ module _ (script : Script) (all : List Step) (ordered : AreOrdered script [] all
           by_round : (b : Bool) → (r == round) ≡ b → (if b then Some g else None) ≡ Some graph → sent_message from to number (take k all) ≡ Some (message.Graph round graph)
           by_round true q e = f ∙ ap (λ n. Some (message.Graph n g)) (eqb-true r round q) ∙ ap (λ x. Some (message.Graph round x)) (some-same g graph e)
           by_round false q e = absurd (cc)
+      of-message from to number (Some message.Up) f e = absurd (cc)
       of-message from to number (Some (message.Exec g c level x h y)) f e = absurd (cc)
       of-message from to number (Some (message.Prepare g)) f e = absurd (cc)
       of-message from to number (Some (message.Commit g)) f e = absurd (cc)
@@ -176,6 +177,7 @@ module _ (script : Script) (all : List Step) (ordered : AreOrdered script [] all
       by_event (event.End x) a e = absurd (cc)
       by_event (event.Resend i g) a e = absurd (cc)
       by_event event.Round a e = absurd (cc)
+      by_event (event.Restart n) a e = absurd (cc)
 
   -- and the other way round
   brought-from : (k : ℕ) (e : Event) (graph : LocalGraph) → Receives (take k all) e segment the_coordinator (message.Graph round graph) → graph_by (take k all) segment round e ≡ Some graph

@@ -121,6 +121,7 @@ module _ (script : Script) where
   locked-added new holds (message.Collect round) l = tt
   locked-added new holds (message.Answer g r) l = tt
   locked-added new holds (message.Graph round graph) l = tt
+  locked-added new holds message.Up l = tt
 
   locked-released : (g : Gxid) (holds : List Claim) (j : ℕ) (m : Message) → eqb j g.0 ≡ false → Own j m → Locked script holds m → Locked script (without g holds) m
   locked-released g holds j (message.Exec h c level x y slice) n own l = in-released g (slice_lock script h slice) holds (ap (λ k. eqb k g.0) (ap (λ (k : Gxid). k.0) (own-gxid script h slice) ∙ own) ∙ n) l
@@ -132,6 +133,7 @@ module _ (script : Script) where
   locked-released g holds j (message.Collect round) n own l = tt
   locked-released g holds j (message.Answer h r) n own l = tt
   locked-released g holds j (message.Graph round graph) n own l = tt
+  locked-released g holds j message.Up n own l = tt
 
   bare-locked : (holds : List Claim) (m : Message) → NoExec m → Locked script holds m
   bare-locked holds (message.Exec g c level x h slice) e = absurd e
@@ -143,6 +145,7 @@ module _ (script : Script) where
   bare-locked holds (message.Collect round) e = tt
   bare-locked holds (message.Answer g r) e = tt
   bare-locked holds (message.Graph round graph) e = tt
+  bare-locked holds message.Up e = tt
 
   bare : (holds : List Claim) (outs : List Out) → Each IsBare outs → Each (LockedOut script holds) outs
   bare holds outs e = each_weaker IsBare (LockedOut script holds) (λ o h. bare-locked holds o.message h) outs e
@@ -348,6 +351,7 @@ module _ (script : Script) where
   answered c g i fails reply.Committed e = status c g i reply.Committed fails e
   answered c g i fails reply.Jfault e = status c g i reply.Jfault fails e
   answered c g i fails reply.Again e = status c g i reply.Again fails e
+  answered c g i fails reply.Restarted e = status c g i reply.Restarted fails e
   answered c g i fails reply.Aborted e = status c g i reply.Aborted fails e
   answered c g i fails reply.Forgotten e = status c g i reply.Forgotten fails e
 
@@ -362,6 +366,7 @@ module _ (script : Script) where
   message_taken c from fails (message.Collect round) e = rest c e
   message_taken c from fails (message.Graph round graph) e =
       graph-ways (Going script) c from round graph (rest c e) (λ taken. record { coord = e; outs = tt }) (λ taken all. record { coord = e; outs = tt })
+  message_taken c from fails message.Up e = rest c e
 
   -- MESSAGES SENT AGAIN
   abbrev MaybeLocked : List Claim → Option Message → Type 0

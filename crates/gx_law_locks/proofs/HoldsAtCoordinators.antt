@@ -275,6 +275,7 @@ module _ (script : Script) (before : List Mark) (c : Coord) (single : AreSingle 
   answered g i fails reply.Committed = status g i reply.Committed fails
   answered g i fails reply.Jfault = status g i reply.Jfault fails
   answered g i fails reply.Again = status g i reply.Again fails
+  answered g i fails reply.Restarted = status g i reply.Restarted fails
   answered g i fails reply.Aborted = status g i reply.Aborted fails
   answered g i fails reply.Forgotten = status g i reply.Forgotten fails
 
@@ -289,6 +290,7 @@ module _ (script : Script) (before : List Mark) (c : Coord) (single : AreSingle 
   message_taken from fails (message.Collect round) = rest before c
   message_taken from fails (message.Graph round graph) =
       graph-ways (Holding before c) c from round graph (rest before c) (λ taken. no-lock the_coordinator before c.locks [] tt) (λ taken all. no-lock the_coordinator before c.locks _ (tt, tt))
+  message_taken from fails message.Up = rest before c
 
   transaction-now : (s : SessionId) (asked : LineStep) → (session_of (starts_line c s asked) s).transaction ≡ (session_of c s).transaction
   transaction-now s asked = ap (λ (q : Bool). (if q then record (session_of c s) { lines = (session_of c s).lines + 1; state = after_line (session_of c s).state.block asked } else session_of c s).transaction) (eqb-self s.0)

@@ -560,6 +560,7 @@ module _ (script : Script) (P : Gxid → Table → Type 0) (here : Node) (before
         (λ same graph kept. rests script P here before s rows _ None)
     message_locks fails (message.Answer g r) e has = stay
     message_locks fails (message.Graph round graph) e has = stay
+    message_locks fails message.Up e has = stay
 
     -- A slice that has waited goes on: with its table's lock from the start, or at a row, holding its table.
     pub resume_locks : (g : Gxid) (wanted : Claim) (x : Suspended) → (local_of s g).suspended ≡ Some x → HasDone x → IsWanted script g x wanted → is_clear s.locks.holds s.locks.waits wanted ≡ true

@@ -163,6 +163,7 @@ ended-for script w k v e i from envelope h = by_message envelope.message h.said
     by_message (message.Collect round) f = tt
     by_message (message.Answer g r) f = tt
     by_message (message.Graph round graph) f = tt
+    by_message message.Up f = tt
 
 pub heard-locks : (script : Script) (P : Gxid → Table → Type 0) (w : World) → Knows script w → Holds script w → (e : Event) (i : ℕ) → 1 ≤ i → AtRows script (w.segs i) (w.segs i).locks.holds
     → (x : NodeEvent) (fails : Bool) → HeardAt script w e i x

@@ -104,6 +104,7 @@ order-now script holds marks same (message.Forget g) l = tt
 order-now script holds marks same (message.Collect round) l = tt
 order-now script holds marks same (message.Answer g r) l = tt
 order-now script holds marks same (message.Graph round graph) l = tt
+order-now script holds marks same message.Up l = tt
 
 pub order-still : (script : Script) (marks ms : List Mark) → AreReleasesLate marks ms → (m : Message) → IsLockedOrder script marks m → IsLockedOrder script (marks ++ ms) m
 order-still script marks ms late (message.Exec g c level x h slice) l =
@@ -117,6 +118,7 @@ order-still script marks ms late (message.Forget g) l = tt
 order-still script marks ms late (message.Collect round) l = tt
 order-still script marks ms late (message.Answer g r) l = tt
 order-still script marks ms late (message.Graph round graph) l = tt
+order-still script marks ms late message.Up l = tt
 
 all-orders : (script : Script) (marks : List Mark) (ls : List Letter) → Each (LetterLocked script marks) ls → AreLockedOrders script marks ls
 all-orders script marks [] e = tt
@@ -177,7 +179,7 @@ module _ (script : Script) (some : 1 ≤ script.segments) where
         going = goes.coord;
         letters = posted-each (LetterLocked script (marks_in steps)) the_coordinator clock turn.marks turn.coord.sent turn.outs w.sent
             (each_weaker (PlainAt script the_coordinator) NoSent (plain-unsent script the_coordinator) turn.marks plain)
-            (each_weaker (LockedOut script turn.coord.locks.holds) (λ (o : Out). (n : ℕ) → LetterLocked script (marks_in steps) (record { from = the_coordinator; to = o.node; envelope = record { number = n; clock = clock; message = o.message } }))
+            (each_weaker (LockedOut script turn.coord.locks.holds) (λ (o : Out). (n : ℕ) → LetterLocked script (marks_in steps) (record { from = the_coordinator; to = o.node; envelope = record { number = n; clock = clock; incarnation = 1; message = o.message } }))
             (λ o l n f. order-now script turn.coord.locks.holds (marks_in steps) locked.marked.coordinator.holds o.message l) turn.outs goes.outs)
             (letters-still (marks_in w.steps) ms (marks_in steps) same w.sent (late-of (marks_in w.steps) ms (marks_in steps) same locked.late) q.letters);
         writes = subst (AreWritesLocked script []) (sym same) (writes-append script [] (marks_in w.steps) ms q.writes (no-writes script (marks_in w.steps) ms there));
@@ -236,6 +238,7 @@ module _ (script : Script) (some : 1 ≤ script.segments) where
   has-lock marks (message.Collect round) l g table b = absurd b
   has-lock marks (message.Answer h r) l g table b = absurd b
   has-lock marks (message.Graph round graph) l g table b = absurd b
+  has-lock marks message.Up l g table b = absurd b
 
   bids-held : (w : World) → Knows script w → Ordered script w → (e : Event) (i : ℕ) → 1 ≤ i → (x : NodeEvent) → HeardAt script w e i x → (g : Gxid) (table : Table) → BidsAt w i x g table
       → HeldThere script (marks_in w.steps) g table
@@ -261,7 +264,7 @@ module _ (script : Script) (some : 1 ≤ script.segments) where
         going = q.going;
         letters = posted-each (LetterLocked script (marks_in (w.steps ++ step ∷ []))) (at i) step.stamp.clock turn.marks (λ node. turn.seg.sent) turn.outs w.sent
             (each_weaker (PlainAt script (at i)) NoSent (plain-unsent script (at i)) turn.marks plain)
-            (each-of (λ (o : Out). (n : ℕ) → LetterLocked script (marks_in (w.steps ++ step ∷ [])) (record { from = at i; to = o.node; envelope = record { number = n; clock = step.stamp.clock; message = o.message } }))
+            (each-of (λ (o : Out). (n : ℕ) → LetterLocked script (marks_in (w.steps ++ step ∷ [])) (record { from = at i; to = o.node; envelope = record { number = n; clock = step.stamp.clock; incarnation = 1; message = o.message } }))
             (λ o n f. absurd (not-zero f)) turn.outs)
             (letters-still (marks_in w.steps) step.marks (marks_in (w.steps ++ step ∷ [])) (marks-last w.steps step) w.sent (late-of (marks_in w.steps) step.marks (marks_in (w.steps ++ step ∷ [])) (marks-last w.steps step) locked.late) q.letters);
         writes = subst (AreWritesLocked script []) (sym (marks-last w.steps step)) (writes-append script [] (marks_in w.steps) step.marks q.writes

@@ -64,6 +64,7 @@ NoGraphIn _ = Unit {0}
 one-no-graph : (m : Message) → OfOne m → NoGraphIn m
 one-no-graph (message.Collect round) e = absurd e
 one-no-graph (message.Graph round graph) e = absurd e
+one-no-graph message.Up e = absurd e
 one-no-graph (message.Exec g c level x k y) e = tt
 one-no-graph (message.Prepare g) e = tt
 one-no-graph (message.Commit g) e = tt
@@ -78,6 +79,7 @@ sent-no-graph f (o ∷ outs) e = (by_message o.message e.0, sent-no-graph (count
   where
     by_message : (m : Message) → NoGraphIn m → NoGraphSent (mark.Sent o.node (f o.node.0 + 1) m)
     by_message (message.Graph round graph) h = absurd h
+    by_message message.Up h = tt
     by_message (message.Collect round) h = tt
     by_message (message.Exec g c level x k y) h = tt
     by_message (message.Prepare g) h = tt

@@ -53,6 +53,7 @@ trans a b c h k = omega arith
 told-later : (rounds more : ℕ) (from : Node) (m : Message) → rounds ≤ more → IsTold rounds from m → IsTold more from m
 told-later rounds more from (message.Collect round) h e = trans round rounds more e h
 told-later rounds more from (message.Graph round graph) h e = (trans round rounds more e.0 h, e.1)
+told-later rounds more from message.Up h e = tt
 told-later rounds more from (message.Exec g c level x k y) h e = tt
 told-later rounds more from (message.Prepare g) h e = tt
 told-later rounds more from (message.Commit g) h e = tt
@@ -64,6 +65,7 @@ told-later rounds more from (message.Answer g r) h e = tt
 pub told-of-one : (rounds : ℕ) (from : Node) (m : Message) → OfOne m → IsTold rounds from m
 told-of-one rounds from (message.Collect round) e = absurd e
 told-of-one rounds from (message.Graph round graph) e = absurd e
+told-of-one rounds from message.Up e = absurd e
 told-of-one rounds from (message.Exec g c level x k y) e = tt
 told-of-one rounds from (message.Prepare g) e = tt
 told-of-one rounds from (message.Commit g) e = tt

@@ -307,6 +307,7 @@ module _ (c : Coord) where
     answered d g i fails reply.Committed e = status d g i _ fails e
     answered d g i fails reply.Jfault e = status d g i _ fails e
     answered d g i fails reply.Again e = status d g i _ fails e
+    answered d g i fails reply.Restarted e = status d g i _ fails e
     answered d g i fails reply.Aborted e = status d g i _ fails e
     answered d g i fails reply.Forgotten e = status d g i _ fails e
 
@@ -354,6 +355,7 @@ module _ (c : Coord) where
 
         by_message : (from : Node) (envelope : Envelope) → x ≡ event.Deliver from envelope → (m : Message) → envelope.message ≡ m → P (on_message c from fails m)
         by_message from envelope e (message.Graph round graph) f = heard from envelope round graph e f
+        by_message from envelope e message.Up f = quiet _ (other from envelope e message.Up f tt) (rest _ same)
         by_message from envelope e (message.Answer g r) f = quiet _ (other from envelope e (message.Answer g r) f tt) (answered c g from fails r same)
         by_message from envelope e (message.Exec g c' level snapshot h y) f = quiet _ (other from envelope e (message.Exec g c' level snapshot h y) f tt) (rest _ same)
         by_message from envelope e (message.Prepare g) f = quiet _ (other from envelope e (message.Prepare g) f tt) (rest _ same)

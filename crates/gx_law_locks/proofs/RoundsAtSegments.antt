@@ -268,6 +268,7 @@ module _ (script : Script) (s : Seg) where
   message_stays fails (message.Collect round) none = absurd none
   message_stays fails (message.Answer g r) none = stay
   message_stays fails (message.Graph round graph) none = stay
+  message_stays fails message.Up none = stay
 
   granted : (g : Gxid) (wanted : Claim) → MovedFrom (is_granted s g wanted)
   granted g wanted = by_object wanted.object _ (record { place = refl; round = refl; graph = refl; marks = (tt, tt) })
@@ -305,6 +306,7 @@ module _ (script : Script) (s : Seg) where
       by_message (message.Forget g) e = quiet _ (message_stays fails (message.Forget g) tt)
       by_message (message.Answer g r) e = quiet _ stay
       by_message (message.Graph round graph) e = quiet _ stay
+      by_message message.Up e = quiet _ stay
   seg-ways P (event.Resume g) fails quiet asked = quiet _ (resume g (wait_of s.locks g) (local_of s g).suspended)
   seg-ways P (event.Start x) fails quiet asked = quiet _ stay
   seg-ways P (event.End x) fails quiet asked = quiet _ stay

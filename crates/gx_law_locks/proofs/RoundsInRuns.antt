@@ -85,6 +85,7 @@ module _ (script : Script) (some : 1 ≤ script.segments) (w : World) (good : We
   nothing-in : (own : Bool) (k : ℕ) (m : Message) → NoGraph m → (if own then graph_in k (Some m) else None) ≡ None
   nothing-in false k m h = refl
   nothing-in true k (message.Graph round graph) h = absurd h
+  nothing-in true k message.Up h = refl
   nothing-in true k (message.Exec g c level x y z) h = refl
   nothing-in true k (message.Prepare g) h = refl
   nothing-in true k (message.Commit g) h = refl

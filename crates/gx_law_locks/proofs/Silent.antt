@@ -23,6 +23,7 @@ Silent _ = Unit {0}
 abbrev pub OfOne : Message → Type 0
 OfOne (message.Collect round) = ⊥
 OfOne (message.Graph round graph) = ⊥
+OfOne message.Up = ⊥
 OfOne _ = Unit {0}
 
 abbrev pub AreOfOne : List Out → Type 0

@@ -112,7 +112,7 @@ is_posted letters g = list_any (λ l. asks_for l.envelope.message g) letters
 still-posted : (from : Node) (clock : ℕ) (ms : List Mark) (sent : List Letter) (g : Gxid) → is_posted sent g ≡ true → is_posted (posted from clock ms sent) g ≡ true
 still-posted from clock [] sent g e = e
 still-posted from clock (mark.Sent to number m ∷ ms) sent g e =
-    still-posted from clock ms (record { from = from; to = to; envelope = record { number = number; clock = clock; message = m } } ∷ sent) g (or_right (asks_for m g) (is_posted sent g) e)
+    still-posted from clock ms (record { from = from; to = to; envelope = record { number = number; clock = clock; incarnation = 1; message = m } } ∷ sent) g (or_right (asks_for m g) (is_posted sent g) e)
 still-posted from clock (m ∷ ms) sent g e = still-posted from clock ms sent g e
 
 now-posted : (from : Node) (clock : ℕ) (ms : List Mark) (sent : List Letter) (g : Gxid) → is_committing ms g ≡ true → is_posted (posted from clock ms sent) g ≡ true
@@ -120,7 +120,7 @@ now-posted from clock [] sent g e = absurd (cc)
 now-posted from clock (mark.Sent to number told ∷ ms) sent g e = by_message told e (λ l q. now-posted from clock ms (l ∷ sent) g q)
   where
     letter : Message → Letter
-    letter m = record { from = from; to = to; envelope = record { number = number; clock = clock; message = m } }
+    letter m = record { from = from; to = to; envelope = record { number = number; clock = clock; incarnation = 1; message = m } }
 
     asked : (m : Message) → (asks_for m g || is_committing ms g) ≡ true → ((l : Letter) → is_committing ms g ≡ true → is_posted (posted from clock ms (l ∷ sent)) g ≡ true) → is_posted (posted from clock ms (letter m ∷ sent)) g ≡ true
     asked m e rest = by_case (or-cases (asks_for m g) (is_committing ms g) e)
@@ -139,6 +139,7 @@ now-posted from clock (mark.Sent to number told ∷ ms) sent g e = by_message to
     by_message (message.Collect round) e rest = rest (letter (message.Collect round)) e
     by_message (message.Answer h r) e rest = rest (letter (message.Answer h r)) e
     by_message (message.Graph round graph) e rest = rest (letter (message.Graph round graph)) e
+    by_message message.Up e rest = rest (letter message.Up) e
 now-posted from clock (m ∷ ms) sent g e = now-posted from clock ms sent g e
 
 pub posted-more : (from : Node) (clock : ℕ) (old ms : List Mark) (sent : List Letter) (g : Gxid) → (is_committing old g ≡ true → is_posted sent g ≡ true) → is_committing (old ++ ms) g ≡ true → is_posted (posted from clock ms sent) g ≡ true

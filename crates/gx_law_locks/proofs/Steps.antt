@@ -104,6 +104,7 @@ received-is before segment round (s ∷ ss) = by_event s.event (received-is (bef
         by_test : (b : Bool) → b ≡ is_some (if b then Some graph else None)
         by_test true = refl
         by_test false = refl
+    of-message (Some message.Up) = refl
     of-message (Some (message.Exec g c level x h y)) = refl
     of-message (Some (message.Prepare g)) = refl
     of-message (Some (message.Commit g)) = refl
@@ -130,6 +131,7 @@ received-is before segment round (s ∷ ss) = by_event s.event (received-is (bef
     by_event (event.End x) e = e
     by_event (event.Resend i g) e = e
     by_event event.Round e = e
+    by_event (event.Restart n) e = e
 
 -- WHAT A SEGMENT HAS REPORTED
 pub round-append : (node : Node) (round : ℕ) (xs ys : List Mark) → last_round node round (xs ++ ys) ≡ last_round node (last_round node round xs) ys

@@ -370,6 +370,7 @@ message-came script s k fails (message.Forget g) = below script s k g _ (forget 
 message-came script s k fails (message.Collect round) = collect-ways Keep s round k (λ e. k) (λ e graph q. k)
 message-came script s k fails (message.Answer g r) = k
 message-came script s k fails (message.Graph round graph) = k
+message-came script s k fails message.Up = k
 
 -- EVERY RUN
 event-came : (script : Script) (w : World) → Knows script w → (i : ℕ) (x : NodeEvent) (fails : Bool) → seg_can script (w.segs i) x ≡ true → Came (w.segs i) → Came (seg_rule script (w.segs i) x fails).seg

@@ -126,6 +126,7 @@ module _ (script : Script) (lets : List Step → Event → Bool) (holds : HoldsU
       round-is (event.Start s) q = absurd (cc)
       round-is (event.Receive from to number) q = absurd (cc)
       round-is (event.Resume n g) q = absurd (cc)
+      round-is (event.Restart n) q = absurd (cc)
       round-is (event.End s) q = absurd (cc)
       round-is (event.Resend segment g) q = absurd (cc)
 
@@ -134,6 +135,7 @@ module _ (script : Script) (lets : List Step → Event → Bool) (holds : HoldsU
       opening-is event.Round q = refl
       opening-is (event.Receive from to number) q = absurd (cc)
       opening-is (event.Resume n g) q = absurd (cc)
+      opening-is (event.Restart n) q = absurd (cc)
       opening-is (event.End s) q = absurd (cc)
       opening-is (event.Resend segment g) q = absurd (cc)
 
@@ -149,6 +151,7 @@ module _ (script : Script) (lets : List Step → Event → Bool) (holds : HoldsU
       round-is (event.Start s) q = absurd (cc)
       round-is (event.Receive from to number) q = absurd (cc)
       round-is (event.Resume n g) q = absurd (cc)
+      round-is (event.Restart n) q = absurd (cc)
       round-is (event.End s) q = absurd (cc)
       round-is (event.Resend segment g) q = absurd (cc)
 

@@ -110,6 +110,7 @@ say-feigned k p (message.Abort g) s f = s
 say-feigned k p (message.Forget g) s f = s
 say-feigned k p (message.Collect round) s f = tt
 say-feigned k p (message.Graph round graph) s f = tt
+say-feigned k p message.Up s f = tt
 say-feigned k p (message.Answer g (reply.Done c w n part)) s f =
     record { drawn = s.drawn; last = s.last; same = λ l q. let t = s.same l q in (t.0, t.1, or-none p.waits (failing p) t.2 (f l q)) }
 say-feigned k p (message.Answer g (reply.Failed c x)) s f = tt
@@ -117,6 +118,7 @@ say-feigned k p (message.Answer g reply.Prepared) s f = s
 say-feigned k p (message.Answer g reply.Committed) s f = s
 say-feigned k p (message.Answer g reply.Jfault) s f = s
 say-feigned k p (message.Answer g reply.Again) s f = tt
+say-feigned k p (message.Answer g reply.Restarted) s f = tt
 say-feigned k p (message.Answer g reply.Aborted) s f = tt
 say-feigned k p (message.Answer g reply.Forgotten) s f = tt
 
@@ -193,5 +195,6 @@ voted phase (Some reply.Prepared) v = tt
 voted phase (Some reply.Committed) v = tt
 voted phase (Some reply.Jfault) v = tt
 voted phase (Some reply.Again) v = tt
+voted phase (Some reply.Restarted) v = tt
 voted phase (Some reply.Aborted) v = tt
 voted phase (Some reply.Forgotten) v = tt

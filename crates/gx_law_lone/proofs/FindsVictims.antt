@@ -246,6 +246,7 @@ module _ (script : Script) (some : 1 ≤ script.segments) (numbered : AreLinesNu
           by_message : (m : Message) → ToldIn (world_of script es0) from m → is_message_of (number (world_of script es0)) (Some m) ≡ true
           by_message (message.Collect round) q = ap (λ k. k == number (world_of script es0)) q ∙ eqb-self (number (world_of script es0))
           by_message (message.Graph round graph) q = ap (λ k. k == number (world_of script es0)) q.0 ∙ eqb-self (number (world_of script es0))
+          by_message message.Up q = absurd q
           by_message (message.Answer g x) q = absurd q
           by_message (message.Exec g d level x h y) q = absurd q
           by_message (message.Prepare g) q = absurd q

@@ -76,6 +76,7 @@ lets-stay script steps step (event.Resume n g) q = refl
 lets-stay script steps step (event.End s) q = refl
 lets-stay script steps step (event.Resend segment g) q = refl
 lets-stay script steps step event.Round q = refl
+lets-stay script steps step (event.Restart n) q = refl
 
 -- WHO MAY START
 -- a line that is enabled is of one of the script's sessions
@@ -165,6 +166,7 @@ groups-hold script sessions askers =
     opening steps (event.End s) reached a inside held = absurd (cc)
     opening steps (event.Resend segment g) reached a inside held = absurd (cc)
     opening steps event.Round reached a inside held = absurd (cc)
+    opening steps (event.Restart n) reached a inside held = absurd (cc)
 
 -- without groups nothing is held up
 pub nothing-held : (script : Script) → HoldsUpOpenings script (λ steps event. true)

@@ -267,12 +267,14 @@ module _ (script : Script) (c : Coord) (kept : Kept script c) (k : Runs c) where
   answered g i fails reply.Committed = status c g i reply.Committed fails kept.whole k
   answered g i fails reply.Jfault = status c g i reply.Jfault fails kept.whole k
   answered g i fails reply.Again = status c g i reply.Again fails kept.whole k
+  answered g i fails reply.Restarted = status c g i reply.Restarted fails kept.whole k
   answered g i fails reply.Aborted = status c g i reply.Aborted fails kept.whole k
   answered g i fails reply.Forgotten = status c g i reply.Forgotten fails kept.whole k
 
   message_taken : (from : Node) (fails : Bool) (m : Message) → Keep (on_message c from fails m)
   message_taken from fails (message.Answer g r) = answered g from fails r
   message_taken from fails (message.Graph round graph) = graph-ways Keep c from round graph k (λ taken. k) (λ taken all. k)
+  message_taken from fails message.Up = k
   message_taken from fails (message.Exec g cid level x h y) = k
   message_taken from fails (message.Prepare g) = k
   message_taken from fails (message.Commit g) = k

@@ -96,7 +96,7 @@ posted-more : (w0 : World) (base : List Letter) (from : Node) (clock : ℕ) (f :
 posted-more w0 base from clock f [] now e m = m
 posted-more w0 base from clock f (o ∷ outs) now e m =
     posted-more w0 base from clock (counted f o) outs _ e.1
-    (record { new = record { from = from; to = o.node; envelope = record { number = f o.node.0 + 1; clock = clock; message = o.message } } ∷ m.new; is = ap (λ ls. record { from = from; to = o.node; envelope = record { number = f o.node.0 + 1; clock = clock; message = o.message } } ∷ ls) m.is; told = (e.0, m.told) })
+    (record { new = record { from = from; to = o.node; envelope = record { number = f o.node.0 + 1; clock = clock; incarnation = 1; message = o.message } } ∷ m.new; is = ap (λ ls. record { from = from; to = o.node; envelope = record { number = f o.node.0 + 1; clock = clock; incarnation = 1; message = o.message } } ∷ ls) m.is; told = (e.0, m.told) })
 
 pub all-more : (w0 : World) (base : List Letter) (from : Node) (clock : ℕ) (ms : List Mark) (f : ℕ → ℕ) (outs : List Out) (now : List Letter) → Each NoSent ms → Each (λ (o : Out). ToldIn w0 from o.message) outs → AreMore w0 base now → AreMore w0 base (posted from clock (ms ++ numbered f outs) now)
 all-more w0 base from clock [] f outs now none e m = posted-more w0 base from clock f outs now e m
@@ -250,6 +250,7 @@ module _ (script : Script) (lets : List Step → Event → Bool) (holds : HoldsU
   pub message-comes : (e : Event) (clock : ℕ) (from : Node) (fails : Bool) (m : Message) → ToldIn w0 from m → Comes e (and_cancels_all (victims_on_message w.coord from m) (coord_sends clock (on_message w.coord from fails m)))
   message-comes e clock from fails (message.Collect round) t = rest e clock
   message-comes e clock from fails (message.Graph round graph) t = graph-comes e clock from round graph t.1
+  message-comes e clock from fails message.Up t = rest e clock
   message-comes e clock from fails (message.Answer g x) t = absurd t
   message-comes e clock from fails (message.Exec g d level x h y) t = absurd t
   message-comes e clock from fails (message.Prepare g) t = absurd t
@@ -304,6 +305,7 @@ module _ (script : Script) (lets : List Step → Event → Bool) (holds : HoldsU
   served : (i : ℕ) (one : 1 ≤ i) (from : Node) (fails : Bool) (m : Message) → ToldIn w0 from m → Serves i (segment.on_message script (w.segs i) fails m)
   served i one from fails (message.Collect round) t = collected i round one t
   served i one from fails (message.Graph round graph) t = stay i one
+  served i one from fails message.Up t = stay i one
   served i one from fails (message.Answer g x) t = absurd t
   served i one from fails (message.Exec g d level x h y) t = absurd t
   served i one from fails (message.Prepare g) t = absurd t

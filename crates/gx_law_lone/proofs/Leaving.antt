@@ -24,6 +24,7 @@ resend-leaves c i (Some m) = record { table = refl; works = refl; sessions = ref
 message-leaves : (c : Coord) (from : Node) (fails : Bool) (m : Message) → is_message_of_round m ≡ true → Leaves c (on_message c from fails m)
 message-leaves c from fails (message.Graph round graph) e =
     graph-ways (Leaves c) c from round graph (record { table = refl; works = refl; sessions = refl; locks = refl }) (λ a. record { table = refl; works = refl; sessions = refl; locks = refl }) (λ a b. record { table = refl; works = refl; sessions = refl; locks = refl })
+message-leaves c from fails message.Up e = record { table = refl; works = refl; sessions = refl; locks = refl }
 message-leaves c from fails (message.Collect round) e = record { table = refl; works = refl; sessions = refl; locks = refl }
 message-leaves c from fails (message.Answer g r) e = absurd (cc)
 message-leaves c from fails (message.Exec g d level x h y) e = absurd (cc)
@@ -53,6 +54,7 @@ message-stays : (script : Script) (s : Seg) (fails : Bool) (m : Message) → is_
 message-stays script s fails (message.Collect round) e =
     collect-ways (Stays s) s round (record { horizon = refl; locals = refl; versions = refl; locks = refl }) (λ a. record { horizon = refl; locals = refl; versions = refl; locks = refl }) (λ a graph b. record { horizon = refl; locals = refl; versions = refl; locks = refl })
 message-stays script s fails (message.Graph round graph) e = record { horizon = refl; locals = refl; versions = refl; locks = refl }
+message-stays script s fails message.Up e = record { horizon = refl; locals = refl; versions = refl; locks = refl }
 message-stays script s fails (message.Answer g r) e = absurd (cc)
 message-stays script s fails (message.Exec g d level x h y) e = absurd (cc)
 message-stays script s fails (message.Prepare g) e = absurd (cc)

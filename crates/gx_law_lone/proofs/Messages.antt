@@ -87,6 +87,7 @@ module _ (A : ℕ → Bool) (script : Script) (s : Seg) (k : Rows A s) (g : Gxid
     told-answer o answer.Committed e f = tt
     told-answer o answer.Jfault e f = tt
     told-answer o answer.Again e f = tt
+    told-answer o answer.Restarted e f = tt
     told-answer o answer.Aborted e f = tt
     told-answer o answer.Forgotten e f = tt
 
@@ -97,6 +98,7 @@ module _ (A : ℕ → Bool) (script : Script) (s : Seg) (k : Rows A s) (g : Gxid
     told-vote o answer.Committed e f = tt
     told-vote o answer.Jfault e f = tt
     told-vote o answer.Again e f = tt
+    told-vote o answer.Restarted e f = tt
     told-vote o answer.Aborted e f = tt
     told-vote o answer.Forgotten e f = tt
 
@@ -335,3 +337,4 @@ message-did A script s k fails (message.Collect round) v f =
     (λ e graph q. record { rows = k; failed = λ x y. inl (x, y, refl); outs = (tt, tt) })
 message-did A script s k fails (message.Answer g r) v f = stay A script s k g (λ n. ⊥)
 message-did A script s k fails (message.Graph round graph) v f = stay A script s k (gx 0) (λ n. ⊥)
+message-did A script s k fails message.Up v f = stay A script s k (gx 0) (λ n. ⊥)

@@ -356,6 +356,7 @@ module _ (script : Script) (language : IsScript script) (inserts : AreInsertsWho
   held-without (event.End s) h q = absurd (cc)
   held-without (event.Resend segment g) h q = absurd (cc)
   held-without event.Round h q = absurd (cc)
+  held-without (event.Restart n) h q = absurd (cc)
 
   pub without-detector : (session : SessionId) → session.0 < length script.sessions → is_unfinished_there script (coordinator_after script steps) session ≡ true → script.detector ≡ false
   without-detector session l unfinished = by_enabled (enabled script steps) refl

@@ -247,6 +247,7 @@ module _ (script : Script) (w : World) (n : Knows script w) (v : Holds script w)
     no-failure (message.Answer h reply.Committed) old real = tt
     no-failure (message.Answer h reply.Jfault) old real = tt
     no-failure (message.Answer h reply.Again) old real = tt
+    no-failure (message.Answer h reply.Restarted) old real = tt
     no-failure (message.Answer h reply.Aborted) old real = tt
     no-failure (message.Answer h reply.Forgotten) old real = tt
     no-failure (message.Exec h c level a b d) old real = tt
@@ -257,6 +258,7 @@ module _ (script : Script) (w : World) (n : Knows script w) (v : Holds script w)
     no-failure (message.Forget h) old real = tt
     no-failure (message.Collect round) old real = tt
     no-failure (message.Graph round graph) old real = tt
+    no-failure message.Up old real = tt
 
     said-next : (j h : ℕ) (m : Message) → Said (knew j h) (parts_in w j h) m → Said (knew j h) (so_in w j h) m → (b : Bool) → (eqb j i && eqb h g) ≡ b → Said (knew j h) (so_in then_there j h) m
     said-next j h m was old true q =
@@ -279,6 +281,7 @@ module _ (script : Script) (w : World) (n : Knows script w) (v : Holds script w)
     told-so (message.Answer h reply.Committed) t = tt
     told-so (message.Answer h reply.Jfault) t = tt
     told-so (message.Answer h reply.Again) t = tt
+    told-so (message.Answer h reply.Restarted) t = tt
     told-so (message.Answer h reply.Aborted) t = tt
     told-so (message.Answer h reply.Forgotten) t = tt
     told-so (message.Exec h c level a b d) t = tt
@@ -289,9 +292,10 @@ module _ (script : Script) (w : World) (n : Knows script w) (v : Holds script w)
     told-so (message.Forget h) t = tt
     told-so (message.Collect round) t = tt
     told-so (message.Graph round graph) t = tt
+    told-so message.Up t = tt
 
     each-out : (outs : List Out) → Each (λ (o : Out). Tells (knew i g) now_part i g seg_turn.marks o.message) outs → Each (λ (o : Out). TellsSo (seg_turn.seg.locals g) o.message) outs
-        → Each (λ (o : Out). (number : ℕ) → SaidSo then_there (record { from = at i; to = o.node; envelope = record { number = number; clock = clock_after (w.segs i).clock x; message = o.message } })) outs
+        → Each (λ (o : Out). (number : ℕ) → SaidSo then_there (record { from = at i; to = o.node; envelope = record { number = number; clock = clock_after (w.segs i).clock x; incarnation = 1; message = o.message } })) outs
     each-out [] y t = tt
     each-out (o ∷ outs) y t = (
       λ number. let z = told-answer (knew i g) now_part i g seg_turn.marks o.message y.0 in
@@ -346,6 +350,7 @@ module _ (script : Script) (w : World) (n : Knows script w) (v : Holds script w)
   fresh (message.Collect round) s = tt
   fresh (message.Answer g r) s = tt
   fresh (message.Graph round graph) s = tt
+  fresh message.Up s = tt
 
   heard-by : (m : Message) → (is_answer m ≡ false → Said (known_here (gxid_in m)) (parts_in w i (gxid_in m)) m) → (c : ℕ) → RanBy (local_here (gxid_in m)) m c → IsHeardOf (known_here (gxid_in m)) c
   heard-by (message.Exec g d level x h y) s c r = subst (IsHeardOf (known_here g.0)) (sym r.0) (new-heard (known_here g.0) (parts_in w i g.0) d.0 (s refl) r.1)
@@ -357,6 +362,7 @@ module _ (script : Script) (w : World) (n : Knows script w) (v : Holds script w)
   heard-by (message.Collect round) s c r = absurd r
   heard-by (message.Answer g a) s c r = absurd r
   heard-by (message.Graph round graph) s c r = absurd r
+  heard-by message.Up s c r = absurd r
 
   newer-by : (m : Message) (c : ℕ) → RanBy (local_here (gxid_in m)) m c → (parts_in w i (gxid_in m)).last ≡ c → ⊥
   newer-by (message.Exec g d level x h y) c r e = below (local_here g.0).last d.0 c r.1 r.0 e
@@ -368,6 +374,7 @@ module _ (script : Script) (w : World) (n : Knows script w) (v : Holds script w)
   newer-by (message.Collect round) c r e = r
   newer-by (message.Answer g a) c r e = r
   newer-by (message.Graph round graph) c r e = r
+  newer-by message.Up c r e = r
 
   deliver-feigns : (e : Event) (fails : Bool) (from : Node) (envelope : Envelope) → IsGiven w e i from envelope → Feigns (seg_did w (at i) e (seg_rule script (w.segs i) (here.Deliver from envelope) fails))
   deliver-feigns e fails from envelope d =

@@ -20,7 +20,7 @@ use Rattle.gx_law_merge.specs.Merge.{own_steps}
 use Rattle.gx_law_merge.proofs.Places.{place-last, step-count}
 
 abbrev letter : Node → ℕ → Node → ℕ → Message → Letter
-letter from clock to number message = record { from = from; to = to; envelope = record { number = number; clock = clock; message = message } }
+letter from clock to number message = record { from = from; to = to; envelope = record { number = number; clock = clock; incarnation = 1; message = message } }
 
 module _ (from to : Node) where
   -- the letters have at each number what stands at that place

@@ -22,6 +22,7 @@ module _ (post more : Post) (has : HasMore post more) where
   same-event (event.End s) x is = refl
   same-event (event.Resend i g) x is = refl
   same-event event.Round x is = refl
+  same-event (event.Restart n) x is = refl
 
   module _ {Data : Type 0} (rule : Rule Data) (at : Node) where
     same-here : (held : Data) (s : Step) → IsTurn rule at held (here_in post s) s → here_in more s ≡ here_in post s

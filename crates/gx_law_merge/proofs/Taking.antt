@@ -248,6 +248,7 @@ message-tells script s (message.Forget g) = tells-unless _ s (λ fails. segment.
 message-tells script s (message.Collect round) = inl (λ fails. collect-quiet s round)
 message-tells script s (message.Answer g r) = inl (λ fails. refl)
 message-tells script s (message.Graph round graph) = inl (λ fails. refl)
+message-tells script s message.Up = inl (λ fails. refl)
 
 event-tells : (script : Script) (s : Seg) (x : NodeEvent) → TellsTaken (λ fails. segment.on_event script s x fails)
 event-tells script s (here.Deliver from envelope) = message-tells script s envelope.message

@@ -54,6 +54,7 @@ module _ (post : Post) (before : List Step) (clock : ℕ) (below : IsFoundBelow 
   same-event (event.End s) x at low = at
   same-event (event.Resend i g) x at low = at
   same-event event.Round x at low = at
+  same-event (event.Restart n) x at low = at
 
 -- THE NEXT STEP
 abbrev pub CoordinatorTurns : Script → Post → List Step → Step → Type 0

@@ -24,7 +24,7 @@ use Rattle.gx_law_runs.specs.Replays.{has_failed}
 -- MESSAGES
 -- the envelope of a message that a step of this clock has sent
 abbrev pub envelope_of : ℕ → ℕ → Message → Envelope
-envelope_of clock number message = record { number = number; clock = clock; message = message }
+envelope_of clock number message = record { number = number; clock = clock; incarnation = 1; message = message }
 
 -- what the marks of a step have sent to a node, in order
 abbrev pub sent_in_step : Node → ℕ → List Mark → List Envelope
@@ -58,6 +58,7 @@ event_in post (event.Start s) = Some (node.Start s)
 event_in post (event.End s) = Some (node.End s)
 event_in post (event.Resend i g) = Some (node.Resend i g)
 event_in post event.Round = Some node.Round
+event_in post (event.Restart n) = None
 
 -- and what a step is
 abbrev pub here_in : Post → Step → Option NodeEvent

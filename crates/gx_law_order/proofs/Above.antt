@@ -49,6 +49,7 @@ module _ (script : Script) (some : 1 ≤ script.segments) where
   says-by w k u i (message.Answer g reply.Committed) e = tt
   says-by w k u i (message.Answer g reply.Jfault) e = tt
   says-by w k u i (message.Answer g reply.Again) e = tt
+  says-by w k u i (message.Answer g reply.Restarted) e = tt
   says-by w k u i (message.Exec g c level x h y) e = tt
   says-by w k u i (message.Prepare g) e = tt
   says-by w k u i (message.Commit g) e = tt
@@ -57,6 +58,7 @@ module _ (script : Script) (some : 1 ≤ script.segments) where
   says-by w k u i (message.Forget g) e = tt
   says-by w k u i (message.Collect round) e = tt
   says-by w k u i (message.Graph round graph) e = tt
+  says-by w k u i message.Up e = tt
 
   -- what is delivered
   found-held : (w : World) (u : Waits w) (from to : Node) (number : ℕ) (envelope : Envelope) → found from to number w.sent ≡ Some envelope
@@ -150,6 +152,7 @@ module _ (script : Script) (some : 1 ≤ script.segments) where
   below-in w u i (message.Collect round) l = tt
   below-in w u i (message.Answer g r) l = tt
   below-in w u i (message.Graph round graph) l = tt
+  below-in w u i message.Up l = tt
 
   below-all : (w : World) → Waits w → (ls : List Letter) → AreLowIn w.coord.table ls → AreBelowIn w.segs ls
   below-all w u [] e = tt
@@ -178,6 +181,7 @@ module _ (script : Script) (some : 1 ≤ script.segments) where
   own-in w i (message.Collect round) f l = tt
   own-in w i (message.Answer g r) f l = tt
   own-in w i (message.Graph round graph) f l = tt
+  own-in w i message.Up f l = tt
 
   own-all : (w : World) (ls : List Letter) → Each (LetterHeld w) ls → AreLowIn w.coord.table ls → Each (λ (l : Letter). IsBelowOwn w.segs l.to.0 l.envelope.message) ls
   own-all w [] e f = tt

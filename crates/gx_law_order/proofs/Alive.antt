@@ -134,6 +134,7 @@ alive-now script w k all gath i (message.Forget g) a = tt
 alive-now script w k all gath i (message.Collect round) a = tt
 alive-now script w k all gath i (message.Answer g r) a = tt
 alive-now script w k all gath i (message.Graph round graph) a = tt
+alive-now script w k all gath i message.Up a = tt
 
 pub alive-all : (script : Script) (w : World) → Kept script w.coord → ((j : SessionId) → IsSession script j w.steps w.coord) → ((j : ℕ) → GathersIn script (IsHeard w.steps) (gx j) (w.coord.works j).command) → (ls : List Letter) → Each (λ l. l.from ≡ the_coordinator → StateOf w.coord (IsHeard w.steps) (marks_in w.steps) l.to l.envelope.message) ls → AreAlive script w ls
 alive-all script w k all gath [] e = tt

@@ -325,6 +325,7 @@ module _ (script : Script) where
     answered c g i fails reply.Committed e = status c g i _ fails e
     answered c g i fails reply.Jfault e = status c g i _ fails e
     answered c g i fails reply.Again e = status c g i _ fails e
+    answered c g i fails reply.Restarted e = status c g i _ fails e
     answered c g i fails reply.Aborted e = status c g i _ fails e
     answered c g i fails reply.Forgotten e = status c g i _ fails e
 
@@ -349,6 +350,7 @@ module _ (script : Script) where
     message_taken c from fails (message.Forget g) e = rest c e
     message_taken c from fails (message.Collect round) e = rest c e
     message_taken c from fails (message.Graph round graph) e = graph_taken c from round graph e
+    message_taken c from fails message.Up e = rest c e
 
     -- messages sent again
     again : (c : Coord) (i : Node) (m : Option Message) → CoordIn script c → (is_some m ≡ true → IsOneOf n i) → CoordStays c.sent (resends c i m)

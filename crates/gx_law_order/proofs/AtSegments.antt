@@ -271,6 +271,7 @@ module _ (script : Script) (s : Seg) (at : IsSegment script s.node) where
   message_stays fails (message.Collect round) = collect round
   message_stays fails (message.Answer g r) = stay
   message_stays fails (message.Graph round graph) = stay
+  message_stays fails message.Up = stay
 
   granted : (g : Gxid) (wanted : Claim) → MovedFrom (is_granted s g wanted)
   granted g wanted = by_object wanted.object _ (record { node = refl; sent = refl; marks = (refl, tt) })

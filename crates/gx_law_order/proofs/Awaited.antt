@@ -55,6 +55,7 @@ bare-awaits d i (message.Forget g) e = tt
 bare-awaits d i (message.Collect round) e = tt
 bare-awaits d i (message.Answer g r) e = tt
 bare-awaits d i (message.Graph round graph) e = tt
+bare-awaits d i message.Up e = tt
 
 pub bare-all : (d : Coord) (outs : List Out) → Each IsBare outs → Each (OutAwaits d) outs
 bare-all d outs e = each_weaker IsBare (OutAwaits d) (λ o h. bare-awaits d o.node o.message h) outs e
@@ -101,6 +102,7 @@ order-awaits d g i m told it waits (o ∷ outs) e h = by_test (eqb o.node.0 i.0)
     by_message (message.Collect round) f = tt
     by_message (message.Answer h r) f = tt
     by_message (message.Graph round graph) f = tt
+    by_message message.Up f = tt
 
     by_test : (q : Bool) → (if q then Some o.message else order_to i outs) ≡ Some told → (order_to i outs ≡ Some told → IsAwaitedOut d i told) → IsAwaitedOut d i told
     by_test true f r = subst (λ t. IsAwaitedOut d i t) (some-same o.message told f) (by_message o.message e.0)

@@ -419,6 +419,7 @@ module _ (script : Script) (v : World) (k : Knows script v) (h : Holds script v)
   one-commits earlier later to number (message.Answer g x) q calm a = tt
   one-commits earlier later to number (message.Collect round) q calm a = tt
   one-commits earlier later to number (message.Graph round graph) q calm a = tt
+  one-commits earlier later to number message.Up q calm a = tt
 
   sents-commit : (earlier : List Mark) (f : ℕ → ℕ) (outs : List Out) → step.marks ≡ earlier ++ numbered f outs → Each (λ (o : Out). AsksFor v.coord o.node.0 o.message) outs → DoMarksCommit script steps step earlier (numbered f outs)
   sents-commit earlier f [] q a = tt
@@ -454,6 +455,7 @@ module _ (script : Script) (steps : List Step) (step : Step) where
   quiet-sent point to number (message.Answer g x) a = tt
   quiet-sent point to number (message.Collect round) a = tt
   quiet-sent point to number (message.Graph round graph) a = tt
+  quiet-sent point to number message.Up a = tt
 
   quiet-one : (point : Point) (x : Mark) → NoSent x → CommitsAt script point x
   quiet-one point (mark.Sent to number m) n = absurd n
@@ -497,6 +499,7 @@ turn-commits script w n v e x fails p n2 v2 r2 s2 posted gathers f =
     asks i (message.Collect round) a = tt
     asks i (message.Answer g q) a = tt
     asks i (message.Graph round graph) a = tt
+    asks i message.Up a = tt
 
 -- by a victim's turn
 abort-asks : (g : Gxid) (t : Option Txn) → Each (λ (o : Out). AsksNobody o.message) (abort_found g t).out.outs

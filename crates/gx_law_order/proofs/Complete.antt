@@ -177,6 +177,7 @@ back-one c d steps next to (message.Forget g) f b = tt
 back-one c d steps next to (message.Collect round) f b = tt
 back-one c d steps next to (message.Answer g r) f b = tt
 back-one c d steps next to (message.Graph round graph) f b = tt
+back-one c d steps next to message.Up f b = tt
 
 back-mark : (c d : Coord) (steps next : List Step) (node : Node) (m : Mark) → ((i g n : ℕ) → IsBack c steps i g n → IsBack d next i g n) → SentBack c steps node m → SentBack d next node m
 back-mark c d steps next node (mark.Sent to number m) f b = λ e. back-one c d steps next to m f (b e)
@@ -201,6 +202,7 @@ asked-one d steps to (message.Forget g) a = tt
 asked-one d steps to (message.Collect round) a = tt
 asked-one d steps to (message.Answer g r) a = tt
 asked-one d steps to (message.Graph round graph) a = tt
+asked-one d steps to message.Up a = tt
 
 sent-back : (d : Coord) (steps : List Step) (node : Node) (f : ℕ → ℕ) (outs : List Out) → Each (λ (o : Out). AsksFor d o.node.0 o.message) outs → Each (SentBack d steps node) (numbered f outs)
 sent-back d steps node f [] e = tt
@@ -398,6 +400,7 @@ module _ (script : Script) (w : World) (n : Knows script w) (v : Holds script w)
     asks (message.Collect round) i a = tt
     asks (message.Answer g q) i a = tt
     asks (message.Graph round graph) i a = tt
+    asks message.Up i a = tt
 
     -- what was sent before, and what the turn sends
     pub earlier-back : Each (StepBack last_coord steps) w.steps

@@ -255,6 +255,7 @@ module _ (script : Script) (P : ℕ → ℕ → Part) (c : Coord) (ms : List Mar
   answer-tidy g j fails reply.Committed d = on-status-tidy g j reply.Committed fails
   answer-tidy g j fails reply.Jfault d = on-status-tidy g j reply.Jfault fails
   answer-tidy g j fails reply.Again d = on-status-tidy g j reply.Again fails
+  answer-tidy g j fails reply.Restarted d = on-status-tidy g j reply.Restarted fails
   answer-tidy g j fails reply.Aborted d = on-status-tidy g j reply.Aborted fails
   answer-tidy g j fails reply.Forgotten d = on-status-tidy g j reply.Forgotten fails
 
@@ -270,6 +271,7 @@ module _ (script : Script) (P : ℕ → ℕ → Part) (c : Coord) (ms : List Mar
   message-tidy j fails (message.Graph round graph) d =
       graph-ways (TidyFrom c.sessions []) c j round graph rest-tidy (λ e. round-tidy c.rounds (with_report c graph).reports [] [] tt tt)
       (λ e f. round-tidy c.rounds None [] (rechecks (with_report c graph)).marks (tt, tt) (tt, tt))
+  message-tidy j fails message.Up d = rest-tidy
 
   pub again-tidy : (i : Node) (o : Option Message) → TidyFrom c.sessions [] (resends c i o)
   again-tidy i None = rest-tidy

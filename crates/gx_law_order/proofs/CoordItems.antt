@@ -295,6 +295,7 @@ answer-stands c before g i fails reply.Prepared = status-stands c before g i rep
 answer-stands c before g i fails reply.Committed = status-stands c before g i reply.Committed fails
 answer-stands c before g i fails reply.Jfault = status-stands c before g i reply.Jfault fails
 answer-stands c before g i fails reply.Again = status-stands c before g i reply.Again fails
+answer-stands c before g i fails reply.Restarted = status-stands c before g i reply.Restarted fails
 answer-stands c before g i fails reply.Aborted = status-stands c before g i reply.Aborted fails
 answer-stands c before g i fails reply.Forgotten = status-stands c before g i reply.Forgotten fails
 
@@ -311,6 +312,7 @@ message-stands c before from fails (message.Abort g) = dull-stands before fails 
 message-stands c before from fails (message.Forget g) = dull-stands before fails _ (rest-dull c)
 message-stands c before from fails (message.Collect round) = dull-stands before fails _ (rest-dull c)
 message-stands c before from fails (message.Graph round graph) = dull-stands before fails _ (graph-dull c from round graph)
+message-stands c before from fails message.Up = dull-stands before fails _ (rest-dull c)
 
 again-dull : (c : Coord) (i : Node) (m : Option Message) → IsDull (resends c i m)
 again-dull c i None = rest-dull c
@@ -348,12 +350,14 @@ answer-alone c g i fails reply.Prepared = outcome-alone c g (on_reply c.table g 
 answer-alone c g i fails reply.Committed = outcome-alone c g (on_reply c.table g i reply.Committed fails) (on_reply c.table g i reply.Committed fails).out.outcome
 answer-alone c g i fails reply.Jfault = outcome-alone c g (on_reply c.table g i reply.Jfault fails) (on_reply c.table g i reply.Jfault fails).out.outcome
 answer-alone c g i fails reply.Again = outcome-alone c g (on_reply c.table g i reply.Again fails) (on_reply c.table g i reply.Again fails).out.outcome
+answer-alone c g i fails reply.Restarted = outcome-alone c g (on_reply c.table g i reply.Restarted fails) (on_reply c.table g i reply.Restarted fails).out.outcome
 answer-alone c g i fails reply.Aborted = outcome-alone c g (on_reply c.table g i reply.Aborted fails) (on_reply c.table g i reply.Aborted fails).out.outcome
 answer-alone c g i fails reply.Forgotten = outcome-alone c g (on_reply c.table g i reply.Forgotten fails) (on_reply c.table g i reply.Forgotten fails).out.outcome
 
 message-alone : (c : Coord) (from : Node) (fails : Bool) (m : Message) → DecidesAlone (on_message c from fails m).marks
 message-alone c from fails (message.Answer g r) = answer-alone c g from fails r
 message-alone c from fails (message.Graph round graph) = inl (graph-dull c from round graph).marks
+message-alone c from fails message.Up = inl tt
 message-alone c from fails (message.Exec g cid level x h y) = inl tt
 message-alone c from fails (message.Prepare g) = inl tt
 message-alone c from fails (message.Commit g) = inl tt

@@ -69,6 +69,7 @@ module _ (script : Script) (told : Message) (s : Seg) (g : ℕ) (wrote : Bool) (
   vote-tells reply.Committed v = tt
   vote-tells reply.Jfault v = tt
   vote-tells reply.Again v = tt
+  vote-tells reply.Restarted v = tt
 
   answer-tells : (n : ℕ) (b : Bool) (r : Reply) → IsKept n b (Some r) → TellsEnd l.phase (message.Answer (gx g) r)
   answer-tells n b reply.Aborted v = absurd v
@@ -79,6 +80,7 @@ module _ (script : Script) (told : Message) (s : Seg) (g : ℕ) (wrote : Bool) (
   answer-tells n b reply.Committed v = tt
   answer-tells n b reply.Jfault v = tt
   answer-tells n b reply.Again v = tt
+  answer-tells n b reply.Restarted v = tt
 
   kept-vote : (v : Option Reply) → l.vote ≡ v → EndsSo (tells_kept s (gx g) v)
   kept-vote None f = stay
@@ -218,6 +220,7 @@ ends-so script fails s (message.Forget g) wrote v a = below script (message.Forg
 ends-so script fails s (message.Answer g r) wrote v a = stay script (message.Answer g r) s g.0 wrote v a
 ends-so script fails s (message.Collect round) wrote v a = collect script (message.Collect round) s 0 wrote v a round
 ends-so script fails s (message.Graph round graph) wrote v a = stay script (message.Graph round graph) s 0 wrote v a
+ends-so script fails s message.Up wrote v a = stay script message.Up s 0 wrote v a
 
 pub resumed-so : (script : Script) (s : Seg) (g : Gxid) (told : Message) (o : Option Claim) (x : Option Suspended) (wrote : Bool) (vote : IsVote (s.locals g.0).phase (s.locals g.0).vote) (answer : IsKept (s.locals g.0).last wrote (s.locals g.0).answer) → has_ended (s.locals g.0).phase ≡ false → nat_lt 0 (s.locals g.0).last ≡ true → EndsSo script told s g.0 wrote vote answer (resumes s g o x)
 resumed-so script s g told o x wrote v a n b = resume script told s g.0 wrote v a o x n b

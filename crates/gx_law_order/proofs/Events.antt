@@ -160,6 +160,7 @@ module _ (script : Script) (P : ℕ → ℕ → Part) (c : Coord) (ms : List Mar
   answer-led g j one fails reply.Committed d = status-led script P c ms st k.whole g (ins g) j one fails reply.Committed d
   answer-led g j one fails reply.Jfault d = status-led script P c ms st k.whole g (ins g) j one fails reply.Jfault d
   answer-led g j one fails reply.Again d = status-led script P c ms st k.whole g (ins g) j one fails reply.Again d
+  answer-led g j one fails reply.Restarted d = status-led script P c ms st k.whole g (ins g) j one fails reply.Restarted d
   answer-led g j one fails reply.Aborted d = status-led script P c ms st k.whole g (ins g) j one fails reply.Aborted d
   answer-led g j one fails reply.Forgotten d = status-led script P c ms st k.whole g (ins g) j one fails reply.Forgotten d
 
@@ -189,6 +190,7 @@ module _ (script : Script) (P : ℕ → ℕ → Part) (c : Coord) (ms : List Mar
   message-led j one fails (message.Forget g) d = rest
   message-led j one fails (message.Collect round) d = rest
   message-led j one fails (message.Graph round graph) d = graph-led j round graph
+  message-led j one fails message.Up d = rest
 
   -- MESSAGES SENT AGAIN
   abbrev IsSaidTo : ℕ → Node → Message → Type 0
@@ -208,6 +210,7 @@ module _ (script : Script) (P : ℕ → ℕ → Part) (c : Coord) (ms : List Mar
   order-said g i last l w e (message.Collect round) o = absurd o
   order-said g i last l w e (message.Answer h r) o = absurd o
   order-said g i last l w e (message.Graph round graph) o = absurd o
+  order-said g i last l w e message.Up o = absurd o
 
   orders-said : (g : ℕ) (i : Node) (last : ℕ) → (known_at c ms i.0 g).at ≡ Live → (known_at c ms i.0 g).waits ≡ true → last ≡ (known_at c ms i.0 g).last → (outs : List Out) → Each (λ (o : Out). IsOrderOf g last o.message) outs → AnySaid g i (order_to i outs)
   orders-said g i last l w e [] f = tt

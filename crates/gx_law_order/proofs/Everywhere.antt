@@ -72,7 +72,7 @@ pub record Holds (script : Script) (w : World) : Type 0 where
   pub tells : DoStepsTell [] w.steps
 
 -- SENDINGS
-pub posted-each : (Q : Letter → Type 0) (from : Node) (clock : ℕ) (xs : List Mark) (f : ℕ → ℕ) (outs : List Out) (sent : List Letter) → Each NoSent xs → Each (λ (o : Out). (n : ℕ) → Q (record { from = from; to = o.node; envelope = record { number = n; clock = clock; message = o.message } })) outs → Each Q sent → Each Q (posted from clock (xs ++ numbered f outs) sent)
+pub posted-each : (Q : Letter → Type 0) (from : Node) (clock : ℕ) (xs : List Mark) (f : ℕ → ℕ) (outs : List Out) (sent : List Letter) → Each NoSent xs → Each (λ (o : Out). (n : ℕ) → Q (record { from = from; to = o.node; envelope = record { number = n; clock = clock; incarnation = 1; message = o.message } })) outs → Each Q sent → Each Q (posted from clock (xs ++ numbered f outs) sent)
 posted-each Q from clock [] f [] sent e h s = s
 posted-each Q from clock [] f (o ∷ outs) sent e h s = posted-each Q from clock [] (counted f o) outs _ tt h.1 (h.0 (f o.node.0 + 1), s)
 posted-each Q from clock (mark.Sent to number told ∷ xs) f outs sent e h s = absurd e.0
@@ -240,6 +240,7 @@ each-both P (x ∷ xs) ys e f = (e.0, each-both P xs ys e.1 f)
 -- what it tells is an answer that is said
 pub told-answer : (k : Known) (q : Part) (i g : ℕ) (marks : List Mark) (m : Message) → Tells k q i g marks m → (is_answer m ≡ true) × (gxid_in m ≡ g) × Said k q m
 told-answer k q i g marks (message.Answer h reply.Again) e = (refl, e.0, tt)
+told-answer k q i g marks (message.Answer h reply.Restarted) e = (refl, e.0, tt)
 told-answer k q i g marks (message.Answer h (reply.Done c x y z)) e = (refl, e.0, e.1)
 told-answer k q i g marks (message.Answer h (reply.Failed c x)) e = (refl, e.0, tt)
 told-answer k q i g marks (message.Answer h reply.Prepared) e = (refl, e.0, e.1)
@@ -255,6 +256,7 @@ told-answer k q i g marks (message.Abort h) e = absurd e
 told-answer k q i g marks (message.Forget h) e = absurd e
 told-answer k q i g marks (message.Collect round) e = absurd e
 told-answer k q i g marks (message.Graph round graph) e = (refl, e, tt)
+told-answer k q i g marks message.Up e = (refl, e, tt)
 
 -- by any event: what it does is for a message that has been received by then
 module _ (script : Script) (w : World) (n : Knows script w) (v : Holds script w) (e : Event) (x : NodeEvent) (fails : Bool) (i : ℕ) (msg : Message) (reached : HasReached w.steps e i msg) (does : Does msg (known_at w.coord (marks_in w.steps) i (gxid_in msg)) (w.segs i) i (gxid_in msg) (n.well.names i) (is_writer (marks_in w.steps) (gx (gxid_in msg)) (at i)) (prepared_count (marks_in w.steps) (at i) (gx (gxid_in msg))) (local_count (marks_in w.steps) (at i) (gx (gxid_in msg))) (v.stands.pairs i (gxid_in msg)) (segment.on_event script (w.segs i) x fails)) where
@@ -392,7 +394,7 @@ module _ (script : Script) (w : World) (n : Knows script w) (v : Holds script w)
           none j l = let pair : Pair (known j g) (parts_in w j g) = v.stands.pairs j g in pair.committed ∙ ap bit (open-not (parts_in w j g).phase (pair.live l).0)
       unfinished (inr a) = aborted-unfinished script (gx g) w.steps v.ends a
 
-      each-out : (outs : List Out) → Each (λ (o : Out). Tells (known i g) part_then i g turn2.marks o.message) outs → Each (λ (o : Out). (number : ℕ) → SaidIn world_then (record { from = at i; to = o.node; envelope = record { number = number; clock = clock_after s.clock x; message = o.message } })) outs
+      each-out : (outs : List Out) → Each (λ (o : Out). Tells (known i g) part_then i g turn2.marks o.message) outs → Each (λ (o : Out). (number : ℕ) → SaidIn world_then (record { from = at i; to = o.node; envelope = record { number = number; clock = clock_after s.clock x; incarnation = 1; message = o.message } })) outs
       each-out [] y = tt
       each-out (o ∷ outs) y = (
         λ number. let z = told-answer (known i g) part_then i g turn2.marks o.message y.0 in

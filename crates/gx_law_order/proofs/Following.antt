@@ -105,6 +105,7 @@ module _ (script : Script) (steps : List Step) (step : Step) where
   sent-one earlier later to number (message.Forget g) e = tt
   sent-one earlier later to number (message.Collect round) e = tt
   sent-one earlier later to number (message.Graph round graph) e = tt
+  sent-one earlier later to number message.Up e = tt
 
   sent-end : (earlier : List Mark) (f : ℕ → ℕ) (outs : List Out) → Each (λ (o : Out). IsRightOrder script (marks_in steps ++ earlier) o.node o.message) outs → DoMarksEnd script steps step earlier (numbered f outs)
   sent-end earlier f [] e = tt
@@ -295,6 +296,7 @@ module _ (script : Script) (steps : List Step) (step : Step) where
       tells-one more later to number (message.Answer h reply.Again) e y =
           subst (λ (y : Gxid). Contains (marks ++ more) (mark.JournalFailed step.stamp.node y)) (same-gxid h e.0)
           (subst (λ (y : Node). Contains (marks ++ more) (mark.JournalFailed y (gx g))) (sym here) (is-contained _ _ (has-left _ marks more e.1)))
+      tells-one more later to number (message.Answer h reply.Restarted) e y = tt
       tells-one more later to number (message.Answer h (reply.Done c x n z)) e y = executed-there (marks ++ more) later h c e.0 y
       tells-one more later to number (message.Answer h (reply.Failed c x)) e y = executed-there (marks ++ more) later h c e.0 y
       tells-one more later to number (message.Answer h reply.Prepared) e y = tt
@@ -309,6 +311,7 @@ module _ (script : Script) (steps : List Step) (step : Step) where
       tells-one more later to number (message.Forget h) e y = absurd e
       tells-one more later to number (message.Collect round) e y = absurd e
       tells-one more later to number (message.Graph round graph) e y = tt
+      tells-one more later to number message.Up e y = tt
 
       tells-end : (more : List Mark) (f : ℕ → ℕ) (outs : List Out) → Each (λ (o : Out). Tells k q i g marks o.message) outs → Each (λ (o : Out). IsReplyTo told g o.message) outs → DoMarksEnd script steps step (marks ++ more) (numbered f outs)
       tells-end more f [] e y = tt

@@ -150,6 +150,7 @@ posted_is script w from to number envelope f =
           (subst (λ (a : Envelope). IsSending w.steps f.is.step f.is.mark f.letter.from f.letter.to f.letter.envelope.number a.message) f.told f.is.sending)));
       counted = ap (λ (a : Envelope). a.number) (sym f.told) ∙ f.counted;
       clock = ap (λ (a : Envelope). a.clock) (sym f.told) ∙ sym f.is.clock;
+      incarnation = ap (λ (a : Envelope). a.incarnation) (sym f.told) ∙ f.is.incarnation;
     }
 
 module _ (script : Script) where

@@ -179,6 +179,7 @@ abbrev pub Tells : Known → Part → ℕ → ℕ → List Mark → Message → 
 Tells k q i g marks (message.Answer h reply.Again) = (h.0 ≡ g) × HasMark (mark.JournalFailed (at i) (gx g)) marks
 Tells k q i g marks (message.Answer h r) = (h.0 ≡ g) × Answers k q r
 Tells k q i g marks (message.Graph round graph) = 0 ≡ g
+Tells k q i g marks message.Up = 0 ≡ g
 Tells k q i g marks _ = ⊥
 
 -- what it has received where it sends that: its command, or the order that it has obeyed
@@ -238,6 +239,7 @@ module _ (told : Message) (k : Known) (s : Seg) (i g : ℕ) (named : s.node ≡ 
 
   told-of : (k : Known) (q : Part) (ms : List Mark) (r : Reply) → not-again r ≡ true → Answers k q r → Tells k q i g ms (message.Answer (gx g) r)
   told-of k q ms reply.Again n a = absurd (cc)
+  told-of k q ms reply.Restarted n a = (refl, tt)
   told-of k q ms (reply.Done c x y z) n a = (refl, a)
   told-of k q ms (reply.Failed c x) n a = (refl, tt)
   told-of k q ms reply.Prepared n a = (refl, a)
@@ -251,6 +253,7 @@ module _ (told : Message) (k : Known) (s : Seg) (i g : ℕ) (named : s.node ≡ 
 
   vote-not-again : (ph : Phase) (r : Reply) → IsVote ph (Some r) → not-again r ≡ true
   vote-not-again ph reply.Again v = absurd v
+  vote-not-again ph reply.Restarted v = refl
   vote-not-again ph (reply.Done c x y z) v = refl
   vote-not-again ph (reply.Failed c x) v = refl
   vote-not-again ph reply.Prepared v = refl
@@ -261,6 +264,7 @@ module _ (told : Message) (k : Known) (s : Seg) (i g : ℕ) (named : s.node ≡ 
 
   vote-answers : (r : Reply) → l.vote ≡ Some r → IsVote l.phase (Some r) → Answers k p r
   vote-answers reply.Again f v = tt
+  vote-answers reply.Restarted f v = tt
   vote-answers (reply.Done c x y z) f v = absurd v
   vote-answers (reply.Failed c x) f v = tt
   vote-answers reply.Prepared f v = ap was_prepared f
@@ -278,6 +282,7 @@ module _ (told : Message) (k : Known) (s : Seg) (i g : ℕ) (named : s.node ≡ 
   vote-replies ph reply.Committed v = tt
   vote-replies ph reply.Jfault v = tt
   vote-replies ph reply.Again v = tt
+  vote-replies ph reply.Restarted v = tt
 
   tell-vote : (r : Reply) → l.vote ≡ Some r → Does (tells s (gx g) r)
   tell-vote r f = let v : IsVote l.phase (Some r) = subst (IsVote l.phase) f e.vote in tell r (vote-not-again l.phase r v) (vote-answers r f v) (vote-replies l.phase r v)
@@ -509,11 +514,13 @@ module _ (told : Message) (k : Known) (s : Seg) (i g : ℕ) (named : s.node ≡ 
       by_reply reply.Committed h l u = absurd h
       by_reply reply.Jfault h l u = absurd h
       by_reply reply.Again h l u = tt
+      by_reply reply.Restarted h l u = tt
       by_reply reply.Aborted h l u = tt
       by_reply reply.Forgotten h l u = tt
 
   kept-not-again : (n : ℕ) (b : Bool) (r : Reply) → IsKept n b (Some r) → not-again r ≡ true
   kept-not-again n b reply.Again v = absurd v
+  kept-not-again n b reply.Restarted v = refl
   kept-not-again n b (reply.Done c x y z) v = refl
   kept-not-again n b (reply.Failed c x) v = refl
   kept-not-again n b reply.Prepared v = refl
@@ -538,6 +545,7 @@ module _ (told : Message) (k : Known) (s : Seg) (i g : ℕ) (named : s.node ≡ 
   kept-replies c b reply.Committed m v = tt
   kept-replies c b reply.Jfault m v = tt
   kept-replies c b reply.Again m v = tt
+  kept-replies c b reply.Restarted m v = tt
 
   kept-answer : (k.at ≡ Unborn → ⊥) → (c : Cid) → IsExecOf told g c → c.0 ≡ l.last → (v : Option Reply) → l.answer ≡ v → Does (tells_kept s (gx g) v)
   kept-answer born c m q None f = stay
@@ -882,6 +890,7 @@ handled script fails k s i named w pc lc (message.Forget g) e st = unless-low _ 
 handled script fails k s i named w pc lc (message.Answer g r) e st = stay (message.Answer g r) k s i g.0 named w pc lc e
 handled script fails k s i named w pc lc (message.Collect round) e st = collect (message.Collect round) k s i 0 named w pc lc e round refl
 handled script fails k s i named w pc lc (message.Graph round graph) e st = stay (message.Graph round graph) k s i 0 named w pc lc e
+handled script fails k s i named w pc lc message.Up e st = stay message.Up k s i 0 named w pc lc e
 
 -- and its slice that has waited, which comes of a command that was told before
 pub went-on : (script : Script) (k : Known) (s : Seg) (i : ℕ) (named : s.node ≡ at i) (w : Bool) (pc lc : ℕ) (g h : Gxid) (x : Suspended) (wanted : Claim) (turn : SegTurn)

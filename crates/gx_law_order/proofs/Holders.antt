@@ -99,6 +99,7 @@ held-more E F d i (message.Forget g) f e = tt
 held-more E F d i (message.Collect round) f e = tt
 held-more E F d i (message.Answer g r) f e = tt
 held-more E F d i (message.Graph round graph) f e = tt
+held-more E F d i message.Up f e = tt
 
 told-more : (a b : ℕ → Seg) (i : ℕ) (m : Message) → ((j h : ℕ) → ended_at a j h ≡ true → ended_at b j h ≡ true) → EndTold a i m → EndTold b i m
 told-more a b i (message.Answer g reply.Aborted) f e = f i g.0 e
@@ -109,6 +110,7 @@ told-more a b i (message.Answer g reply.Prepared) f e = tt
 told-more a b i (message.Answer g reply.Committed) f e = tt
 told-more a b i (message.Answer g reply.Jfault) f e = tt
 told-more a b i (message.Answer g reply.Again) f e = tt
+told-more a b i (message.Answer g reply.Restarted) f e = tt
 told-more a b i (message.Exec g c level x h y) f e = tt
 told-more a b i (message.Prepare g) f e = tt
 told-more a b i (message.Commit g) f e = tt
@@ -117,6 +119,7 @@ told-more a b i (message.Abort g) f e = tt
 told-more a b i (message.Forget g) f e = tt
 told-more a b i (message.Collect round) f e = tt
 told-more a b i (message.Graph round graph) f e = tt
+told-more a b i message.Up f e = tt
 
 exec-held : (E : ℕ → ℕ → Bool) (d : Table) (i : ℕ) (m : Message) → IsExec m → HeldFor E d i m → (held_in d i (gxid_in m) ≡ true) ⊎ (E i (gxid_in m) ≡ true)
 exec-held E d i (message.Exec g c level x h y) is e = e
@@ -128,6 +131,7 @@ exec-held E d i (message.Forget g) is e = absurd is
 exec-held E d i (message.Collect round) is e = absurd is
 exec-held E d i (message.Answer g r) is e = absurd is
 exec-held E d i (message.Graph round graph) is e = absurd is
+exec-held E d i message.Up is e = absurd is
 
 tells-held : (k : Rattle.gx_law_order.specs.Standings.Known) (q : Rattle.gx_law_order.specs.Standings.Part) (i g : ℕ) (marks : List Rattle.gx_store.specs.declared.mark.Mark.Mark) (E : ℕ → ℕ → Bool) (d : Table) (j : ℕ) (m : Message) → Rattle.gx_law_order.proofs.Handled.Tells k q i g marks m → HeldFor E d j m
 tells-held k q i g marks E d j (message.Exec h c level x y z) e = absurd e
@@ -203,6 +207,7 @@ module _ (script : Script) (w : World) (n : Knows script w) (v : Holds script w)
   told-next (message.Answer h reply.Committed) q z = tt
   told-next (message.Answer h reply.Jfault) q z = tt
   told-next (message.Answer h reply.Again) q z = tt
+  told-next (message.Answer h reply.Restarted) q z = tt
   told-next (message.Exec h c level a b d) q z = tt
   told-next (message.Prepare h) q z = tt
   told-next (message.Commit h) q z = tt
@@ -211,6 +216,7 @@ module _ (script : Script) (w : World) (n : Knows script w) (v : Holds script w)
   told-next (message.Forget h) q z = tt
   told-next (message.Collect round) q z = tt
   told-next (message.Graph round graph) q z = tt
+  told-next message.Up q z = tt
 
   pub seg-waits : Waits seg_next
   seg-waits =
@@ -226,7 +232,7 @@ module _ (script : Script) (w : World) (n : Knows script w) (v : Holds script w)
       more-orders None h = tt
       more-orders (Some k) h = each_weaker (HeldOut (ended_at w.segs) w.coord.table) (HeldOut (ended_at seg_next.segs) w.coord.table) (λ o q. held-more (ended_at w.segs) (ended_at seg_next.segs) w.coord.table o.node.0 o.message ended-more q) k.orders h
 
-      new-letters : (outs : List Out) → Each (λ (o : Out). Rattle.gx_law_order.proofs.Handled.Tells (known_at w.coord (marks_in w.steps) i g) (part_then script w n v e x fails i msg reached does) i g seg_turn.marks o.message) outs → Each (λ (o : Out). TellsEnd (seg_turn.seg.locals g).phase o.message) outs → Each (λ (o : Out). (number : ℕ) → LetterHeld seg_next (record { from = at i; to = o.node; envelope = record { number = number; clock = clock_after s.clock x; message = o.message } })) outs
+      new-letters : (outs : List Out) → Each (λ (o : Out). Rattle.gx_law_order.proofs.Handled.Tells (known_at w.coord (marks_in w.steps) i g) (part_then script w n v e x fails i msg reached does) i g seg_turn.marks o.message) outs → Each (λ (o : Out). TellsEnd (seg_turn.seg.locals g).phase o.message) outs → Each (λ (o : Out). (number : ℕ) → LetterHeld seg_next (record { from = at i; to = o.node; envelope = record { number = number; clock = clock_after s.clock x; incarnation = 1; message = o.message } })) outs
       new-letters [] a b = tt
       new-letters (o ∷ outs) a b = (
         λ number. record { held = tells-held _ _ i g seg_turn.marks (ended_at seg_next.segs) w.coord.table o.node.0 o.message a.0; told = λ z. told-next o.message (λ q. (Rattle.gx_law_order.proofs.Everywhere.told-answer _ _ i g seg_turn.marks o.message a.0).1) b.0 },

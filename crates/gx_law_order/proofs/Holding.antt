@@ -109,6 +109,7 @@ module _ (E : ℕ → ℕ → Bool) where
   held-goes d u f i (message.Collect round) e = tt
   held-goes d u f i (message.Answer g r) e = tt
   held-goes d u f i (message.Graph round graph) e = tt
+  held-goes d u f i message.Up e = tt
 
   no-exec-held : (d : Table) (i : ℕ) (m : Message) → NoExec m → HeldFor d i m
   no-exec-held d i (message.Exec g c level x h y) e = absurd e
@@ -234,6 +235,7 @@ module _ (E : ℕ → ℕ → Bool) where
     answer-holds g j fails reply.Committed s = status-holds c whole ol g j reply.Committed fails s
     answer-holds g j fails reply.Jfault s = status-holds c whole ol g j reply.Jfault fails s
     answer-holds g j fails reply.Again s = status-holds c whole ol g j reply.Again fails s
+    answer-holds g j fails reply.Restarted s = status-holds c whole ol g j reply.Restarted fails s
     answer-holds g j fails reply.Aborted s = status-holds c whole ol g j reply.Aborted fails s
     answer-holds g j fails reply.Forgotten s = status-holds c whole ol g j reply.Forgotten fails s
 
@@ -263,6 +265,7 @@ module _ (E : ℕ → ℕ → Bool) where
     message-holds j fails (message.Collect round) s = rest-holds c whole ol
     message-holds j fails (message.Graph round graph) s =
         graph-ways (Holding c) c j round graph (rest-holds c whole ol) (λ e. round-holds c.rounds (with_report c graph).reports []) (λ e f. round-holds c.rounds None (rechecks (with_report c graph)).marks)
+    message-holds j fails message.Up s = rest-holds c whole ol
 
     -- messages sent again
     abbrev AnyHeld : ℕ → Option Message → Type 0

@@ -91,6 +91,7 @@ module _ (script : Script) (steps : List Step) (event : Event) (earlier later ne
   sent-later : (node to : Node) (number : ℕ) (m : Message) → EndsAt script node old (mark.Sent to number m) → EndsAt script node now (mark.Sent to number m)
   sent-later node to number (message.Answer g reply.Jfault) e = e
   sent-later node to number (message.Answer g reply.Again) e = e
+  sent-later node to number (message.Answer g reply.Restarted) e = tt
   sent-later node to number (message.Answer g (reply.Done c x y z)) e = executed-later node g c e
   sent-later node to number (message.Answer g (reply.Failed c x)) e = executed-later node g c e
   sent-later node to number (message.Answer g reply.Prepared) e = tt
@@ -105,6 +106,7 @@ module _ (script : Script) (steps : List Step) (event : Event) (earlier later ne
   sent-later node to number (message.Forget g) e = tt
   sent-later node to number (message.Collect round) e = tt
   sent-later node to number (message.Graph round graph) e = tt
+  sent-later node to number message.Up e = tt
 
   end-later : (node : Node) (m : Mark) → EndsAt script node old m → EndsAt script node now m
   end-later node (mark.Commit g) e = e
@@ -192,6 +194,7 @@ module _ (script : Script) (steps : List Step) (event : Event) (earlier later mo
   sent-commits-later to number (message.Answer g r) f = tt
   sent-commits-later to number (message.Collect round) f = tt
   sent-commits-later to number (message.Graph round graph) f = tt
+  sent-commits-later to number message.Up f = tt
 
   commit-later : (m : Mark) → CommitsAt script first m → CommitsAt script longer m
   commit-later (mark.Sent to number m) f = sent-commits-later to number m f

@@ -58,6 +58,7 @@ drawn-more script before (event.Resume n g) ms ns d = d
 drawn-more script before (event.End s) ms ns d = d
 drawn-more script before (event.Resend i g) ms ns d = d
 drawn-more script before event.Round ms ns d = d
+drawn-more script before (event.Restart n) ms ns d = d
 
 legal-more : (script : Script) (before : List Step) (e : Event) (ms ns : List Mark) → LegalEvent script before e ms → LegalEvent script before e (ms ++ ns)
 legal-more script before (event.Start s) ms ns l = l
@@ -67,6 +68,7 @@ legal-more script before (event.End s) ms ns l =
     record { idle = l.idle; over = l.over; block = l.block; once = l.once; rolled_back = λ g e. is_aborted-append ms ns g ∙ or_left (is_aborted ms g) (is_aborted ns g) (l.rolled_back g e) }
 legal-more script before (event.Resend i g) ms ns l = l
 legal-more script before event.Round ms ns l = l
+legal-more script before (event.Restart n) ms ns l = l
 
 pub given-more : (script : Script) (done before : List Step) (s : Step) (ns : List Mark) → AreGiven script done (before ++ s ∷ []) → ((later : List Mark) → EachMark (Given script) (done ++ before) s.event s.marks ns later) → AreGiven script done (before ++ record s { marks = s.marks ++ ns } ∷ [])
 given-more script done [] s ns e h = (
@@ -137,6 +139,7 @@ starts-no (event.Start t) q s = absurd q
 starts-no (event.End t) q s = absurd q
 starts-no (event.Resend i g) q s = refl
 starts-no event.Round q s = refl
+starts-no (event.Restart n) q s = refl
 
 pub ends-no : (e : Event) → StartsNothing e → (s : SessionId) → ends_by s e ≡ 0
 ends-no (event.Receive from to number) q s = refl
@@ -145,6 +148,7 @@ ends-no (event.Start t) q s = absurd q
 ends-no (event.End t) q s = absurd q
 ends-no (event.Resend i g) q s = refl
 ends-no event.Round q s = refl
+ends-no (event.Restart n) q s = refl
 
 pub legal-no : (script : Script) (steps : List Step) (e : Event) (ms : List Mark) → StartsNothing e → LegalEvent script steps e ms
 legal-no script steps (event.Receive from to number) ms q = tt
@@ -153,6 +157,7 @@ legal-no script steps (event.Start t) ms q = absurd q
 legal-no script steps (event.End t) ms q = absurd q
 legal-no script steps (event.Resend i g) ms q = tt
 legal-no script steps event.Round ms q = tt
+legal-no script steps (event.Restart n) ms q = tt
 
 pub drawn-no : (script : Script) (steps : List Step) (e : Event) (ms : List Mark) → StartsNothing e → IsDrawn script steps e ms
 drawn-no script steps (event.Receive from to number) ms q = tt
@@ -161,6 +166,7 @@ drawn-no script steps (event.Start t) ms q = absurd q
 drawn-no script steps (event.End t) ms q = tt
 drawn-no script steps (event.Resend i g) ms q = tt
 drawn-no script steps event.Round ms q = tt
+drawn-no script steps (event.Restart n) ms q = tt
 
 pub unless-no : (b : Bool) (A : Type 0) → b ≡ false → unless b A → A
 unless-no true A q a = absurd (cc)

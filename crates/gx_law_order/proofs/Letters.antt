@@ -23,6 +23,7 @@ pub record IsLetter (script : Script) (steps : List Step) (l : Letter) : Type 0 
   pub mark : ℕ
   pub sending : IsSending steps step mark l.from l.to l.envelope.number l.envelope.message
   pub clock : sending.sender.stamp.clock ≡ l.envelope.clock
+  pub incarnation : l.envelope.incarnation ≡ 1
 
 pub same_node : (a b : Node) → is_same_node a b ≡ true → a ≡ b
 same_node a b e = ap (λ (k : ℕ). let n : Node = record { 0 = k } in n) (eqb-true a.0 b.0 e)
@@ -35,6 +36,7 @@ letter_kept script steps s l e =
       mark = e.mark;
       sending = record { sender = e.sending.sender; at = get-append steps (s ∷ []) e.step e.sending.sender e.sending.at; node = e.sending.node; sent = e.sending.sent };
       clock = e.clock;
+      incarnation = e.incarnation;
     }
 
 pub letters_kept : (script : Script) (steps : List Step) (s : Step) (ls : List Letter) → Each (IsLetter script steps) ls → Each (IsLetter script (steps ++ s ∷ [])) ls
@@ -52,6 +54,7 @@ posted_from script steps s done (Sent to number told ∷ ms) sent e h ls =
         mark = length done;
         sending = record { sender = s; at = get_last steps [] s; node = refl; sent = subst (λ x. slice_get x (length done) ≡ Some (Sent to number told)) (sym e) (get_last done ms (Sent to number told)) };
         clock = refl;
+        incarnation = refl;
       },
       ls,
     )

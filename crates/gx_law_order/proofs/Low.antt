@@ -71,6 +71,7 @@ answer-low d (message.Abort g) e = tt
 answer-low d (message.Forget g) e = tt
 answer-low d (message.Collect round) e = tt
 answer-low d (message.Graph round graph) e = tt
+answer-low d message.Up e = tt
 
 of-horizon : (d : Table) (m : Message) → IsLowIn d m → OfHorizon (λ h. IsLow h.0 d) m
 of-horizon d (message.Exec g c level x h y) l = l
@@ -82,6 +83,7 @@ of-horizon d (message.Forget g) l = tt
 of-horizon d (message.Collect round) l = tt
 of-horizon d (message.Answer g r) l = tt
 of-horizon d (message.Graph round graph) l = tt
+of-horizon d message.Up l = tt
 
 module _ (script : Script) (w : World) (l : Low w) (e : Event) (x : NodeEvent) (fails : Bool) (i : Node) (k : SegKeeps script (w.segs i.0) (λ h. IsLow h.0 w.coord.table) (l.segs i.0) (segment.on_event script (w.segs i.0) x fails)) where
   abbrev seg_turn : SegTurn

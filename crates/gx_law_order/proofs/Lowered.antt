@@ -165,6 +165,7 @@ message-goes d u w f (message.Forget g) l = tt
 message-goes d u w f (message.Collect round) l = tt
 message-goes d u w f (message.Answer g r) l = tt
 message-goes d u w f (message.Graph round graph) l = tt
+message-goes d u w f message.Up l = tt
 
 orders-go : (d u : Table) → IsWhole d → Goes d u → (o : Option Command) → OrdersIn d o → OrdersIn u o
 orders-go d u w f None l = tt
@@ -278,6 +279,7 @@ module _ (script : Script) (c : Coord) (whole : IsWhole c.table) (ol : OrdersLow
   answer-low g j fails reply.Committed = status-low script c whole ol g j reply.Committed fails
   answer-low g j fails reply.Jfault = status-low script c whole ol g j reply.Jfault fails
   answer-low g j fails reply.Again = status-low script c whole ol g j reply.Again fails
+  answer-low g j fails reply.Restarted = status-low script c whole ol g j reply.Restarted fails
   answer-low g j fails reply.Aborted = status-low script c whole ol g j reply.Aborted fails
   answer-low g j fails reply.Forgotten = status-low script c whole ol g j reply.Forgotten fails
 
@@ -292,6 +294,7 @@ module _ (script : Script) (c : Coord) (whole : IsWhole c.table) (ol : OrdersLow
   message-low j fails (message.Collect round) = rest-low script c whole ol
   message-low j fails (message.Graph round graph) =
       graph-ways (Lowered c) c j round graph (rest-low script c whole ol) (λ e. record { table = λ n f. f; orders = ol; outs = tt }) (λ e f. record { table = λ n f. f; orders = ol; outs = tt })
+  message-low j fails message.Up = rest-low script c whole ol
 
   -- messages sent again
   abbrev AnyLow : Option Message → Type 0

@@ -33,7 +33,7 @@ use Rattle.gx_law_order.proofs.Sent.{at, sent_count-append, sent_in-last}
 
 -- A MESSAGE IS FOUND BY ITS NUMBER
 abbrev letter_at : Node → ℕ → Node → ℕ → Message → Letter
-letter_at node clock to number told = record { from = node; to = to; envelope = record { number = number; clock = clock; message = told } }
+letter_at node clock to number told = record { from = node; to = to; envelope = record { number = number; clock = clock; incarnation = 1; message = told } }
 
 not_at : (from to : Node) (number : ℕ) (l : Letter) → (l.from ≡ from → l.to ≡ to → l.envelope.number ≡ number → ⊥) → is_at from to number l ≡ false
 not_at from to number l h = by_test (is_at from to number l) refl
@@ -72,7 +72,7 @@ module _ (to : Node) (number : ℕ) (told : Message) (node : Node) (clock : ℕ)
   mine = mark.Sent to number told
 
   abbrev envelope_now : Envelope
-  envelope_now = record { number = number; clock = clock; message = told }
+  envelope_now = record { number = number; clock = clock; incarnation = 1; message = told }
 
   own_count : (earlier : List Mark) → number ≡ sent_in node to steps + sent_count to earlier + 1 → number ≤ sent_in node to steps + sent_count to (earlier ++ mine ∷ [])
   own_count earlier h = grind (arith, nat_tests, sent_count-append to earlier (mine ∷ []))
@@ -131,7 +131,7 @@ found-step script steps s sent ordered are from to number envelope p =
 
     old : slice_get steps p.step ≡ Some p.sending.sender → (found from to number (posted s.stamp.node s.stamp.clock s.marks sent) ≡ Some envelope) × (number ≤ sent_in from to (steps ++ s ∷ []))
     old a =
-        let was = are from to number envelope (record { step = p.step; mark = p.mark; sending = record { sender = p.sending.sender; at = a; node = p.sending.node; sent = p.sending.sent }; counted = p.counted; clock = p.clock }) in (
+        let was = are from to number envelope (record { step = p.step; mark = p.mark; sending = record { sender = p.sending.sender; at = a; node = p.sending.node; sent = p.sending.sent }; counted = p.counted; clock = p.clock; incarnation = p.incarnation }) in (
           found-kept from to number s.stamp.node s.stamp.clock steps [] s.marks sent ordered.numbers (λ same. subst (λ x. number ≤ sent_in x to steps + 0) (sym same) (plus_none number (sent_in from to steps) was.1)) ∙ was.0,
           wider number was.1,
         )
@@ -142,7 +142,7 @@ found-step script steps s sent ordered are from to number envelope p =
     new : p.sending.sender ≡ s → (found from to number (posted s.stamp.node s.stamp.clock s.marks sent) ≡ Some envelope) × (number ≤ sent_in from to (steps ++ s ∷ []))
     new same = (
       subst (λ x. found x to number (posted s.stamp.node s.stamp.clock s.marks sent) ≡ Some envelope) source
-          (found-new to number envelope.message s.stamp.node s.stamp.clock steps [] s.marks sent p.mark ordered.numbers told ∙ ap Some (sym (whole envelope p.counted clock))),
+          (found-new to number envelope.message s.stamp.node s.stamp.clock steps [] s.marks sent p.mark ordered.numbers told ∙ ap Some (sym (whole envelope p.counted clock p.incarnation))),
       subst (λ x. number ≤ sent_in x to (steps ++ s ∷ [])) source (own (count-all to number envelope.message s.stamp.node s.stamp.clock steps [] s.marks p.mark ordered.numbers told)),
     )
       where
@@ -155,8 +155,11 @@ found-step script steps s sent ordered are from to number envelope p =
         clock : envelope.clock ≡ s.stamp.clock
         clock = subst (λ (x : Step). envelope.clock ≡ x.stamp.clock) same p.clock
 
-        whole : (x : Envelope) → x.number ≡ number → x.clock ≡ s.stamp.clock → x ≡ record { number = number; clock = s.stamp.clock; message = x.message }
-        whole x a b = ap (λ n. let y : Envelope = record { number = n; clock = x.clock; message = x.message } in y) a ∙ ap (λ c. let y : Envelope = record { number = number; clock = c; message = x.message } in y) b
+        whole : (x : Envelope) → x.number ≡ number → x.clock ≡ s.stamp.clock → x.incarnation ≡ 1 → x ≡ record { number = number; clock = s.stamp.clock; incarnation = 1; message = x.message }
+        whole x a b d =
+            ap (λ n. let y : Envelope = record { number = n; clock = x.clock; incarnation = x.incarnation; message = x.message } in y) a
+            ∙ ap (λ c. let y : Envelope = record { number = number; clock = c; incarnation = x.incarnation; message = x.message } in y) b
+            ∙ ap (λ k. let y : Envelope = record { number = number; clock = s.stamp.clock; incarnation = k; message = x.message } in y) d
 
         own : number ≤ sent_in s.stamp.node to steps + sent_count to s.marks → number ≤ sent_in s.stamp.node to (steps ++ s ∷ [])
         own h = grind (arith, nat_tests, sent_in-last s.stamp.node to steps s)

@@ -93,6 +93,7 @@ letter-more script ss ms l e =
             (get-append e.sending.sender.marks h.is.added e.mark (Sent l.to l.envelope.number l.envelope.message) e.sending.sent);
       };
       clock = ap (λ (x : Stamp). x.clock) h.is.stamp ∙ e.clock;
+      incarnation = e.incarnation;
     }
 
 -- what was sent in all
@@ -147,6 +148,7 @@ event-more script steps s ms (event.Start x) h = h
 event-more script steps s ms (event.End x) h = h
 event-more script steps s ms (event.Resend i g) h = h
 event-more script steps s ms event.Round h = h
+event-more script steps s ms (event.Restart n) h = h
 
 -- the last step may have more marks, where they stand at its node and have the next numbers
 pub ordered-more : (script : Script) (done before : List Step) (s : Step) (ms : List Mark) → AreOrdered script done (before ++ s ∷ []) → All (IsAtNode script s.stamp.node) ms → AreNumbered s.stamp.node (done ++ before) s.marks ms → AreOrdered script done (before ++ record s { marks = s.marks ++ ms } ∷ [])

@@ -127,6 +127,7 @@ graph-names c from round graph = by_report (is_report c from round graph)
 
 message-names : (c : Coord) (from : Node) (fails : Bool) (m : Message) → AreNamed (on_message c from fails m) (victims_on_message c from m)
 message-names c from fails (message.Graph round graph) = graph-names c from round graph
+message-names c from fails message.Up = tt
 message-names c from fails (message.Answer g r) = tt
 message-names c from fails (message.Exec g cid level x h y) = tt
 message-names c from fails (message.Prepare g) = tt
@@ -218,6 +219,7 @@ comes w (event.Start s) x q = subst (Comes w (event.Start s) the_coordinator) (s
 comes w (event.End s) x q = subst (Comes w (event.End s) the_coordinator) (some-same (here.End s) x q) refl
 comes w (event.Resend i g) x q = subst (Comes w (event.Resend i g) the_coordinator) (some-same (here.Resend i g) x q) refl
 comes w event.Round x q = subst (Comes w event.Round the_coordinator) (some-same here.Round x q) refl
+comes w (event.Restart n) x q = absurd (cc)
 
 -- ONE MOVE, AND ALL
 -- An event is nothing, or the coordinator's, or a segment's.

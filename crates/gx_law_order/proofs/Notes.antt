@@ -72,6 +72,7 @@ reply-more ms ns node g (reply.Failed a b) h = tt
 reply-more ms ns node g reply.Prepared h = tt
 reply-more ms ns node g reply.Committed h = tt
 reply-more ms ns node g reply.Again h = tt
+reply-more ms ns node g reply.Restarted h = tt
 reply-more ms ns node g reply.Aborted h = tt
 reply-more ms ns node g reply.Forgotten h = tt
 
@@ -85,6 +86,7 @@ noted-more ms ns node (message.Abort g) h = tt
 noted-more ms ns node (message.Forget g) h = tt
 noted-more ms ns node (message.Collect round) h = tt
 noted-more ms ns node (message.Graph round graph) h = tt
+noted-more ms ns node message.Up h = tt
 
 in-more : (ms ns : List Mark) (node : Node) (g : Gxid) (o : Option Reply) → IsNotedIn ms node g o → IsNotedIn (ms ++ ns) node g o
 in-more ms ns node g None h = tt
@@ -352,6 +354,7 @@ module _ (ms : List Mark) (node : Node) where
         (λ same graph kept. record { locals = λ g. local-more ms [] node (gx g) (s.locals g) (all g); outs = (tt, tt) })
     message-notes fails (message.Answer g r) = stay ms node s is all
     message-notes fails (message.Graph round graph) = stay ms node s is all
+    message-notes fails message.Up = stay ms node s is all
 
     granted : (g : Gxid) (wanted : Claim) → SegNoted ms node (is_granted s g wanted).seg
     granted g wanted = by_object wanted.object _ (local-at ms node ms s g _ all (record { answer = (all g.0).answer; vote = (all g.0).vote }))

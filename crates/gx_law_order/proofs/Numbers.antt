@@ -213,6 +213,7 @@ answer-calm c g i fails reply.Prepared = status-calm c g i reply.Prepared fails
 answer-calm c g i fails reply.Committed = status-calm c g i reply.Committed fails
 answer-calm c g i fails reply.Jfault = status-calm c g i reply.Jfault fails
 answer-calm c g i fails reply.Again = status-calm c g i reply.Again fails
+answer-calm c g i fails reply.Restarted = status-calm c g i reply.Restarted fails
 answer-calm c g i fails reply.Aborted = status-calm c g i reply.Aborted fails
 answer-calm c g i fails reply.Forgotten = status-calm c g i reply.Forgotten fails
 
@@ -226,6 +227,7 @@ message-calm c from fails (message.Abort g) = rest-calm c
 message-calm c from fails (message.Forget g) = rest-calm c
 message-calm c from fails (message.Collect round) = rest-calm c
 message-calm c from fails (message.Graph round graph) = graph-ways (IsCalm c.table.next) c from round graph (rest-calm c) (λ e. record { marks = tt; stands = refl }) (λ e f. record { marks = (tt, tt); stands = refl })
+message-calm c from fails message.Up = rest-calm c
 
 again-calm : (c : Coord) (i : Node) (m : Option Message) → IsCalm c.table.next (resends c i m)
 again-calm c i None = rest-calm c

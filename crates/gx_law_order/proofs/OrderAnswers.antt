@@ -250,6 +250,7 @@ module _ (script : Script) (steps : List Step) (c : Coord) (k : Kept script c) (
   answer-does fails reply.Committed h n = status-does reply.Committed h n fails
   answer-does fails reply.Jfault h n = status-does reply.Jfault h n fails
   answer-does fails reply.Again h n = status-does reply.Again h n fails
+  answer-does fails reply.Restarted h n = status-does reply.Restarted h n fails
   answer-does fails reply.Aborted h n = status-does reply.Aborted h n fails
   answer-does fails reply.Forgotten h n = status-does reply.Forgotten h n fails
 
@@ -268,6 +269,7 @@ message-does script steps c k all gath from some to number fails (message.Answer
     noted reply.Prepared n e = absurd (cc)
     noted reply.Committed n e = absurd (cc)
     noted reply.Again n e = absurd (cc)
+    noted reply.Restarted n e = absurd (cc)
     noted reply.Aborted n e = absurd (cc)
     noted reply.Forgotten n e = absurd (cc)
 message-does script steps c k all gath from some to number fails (message.Exec g cid level x h y) r n = inr (rests-now script steps c from to number)
@@ -281,3 +283,4 @@ message-does script steps c k all gath from some to number fails (message.Graph 
     graph-ways (Effect script steps c (event.Receive from to number)) c from round graph (inr (rests-now script steps c from to number))
     (λ taken. inr (record { sessions = λ j. refl; works = λ j. refl; next = refl; quiet = tt; alone = λ j. (refl, refl); outs = λ h. tt; sent = λ h. tt }))
     (λ taken all. inr (record { sessions = λ j. refl; works = λ j. refl; next = refl; quiet = (tt, tt); alone = λ j. (refl, refl); outs = λ h. tt; sent = λ h. tt }))
+message-does script steps c k all gath from some to number fails message.Up r n = inr (rests-now script steps c from to number)

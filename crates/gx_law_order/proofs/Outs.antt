@@ -91,6 +91,7 @@ order-more script ms ns node (message.Forget g) f n = tt
 order-more script ms ns node (message.Collect round) f n = tt
 order-more script ms ns node (message.Answer g r) f n = tt
 order-more script ms ns node (message.Graph round graph) f n = tt
+order-more script ms ns node message.Up f n = tt
 
 pub outs-more : (script : Script) (ms ns : List Mark) (outs : List Out) → Each (OutIs script ms) outs → Each (OutIs script (ms ++ ns)) outs
 outs-more script ms ns outs e = each_weaker (OutIs script ms) (OutIs script (ms ++ ns)) (λ o f. order-more script ms ns o.node o.message f) outs e
@@ -114,6 +115,7 @@ no-exec script marks node (message.Forget g) e n = tt
 no-exec script marks node (message.Collect round) e n = tt
 no-exec script marks node (message.Answer g r) e n = tt
 no-exec script marks node (message.Graph round graph) e n = tt
+no-exec script marks node message.Up e n = tt
 
 abbrev pub IsBare : Out → Type 0
 IsBare o = NoExec o.message

@@ -54,6 +54,7 @@ answers-grow k p q reply.Prepared g e s = g.prepared s
 answers-grow k p q reply.Committed g e s = g.committed s
 answers-grow k p q reply.Jfault g e s = g.refused s
 answers-grow k p q reply.Again g e s = tt
+answers-grow k p q reply.Restarted g e s = tt
 answers-grow k p q reply.Aborted g e s = tt
 answers-grow k p q reply.Forgotten g e s = tt
 
@@ -72,6 +73,7 @@ said-grows k p q (message.Forget g) r e s = s
 said-grows k p q (message.Answer g a) r e s = answers-grow k p q a r e s
 said-grows k p q (message.Collect round) r e s = tt
 said-grows k p q (message.Graph round graph) r e s = tt
+said-grows k p q message.Up r e s = tt
 
 -- ONE CHANGE EACH
 pub record Next (k : Known) (p q : Part) : Type 0 where

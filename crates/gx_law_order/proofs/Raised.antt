@@ -157,6 +157,7 @@ module _ (script : Script) (s : Seg) (Q : Gxid → Type 0) (base : Q s.horizon) 
   message_keeps fails (message.Collect round) q = collect-ways SegKeeps s round stay (λ e. record { horizon = base; outs = (refl, tt) }) (λ e graph f. record { horizon = base; outs = (refl, tt) })
   message_keeps fails (message.Answer g r) q = stay
   message_keeps fails (message.Graph round graph) q = stay
+  message_keeps fails message.Up q = stay
 
   -- a slice that goes on
   pub resume_keeps : (g : Gxid) (o : Option Claim) (x : Option Suspended) → SegKeeps (resumes s g o x)

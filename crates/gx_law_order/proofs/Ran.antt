@@ -105,6 +105,7 @@ module _ (script : Script) (c : Coord) (steps : List Step) (kept : Kept script c
   ran-later d new e ns b i (message.Collect round) r = tt
   ran-later d new e ns b i (message.Answer g a) r = tt
   ran-later d new e ns b i (message.Graph round graph) r = tt
+  ran-later d new e ns b i message.Up r = tt
 
   pub has-run : (i : Node) (m : Message) → RanOf script c steps i m → HasRun script steps m
   has-run i (message.Exec g k level x h slice) r = was-now g k level i r
@@ -116,6 +117,7 @@ module _ (script : Script) (c : Coord) (steps : List Step) (kept : Kept script c
   has-run i (message.Collect round) r = tt
   has-run i (message.Answer g a) r = tt
   has-run i (message.Graph round graph) r = tt
+  has-run i message.Up r = tt
 
   pub have-run : (ls : List Letter) → Each (LetterRan script c steps) ls → HaveRun script steps ls
   have-run [] e = tt
@@ -131,7 +133,8 @@ awaited-ran script d steps i (message.Forget g) a = tt
 awaited-ran script d steps i (message.Collect round) a = tt
 awaited-ran script d steps i (message.Answer g r) a = tt
 awaited-ran script d steps i (message.Graph round graph) a = tt
+awaited-ran script d steps i message.Up a = tt
 
-pub rans-sent : (script : Script) (d : Coord) (steps : List Step) (clock : ℕ) (outs : List Out) → Each (OutAwaits d) outs → Each (λ (o : Out). (number : ℕ) → LetterRan script d steps (record { from = the_coordinator; to = o.node; envelope = record { number = number; clock = clock; message = o.message } })) outs
+pub rans-sent : (script : Script) (d : Coord) (steps : List Step) (clock : ℕ) (outs : List Out) → Each (OutAwaits d) outs → Each (λ (o : Out). (number : ℕ) → LetterRan script d steps (record { from = the_coordinator; to = o.node; envelope = record { number = number; clock = clock; incarnation = 1; message = o.message } })) outs
 rans-sent script d steps clock [] e = tt
 rans-sent script d steps clock (o ∷ outs) e = (λ number same. awaited-ran script d steps o.node o.message e.0, rans-sent script d steps clock outs e.1)

@@ -297,6 +297,7 @@ module _ {script : Script} (c : Coord) (before : List Mark) (k : Kept script c) 
   answer-good i fails reply.Committed = on-status-good i reply.Committed fails
   answer-good i fails reply.Jfault = on-status-good i reply.Jfault fails
   answer-good i fails reply.Again = on-status-good i reply.Again fails
+  answer-good i fails reply.Restarted = on-status-good i reply.Restarted fails
   answer-good i fails reply.Aborted = on-status-good i reply.Aborted fails
   answer-good i fails reply.Forgotten = on-status-good i reply.Forgotten fails
 
@@ -349,6 +350,7 @@ module _ (script : Script) (c : Coord) (before : List Mark) (k : Kept script c) 
   message-good from fails (message.Forget g) = rest-good c before k p
   message-good from fails (message.Collect round) = rest-good c before k p
   message-good from fails (message.Graph round graph) = graph-good from round graph
+  message-good from fails message.Up = rest-good c before k p
 
   again-good : (i : Node) (m : Option Message) → Good script before (resends c i m)
   again-good i None = rest-good c before k p

@@ -78,6 +78,7 @@ order-on script ms ns to (message.Abort g) p e o = tt
 order-on script ms ns to (message.Forget g) p e o = tt
 order-on script ms ns to (message.Collect round) p e o = tt
 order-on script ms ns to (message.Graph round graph) p e o = tt
+order-on script ms ns to message.Up p e o = tt
 
 -- A STANDING AT EVERY SEGMENT
 -- where one writer alone is to commit, it stands so at every segment
@@ -192,3 +193,4 @@ module _ (script : Script) (P : ℕ → ℕ → Part) (d : Coord) (ms : List Mar
   right-order to (message.Forget g) n a = tt
   right-order to (message.Collect round) n a = tt
   right-order to (message.Graph round graph) n a = absurd (cc)
+  right-order to message.Up n a = absurd (cc)

@@ -561,6 +561,7 @@ module _ (script : Script) (s : Seg) (opens : AreOpen s) (before : List Mark) (k
       (λ e graph f. dull-turn s before k fails _ tt refl (none-kept s before k fails) refl k.bound)
   message_items fails (message.Answer g r) = stay s before k fails
   message_items fails (message.Graph round graph) = stay s before k fails
+  message_items fails message.Up = stay s before k fails
 
   pub event_items : (x : NodeEvent) (fails : Bool) → Good fails (on_event script s x fails)
   event_items (event.Deliver from envelope) fails = message_items fails envelope.message

@@ -39,7 +39,7 @@ use Rattle.gx_law_order.proofs.Outs.{CommandIs, MessageIs, OutIs}
 -- LETTERS
 -- what is sent is so
 abbrev pub SentIs : (Letter → Type 0) → Node → ℕ → Mark → Type 0
-SentIs P from clock (mark.Sent to number told) = P (record { from = from; to = to; envelope = record { number = number; clock = clock; message = told } })
+SentIs P from clock (mark.Sent to number told) = P (record { from = from; to = to; envelope = record { number = number; clock = clock; incarnation = 1; message = told } })
 SentIs P from clock _ = Unit {0}
 
 pub each-posted : (P : Letter → Type 0) (from : Node) (clock : ℕ) (ms : List Mark) (sent : List Letter) → Each (SentIs P from clock) ms → Each P sent → Each P (posted from clock ms sent)
@@ -52,7 +52,7 @@ plain-sent P script node clock [] e = tt
 plain-sent P script node clock (mark.Sent to number told ∷ ms) e = absurd e.0
 plain-sent P script node clock (m ∷ ms) e = (tt, plain-sent P script node clock ms e.1)
 
-pub numbered-sent : (P : Letter → Type 0) (from : Node) (clock : ℕ) (f : ℕ → ℕ) (outs : List Out) → Each (λ (o : Out). (number : ℕ) → P (record { from = from; to = o.node; envelope = record { number = number; clock = clock; message = o.message } })) outs → Each (SentIs P from clock) (numbered f outs)
+pub numbered-sent : (P : Letter → Type 0) (from : Node) (clock : ℕ) (f : ℕ → ℕ) (outs : List Out) → Each (λ (o : Out). (number : ℕ) → P (record { from = from; to = o.node; envelope = record { number = number; clock = clock; incarnation = 1; message = o.message } })) outs → Each (SentIs P from clock) (numbered f outs)
 numbered-sent P from clock f [] e = tt
 numbered-sent P from clock f (o ∷ outs) e = (e.0 _, numbered-sent P from clock (counted f o) outs e.1)
 
@@ -87,6 +87,7 @@ state-moves c d H K ms ns i (message.Forget g) f later a = tt
 state-moves c d H K ms ns i (message.Collect round) f later a = tt
 state-moves c d H K ms ns i (message.Answer g r) f later a = tt
 state-moves c d H K ms ns i (message.Graph round graph) f later a = tt
+state-moves c d H K ms ns i message.Up f later a = tt
 
 pub awaited-state : (d : Coord) (H : Node → Message → Type 0) (marks : List Mark) (i : Node) (m : Message) → IsAwaitedOut d i m → StateOf d H marks i m
 awaited-state d H marks i (message.Exec g k level x h slice) a = inl a
@@ -98,6 +99,7 @@ awaited-state d H marks i (message.Forget g) a = tt
 awaited-state d H marks i (message.Collect round) a = tt
 awaited-state d H marks i (message.Answer g r) a = tt
 awaited-state d H marks i (message.Graph round graph) a = tt
+awaited-state d H marks i message.Up a = tt
 
 pub awaited-by : (c d : Coord) → ((j : ℕ) → d.works j ≡ c.works j) → (i : Node) (m : Message) → IsAwaitedOut c i m → IsAwaitedOut d i m
 awaited-by c d same i (message.Exec g k level x h slice) a = subst (λ v. IsAwaited v k i level) (sym (same g.0)) a
@@ -109,8 +111,9 @@ awaited-by c d same i (message.Forget g) a = tt
 awaited-by c d same i (message.Collect round) a = tt
 awaited-by c d same i (message.Answer g r) a = tt
 awaited-by c d same i (message.Graph round graph) a = tt
+awaited-by c d same i message.Up a = tt
 
-pub states-sent : (d : Coord) (steps : List Step) (clock : ℕ) (outs : List Out) → Each (OutAwaits d) outs → Each (λ (o : Out). (number : ℕ) → LetterState d steps (record { from = the_coordinator; to = o.node; envelope = record { number = number; clock = clock; message = o.message } })) outs
+pub states-sent : (d : Coord) (steps : List Step) (clock : ℕ) (outs : List Out) → Each (OutAwaits d) outs → Each (λ (o : Out). (number : ℕ) → LetterState d steps (record { from = the_coordinator; to = o.node; envelope = record { number = number; clock = clock; incarnation = 1; message = o.message } })) outs
 states-sent d steps clock [] e = tt
 states-sent d steps clock (o ∷ outs) e = (λ number same. awaited-state d (IsHeard steps) (marks_in steps) o.node o.message e.0, states-sent d steps clock outs e.1)
 
@@ -120,7 +123,7 @@ away-all P i clock one [] = tt
 away-all P i clock one (mark.Sent to number told ∷ ms) = (λ same. absurd (one-le-zero i one (ap (λ (n : Node). n.0) same)), away-all P i clock one ms)
 away-all P i clock one (m ∷ ms) = (tt, away-all P i clock one ms)
 
-pub outs-sent : (script : Script) (marks : List Mark) (clock : ℕ) (outs : List Out) → Each (OutIs script marks) outs → Each (λ (o : Out). (number : ℕ) → IsOrderLetter script marks (record { from = the_coordinator; to = o.node; envelope = record { number = number; clock = clock; message = o.message } })) outs
+pub outs-sent : (script : Script) (marks : List Mark) (clock : ℕ) (outs : List Out) → Each (OutIs script marks) outs → Each (λ (o : Out). (number : ℕ) → IsOrderLetter script marks (record { from = the_coordinator; to = o.node; envelope = record { number = number; clock = clock; incarnation = 1; message = o.message } })) outs
 outs-sent script marks clock [] e = tt
 outs-sent script marks clock (o ∷ outs) e = (λ number same. e.0, outs-sent script marks clock outs e.1)
 

@@ -38,6 +38,7 @@ answers-stay k n p t reply.Prepared s = s
 answers-stay k n p t reply.Committed s = s
 answers-stay k n p t reply.Jfault s = s
 answers-stay k n p t reply.Again s = tt
+answers-stay k n p t reply.Restarted s = tt
 answers-stay k n p t reply.Aborted s = tt
 answers-stay k n p t reply.Forgotten s = tt
 
@@ -51,6 +52,7 @@ said-stays k n p t (message.Forget g) s = t.forget s
 said-stays k n p t (message.Answer g r) s = answers-stay k n p t r s
 said-stays k n p t (message.Collect round) s = tt
 said-stays k n p t (message.Graph round graph) s = tt
+said-stays k n p t message.Up s = tt
 
 -- A TRANSACTION BEGINS
 abbrev pub born : Known → Known

@@ -206,7 +206,7 @@ module _ (script : Script) (some : 1 ≤ script.segments) (w : World) (n : Knows
         (outs-more script (marks_in w.steps ++ turn.marks) sent turn.outs (d.outs (λ j. command-more script (marks_in w.steps) turn.marks (w.coord.works j).command (h.commands j))))
 
     -- what holds of each message that the turn sends
-    all-sent : (P : Letter → Type 0) → Each (λ (o : Out). (number : ℕ) → P (record { from = the_coordinator; to = o.node; envelope = record { number = number; clock = clock; message = o.message } })) turn.outs → Each P w.sent → Each P (posted the_coordinator clock ns w.sent)
+    all-sent : (P : Letter → Type 0) → Each (λ (o : Out). (number : ℕ) → P (record { from = the_coordinator; to = o.node; envelope = record { number = number; clock = clock; incarnation = 1; message = o.message } })) turn.outs → Each P w.sent → Each P (posted the_coordinator clock ns w.sent)
     all-sent P outs before =
         each-posted P the_coordinator clock ns w.sent
         (each_append (SentIs P the_coordinator clock) turn.marks sent (plain-sent P script the_coordinator clock turn.marks plain) (numbered-sent P the_coordinator clock turn.coord.sent turn.outs outs)) before
@@ -306,7 +306,7 @@ module _ (script : Script) (some : 1 ≤ script.segments) (w : World) (n : Knows
       kept : SegStays script (w.segs i) (segment.on_event script (w.segs i) x fails)
       kept = seg_stays script (w.segs i) (subst (IsSegment script) (sym (n.well.names i)) place) x fails
 
-      out-told : (marks : List Mark) (clock : ℕ) (outs : List Out) → Each (λ (o : Out). IsNoted marks (at i) o.message) outs → Each (λ (o : Out). (number : ℕ) → IsToldOf marks (record { from = at i; to = o.node; envelope = record { number = number; clock = clock; message = o.message } })) outs
+      out-told : (marks : List Mark) (clock : ℕ) (outs : List Out) → Each (λ (o : Out). IsNoted marks (at i) o.message) outs → Each (λ (o : Out). (number : ℕ) → IsToldOf marks (record { from = at i; to = o.node; envelope = record { number = number; clock = clock; incarnation = 1; message = o.message } })) outs
       out-told marks clock [] f = tt
       out-told marks clock (o ∷ outs) f = (λ number one. f.0, out-told marks clock outs f.1)
 

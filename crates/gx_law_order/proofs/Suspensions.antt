@@ -468,6 +468,7 @@ module _ (script : Script) (Come : Message → Type 0) where
     message_keeps fails (message.Collect round) come = collect-ways Keeps s round k (λ e. record { each = k.each; own = k.own }) (λ e graph f. k)
     message_keeps fails (message.Answer g r) come = k
     message_keeps fails (message.Graph round graph) come = k
+    message_keeps fails message.Up come = k
 
     -- what a slice has waited for is granted
     pub granted : (g : Gxid) (wanted : Claim) → is_open_phase (local_of s g).phase ≡ true → Goes s.horizon g (is_granted s g wanted)

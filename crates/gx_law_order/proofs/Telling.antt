@@ -40,6 +40,7 @@ told-append node ms xs (message.Answer g (reply.Done c x y z)) e t = tt
 told-append node ms xs (message.Answer g (reply.Failed c x)) e t = tt
 told-append node ms xs (message.Answer g reply.Jfault) e t = tt
 told-append node ms xs (message.Answer g reply.Again) e t = tt
+told-append node ms xs (message.Answer g reply.Restarted) e t = tt
 told-append node ms xs (message.Answer g reply.Aborted) e t = tt
 told-append node ms xs (message.Answer g reply.Forgotten) e t = tt
 told-append node ms xs (message.Abort g) e t = aborted-append ms xs g ∙ or_left (is_aborted ms g) (is_aborted xs g) t
@@ -50,6 +51,7 @@ told-append node ms xs (message.Commit g) e t = tt
 told-append node ms xs (message.CommitPrepared g) e t = tt
 told-append node ms xs (message.Collect round) e t = tt
 told-append node ms xs (message.Graph round graph) e t = tt
+told-append node ms xs message.Up e t = tt
 
 sent-told : (node : Node) (ms more : List Mark) (f : ℕ → ℕ) (outs : List Out) → Each NoPart more → Each (λ (o : Out). IsTold node ms o.message) outs → AreTold node (ms ++ more) (numbered f outs)
 sent-told node ms more f [] e h = tt
@@ -76,6 +78,7 @@ coord-told k p ms (message.Commit g) a c e s = tt
 coord-told k p ms (message.CommitPrepared g) a c e s = tt
 coord-told k p ms (message.Collect round) a c e s = tt
 coord-told k p ms (message.Graph round graph) a c e s = tt
+coord-told k p ms message.Up a c e s = tt
 
 -- what a segment says
 module _ (k : Known) (q : Part) (i g : ℕ) (marks ms : List Mark) (pair : Pair k q) (promises : q.promises ≡ prepared_count ms (at i) (gx g)) (commits : q.commits ≡ local_count ms (at i) (gx g)) where
@@ -89,6 +92,7 @@ module _ (k : Known) (q : Part) (i g : ℕ) (marks ms : List Mark) (pair : Pair 
   seg-told (message.Answer h (reply.Failed c x)) e = tt
   seg-told (message.Answer h reply.Jfault) e = tt
   seg-told (message.Answer h reply.Again) e = tt
+  seg-told (message.Answer h reply.Restarted) e = tt
   seg-told (message.Answer h reply.Aborted) e = tt
   seg-told (message.Answer h reply.Forgotten) e = tt
   seg-told (message.Abort h) e = absurd e
@@ -99,3 +103,4 @@ module _ (k : Known) (q : Part) (i g : ℕ) (marks ms : List Mark) (pair : Pair 
   seg-told (message.CommitPrepared h) e = tt
   seg-told (message.Collect round) e = tt
   seg-told (message.Graph round graph) e = tt
+  seg-told message.Up e = tt

@@ -52,6 +52,7 @@ asked-now to number (message.Forget h) ms g = refl
 asked-now to number (message.Collect round) ms g = refl
 asked-now to number (message.Answer h r) ms g = refl
 asked-now to number (message.Graph round graph) ms g = refl
+asked-now to number message.Up ms g = refl
 
 -- one of the letters does
 abbrev is_posted : List Letter → Gxid → Bool
@@ -65,7 +66,7 @@ posted-more from clock [] sent g = or-none (is_posted sent g)
     or-none true = refl
     or-none false = refl
 posted-more from clock (mark.Sent to number told ∷ ms) sent g =
-    posted-more from clock ms (record { from = from; to = to; envelope = record { number = number; clock = clock; message = told } } ∷ sent) g ∙ swapped (asks_for told g) (is_posted sent g) (is_committing ms g)
+    posted-more from clock ms (record { from = from; to = to; envelope = record { number = number; clock = clock; incarnation = 1; message = told } } ∷ sent) g ∙ swapped (asks_for told g) (is_posted sent g) (is_committing ms g)
     ∙ ap (λ b. is_posted sent g || b) (sym (asked-now to number told ms g))
   where
     swapped : (a b c : Bool) → ((a || b) || c) ≡ (b || (a || c))
@@ -123,6 +124,7 @@ module _ (script : Script) (w : World) (v : Holds script w) (g : Gxid) (live : (
   none-says i (message.Collect round) s q = absurd (cc)
   none-says i (message.Answer h r) s q = absurd (cc)
   none-says i (message.Graph round graph) s q = absurd (cc)
+  none-says i message.Up s q = absurd (cc)
 
   none-posted : (ls : List Letter) → Each (SaidIn w) ls → is_posted ls g ≡ true → ⊥
   none-posted [] e f = absurd (cc)

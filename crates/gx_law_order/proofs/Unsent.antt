@@ -65,7 +65,7 @@ posted-more from clock [] sent g d = or-none (is_posted sent g d)
     or-none true = refl
     or-none false = refl
 posted-more from clock (mark.Sent to number told ∷ ms) sent g d =
-    posted-more from clock ms (record { from = from; to = to; envelope = record { number = number; clock = clock; message = told } } ∷ sent) g d ∙ swapped (is_order_of g d told) (is_posted sent g d) (is_sent ms g d)
+    posted-more from clock ms (record { from = from; to = to; envelope = record { number = number; clock = clock; incarnation = 1; message = told } } ∷ sent) g d ∙ swapped (is_order_of g d told) (is_posted sent g d) (is_sent ms g d)
   where
     swapped : (a b c : Bool) → ((a || b) || c) ≡ (b || (a || c))
     swapped true true c = refl
@@ -112,6 +112,7 @@ find-order w g d (l ∷ ls) e f = by_first (is_order_of g d l.envelope.message) 
     by_message (message.Collect round) s q = absurd (cc)
     by_message (message.Answer h r) s q = absurd (cc)
     by_message (message.Graph round graph) s q = absurd (cc)
+    by_message message.Up s q = absurd (cc)
 
     by_first : (b : Bool) → is_order_of g d l.envelope.message ≡ b → (b || is_posted ls g d) ≡ true → (is_posted ls g d ≡ true → IsFoundAt w g d) → IsFoundAt w g d
     by_first true q f more = by_message l.envelope.message e.0 q

@@ -149,6 +149,7 @@ asks-from d i g a (message.Forget h) e s f = tt
 asks-from d i g a (message.Collect round) e s f = tt
 asks-from d i g a (message.Answer h r) e s f = tt
 asks-from d i g a (message.Graph round graph) e s f = tt
+asks-from d i g a message.Up e s f = tt
 
 -- WHAT ALWAYS STANDS, AND HOW ONE LEADS TO THE NEXT
 module _ (script : Script) (P : ℕ → ℕ → Part) where

@@ -119,6 +119,7 @@ module _ (script : Script) (w : World) (k : Knows script w) (v : Holds script w)
   got from (message.Answer g reply.Committed) y = tt
   got from (message.Answer g reply.Jfault) y = tt
   got from (message.Answer g reply.Again) y = tt
+  got from (message.Answer g reply.Restarted) y = tt
   got from (message.Answer g reply.Aborted) y = tt
   got from (message.Answer g reply.Forgotten) y = tt
   got from (message.Exec g cid level a h b) y = tt
@@ -129,6 +130,7 @@ module _ (script : Script) (w : World) (k : Knows script w) (v : Holds script w)
   got from (message.Forget g) y = tt
   got from (message.Collect round) y = tt
   got from (message.Graph round graph) y = tt
+  got from message.Up y = tt
 
   abbrev count_of : Bool → ℕ
   count_of b = if b then 1 else 0
@@ -221,6 +223,7 @@ module _ (script : Script) (some : 1 ≤ script.segments) where
   follow-sent node point to number (message.Answer g r) e c = e
   follow-sent node point to number (message.Collect round) e c = e
   follow-sent node point to number (message.Graph round graph) e c = e
+  follow-sent node point to number message.Up e c = e
 
   follow-mark : (node : Node) (point : Point) (m : Mark) → EndsAt script node point m → AnswersAt script node point m → CommitsAt script point m → FollowsAt script node point m
   follow-mark node point (mark.Answer s n a) e f c = f

@@ -383,6 +383,7 @@ module _ (script : Script) (Come : Message → Type 0) (s : Seg) (waits : AreSus
   message_keeps fails (message.Collect round) = collect-ways Keeps s round k (λ e. record { owns = k.owns; each = k.each; awaited = k.awaited }) (λ e graph f. k)
   message_keeps fails (message.Answer g r) = k
   message_keeps fails (message.Graph round graph) = k
+  message_keeps fails message.Up = k
 
   -- what a slice has waited for is granted
   module _ (g : Gxid) (opens : is_open_phase (local_of s g).phase ≡ true) where

@@ -60,6 +60,7 @@ gxid_in _ = 0
 abbrev pub is_answer : Message → Bool
 is_answer (message.Answer g r) = true
 is_answer (message.Graph round graph) = true
+is_answer message.Up = true
 is_answer _ = false
 
 abbrev pub segment_of : Letter → ℕ

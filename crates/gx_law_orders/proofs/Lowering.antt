@@ -482,6 +482,7 @@ module _ (script : Script) (c : Coord) (kept : Kept script c) (g : ℕ) where
   answer-of-lowers i fails reply.Committed = status-lowers c g kept.whole i reply.Committed fails
   answer-of-lowers i fails reply.Jfault = status-lowers c g kept.whole i reply.Jfault fails
   answer-of-lowers i fails reply.Again = status-lowers c g kept.whole i reply.Again fails
+  answer-of-lowers i fails reply.Restarted = status-lowers c g kept.whole i reply.Restarted fails
   answer-of-lowers i fails reply.Aborted = status-lowers c g kept.whole i reply.Aborted fails
   answer-of-lowers i fails reply.Forgotten = status-lowers c g kept.whole i reply.Forgotten fails
 
@@ -510,6 +511,7 @@ module _ (script : Script) (c : Coord) (kept : Kept script c) where
   message-lowers from fails (message.Graph round graph) =
       graph-ways SomeLowers c from round graph rest-some (λ r. (0, record { touches = record { next = no-more c.table.next.0; others = λ h e. refl }; here = inl (refl, no-more (rank c 0)) }))
       (λ r a. (0, record { touches = record { next = no-more c.table.next.0; others = λ h e. refl }; here = inl (refl, no-more (rank c 0)) }))
+  message-lowers from fails message.Up = rest-some
   message-lowers from fails (message.Exec g cid level x h y) = rest-some
   message-lowers from fails (message.Prepare g) = rest-some
   message-lowers from fails (message.Commit g) = rest-some

@@ -204,6 +204,7 @@ module _ (script : Script) (some : 1 ≤ script.segments) (w : World) (f : IsFou
   message-fits from (message.Answer g reply.Committed) s = tt
   message-fits from (message.Answer g reply.Jfault) s = tt
   message-fits from (message.Answer g reply.Again) s = tt
+  message-fits from (message.Answer g reply.Restarted) s = tt
   message-fits from (message.Answer g reply.Aborted) s = tt
   message-fits from (message.Answer g reply.Forgotten) s = tt
   message-fits from (message.Exec g c l x h y) s = tt
@@ -214,6 +215,7 @@ module _ (script : Script) (some : 1 ≤ script.segments) (w : World) (f : IsFou
   message-fits from (message.Forget g) s = tt
   message-fits from (message.Collect round) s = tt
   message-fits from (message.Graph round graph) s = tt
+  message-fits from message.Up s = tt
 
   event-fits : (e : Event) (x : NodeEvent) → IsThere script w e the_coordinator x → coord_can script w.coord x ≡ true → FitsEvent script w.coord f.known.knows.kept f.asks.neat x
   event-fits e (here.Deliver from envelope) t ok =

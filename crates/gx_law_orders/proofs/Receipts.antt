@@ -264,6 +264,7 @@ module _ (script : Script) (from to : Node) where
       by_event (event.End session) is o = quiet (event.End session) is refl (λ n. refl)
       by_event (event.Resend segment g) is o = quiet (event.Resend segment g) is refl (λ n. refl)
       by_event event.Round is o = quiet event.Round is refl (λ n. refl)
+      by_event (event.Restart node) is o = quiet (event.Restart node) is refl (λ n. refl)
 
   steps-counted : (most : ℕ) (before steps : List Step) → AreEnabled script before steps → sent_in from to (before ++ steps) ≤ most → IsCounted most before → IsCounted most (before ++ steps)
   steps-counted most before [] e up k = subst (IsCounted most) (sym (append-nil before)) k

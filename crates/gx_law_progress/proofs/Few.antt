@@ -67,6 +67,7 @@ begins-none steps event.Round is = absurd (false-true is)
 begins-none steps (event.Receive from to number) is = refl
 begins-none steps (event.Resend segment g) is = refl
 begins-none steps (event.Resume node g) is = refl
+begins-none steps (event.Restart node) is = refl
 begins-none steps (event.Start session) is = refl
 begins-none steps (event.End session) is = refl
 

@@ -180,6 +180,7 @@ module _ (script : Script) (w : World) (k : Knows script w) (v : Holds script w)
   seen-one from to (message.Answer g r) s low fine taken = tt
   seen-one from to (message.Collect round) s low fine taken = tt
   seen-one from to (message.Graph round graph) s low fine taken = tt
+  seen-one from to message.Up s low fine taken = tt
 
   each-seen : (ls : List Letter) → Each (SaidIn w) ls → Each (LetterLow w.coord.table w.coord.works) ls → Each (λ (l : Letter). TakenAt w l.to l.envelope.message) ls → IsNobodyDropped w ls
   each-seen [] a b d = tt

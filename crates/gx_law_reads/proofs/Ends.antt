@@ -191,6 +191,7 @@ module _ (script : Script) (w : World) (k : Knows script w) (v : Holds script w)
     old-taken p from to (message.Answer g r) s old = tt
     old-taken p from to (message.Collect round) s old = tt
     old-taken p from to (message.Graph round graph) s old = tt
+    old-taken p from to message.Up s old = tt
 
     turn-committed : (g : ℕ) → is_committed new (gx g) ≡ true → is_committed (ms ++ turn.marks) (gx g) ≡ true
     turn-committed g t = committed-append ms turn.marks (gx g) ∙ join (is_committed ms (gx g)) (is_committed turn.marks (gx g)) (is_committed sent (gx g)) (is_committed new (gx g)) (committed-is g) (no-committed sent (gx g) (sent-no-end turn.coord.sent turn.outs)) t
@@ -211,6 +212,7 @@ module _ (script : Script) (w : World) (k : Knows script w) (v : Holds script w)
     new-taken past whole to (message.Answer g r) live = tt
     new-taken past whole to (message.Collect round) live = tt
     new-taken past whole to (message.Graph round graph) live = tt
+    new-taken past whole to message.Up live = tt
 
     pub turn-ends : Passes script w k v l turn → Past turn.coord (ms ++ turn.marks) → IsWhole turn.coord.table → Ends (after_turn w clock turn steps)
     turn-ends p past whole =
@@ -417,6 +419,7 @@ module _ (script : Script) (w : World) (q : Ends w) (e : Event) (x : NodeEvent) 
   taken-late to (message.Answer h r) old = tt
   taken-late to (message.Collect round) old = tt
   taken-late to (message.Graph round graph) old = tt
+  taken-late to message.Up old = tt
 
   answer-taken : (to : Node) (m : Message) → is_answer m ≡ true → TakenAt late to m
   answer-taken to (message.Answer h r) a = tt
@@ -428,6 +431,7 @@ module _ (script : Script) (w : World) (q : Ends w) (e : Event) (x : NodeEvent) 
   answer-taken to (message.Forget h) a = tt
   answer-taken to (message.Collect round) a = tt
   answer-taken to (message.Graph round graph) a = tt
+  answer-taken to message.Up a = tt
 
   seg-ends : Ends late
   seg-ends =
@@ -578,6 +582,7 @@ module _ (script : Script) (w : World) (k : Knows script w) (v : Holds script w)
       by_message (message.Answer h r) f = not-exec-new _ f refl
       by_message (message.Collect round) f = not-exec-new _ f refl
       by_message (message.Graph round graph) f = not-exec-new _ f refl
+      by_message message.Up f = not-exec-new _ f refl
 
   pub message-made : Made w i (gxid_in envelope.message) (on_event script (w.segs i) (here.Deliver from envelope) fails)
   message-made = is-made script w k v i its envelope.message turn4 does4 message-new

@@ -365,6 +365,7 @@ module _ (script : Script) (c : Coord) (s : Stood c.table c.works) (latest : Lat
       one (message.Answer h r) l f = (tt, tt)
       one (message.Collect round) l f = (tt, tt)
       one (message.Graph round graph) l f = (tt, tt)
+      one message.Up l f = (tt, tt)
 
       by_test : (b : Bool) → (if b then Some o.message else order_to i os) ≡ Some told → (order_to i os ≡ Some told → OutFine c.table c.works (record { node = i; message = told })) → OutFine c.table c.works (record { node = i; message = told })
       by_test true q more = subst (λ n. OutFine c.table c.works (record { node = i; message = n })) (some-same o.message told q) (one o.message low.0 (λ l. (held l).0))

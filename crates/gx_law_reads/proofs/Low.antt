@@ -108,6 +108,7 @@ module _ (script : Script) (w : World) (k : Knows script w) where
   counted i (message.Answer g r) s = tt
   counted i (message.Collect round) s = tt
   counted i (message.Graph round graph) s = tt
+  counted i message.Up s = tt
 
   pub latest : Latest w.coord.table
   latest = record { all = λ h one l e. k.past.latest h one l (sym (runs-stage (find_txn w.coord.table (gx h))) ∙ e); drawn = k.past.drawn }
@@ -276,6 +277,7 @@ module _ (script : Script) (limit : ℕ) where
   message-under s fails (message.Answer g r) l u = l
   message-under s fails (message.Collect round) l u = collect-ways Under s round l (λ e. l) (λ e graph f. l)
   message-under s fails (message.Graph round graph) l u = l
+  message-under s fails message.Up l u = l
 
 -- what a step of a segment is to send, and where it may leave the horizon
 pub record StaysLow (limit : ℕ) (turn : SegTurn) : Type 0 where
@@ -284,7 +286,7 @@ pub record StaysLow (limit : ℕ) (turn : SegTurn) : Type 0 where
   pub outs : Each IsAnswer turn.outs
 
 module _ (script : Script) (w : World) (q : Lows w) (e : Event) (x : NodeEvent) (fails : Bool) (i : ℕ) where
-  answer-low : (to : Node) (m : Message) → is_answer m ≡ true → (number : ℕ) → LetterLow w.coord.table w.coord.works (record { from = at i; to = to; envelope = record { number = number; clock = clock_after (w.segs i).clock x; message = m } })
+  answer-low : (to : Node) (m : Message) → is_answer m ≡ true → (number : ℕ) → LetterLow w.coord.table w.coord.works (record { from = at i; to = to; envelope = record { number = number; clock = clock_after (w.segs i).clock x; incarnation = 1; message = m } })
   answer-low to (message.Answer h r) a number = (tt, tt)
   answer-low to (message.Exec h c level x y z) a number = absurd (cc)
   answer-low to (message.Prepare h) a number = (tt, tt)
@@ -294,6 +296,7 @@ module _ (script : Script) (w : World) (q : Lows w) (e : Event) (x : NodeEvent) 
   answer-low to (message.Forget h) a number = (tt, tt)
   answer-low to (message.Collect round) a number = (tt, tt)
   answer-low to (message.Graph round graph) a number = (tt, tt)
+  answer-low to message.Up a number = (tt, tt)
 
   pub seg-low : StaysLow (horizon_of w.coord.table).0 (on_event script (w.segs i) x fails) → Lows (seg_did w (at i) e (seg_rule script (w.segs i) x fails))
   seg-low d =

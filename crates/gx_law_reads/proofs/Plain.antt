@@ -33,6 +33,7 @@ no-exec-fine u vs node (message.Forget g) e = (tt, tt)
 no-exec-fine u vs node (message.Collect round) e = (tt, tt)
 no-exec-fine u vs node (message.Answer g r) e = (tt, tt)
 no-exec-fine u vs node (message.Graph round graph) e = (tt, tt)
+no-exec-fine u vs node message.Up e = (tt, tt)
 
 abbrev Sent : List Out → Type 0
 Sent outs = Each (λ (o : Out). NoExec o.message) outs

@@ -97,6 +97,7 @@ low-weaker a b (message.Forget g) l e = tt
 low-weaker a b (message.Answer g r) l e = tt
 low-weaker a b (message.Collect round) l e = tt
 low-weaker a b (message.Graph round graph) l e = tt
+low-weaker a b message.Up l e = tt
 
 pub low-then : (a b : Gxid) (m : Message) → a.0 ≤ b.0 → IsLowIn a m → IsLowIn b m
 low-then = low-weaker
@@ -149,6 +150,7 @@ module _ (d u : Table) (ws vs : Works) (g : ℕ) (s : Stood d ws) (rises : Rises
       fine_at (message.Answer h r) k f = tt
       fine_at (message.Collect round) k f = tt
       fine_at (message.Graph round graph) k f = tt
+      fine_at message.Up k f = tt
 
 pub reads-none : (t : Option Txn) → Reads t no_work
 reads-none t = record { plain = λ e. refl; kept = λ l x e. absurd (cc); ordered = λ l m e. absurd (cc) }

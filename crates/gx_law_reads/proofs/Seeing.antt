@@ -164,6 +164,7 @@ module _ (script : Script) (w : World) (k : Knows script w) (v : Holds script w)
   one-view node (message.Answer g r) s = tt
   one-view node (message.Collect round) s = tt
   one-view node (message.Graph round graph) s = tt
+  one-view node message.Up s = tt
 
   each-view : (ls : List Letter) → IsNobodyDropped w ls → AreShownViews w ls
   each-view [] e = tt

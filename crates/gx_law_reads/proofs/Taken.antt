@@ -113,6 +113,7 @@ no-exec-live d (message.Forget g) e = tt
 no-exec-live d (message.Collect round) e = tt
 no-exec-live d (message.Answer g r) e = tt
 no-exec-live d (message.Graph round graph) e = tt
+no-exec-live d message.Up e = tt
 
 sent-live : (d : Table) (outs : List Out) → Each (λ (o : Out). NoExec o.message) outs → Each (λ (o : Out). LiveMessage d o.message) outs
 sent-live d outs e = each_weaker (λ (o : Out). NoExec o.message) (λ (o : Out). LiveMessage d o.message) (λ o f. no-exec-live d o.message f) outs e
@@ -266,6 +267,7 @@ module _ (script : Script) (w : World) (k : Knows script w) (v : Holds script w)
   answer-pass g i fails reply.Committed s = status-pass g i reply.Committed fails
   answer-pass g i fails reply.Jfault s = status-pass g i reply.Jfault fails
   answer-pass g i fails reply.Again s = status-pass g i reply.Again fails
+  answer-pass g i fails reply.Restarted s = status-pass g i reply.Restarted fails
   answer-pass g i fails reply.Aborted s = status-pass g i reply.Aborted fails
   answer-pass g i fails reply.Forgotten s = status-pass g i reply.Forgotten fails
 
@@ -291,6 +293,7 @@ module _ (script : Script) (w : World) (k : Knows script w) (v : Holds script w)
   message-pass from fails (message.Forget g) s = rest
   message-pass from fails (message.Collect round) s = rest
   message-pass from fails (message.Graph round graph) s = graph-pass from round graph
+  message-pass from fails message.Up s = rest
 
   -- COMMANDS THAT GO OUT
   module _ (c1 : Coord) (g : ℕ) (s1 : Stood c1.table c1.works) (l1 : Latest c1.table) (live : stage_of c1 g ≡ Running) where
@@ -422,6 +425,7 @@ module _ (script : Script) (w : World) (k : Knows script w) (v : Holds script w)
       one (message.Answer h r) l = tt
       one (message.Collect round) l = tt
       one (message.Graph round graph) l = tt
+      one message.Up l = tt
 
       by_test : (b : Bool) → (if b then Some o.message else order_to i os) ≡ Some told → (order_to i os ≡ Some told → LiveMessage w.coord.table told) → LiveMessage w.coord.table told
       by_test true z more = subst (LiveMessage w.coord.table) (some-same o.message told z) (one o.message low.0)

@@ -73,6 +73,7 @@ counted-by d e ws xs n s l (message.Forget g) k = tt
 counted-by d e ws xs n s l (message.Answer g r) k = tt
 counted-by d e ws xs n s l (message.Collect round) k = tt
 counted-by d e ws xs n s l (message.Graph round graph) k = tt
+counted-by d e ws xs n s l message.Up k = tt
 
 pub rest-went : (c : Coord) → Stood c.table c.works → WentBy c (rests c)
 rest-went c s = record { went = went-same c.table c.works s; outs = tt }
@@ -204,6 +205,7 @@ module _ (c : Coord) (g : ℕ) (s : Stood c.table c.works) where
   answer-went i fails reply.Committed = status-went i reply.Committed fails
   answer-went i fails reply.Jfault = status-went i reply.Jfault fails
   answer-went i fails reply.Again = status-went i reply.Again fails
+  answer-went i fails reply.Restarted = status-went i reply.Restarted fails
   answer-went i fails reply.Aborted = status-went i reply.Aborted fails
   answer-went i fails reply.Forgotten = status-went i reply.Forgotten fails
 
@@ -232,3 +234,4 @@ message-went c s from fails (message.Abort g) = rest-went c s
 message-went c s from fails (message.Forget g) = rest-went c s
 message-went c s from fails (message.Collect round) = rest-went c s
 message-went c s from fails (message.Graph round graph) = graph-went c s from round graph
+message-went c s from fails message.Up = rest-went c s

@@ -128,6 +128,7 @@ module _ {script : Script} (c : Coord) (k : Kept script c) (n : AreNeat c) where
             not reply.Committed = refl
             not reply.Jfault = refl
             not reply.Again = refl
+            not reply.Restarted = refl
             not reply.Aborted = refl
             not reply.Forgotten = refl
 
@@ -345,5 +346,6 @@ module _ {script : Script} (c : Coord) (k : Kept script c) (n : AreNeat c) where
   answer-asks g j fails reply.Committed f = status-asks g j reply.Committed fails tt
   answer-asks g j fails reply.Jfault f = status-asks g j reply.Jfault fails tt
   answer-asks g j fails reply.Again f = status-asks g j reply.Again fails tt
+  answer-asks g j fails reply.Restarted f = status-asks g j reply.Restarted fails tt
   answer-asks g j fails reply.Aborted f = status-asks g j reply.Aborted fails tt
   answer-asks g j fails reply.Forgotten f = status-asks g j reply.Forgotten fails tt

@@ -195,6 +195,7 @@ module _ (script : Script) (some : 1 ≤ script.segments) (w : World) (k : IsKno
   message-fits from (message.Answer g reply.Committed) f = tt
   message-fits from (message.Answer g reply.Jfault) f = tt
   message-fits from (message.Answer g reply.Again) f = tt
+  message-fits from (message.Answer g reply.Restarted) f = tt
   message-fits from (message.Answer g reply.Aborted) f = tt
   message-fits from (message.Answer g reply.Forgotten) f = tt
   message-fits from (message.Exec g c l x h s) f = tt
@@ -205,6 +206,7 @@ module _ (script : Script) (some : 1 ≤ script.segments) (w : World) (k : IsKno
   message-fits from (message.Forget g) f = tt
   message-fits from (message.Collect round) f = tt
   message-fits from (message.Graph round graph) f = tt
+  message-fits from message.Up f = tt
 
   event-fits : (e : Event) (x : NodeEvent) → IsThere script w e the_coordinator x → coord_can script w.coord x ≡ true → FitsEvent script c k.knows.kept q.neat x
   event-fits e (here.Deliver from envelope) t ok =

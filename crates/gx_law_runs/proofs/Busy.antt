@@ -258,6 +258,7 @@ module _ (script : Script) (some : 1 ≤ script.segments) (w : World) (n : IsMet
       message-waits from (message.Graph round graph) other a =
           rest-wait q (on_message w.coord from fails (message.Graph round graph)) (λ h. IsOther h x) a (λ s. graph-ways (λ (turn : CoordTurn). turn.coord.sessions s.0 ≡ w.coord.sessions s.0) w.coord from round graph refl (λ r. refl) (λ r l. refl))
           (graph-ways (λ (turn : CoordTurn). turn.coord.locks ≡ w.coord.locks) w.coord from round graph refl (λ r. refl) (λ r l. refl)) (λ g. other g tt)
+      message-waits from message.Up other a = rest-wait q (rests w.coord) (λ h. IsOther h x) a (λ s. refl) refl (λ g. other g tt)
       message-waits from (message.Exec g cid level y h z) other a = rest-wait q (rests w.coord) (λ h. IsOther h x) a (λ s. refl) refl (λ g. other g tt)
       message-waits from (message.Prepare g) other a = rest-wait q (rests w.coord) (λ h. IsOther h x) a (λ s. refl) refl (λ g. other g tt)
       message-waits from (message.Commit g) other a = rest-wait q (rests w.coord) (λ h. IsOther h x) a (λ s. refl) refl (λ g. other g tt)

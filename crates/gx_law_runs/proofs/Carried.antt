@@ -45,6 +45,7 @@ other-answer a g (message.Abort h) e = no-answer a (gx g) (message.Abort h) tt
 other-answer a g (message.Forget h) e = no-answer a (gx g) (message.Forget h) tt
 other-answer a g (message.Collect round) e = no-answer a (gx g) (message.Collect round) tt
 other-answer a g (message.Graph round graph) e = no-answer a (gx g) (message.Graph round graph) tt
+other-answer a g message.Up e = no-answer a (gx g) message.Up tt
 
 -- marks ask more, never less
 asked-more : (i : Node) (g : Gxid) (a : Option Message) (ms : List Mark) → is_some a ≡ true → is_some (asked_by i g a ms) ≡ true

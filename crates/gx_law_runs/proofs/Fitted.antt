@@ -68,6 +68,7 @@ partless c g reply.Prepared e = tt
 partless c g reply.Committed e = tt
 partless c g reply.Jfault e = tt
 partless c g reply.Again e = tt
+partless c g reply.Restarted e = tt
 partless c g reply.Aborted e = tt
 partless c g reply.Forgotten e = tt
 
@@ -130,6 +131,7 @@ module _ (c d : Coord) (turn : CoordTurn) (serves : Serves c (IsNew c) turn) (sa
     out-so from to (message.Collect round) said f = tt
     out-so from to (message.Answer g r) said f = tt
     out-so from to (message.Graph round graph) said f = tt
+    out-so from to message.Up said f = tt
 
     says-so : (from to : Node) (m : Message) → SaidAt c segs ms (if is_answer m then from.0 else to.0) m → SaysSo (Served c) (partless c) m → SaysSo (Served d) (partless d) m
     says-so from to (message.Answer g (reply.Done k w n part)) said f = was-so g.0 k (λ line. fits_part line part ≡ true) (past-said from.0 g.0 k said.drawn said.last) f
@@ -138,6 +140,7 @@ module _ (c d : Coord) (turn : CoordTurn) (serves : Serves c (IsNew c) turn) (sa
     says-so from to (message.Answer g reply.Committed) said f = tt
     says-so from to (message.Answer g reply.Jfault) said f = tt
     says-so from to (message.Answer g reply.Again) said f = tt
+    says-so from to (message.Answer g reply.Restarted) said f = tt
     says-so from to (message.Answer g reply.Aborted) said f = tt
     says-so from to (message.Answer g reply.Forgotten) said f = tt
     says-so from to (message.Exec g k l x h s) said f = tt
@@ -148,6 +151,7 @@ module _ (c d : Coord) (turn : CoordTurn) (serves : Serves c (IsNew c) turn) (sa
     says-so from to (message.Forget g) said f = tt
     says-so from to (message.Collect round) said f = tt
     says-so from to (message.Graph round graph) said f = tt
+    says-so from to message.Up said f = tt
 
     -- what a segment keeps
     kept-so : (i g : ℕ) (p : Part) → Pair (known_at c ms i g) p → (o : Option Reply) → IsKept p.last p.wrote o → KeptSo (Served c) (partless c) g o → KeptSo (Served d) (partless d) g o
@@ -169,6 +173,7 @@ module _ (c d : Coord) (turn : CoordTurn) (serves : Serves c (IsNew c) turn) (sa
     kept-so i g p pair (Some reply.Committed) k f = tt
     kept-so i g p pair (Some reply.Jfault) k f = tt
     kept-so i g p pair (Some reply.Again) k f = tt
+    kept-so i g p pair (Some reply.Restarted) k f = tt
     kept-so i g p pair (Some reply.Aborted) k f = tt
     kept-so i g p pair (Some reply.Forgotten) k f = tt
 
@@ -180,6 +185,7 @@ module _ (c d : Coord) (turn : CoordTurn) (serves : Serves c (IsNew c) turn) (sa
     vote-so g p (Some reply.Committed) v = tt
     vote-so g p (Some reply.Jfault) v = tt
     vote-so g p (Some reply.Again) v = tt
+    vote-so g p (Some reply.Restarted) v = tt
     vote-so g p (Some reply.Aborted) v = tt
     vote-so g p (Some reply.Forgotten) v = tt
 
@@ -189,7 +195,7 @@ module _ (script : Script) (some : 1 ≤ script.segments) (w : World) (n : Knows
     abbrev d : Coord
     d = (coord_sends clock turn).coord
 
-    sent-so : (outs : List Out) → Each (λ (o : Out). OutServes turn.coord o.message) outs → Each (λ (o : Out). (number : ℕ) → LetterServes d (record { from = the_coordinator; to = o.node; envelope = record { number = number; clock = clock; message = o.message } })) outs
+    sent-so : (outs : List Out) → Each (λ (o : Out). OutServes turn.coord o.message) outs → Each (λ (o : Out). (number : ℕ) → LetterServes d (record { from = the_coordinator; to = o.node; envelope = record { number = number; clock = clock; incarnation = 1; message = o.message } })) outs
     sent-so [] f = tt
     sent-so (o ∷ os) f = (λ number. (λ own. moved o.message f.0, λ one. absurd (one-le-none one)), sent-so os f.1)
       where
@@ -203,6 +209,7 @@ module _ (script : Script) (some : 1 ≤ script.segments) (w : World) (n : Knows
         moved (message.Collect round) f = tt
         moved (message.Answer g r) f = tt
         moved (message.Graph round graph) f = tt
+        moved message.Up f = tt
 
     turn-served : AreServed (after_turn w clock turn steps)
     turn-served =
@@ -235,7 +242,7 @@ module _ (script : Script) (some : 1 ≤ script.segments) (w : World) (n : Knows
     abbrev s : Seg
     s = w.segs i
 
-    told-so : (outs : List Out) → Each (λ (o : Out). SaysSo (Served w.coord) (partless w.coord) o.message) outs → Each (λ (o : Out). (number : ℕ) → LetterServes w.coord (record { from = at i; to = o.node; envelope = record { number = number; clock = clock_after s.clock x; message = o.message } })) outs
+    told-so : (outs : List Out) → Each (λ (o : Out). SaysSo (Served w.coord) (partless w.coord) o.message) outs → Each (λ (o : Out). (number : ℕ) → LetterServes w.coord (record { from = at i; to = o.node; envelope = record { number = number; clock = clock_after s.clock x; incarnation = 1; message = o.message } })) outs
     told-so [] f = tt
     told-so (o ∷ os) f = (λ number. (λ own. absurd (one-le-none (subst (λ (y : Node). 1 ≤ y.0) own place.0)), λ one. f.0), told-so os f.1)
 
@@ -262,6 +269,7 @@ module _ (script : Script) (some : 1 ≤ script.segments) (w : World) (n : Knows
   right i (message.Collect round) f = tt
   right i (message.Answer g r) f = tt
   right i (message.Graph round graph) f = tt
+  right i message.Up f = tt
 
   -- a slice that goes on, whose EXEC has come before
   module _ (i : ℕ) (g : Gxid) (fails : Bool) (o : GoesOn script w i g) where

@@ -314,6 +314,7 @@ module _ (P : ℕ → Reply → Type 0) (partless : (g : ℕ) (r : Reply) → Is
     message-so script fails (message.Collect round) r = collect-ways TurnSo s round stay (λ new. record { locals = so; outs = (tt, tt) }) (λ last graph is. record { locals = so; outs = (tt, tt) })
     message-so script fails (message.Answer g a) r = stay
     message-so script fails (message.Graph round graph) r = stay
+    message-so script fails message.Up r = stay
 
   -- A SLICE THAT HAS WAITED
   -- an answer to it

@@ -78,6 +78,7 @@ none-passes script steps (x ∷ xs) a e = clash (is_start_or_round x) (either x 
     either event.Round p = refl
     either (event.Receive from to number) p = absurd (cc)
     either (event.Resume n g) p = absurd (cc)
+    either (event.Restart n) p = absurd (cc)
     either (event.End s) p = absurd (cc)
     either (event.Resend segment g) p = absurd (cc)
 
@@ -92,6 +93,7 @@ round-passes script steps (x ∷ xs) e =
     one (event.Start s) p = absurd (cc)
     one (event.Receive from to number) p = absurd (cc)
     one (event.Resume n g) p = absurd (cc)
+    one (event.Restart n) p = absurd (cc)
     one (event.End s) p = absurd (cc)
     one (event.Resend segment g) p = absurd (cc)
 
@@ -379,6 +381,7 @@ opening-passes script steps (x ∷ xs) e =
     one event.Round p = refl
     one (event.Receive from to number) p = absurd (cc)
     one (event.Resume n g) p = absurd (cc)
+    one (event.Restart n) p = absurd (cc)
     one (event.End s) p = absurd (cc)
     one (event.Resend segment g) p = absurd (cc)
 

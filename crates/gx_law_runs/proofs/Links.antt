@@ -22,7 +22,7 @@ use Rattle.gx_law_order.proofs.Sent.{sent_count-append, sent_in-last}
 use Rattle.gx_law_runs.specs.Links.{is_number, message_of}
 
 abbrev letter : Node → ℕ → Node → ℕ → Message → Letter
-letter node clock to number told = record { from = node; to = to; envelope = record { number = number; clock = clock; message = told } }
+letter node clock to number told = record { from = node; to = to; envelope = record { number = number; clock = clock; incarnation = 1; message = told } }
 
 -- THE STEPS' WORD FOR A MESSAGE, ONE STEP MORE
 pub sent_message-kept : (from to : Node) (number : ℕ) (steps : List Step) (s : Step) (m : Message) → sent_message from to number steps ≡ Some m → sent_message from to number (steps ++ s ∷ []) ≡ Some m
@@ -114,7 +114,7 @@ module _ (node to : Node) (number : ℕ) (steps : List Step) where
           (at-most (sent_count to earlier) (sent_in node to steps) (sent_count to (earlier ++ mark.Sent t k told ∷ [])) (sym counted ∙ subst (λ x. k ≡ sent_in node x steps + sent_count x earlier + 1) same e.0)
           (sent_count-append to earlier (mark.Sent t k told ∷ []) ∙ ap (λ (b : Bool). sent_count to earlier + (if b then 0 + 1 else 0)) z.0)))
           ∙ here (is_same_node node node) (is_same_node t to && (k == number)) (eqb-self node.0) is
-          ∙ ap Some (ap (λ n. let x : Envelope = record { number = n; clock = clock; message = told } in x) counted ∙ ap (λ y. let x : Envelope = record { number = number; clock = clock; message = y } in x) (some-same told m h))
+          ∙ ap Some (ap (λ n. let x : Envelope = record { number = n; clock = clock; incarnation = 1; message = told } in x) counted ∙ ap (λ y. let x : Envelope = record { number = number; clock = clock; incarnation = 1; message = y } in x) (some-same told m h))
         where
           here : (a b : Bool) → a ≡ true → b ≡ true → (if a && b then Some (letter node clock t k told).envelope else found node to number sent) ≡ Some (letter node clock t k told).envelope
           here true b e f = ap (λ (b : Bool). if b then Some (letter node clock t k told).envelope else found node to number sent) f

@@ -132,6 +132,7 @@ module _ (g : ℕ) (last : ℕ) where
         served (message.Collect round) s = absurd s
         served (message.Answer h a) s = absurd s
         served (message.Graph round graph) s = absurd s
+        served message.Up s = absurd s
 
     pub locked-serves : (script : Script) (line : Stmt) → (c.works g).last ≡ last → Serves c FreshAt (goes_on_locked script c (gx g) line)
     locked-serves script line e =
@@ -258,6 +259,7 @@ module _ (script : Script) (c : Coord) (k : Kept script c) (own : OrdersServe c)
   for-serves line cid g (message.Collect h) f one e = tt
   for-serves line cid g (message.Answer h x) f one e = tt
   for-serves line cid g (message.Graph h x) f one e = tt
+  for-serves line cid g message.Up f one e = tt
 
   order-for : (line : Stmt) (i : Node) (outs : List Out) (o : Option Message) → order_to i outs ≡ o → AreFor line outs → (m : Message) → o ≡ Some m → ForOut line m
   order-for line i [] o q e m s = absurd (none (q ∙ s))

@@ -252,6 +252,7 @@ module _ (script : Script) (is : IsScript script) (items : HaveItems script.line
       by_message (message.Collect round) o s a b = tt
       by_message (message.Answer g r) o s a b = tt
       by_message (message.Graph round graph) o s a b = tt
+      by_message message.Up o s a b = tt
 
   noted : AreNoted [] (world_of script es).steps
   noted = noted-of script [] w.steps (world-rounds script is.some_segments es)
@@ -269,6 +270,7 @@ module _ (script : Script) (is : IsScript script) (items : HaveItems script.line
       by_message (message.Answer g reply.Committed) told s = tt
       by_message (message.Answer g reply.Jfault) told s = tt
       by_message (message.Answer g reply.Again) told s = tt
+      by_message (message.Answer g reply.Restarted) told s = tt
       by_message (message.Answer g reply.Aborted) told s = tt
       by_message (message.Answer g reply.Forgotten) told s = tt
       by_message (message.Graph round graph) told s = λ now awaits.
@@ -281,6 +283,7 @@ module _ (script : Script) (is : IsScript script) (items : HaveItems script.line
 
           own : graph.node ≡ l.from → (graph.node.0 == l.from.0) ≡ true
           own e = ap (λ (n : Node). n.0 == l.from.0) e ∙ itself l.from.0 l.from.0 refl
+      by_message message.Up told s = tt
       by_message (message.Exec g c level snapshot horizon x) told s = tt
       by_message (message.Prepare g) told s = tt
       by_message (message.Commit g) told s = tt

@@ -144,6 +144,7 @@ module _ (limit : ℕ) where
     answer-still g i fails reply.Committed = status-still g i reply.Committed fails
     answer-still g i fails reply.Jfault = status-still g i reply.Jfault fails
     answer-still g i fails reply.Again = status-still g i reply.Again fails
+    answer-still g i fails reply.Restarted = status-still g i reply.Restarted fails
     answer-still g i fails reply.Aborted = status-still g i reply.Aborted fails
     answer-still g i fails reply.Forgotten = status-still g i reply.Forgotten fails
 
@@ -157,6 +158,7 @@ module _ (limit : ℕ) where
     message-still from fails (message.Forget g) = n
     message-still from fails (message.Collect round) = n
     message-still from fails (message.Graph round graph) = graph-ways (IsStill limit) c from round graph n (λ r. n) (λ r a. n)
+    message-still from fails message.Up = n
 
     again-still : (i : Node) (m : Option Message) → IsStill limit (resends c i m)
     again-still i None = n

@@ -187,6 +187,7 @@ module _ (script : Script) (s : Seg) where
   message_still fails (message.Collect round) = collect-ways IsStill s round stay (λ new. record { outs = one-sent }) (λ last graph is. record { outs = one-sent })
   message_still fails (message.Answer g r) = stay
   message_still fails (message.Graph round graph) = stay
+  message_still fails message.Up = stay
 
   go_on_at : (m : Moved) (g : Gxid) (o : Option Change) (rid : Rid) (x : Suspended) → IsStill (goes_on_at m g o rid x)
   go_on_at m g None rid x = record { outs = none-sent }

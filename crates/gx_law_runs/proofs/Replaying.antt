@@ -55,6 +55,7 @@ at-here w (event.Start s) q = refl
 at-here w (event.End s) q = refl
 at-here w (event.Resend i g) q = refl
 at-here w event.Round q = refl
+at-here w (event.Restart n) q = refl
 
 -- ONE EVENT
 module _ (script : Script) (w : World) (r : IsReplayed script w) (e : Event) (x : NodeEvent) (is : at_node w e ≡ Some x) (fails : Bool) where

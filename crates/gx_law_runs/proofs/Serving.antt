@@ -87,6 +87,7 @@ bare-serves c (message.Forget g) e = tt
 bare-serves c (message.Collect round) e = tt
 bare-serves c (message.Answer g r) e = tt
 bare-serves c (message.Graph round graph) e = tt
+bare-serves c message.Up e = tt
 
 pub no-command : (m : Command) → (let o : Option Command = None in o) ≡ Some m → ⊥
 no-command m e = cc
@@ -189,6 +190,7 @@ module _ (New : ℕ → Command → Type 0) where
   answer c g i fails reply.Committed = status c g i reply.Committed fails
   answer c g i fails reply.Jfault = status c g i reply.Jfault fails
   answer c g i fails reply.Again = status c g i reply.Again fails
+  answer c g i fails reply.Restarted = status c g i reply.Restarted fails
   answer c g i fails reply.Aborted = status c g i reply.Aborted fails
   answer c g i fails reply.Forgotten = status c g i reply.Forgotten fails
 
@@ -203,6 +205,7 @@ module _ (New : ℕ → Command → Type 0) where
   received c from fails (message.Collect round) = rest-serves c
   received c from fails (message.Graph round graph) =
       graph-ways (Keeps c) c from round graph (rest-serves c) (λ r. same c (rests (with_report c graph)) (λ h. refl) tt) (λ r a. same c (rechecks (with_report c graph)) (λ h. refl) tt)
+  received c from fails message.Up = rest-serves c
 
   -- ROUNDS
   pub round-begun : (script : Script) (c : Coord) → Keeps c (begins_round script c)

@@ -91,6 +91,7 @@ module _ {script : Script} (c : Coord) (k : Kept script c) (n : AreNeat c) (g : 
           by_reply reply.Committed e = cc
           by_reply reply.Jfault e = cc
           by_reply reply.Again e = cc
+          by_reply reply.Restarted e = cc
           by_reply reply.Aborted e = cc
           by_reply reply.Forgotten e = cc
       not-live (Preparing xs aw) e h = cc
@@ -181,5 +182,6 @@ module _ {script : Script} (c : Coord) (k : Kept script c) (n : AreNeat c) (g : 
     answer-goes reply.Committed = status-goes reply.Committed
     answer-goes reply.Jfault = status-goes reply.Jfault
     answer-goes reply.Again = status-goes reply.Again
+    answer-goes reply.Restarted = status-goes reply.Restarted
     answer-goes reply.Aborted = status-goes reply.Aborted
     answer-goes reply.Forgotten = status-goes reply.Forgotten

@@ -279,6 +279,7 @@ module _ (script : Script) where
   message-right s fails r (message.Collect round) = other-right s (message.Collect round) _ tt (message-turns script s fails (message.Collect round)) r
   message-right s fails r (message.Answer g a) = r
   message-right s fails r (message.Graph round graph) = r
+  message-right s fails r message.Up = r
 
   -- A SLICE GOES ON
   granted-right : (s : Seg) (g : Gxid) (wanted : Claim) → Right s → Right (is_granted s g wanted).seg

@@ -72,6 +72,7 @@ exec-about g c (Some (message.Forget h)) e = absurd e
 exec-about g c (Some (message.Collect h)) e = absurd e
 exec-about g c (Some (message.Answer h x)) e = absurd e
 exec-about g c (Some (message.Graph h x)) e = absurd e
+exec-about g c (Some message.Up) e = absurd e
 
 order-about : (g : ℕ) (o : Option Order) → IsAboutOne g (status_order (gx g) o)
 order-about g None = tt
@@ -289,6 +290,7 @@ module _ (script : Script) (c : Coord) (k : Kept script c) (n : AreNeat c) where
   message-asks j fails (message.Forget g) f = asks-by (now_asked c) _ (rests c) (λ i b. unanswered i j _ _ (no-answer (awaited c (gx b) i) (gx b) (message.Forget g) tt)) (rest-asks c n)
   message-asks j fails (message.Collect round) f = asks-by (now_asked c) _ (rests c) (λ i b. unanswered i j _ _ (no-answer (awaited c (gx b) i) (gx b) (message.Collect round) tt)) (rest-asks c n)
   message-asks j fails (message.Graph round graph) f = asks-by (now_asked c) _ (on_graph c j round graph) (λ i b. unanswered i j _ _ (no-answer (awaited c (gx b) i) (gx b) (message.Graph round graph) tt)) (graph-asks j round graph)
+  message-asks j fails message.Up f = asks-by (now_asked c) _ (rests c) (λ i b. unanswered i j _ _ (no-answer (awaited c (gx b) i) (gx b) message.Up tt)) (rest-asks c n)
 
   -- ALL EVENTS
   abbrev pub FitsEvent : NodeEvent → Type 0

@@ -194,6 +194,7 @@ module _ {script : Script} (c : Coord) (kept : Kept script c) where
   answered g i fails reply.Committed = status g i reply.Committed fails
   answered g i fails reply.Jfault = status g i reply.Jfault fails
   answered g i fails reply.Again = status g i reply.Again fails
+  answered g i fails reply.Restarted = status g i reply.Restarted fails
   answered g i fails reply.Aborted = status g i reply.Aborted fails
   answered g i fails reply.Forgotten = status g i reply.Forgotten fails
 
@@ -207,6 +208,7 @@ module _ {script : Script} (c : Coord) (kept : Kept script c) where
   message-deals from fails (message.Forget g) = tt
   message-deals from fails (message.Collect round) = tt
   message-deals from fails (message.Graph round graph) = graph-ways (λ (turn : CoordTurn). Deals c turn) c from round graph tt (λ r. tt) (λ r a. (tt, tt))
+  message-deals from fails message.Up = tt
 
 -- LINES
 -- the answer is to the line that starts, which takes no lock, or a refusal

@@ -164,6 +164,7 @@ order-silent script s fails (message.Forget g) e = below s g _ (forget s g (loca
 order-silent script s fails (message.Collect round) e = collect-ways (λ (turn : SegTurn). Silent s turn) s round tt (λ new. (tt, tt)) (λ same graph is. tt)
 order-silent script s fails (message.Answer g r) e = tt
 order-silent script s fails (message.Graph round graph) e = tt
+order-silent script s fails message.Up e = tt
 
 -- AN EVENT OF A SEGMENT
 module _ (script : Script) (numbered_lines : AreLinesNumbered [] script.lines) (w : World) (n : Knows script w) (k : stepping.Holds script w) (i : ℕ) (place : IsSegment script (at i)) (marked : IsMarked (marks_in w.steps) (at i) (w.segs i).locks)
@@ -276,6 +277,7 @@ module _ (script : Script) (numbered_lines : AreLinesNumbered [] script.lines) (
     message-turns fails (message.Collect round) post received needs = silent (on_message script (w.segs i) fails (message.Collect round)) (order-silent script s fails (message.Collect round) tt)
     message-turns fails (message.Answer g r) post received needs = silent (on_message script (w.segs i) fails (message.Answer g r)) (order-silent script s fails (message.Answer g r) tt)
     message-turns fails (message.Graph round graph) post received needs = silent (on_message script (w.segs i) fails (message.Graph round graph)) (order-silent script s fails (message.Graph round graph) tt)
+    message-turns fails message.Up post received needs = silent (on_message script (w.segs i) fails message.Up) (order-silent script s fails message.Up tt)
 
     -- A SLICE GOES ON
     -- who has a wait is among those who wait

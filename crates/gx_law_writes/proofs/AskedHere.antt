@@ -130,6 +130,7 @@ answered c g i fails reply.Prepared = status c g i reply.Prepared fails
 answered c g i fails reply.Committed = status c g i reply.Committed fails
 answered c g i fails reply.Jfault = status c g i reply.Jfault fails
 answered c g i fails reply.Again = status c g i reply.Again fails
+answered c g i fails reply.Restarted = status c g i reply.Restarted fails
 answered c g i fails reply.Aborted = status c g i reply.Aborted fails
 answered c g i fails reply.Forgotten = status c g i reply.Forgotten fails
 
@@ -143,6 +144,7 @@ message-quiet c from fails (message.Abort g) = tt
 message-quiet c from fails (message.Forget g) = tt
 message-quiet c from fails (message.Collect round) = tt
 message-quiet c from fails (message.Graph round graph) = graph-ways (λ (turn : CoordTurn). Quiet turn) c from round graph tt (λ r. tt) (λ r a. (tt, tt))
+message-quiet c from fails message.Up = tt
 
 -- a command that goes out, with its lock or without
 read-quiet : (c : Coord) (g : Gxid) (cid : Cid) (w : Work) (x : Option Snapshot) → Each NoAsk (reads_by c g cid w x).marks

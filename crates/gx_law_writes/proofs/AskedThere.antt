@@ -106,6 +106,7 @@ module _ (script : Script) (ms : List Mark) (locals : ℕ → ℕ → Local) (no
   untold-marks (mark.Sent to number (message.Answer h reply.Committed) ∷ xs) e = untold-marks xs e.1
   untold-marks (mark.Sent to number (message.Answer h reply.Jfault) ∷ xs) e = untold-marks xs e.1
   untold-marks (mark.Sent to number (message.Answer h reply.Again) ∷ xs) e = untold-marks xs e.1
+  untold-marks (mark.Sent to number (message.Answer h reply.Restarted) ∷ xs) e = untold-marks xs e.1
   untold-marks (mark.Sent to number (message.Answer h reply.Aborted) ∷ xs) e = untold-marks xs e.1
   untold-marks (mark.Sent to number (message.Answer h reply.Forgotten) ∷ xs) e = untold-marks xs e.1
   untold-marks (mark.Sent to number (message.Exec h d l x y z) ∷ xs) e = untold-marks xs e.1
@@ -116,6 +117,7 @@ module _ (script : Script) (ms : List Mark) (locals : ℕ → ℕ → Local) (no
   untold-marks (mark.Sent to number (message.Forget h) ∷ xs) e = untold-marks xs e.1
   untold-marks (mark.Sent to number (message.Collect r) ∷ xs) e = untold-marks xs e.1
   untold-marks (mark.Sent to number (message.Graph r x) ∷ xs) e = untold-marks xs e.1
+  untold-marks (mark.Sent to number message.Up ∷ xs) e = untold-marks xs e.1
   untold-marks (mark.Start h s ∷ xs) e = untold-marks xs e.1
   untold-marks (mark.Snap h d x ∷ xs) e = untold-marks xs e.1
   untold-marks (mark.Write h d n t r x ∷ xs) e = untold-marks xs e.1
@@ -131,6 +133,7 @@ module _ (script : Script) (ms : List Mark) (locals : ℕ → ℕ → Local) (no
   untold-marks (mark.LocalCommit n h ∷ xs) e = untold-marks xs e.1
   untold-marks (mark.Decided h ∷ xs) e = untold-marks xs e.1
   untold-marks (mark.JournalFailed n h ∷ xs) e = untold-marks xs e.1
+  untold-marks (mark.Restart n ∷ xs) e = untold-marks xs e.1
   untold-marks (mark.Report n x y ∷ xs) e = untold-marks xs e.1
   untold-marks (mark.Recheck x y z ∷ xs) e = untold-marks xs e.1
 
@@ -185,6 +188,7 @@ right-calm script ms node level g c line t earlier (mark.Prepared n h) r = absur
 right-calm script ms node level g c line t earlier (mark.LocalCommit n h) r = absurd r
 right-calm script ms node level g c line t earlier (mark.Decided h) r = absurd r
 right-calm script ms node level g c line t earlier (mark.JournalFailed n h) r = absurd r
+right-calm script ms node level g c line t earlier (mark.Restart n) r = absurd r
 right-calm script ms node level g c line t earlier (mark.Report n x y) r = absurd r
 right-calm script ms node level g c line t earlier (mark.Recheck x y z) r = absurd r
 
@@ -383,6 +387,7 @@ module _ (script : Script) (numbered_lines : AreLinesNumbered [] script.lines) (
       one more later rest (mark.LocalCommit a b) calm split r = absurd r
       one more later rest (mark.Decided a) calm split r = absurd r
       one more later rest (mark.JournalFailed a b) calm split r = absurd r
+      one more later rest (mark.Restart a) calm split r = absurd r
       one more later rest (mark.Report a b d) calm split r = absurd r
       one more later rest (mark.Recheck a b d) calm split r = absurd r
 

@@ -543,6 +543,7 @@ module _ (script : Script) (some : 1 ≤ script.segments) (numbered_lines : AreL
         word-one ns (message.Forget g) d = tt
         word-one ns (message.Collect round) d = tt
         word-one ns (message.Graph round graph) d = tt
+        word-one ns message.Up d = tt
 
         sent-told : (ns : List Mark) (f : ℕ → ℕ) (outs : List Out) → Each (λ (o : Out). IsOutOf script ns (λ g. next_command (turn.seg.locals g)) (at i) o.message) outs → Each (SentTold script ns (locals_in next) (at i)) (numbered f outs)
         sent-told ns f [] d = tt
@@ -567,6 +568,7 @@ module _ (script : Script) (some : 1 ≤ script.segments) (numbered_lines : AreL
         out-more (message.Forget g) d = tt
         out-more (message.Collect round) d = tt
         out-more (message.Graph round graph) d = tt
+        out-more message.Up d = tt
 
         undone-here : (g : ℕ) → undone_in next i g ≡ undone (turn.seg.locals g)
         undone-here g = ap (λ q. undone ((if q then (seg_rule script (w.segs i) x fails).seg else w.segs i).locals g)) (eqb-self i)

@@ -221,6 +221,7 @@ module _ (script : Script) (some : 1 ≤ script.segments) (numbered_lines : AreL
       refused-rest earlier later s (refused.JournalFault node) = tt
       refused-rest earlier later s refused.InFailedBlock = tt
       refused-rest earlier later s refused.NotInBlock = tt
+      refused-rest earlier later s (refused.Restarted node) = unless e _ (caused earlier later s (refused.Restarted node))
       refused-rest earlier later s (refused.Serialization rid g) = unless e _ (caused earlier later s (refused.Serialization rid g))
       refused-rest earlier later s (refused.Victim round) = tt
       refused-rest earlier later s refused.Overflow = unless e _ (caused earlier later s refused.Overflow)

@@ -138,6 +138,7 @@ module _ (script : Script) (numbered : AreLinesNumbered [] script.lines) (ms : L
     old-told g reply.Committed o = tt
     old-told g reply.Jfault o = tt
     old-told g reply.Again o = tt
+    old-told g reply.Restarted o = tt
     old-told g reply.Aborted o = tt
     old-told g reply.Forgotten o = tt
 
@@ -151,6 +152,7 @@ module _ (script : Script) (numbered : AreLinesNumbered [] script.lines) (ms : L
     old-out (message.Forget g) o = tt
     old-out (message.Collect round) o = tt
     old-out (message.Graph round graph) o = tt
+    old-out message.Up o = tt
 
     no-row-write : (m : Mark) → NoRow m → NoWrite m
     no-row-write (mark.Write g c n t r x) k = absurd k

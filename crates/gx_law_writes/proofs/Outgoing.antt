@@ -158,7 +158,7 @@ IsPosted ls _ = Unit {0}
 are-posted : (clock : ℕ) (ms : List Mark) (sent : List Letter) → Each (IsPosted (posted the_coordinator clock ms sent)) ms
 are-posted clock [] sent = tt
 are-posted clock (mark.Sent to number m ∷ ms) sent =
-    let l : Letter = record { from = the_coordinator; to = to; envelope = record { number = number; clock = clock; message = m } } in
+    let l : Letter = record { from = the_coordinator; to = to; envelope = record { number = number; clock = clock; incarnation = 1; message = m } } in
     ((l, among-posted the_coordinator clock ms (l ∷ sent) l (inl refl), refl, refl, refl), are-posted clock ms (l ∷ sent))
 are-posted clock (m ∷ ms) sent = (tt, are-posted clock ms sent)
 
@@ -205,6 +205,7 @@ module _ (script : Script) (some : 1 ≤ script.segments) (numbered_lines : AreL
     sending-whole earlier rest to (message.Collect round) is calm number p = tt
     sending-whole earlier rest to (message.Answer g r) is calm number p = tt
     sending-whole earlier rest to (message.Graph round graph) is calm number p = tt
+    sending-whole earlier rest to message.Up is calm number p = tt
 
     sendings-whole : (earlier : List Mark) (f : ℕ → ℕ) (outs : List Out) → s.marks ≡ earlier ++ numbered f outs → Each (IsPosted v.sent) (numbered f outs) → AreMarksWhole script steps s.event earlier (numbered f outs)
     sendings-whole earlier f [] is p = tt

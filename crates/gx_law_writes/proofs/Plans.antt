@@ -167,6 +167,7 @@ module _ (script : Script) (marks : List Mark) where
   message-piece node (message.Collect round) o = tt
   message-piece node (message.Answer g r) o = tt
   message-piece node (message.Graph round graph) o = tt
+  message-piece node message.Up o = tt
 
   pub pieces-are : (ls : List Letter) → AreOrders script marks ls → ArePieces script marks ls
   pieces-are [] o = tt

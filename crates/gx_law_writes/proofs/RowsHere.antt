@@ -128,6 +128,7 @@ module _ (xs ys : List Mark) (node : Node) where
   reply-on reply.Committed e = tt
   reply-on reply.Jfault e = tt
   reply-on reply.Again e = tt
+  reply-on reply.Restarted e = tt
   reply-on reply.Aborted e = tt
   reply-on reply.Forgotten e = tt
 
@@ -159,6 +160,7 @@ module _ (xs ys : List Mark) (node : Node) where
   message-on (message.Forget g) e = tt
   message-on (message.Collect round) e = tt
   message-on (message.Graph round graph) e = tt
+  message-on message.Up e = tt
 
 -- ROWS THAT ARE SHOWN
 module _ (P : Rid → Type 0) where

@@ -201,6 +201,7 @@ module _ (k : SessionId) where
   answered c g i fails reply.Committed = status c g i reply.Committed fails
   answered c g i fails reply.Jfault = status c g i reply.Jfault fails
   answered c g i fails reply.Again = status c g i reply.Again fails
+  answered c g i fails reply.Restarted = status c g i reply.Restarted fails
   answered c g i fails reply.Aborted = status c g i reply.Aborted fails
   answered c g i fails reply.Forgotten = status c g i reply.Forgotten fails
 
@@ -214,6 +215,7 @@ module _ (k : SessionId) where
   message-told c from fails (message.Forget g) = inl tt
   message-told c from fails (message.Collect round) = inl tt
   message-told c from fails (message.Graph round graph) = graph-ways (λ (turn : CoordTurn). Told turn) c from round graph (inl tt) (λ r. inl tt) (λ r a. inl (tt, tt))
+  message-told c from fails message.Up = inl tt
 
   -- a victim
   pub cancel-told : (c : Coord) (g : Gxid) → Told (cancels c g)

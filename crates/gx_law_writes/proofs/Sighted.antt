@@ -47,6 +47,7 @@ lock-work node g c (mark.Decided h) e = absurd e
 lock-work node g c (mark.Prepared n h) e = absurd e
 lock-work node g c (mark.LocalCommit n h) e = absurd e
 lock-work node g c (mark.JournalFailed n h) e = absurd e
+lock-work node g c (mark.Restart n) e = absurd e
 lock-work node g c (mark.Sent to number told) e = absurd e
 lock-work node g c (mark.Answer session number told) e = absurd e
 lock-work node g c (mark.Report n round graph) e = absurd e

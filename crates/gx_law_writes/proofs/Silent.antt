@@ -87,6 +87,7 @@ answer-kept s g reply.Prepared e = tt
 answer-kept s g reply.Committed e = tt
 answer-kept s g reply.Jfault e = tt
 answer-kept s g reply.Again e = tt
+answer-kept s g reply.Restarted e = tt
 answer-kept s g reply.Aborted e = tt
 answer-kept s g reply.Forgotten e = tt
 
@@ -134,6 +135,7 @@ old-kept s turn q votes = each turn.outs q.outs
     one (message.Answer g reply.Committed) e = tt
     one (message.Answer g reply.Jfault) e = tt
     one (message.Answer g reply.Again) e = tt
+    one (message.Answer g reply.Restarted) e = tt
     one (message.Answer g reply.Aborted) e = tt
     one (message.Answer g reply.Forgotten) e = tt
     one (message.Exec g c level x h y) e = tt
@@ -144,6 +146,7 @@ old-kept s turn q votes = each turn.outs q.outs
     one (message.Forget g) e = tt
     one (message.Collect round) e = tt
     one (message.Graph round graph) e = tt
+    one message.Up e = tt
 
     each : (outs : List Out) → Each (λ (o : Out). IsOldWord s o.message) outs → Each (λ (o : Out). IsKept turn.seg o.message) outs
     each [] e = tt
@@ -242,6 +245,7 @@ sent-silent node earlier ws f (o ∷ outs) same e = (
     one (message.Answer g reply.Committed) e = tt
     one (message.Answer g reply.Jfault) e = tt
     one (message.Answer g reply.Again) e = tt
+    one (message.Answer g reply.Restarted) e = tt
     one (message.Answer g reply.Aborted) e = tt
     one (message.Answer g reply.Forgotten) e = tt
     one (message.Exec g c level x h y) e = tt
@@ -252,6 +256,7 @@ sent-silent node earlier ws f (o ∷ outs) same e = (
     one (message.Forget g) e = tt
     one (message.Collect round) e = tt
     one (message.Graph round graph) e = tt
+    one message.Up e = tt
 
 -- whose answer is kept has no slice that waits, and so no wait
 module _ (script : Script) (v : World) (n : Knows script v) (h : Holds script v) (i : ℕ) where
@@ -275,6 +280,7 @@ module _ (script : Script) (v : World) (n : Knows script v) (h : Holds script v)
   kept-free (message.Answer g reply.Committed) e = tt
   kept-free (message.Answer g reply.Jfault) e = tt
   kept-free (message.Answer g reply.Again) e = tt
+  kept-free (message.Answer g reply.Restarted) e = tt
   kept-free (message.Answer g reply.Aborted) e = tt
   kept-free (message.Answer g reply.Forgotten) e = tt
   kept-free (message.Exec g c level x h y) e = tt
@@ -285,6 +291,7 @@ module _ (script : Script) (v : World) (n : Knows script v) (h : Holds script v)
   kept-free (message.Forget g) e = tt
   kept-free (message.Collect round) e = tt
   kept-free (message.Graph round graph) e = tt
+  kept-free message.Up e = tt
 
   all-free : (outs : List Out) → Each (λ (o : Out). IsKept (v.segs i) o.message) outs → Each (λ (o : Out). IsFree (v.segs i).locks.waits o.message) outs
   all-free [] e = tt

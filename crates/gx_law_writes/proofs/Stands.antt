@@ -110,6 +110,7 @@ no-answer before node (message.Abort g) e = tt
 no-answer before node (message.Forget g) e = tt
 no-answer before node (message.Collect round) e = tt
 no-answer before node (message.Graph round graph) e = tt
+no-answer before node message.Up e = tt
 
 -- ALL STEPS
 abbrev AreWords : List Step → List Step → Type 0
@@ -322,6 +323,7 @@ module _ (all : List Mark) (homes : HaveHomes all) (steps : List Step) (s : Step
       reply-stands to number g reply.Committed e = tt
       reply-stands to number g reply.Jfault e = tt
       reply-stands to number g reply.Again e = tt
+      reply-stands to number g reply.Restarted e = tt
       reply-stands to number g reply.Aborted e = tt
       reply-stands to number g reply.Forgotten e = tt
 
@@ -335,6 +337,7 @@ module _ (all : List Mark) (homes : HaveHomes all) (steps : List Step) (s : Step
       message-stands to number (message.Forget g) e = tt
       message-stands to number (message.Collect round) e = tt
       message-stands to number (message.Graph round graph) e = tt
+      message-stands to number message.Up e = tt
 
       fault-stands : (image : Option (List Value)) (rid : Rid) → ((s.stamp.node ≡ the_coordinator) × (image ≡ None)) ⊎ IsHere (marks_in steps ++ earlier) s.stamp.node rid → ((s.stamp.node ≡ the_coordinator) × (image ≡ None)) ⊎ (node_of (before point) rid ≡ Some s.stamp.node)
       fault-stands image rid (inl own) = inl own

@@ -117,6 +117,7 @@ module _ (script : Script) (numbered : AreLinesNumbered [] script.lines) (ms ns 
   told-more a b node g reply.Committed l d = tt
   told-more a b node g reply.Jfault l d = tt
   told-more a b node g reply.Again l d = tt
+  told-more a b node g reply.Restarted l d = tt
   told-more a b node g reply.Aborted l d = tt
   told-more a b node g reply.Forgotten l d = tt
 
@@ -135,6 +136,7 @@ module _ (script : Script) (numbered : AreLinesNumbered [] script.lines) (ms ns 
     word-more node (message.Forget g) d = tt
     word-more node (message.Collect round) d = tt
     word-more node (message.Graph round graph) d = tt
+    word-more node message.Up d = tt
 
     sent-more : (node : Node) (m : Mark) → SentTold script ms f node m → SentTold script (ms ++ ns) h node m
     sent-more node (mark.Sent to number m) d = word-more node m d
@@ -153,6 +155,7 @@ module _ (script : Script) (numbered : AreLinesNumbered [] script.lines) (ms ns 
     sent-more node (mark.LocalCommit n g) d = tt
     sent-more node (mark.Decided g) d = tt
     sent-more node (mark.JournalFailed n g) d = tt
+    sent-more node (mark.Restart n) d = tt
     sent-more node (mark.Report n x y) d = tt
     sent-more node (mark.Recheck x y z) d = tt
 

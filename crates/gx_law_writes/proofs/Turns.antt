@@ -199,6 +199,7 @@ module _ (script : Script) (s : Seg) where
   answer-old g reply.Committed e = tt
   answer-old g reply.Jfault e = tt
   answer-old g reply.Again e = tt
+  answer-old g reply.Restarted e = tt
   answer-old g reply.Aborted e = tt
   answer-old g reply.Forgotten e = tt
 
@@ -209,6 +210,7 @@ module _ (script : Script) (s : Seg) where
   vote-old g reply.Committed e = tt
   vote-old g reply.Jfault e = tt
   vote-old g reply.Again e = tt
+  vote-old g reply.Restarted e = tt
   vote-old g reply.Aborted e = tt
   vote-old g reply.Forgotten e = tt
 
@@ -421,6 +423,7 @@ module _ (script : Script) (s : Seg) where
       (λ same graph kept. inl (record { marks = tt; answers = λ h. refl; lasts = λ h. refl; nexts = λ h. same-le (next_command (s.locals h)); waits = λ h. inl refl; versions = refl; outs = (tt, tt) }))
   message-turns fails (message.Answer g r) = inl stay
   message-turns fails (message.Graph round graph) = inl stay
+  message-turns fails message.Up = inl stay
 
 -- A SLICE GOES ON
 -- a SELECT that waited runs on the rows that the segment shows now

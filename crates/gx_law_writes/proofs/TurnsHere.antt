@@ -52,6 +52,7 @@ module _ (ms : List Mark) (node : Node) (s : Seg) (rows : Each (λ (v : Version)
     old-reply g reply.Committed o = tt
     old-reply g reply.Jfault o = tt
     old-reply g reply.Again o = tt
+    old-reply g reply.Restarted o = tt
     old-reply g reply.Aborted o = tt
     old-reply g reply.Forgotten o = tt
 
@@ -65,6 +66,7 @@ module _ (ms : List Mark) (node : Node) (s : Seg) (rows : Each (λ (v : Version)
     old-word (message.Forget g) o = tt
     old-word (message.Collect round) o = tt
     old-word (message.Graph round graph) o = tt
+    old-word message.Up o = tt
 
     kept-slice : (was is : Option Suspended) → IsKeptOrDropped was is → SliceHere (ms ++ turn.marks) node was → SliceHere (ms ++ turn.marks) node is
     kept-slice was is (inl e) h = subst (SliceHere (ms ++ turn.marks) node) (sym e) h

@@ -48,7 +48,7 @@ module _ (from : Node) (clock : ℕ) where
   posted-has : (ms : List Mark) (sent : List Letter) → Each (HasLetter (posted from clock ms sent)) ms
   posted-has [] sent = tt
   posted-has (mark.Sent to number m ∷ ms) sent =
-      let l : Letter = record { from = from; to = to; envelope = record { number = number; clock = clock; message = m } } in
+      let l : Letter = record { from = from; to = to; envelope = record { number = number; clock = clock; incarnation = 1; message = m } } in
       ((l, among-posted ms (l ∷ sent) l (inl refl), refl), posted-has ms (l ∷ sent))
   posted-has (m ∷ ms) sent = (tt, posted-has ms sent)
 
@@ -100,6 +100,7 @@ module _ (script : Script) (w : World) (k : Knows script w) (v : Holds script w)
   other l s (message.Collect round) e = tt
   other l s (message.Answer h r) e = tt
   other l s (message.Graph round graph) e = tt
+  other l s message.Up e = tt
 
   pub next-unsent : Each (HasLetter w.sent) (marks_in w.steps) → AreUnsent g c (marks_in w.steps)
   next-unsent h = unsent-by w g c v.said other (marks_in w.steps) h
@@ -121,6 +122,7 @@ module _ (script : Script) (w : World) (k : Knows script w) (v : Holds script w)
   other-drawn l s (message.Collect round) e = tt
   other-drawn l s (message.Answer h r) e = tt
   other-drawn l s (message.Graph round graph) e = tt
+  other-drawn l s message.Up e = tt
 
   pub new-unsent : Each (HasLetter w.sent) (marks_in w.steps) → AreUnsent g c (marks_in w.steps)
   new-unsent h = unsent-by w g c v.said other-drawn (marks_in w.steps) h

@@ -551,6 +551,7 @@ module _ (script : Script) (c : Coord) (x : NodeEvent) where
     answer-walk g i fails reply.Committed envelope is told = on-status-walk g i reply.Committed fails envelope is
     answer-walk g i fails reply.Jfault envelope is told = on-status-walk g i reply.Jfault fails envelope is
     answer-walk g i fails reply.Again envelope is told = on-status-walk g i reply.Again fails envelope is
+    answer-walk g i fails reply.Restarted envelope is told = on-status-walk g i reply.Restarted fails envelope is
     answer-walk g i fails reply.Aborted envelope is told = on-status-walk g i reply.Aborted fails envelope is
     answer-walk g i fails reply.Forgotten envelope is told = on-status-walk g i reply.Forgotten fails envelope is
 
@@ -565,6 +566,7 @@ module _ (script : Script) (c : Coord) (x : NodeEvent) where
     message-walk i fails envelope is (message.Collect round) told = rest-walk
     message-walk i fails envelope is (message.Graph round graph) told =
         graph-ways (Walk []) c i round graph rest-walk (λ noted. record { works = λ h. inl (refl, refl); answers = tt }) (λ noted all. record { works = λ h. inl (refl, refl); answers = (tt, tt) })
+    message-walk i fails envelope is message.Up told = rest-walk
 
     again-walk : (i : Node) (o : Option Message) → Walk [] (resends c i o)
     again-walk i None = rest-walk

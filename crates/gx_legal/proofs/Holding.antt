@@ -109,6 +109,7 @@ module _ (c : Claim) where
   held-same node xs (mark.LocalCommit n g ∷ ms) = held-same node xs ms
   held-same node xs (mark.Decided g ∷ ms) = held-same node xs ms
   held-same node xs (mark.JournalFailed n g ∷ ms) = held-same node xs ms
+  held-same node xs (mark.Restart n ∷ ms) = held-same node xs ms
   held-same node xs (mark.Sent to k m ∷ ms) = held-same node xs ms
   held-same node xs (mark.Report n k graph ∷ ms) = held-same node xs ms
   held-same node xs (mark.Recheck k own verdict ∷ ms) = held-same node xs ms

@@ -26,6 +26,7 @@ module _ (point : Point) (line : Stmt) (level : Level) (g : Gxid) (c : Cid) wher
   cause-same (why.JournalFault node) = same
   cause-same why.InFailedBlock = same
   cause-same why.NotInBlock = same
+  cause-same (why.Restarted node) = same
 
   reason-same : (reason : Refused) → IsCauseBy false point line level g c reason ↔ IsReason point line level g c reason
   reason-same (why.Serialization rid h) = same
@@ -35,6 +36,7 @@ module _ (point : Point) (line : Stmt) (level : Level) (g : Gxid) (c : Cid) wher
   reason-same (why.JournalFault node) = same
   reason-same why.InFailedBlock = same
   reason-same why.NotInBlock = same
+  reason-same (why.Restarted node) = same
 
   pub cause-is : (reason : Refused) (b : Bool) → IsTrue b ↔ IsCauseBy true point line level g c reason → IsTrue b ↔ IsCause point line level g c reason
   cause-is reason b is = (λ t. (cause-same reason).0 (is.0 t), λ by. is.1 ((cause-same reason).1 by))
@@ -51,3 +53,4 @@ module _ (point : Point) (line : Stmt) (level : Level) (g : Gxid) (c : Cid) wher
   reason-of (why.JournalFault node) is = is
   reason-of why.InFailedBlock is = is
   reason-of why.NotInBlock is = is
+  reason-of (why.Restarted node) is = is

@@ -94,6 +94,7 @@ IsCauseBy noted point line level g c why.DivisionByZero = HasFaultedBy noted poi
 IsCauseBy noted point line level g c (why.JournalFault node) = HasJournalFailed point g node
 IsCauseBy noted point line level g c why.InFailedBlock = ⊥
 IsCauseBy noted point line level g c why.NotInBlock = ⊥
+IsCauseBy noted point line level g c (why.Restarted node) = ⊥
 
 -- the transaction has aborted in the point's step, and for this reason
 abbrev pub IsAbortedFor : Point → Stmt → Level → Gxid → Cid → Refused → Type 0

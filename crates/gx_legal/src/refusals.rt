@@ -80,7 +80,7 @@ fn is_cause(
             (ArithFault::DivisionByZero, Cause::DivisionByZero, noted),
         ),
         Refused::JournalFault(node) => Ok(has_journal_failed(moment, command.gxid, node)),
-        Refused::InFailedBlock | Refused::NotInBlock => Ok(false),
+        Refused::InFailedBlock | Refused::NotInBlock | Refused::Restarted(_) => Ok(false),
     }
 }
 

@@ -146,6 +146,7 @@ letter_ends w place (c ∷ d ∷ left) e some = ends_after (c ∷ []) (mid.Word 
     (letter_ends w (place + 1) (d ∷ left) (next_drop (letters_of w) place c (d ∷ left) e) (omega arith))
 
 pub ends : (m : Mid) → IsMid m → Ends m
+ends mid.Fork is = ends_after (105 ∷ 110 ∷ 105 ∷ 115 ∷ 104 ∷ 32 ∷ []) mid.Fork (mid.Digits (field.Lone lone.Finish) None) refl (digits_end (field.Lone lone.Finish) None (tt, tt))
 ends mid.Start is = ends_after (102 ∷ 105 ∷ 110 ∷ 105 ∷ 115 ∷ 104 ∷ 32 ∷ []) mid.Start (mid.Digits (field.Lone lone.Finish) None) refl (digits_end (field.Lone lone.Finish) None (tt, tt))
 ends (mid.Word w place) is = letter_ends w place (drop place (letters_of w)) refl is.1
 ends (mid.Digits f n) is = digits_end f n is

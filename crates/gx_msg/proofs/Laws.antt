@@ -56,6 +56,7 @@ stops_here bs m place stuck = record { front = []; rest = bs; state = m; parts =
 
 at_end : (m : Mid) (place : ℕ) → IsRead [] m place (ended m place)
 at_end mid.Start place = stops_here [] _ place refl
+at_end mid.Fork place = stops_here [] _ place refl
 at_end (mid.Word w n) place = stops_here [] _ place refl
 at_end (mid.Digits f n) place = stops_here [] _ place refl
 at_end (mid.Value spot values) place = stops_here [] _ place refl

@@ -63,6 +63,7 @@ front_of_word (word.Gone spot) = front_of_spot spot
 -- what is read
 abbrev pub printed : Mid → List ℕ
 printed mid.Start = []
+printed mid.Fork = codes "f"
 printed (mid.Word w place) = front_of_word w ++ take place (letters_of w)
 printed (mid.Digits f n) = front_of f ++ digits_of n
 printed (mid.Value spot values) = front_of_values spot values
@@ -107,6 +108,7 @@ IsNumber f (Some n) = (n ≤ most f) × (is_negative f ≡ true → 0 < n)
 -- what holds in a state
 abbrev pub IsMid : Mid → Type 0
 IsMid mid.Start = Unit {0}
+IsMid mid.Fork = Unit {0}
 IsMid (mid.Word w place) = IsWord w × (0 < length (drop place (letters_of w)))
 IsMid (mid.Digits f n) = IsField f × IsNumber f n
 IsMid (mid.Value spot values) = IsSpot spot × Each IsValue values

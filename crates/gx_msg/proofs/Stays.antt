@@ -24,7 +24,7 @@ use Rattle.std.proofs.lemmas.Option.{none-some, same_Some}
 use Rattle.gx_text.specs.Quoted.{quoted_byte}
 use Rattle.gx_msg.specs.ItemBytes.{bytes_of_value, behind_bar, bytes_of_row, bytes_of_image}
 use Rattle.gx_msg.specs.Reading.{Each, IsValue, IsImage, IsKept}
-use Rattle.gx_msg.specs.Steps.{letters_of, listed_item, lone_item, rows_from, line_ended, value_ended, int_ended, signed, at, grown, within, is_digit, is_negative, most, digits_on, number_ended, next_digit, word_ended, letter_is, next_letter, begin, begin_value, next}
+use Rattle.gx_msg.specs.Steps.{letters_of, listed_item, lone_item, rows_from, line_ended, value_ended, int_ended, signed, at, grown, within, is_digit, is_negative, most, digits_on, number_ended, next_digit, word_ended, letter_is, next_letter, begin, fork, begin_value, next}
 use Rattle.gx_msg.proofs.Choices.{pick, if_false, same_number, by_le, by_lt, digit_bounds, decimal-more, decimal-first}
 use Rattle.gx_msg.proofs.Printed.{rows_front, front_of_spot, followed, front_of_values, front_of, front_of_word, sign, digits_of, printed, IsSpot, IsField, IsWord, IsNumber, IsMid, Keeps}
 
@@ -166,6 +166,8 @@ keeps_narrow front stop b n limit m is p = pick (λ (x : Option Mid). Keeps fron
 lone_is : (k : Lone) (n : ℕ) → n < 2 ^ 64 → IsMid (mid.Done (lone_item k (record { 0 = n }))) × (printed (mid.Done (lone_item k (record { 0 = n }))) ≡ (front_of (field.Lone k) ++ decimal n) ++ 10 ∷ [])
 lone_is lone.Finish n l = (l, refl)
 lone_is lone.Decide n l = (l, refl)
+lone_is lone.Abort n l = (l, refl)
+lone_is lone.Forget n l = (l, refl)
 
 keeps_over : (f : Field) (n b : ℕ) → IsField f → IsNumber f (Some n) → Keeps (front_of f ++ decimal n) b (number_ended f n b)
 keeps_over (field.Listed k) n b is num = keeps_at _ 32 b (mid.Digits (field.Count k (record { 0 = n })) None) (omega (arith, num.0), tt) (simp (append_assoc, append-nil))
@@ -222,8 +224,14 @@ keeps_begin : (b : ℕ) → Keeps [] b (begin b)
 keeps_begin b =
     pick (λ (x : Option Mid). Keeps [] b x) (b == 112) _ _ (λ e. ((tt, omega arith), ap (λ (x : ℕ). x ∷ []) (sym (same_number b 112 e))))
     (λ e. pick (λ (x : Option Mid). Keeps [] b x) (b == 99) _ _ (λ e. ((tt, omega arith), ap (λ (x : ℕ). x ∷ []) (sym (same_number b 99 e))))
-    (λ e. pick (λ (x : Option Mid). Keeps [] b x) (b == 102) _ _ (λ e. ((tt, omega arith), ap (λ (x : ℕ). x ∷ []) (sym (same_number b 102 e))))
-    (λ e. keeps_at [] 100 b (mid.Word (word.Lone lone.Decide) 1) (tt, omega arith) refl)))
+    (λ e. pick (λ (x : Option Mid). Keeps [] b x) (b == 102) _ _ (λ e. (tt, ap (λ (x : ℕ). x ∷ []) (sym (same_number b 102 e))))
+    (λ e. pick (λ (x : Option Mid). Keeps [] b x) (b == 97) _ _ (λ e. ((tt, omega arith), ap (λ (x : ℕ). x ∷ []) (sym (same_number b 97 e))))
+    (λ e. keeps_at [] 100 b (mid.Word (word.Lone lone.Decide) 1) (tt, omega arith) refl))))
+
+keeps_fork : (b : ℕ) → Keeps (102 ∷ []) b (fork b)
+keeps_fork b =
+    pick (λ (x : Option Mid). Keeps (102 ∷ []) b x) (b == 105) _ _ (λ e. ((tt, omega arith), ap (λ (x : ℕ). 102 ∷ x ∷ []) (sym (same_number b 105 e))))
+    (λ e. keeps_at (102 ∷ []) 111 b (mid.Word (word.Lone lone.Forget) 2) (tt, omega arith) refl)
 
 -- Values.
 keeps_begun : (spot : Spot) (values : List Value) (b : ℕ) → IsSpot spot → Each IsValue values → Keeps (front_of_values spot values) b (begin_value spot values b)
@@ -253,6 +261,7 @@ text_more front text b bs e =
 
 pub keeps : (m : Mid) (b : ℕ) → IsMid m → Keeps (printed m) b (next m b)
 keeps mid.Start b is = keeps_begin b
+keeps mid.Fork b is = keeps_fork b
 keeps (mid.Word w place) b is = keeps_letter w place b is.0
 keeps (mid.Digits f n) b is = keeps_digit f n b is.0 is.1
 keeps (mid.Value spot values) b is = keeps_begun spot values b is.0 is.1

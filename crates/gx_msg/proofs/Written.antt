@@ -189,3 +189,5 @@ complete (item.Prepare g rows) is = listed_fed listed.Prepare g rows is.0 is.1 i
 complete (item.Commit g rows) is = listed_fed listed.Commit g rows is.0 is.1 is.2
 complete (item.Finish g) is = lone_fed lone.Finish g is
 complete (item.Decide g) is = lone_fed lone.Decide g is
+complete (item.Abort g) is = lone_fed lone.Abort g is
+complete (item.Forget g) is = lone_fed lone.Forget g is

@@ -8,7 +8,7 @@ use Rattle.gx_text.specs.Quoted.{quoted}
 use Rattle.gx_tree.specs.declared.value.Value.{Value}
 use Rattle.gx_tree.specs.declared.value.Value.TheVariants.{Int, Text}
 use Rattle.gx_msg.specs.declared.item.JournalItem.{JournalItem}
-use Rattle.gx_msg.specs.declared.item.JournalItem.TheVariants.{Prepare, Commit, Finish, Decide}
+use Rattle.gx_msg.specs.declared.item.JournalItem.TheVariants.{Prepare, Commit, Finish, Decide, Abort, Forget}
 use Rattle.gx_msg.specs.declared.item.Kept.{Kept}
 
 -- a number in decimal, a text in single quotes
@@ -42,3 +42,5 @@ bytes_of_item (Prepare gxid rows) = codes "prepare " ++ lines_of_rows gxid rows
 bytes_of_item (Commit gxid rows) = codes "commit " ++ lines_of_rows gxid rows
 bytes_of_item (Finish gxid) = codes "finish " ++ decimal gxid.0 ++ codes "\n"
 bytes_of_item (Decide gxid) = codes "decide " ++ decimal gxid.0 ++ codes "\n"
+bytes_of_item (Abort gxid) = codes "abort " ++ decimal gxid.0 ++ codes "\n"
+bytes_of_item (Forget gxid) = codes "forget " ++ decimal gxid.0 ++ codes "\n"

@@ -4,9 +4,9 @@ use Rattle.std.specs.Fmt.{decimal}
 use Rattle.gx_ids.specs.declared.ids.Cid.{Cid}
 use Rattle.gx_ids.specs.declared.ids.Gxid.{Gxid}
 use Rattle.gx_msg.specs.declared.message.Message.{Message}
-use Rattle.gx_msg.specs.declared.message.Message.TheVariants.{Exec, Prepare, Commit, CommitPrepared, Abort, Forget, Collect, Answer, Graph}
+use Rattle.gx_msg.specs.declared.message.Message.TheVariants.{Exec, Prepare, Commit, CommitPrepared, Abort, Forget, Collect, Answer, Graph, Up}
 use Rattle.gx_msg.specs.declared.reply.Reply.{Reply}
-use Rattle.gx_msg.specs.declared.reply.Reply.TheVariants.{Done, Failed, Prepared, Committed, Jfault, Again, Aborted, Forgotten}
+use Rattle.gx_msg.specs.declared.reply.Reply.TheVariants.{Done, Failed, Prepared, Committed, Jfault, Again, Aborted, Forgotten, Restarted}
 
 -- a name and a number behind it
 abbrev pub named : List ℕ → ℕ → List ℕ
@@ -26,8 +26,9 @@ text_of_reply gxid Jfault = named (codes "jfault") gxid.0
 text_of_reply gxid Again = named (codes "again") gxid.0
 text_of_reply gxid Aborted = named (codes "aborted") gxid.0
 text_of_reply gxid Forgotten = named (codes "forgotten") gxid.0
+text_of_reply gxid Restarted = named (codes "restarted") gxid.0
 
--- a message has its transaction, EXEC the command too, and what is of the detector has its round
+-- a message has its transaction, EXEC the command too, what is of the detector has its round, and that a segment is up has neither
 abbrev pub text_of_message : Message → List ℕ
 text_of_message (Exec gxid cid _ _ _ _) = named_command (codes "exec") gxid cid
 text_of_message (Prepare gxid) = named (codes "prepare") gxid.0
@@ -38,3 +39,4 @@ text_of_message (Forget gxid) = named (codes "forget") gxid.0
 text_of_message (Collect round) = named (codes "collect") round
 text_of_message (Answer gxid reply) = text_of_reply gxid reply
 text_of_message (Graph round _) = named (codes "graph") round
+text_of_message Up = codes "up"

@@ -5,7 +5,7 @@ use Rattle.gx_tree.specs.declared.value.Value.TheVariants.{Int, Text}
 use Rattle.gx_msg.specs.declared.item.ItemFault.{ItemFault}
 use Rattle.gx_msg.specs.declared.item.ItemFault.TheVariants.{NotAnItem, OutOfMemory}
 use Rattle.gx_msg.specs.declared.item.JournalItem.{JournalItem}
-use Rattle.gx_msg.specs.declared.item.JournalItem.TheVariants.{Prepare, Commit, Finish, Decide}
+use Rattle.gx_msg.specs.declared.item.JournalItem.TheVariants.{Prepare, Commit, Finish, Decide, Abort, Forget}
 use Rattle.gx_msg.specs.declared.item.Kept.{Kept}
 use Rattle.gx_msg.specs.ItemBytes.{bytes_of_item}
 
@@ -40,6 +40,8 @@ IsItem (Prepare gxid rows) = (gxid.0 < 2 ^ 64) × (length rows < 2 ^ 64) × Each
 IsItem (Commit gxid rows) = (gxid.0 < 2 ^ 64) × (length rows < 2 ^ 64) × Each IsKept rows
 IsItem (Finish gxid) = gxid.0 < 2 ^ 64
 IsItem (Decide gxid) = gxid.0 < 2 ^ 64
+IsItem (Abort gxid) = gxid.0 < 2 ^ 64
+IsItem (Forget gxid) = gxid.0 < 2 ^ 64
 
 -- an item's bytes begin so
 pub record BeginsItem (front : List ℕ) : Type 0 where

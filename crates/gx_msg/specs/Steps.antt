@@ -29,6 +29,8 @@ name_of_listed listed.Commit = codes "commit "
 abbrev pub name_of_lone : Lone → List ℕ
 name_of_lone lone.Finish = codes "finish "
 name_of_lone lone.Decide = codes "decide "
+name_of_lone lone.Abort = codes "abort "
+name_of_lone lone.Forget = codes "forget "
 
 -- the letters of a word; an image that is gone ends its line
 abbrev pub letters_of : Word → List ℕ
@@ -45,6 +47,8 @@ listed_item listed.Commit gxid rows = item.Commit gxid rows
 abbrev pub lone_item : Lone → Gxid → JournalItem
 lone_item lone.Finish gxid = item.Finish gxid
 lone_item lone.Decide gxid = item.Decide gxid
+lone_item lone.Abort gxid = item.Abort gxid
+lone_item lone.Forget gxid = item.Forget gxid
 
 -- what comes when this many rows are still to be read
 abbrev pub rows_from : Listed → Gxid → List Kept → ℕ → Mid
@@ -147,10 +151,14 @@ letter_is w place (Some c) b = if c == b then Some (if nat_lt (place + 1) (lengt
 abbrev pub next_letter : Word → ℕ → ℕ → Option Mid
 next_letter w place b = letter_is w place (slice_get (letters_of w) place) b
 
--- the first letter tells the item
+-- the first letter tells the item, but for finish and forget
 abbrev pub begin : ℕ → Option Mid
 begin b = if b == 112 then Some (mid.Word (word.Listed listed.Prepare) 1) else if b == 99 then Some (mid.Word (word.Listed listed.Commit) 1)
-    else if b == 102 then Some (mid.Word (word.Lone lone.Finish) 1) else at 100 b (mid.Word (word.Lone lone.Decide) 1)
+    else if b == 102 then Some mid.Fork else if b == 97 then Some (mid.Word (word.Lone lone.Abort) 1) else at 100 b (mid.Word (word.Lone lone.Decide) 1)
+
+-- the second letter of finish or forget
+abbrev pub fork : ℕ → Option Mid
+fork b = if b == 105 then Some (mid.Word (word.Lone lone.Finish) 2) else at 111 b (mid.Word (word.Lone lone.Forget) 2)
 
 -- the first byte of a value; a row that is gone has none
 abbrev pub begin_value : Spot → List Value → ℕ → Option Mid
@@ -160,6 +168,7 @@ begin_value spot values b = if b == 39 then Some (mid.Text spot values []) else 
 -- what the reader is in behind one more byte, where an item may go on with it
 abbrev pub next : Mid → ℕ → Option Mid
 next mid.Start b = begin b
+next mid.Fork b = fork b
 next (mid.Word w place) b = next_letter w place b
 next (mid.Digits field n) b = next_digit field n b
 next (mid.Value spot values) b = begin_value spot values b

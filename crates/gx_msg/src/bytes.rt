@@ -104,6 +104,14 @@ fn push_item(text: &mut Vec<u8>, item: &JournalItem) -> Mem<()>
             push_bytes(text, b"decide ")?;
             push_gxid(text, *gxid)
         }
+        JournalItem::Abort(gxid) => {
+            push_bytes(text, b"abort ")?;
+            push_gxid(text, *gxid)
+        }
+        JournalItem::Forget(gxid) => {
+            push_bytes(text, b"forget ")?;
+            push_gxid(text, *gxid)
+        }
     }
 }
 
@@ -115,7 +123,10 @@ const ROW_ROOM: usize = 24;
 fn room_for(item: &JournalItem) -> usize {
     let rows = match item {
         JournalItem::Prepare(_, rows) | JournalItem::Commit(_, rows) => rows.len(),
-        JournalItem::Finish(_) | JournalItem::Decide(_) => 0,
+        JournalItem::Finish(_)
+        | JournalItem::Decide(_)
+        | JournalItem::Abort(_)
+        | JournalItem::Forget(_) => 0,
     };
     LINE_ROOM.saturating_add(rows.saturating_mul(ROW_ROOM))
 }

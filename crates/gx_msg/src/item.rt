@@ -17,6 +17,10 @@ pub enum JournalItem {
     Finish(Gxid),
     /// The coordinator decides that a transaction commits.
     Decide(Gxid),
+    /// A segment aborts what it has promised.
+    Abort(Gxid),
+    /// A segment forgets what it has committed.
+    Forget(Gxid),
 }
 
 /// The last that a transaction wrote of a row. An image of `None` is a row that is gone.
@@ -54,6 +58,8 @@ impl Duplicate for JournalItem {
             JournalItem::Commit(gxid, kept) => Ok(JournalItem::Commit(*gxid, kept.copy(alloc)?)),
             JournalItem::Finish(gxid) => Ok(JournalItem::Finish(*gxid)),
             JournalItem::Decide(gxid) => Ok(JournalItem::Decide(*gxid)),
+            JournalItem::Abort(gxid) => Ok(JournalItem::Abort(*gxid)),
+            JournalItem::Forget(gxid) => Ok(JournalItem::Forget(*gxid)),
         }
     }
 }

@@ -5,7 +5,7 @@ use gx_tree::{Level, Slice};
 use gx_waits::LocalGraph;
 use std::alloc::Global;
 
-/// What one node tells another. The coordinator sends the first seven, a segment the last two.
+/// What one node tells another. The coordinator sends the first seven, a segment the last three.
 #[derive(Drop)]
 pub enum Message {
     /// A command's part for a segment. Where there is a snapshot, the segment takes it for the block or the command.
@@ -31,6 +31,8 @@ pub enum Message {
     Answer(Gxid, Reply),
     /// A segment's wait graph for a round.
     Graph(u64, LocalGraph),
+    /// A segment has restarted, and only tells its incarnation.
+    Up,
 }
 
 /// A message and the node that it goes to.
@@ -40,11 +42,13 @@ pub struct Out {
     pub message: Message,
 }
 
-/// A message on its link, with its number there, from 1, and the sender's clock.
+/// A message on its link, with its number there, from 1, and the sender's clock. The incarnation is a segment's: that of the sender,
+/// or, of a message to a segment, the one in which the segment has come to know the message's transaction.
 #[derive(Drop)]
 pub struct Envelope {
     pub number: u64,
     pub clock: u64,
+    pub incarnation: u64,
     pub message: Message,
 }
 
@@ -78,6 +82,7 @@ impl Duplicate for Message {
             Message::Collect(round) => Ok(Message::Collect(*round)),
             Message::Answer(gxid, reply) => Ok(Message::Answer(*gxid, reply.copy(alloc)?)),
             Message::Graph(round, graph) => Ok(Message::Graph(*round, graph.copy(alloc)?)),
+            Message::Up => Ok(Message::Up),
         }
     }
 }
@@ -96,6 +101,7 @@ impl Duplicate for Envelope {
         Ok(Envelope {
             number: self.number,
             clock: self.clock,
+            incarnation: self.incarnation,
             message: self.message.copy(alloc)?,
         })
     }

@@ -15,6 +15,8 @@ pub(crate) enum Listed {
 pub(crate) enum Lone {
     Finish,
     Decide,
+    Abort,
+    Forget,
 }
 
 // The rows that are read, and how many come behind the one that is being read.
@@ -56,11 +58,12 @@ pub(crate) enum Field {
     Int(Spot, Seq<Value>, bool),
 }
 
-// What the reader is in. A word has the number of its letters that are read, a text the bytes of it, and a quote in a
-// text may be its end or the first of two.
+// What the reader is in. With the letter of a fork two items' names begin; a word has the number of its letters that are
+// read, a text the bytes of it, and a quote in a text may be its end or the first of two.
 #[derive(Drop)]
 pub(crate) enum Mid {
     Start,
+    Fork,
     Word(Word, usize),
     Digits(Field, Option<u64>),
     Value(Spot, Seq<Value>),

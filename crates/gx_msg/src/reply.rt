@@ -35,6 +35,8 @@ pub enum Reply {
     Again,
     Aborted,
     Forgotten,
+    /// The segment has restarted since the transaction came there, and has neither promised nor committed it.
+    Restarted,
 }
 
 impl Duplicate for Reply {
@@ -64,6 +66,7 @@ impl Duplicate for Reply {
             Reply::Again => Ok(Reply::Again),
             Reply::Aborted => Ok(Reply::Aborted),
             Reply::Forgotten => Ok(Reply::Forgotten),
+            Reply::Restarted => Ok(Reply::Restarted),
         }
     }
 }

@@ -18,6 +18,8 @@ fn letters(word: &Word) -> &'static [u8]
         Word::Listed(Listed::Commit) => b"commit ",
         Word::Lone(Lone::Finish) => b"finish ",
         Word::Lone(Lone::Decide) => b"decide ",
+        Word::Lone(Lone::Abort) => b"abort ",
+        Word::Lone(Lone::Forget) => b"forget ",
         Word::Gone(_) => b"gone\n",
     }
 }
@@ -37,6 +39,8 @@ fn lone_item(lone: Lone, gxid: Gxid) -> JournalItem
     match lone {
         Lone::Finish => JournalItem::Finish(gxid),
         Lone::Decide => JournalItem::Decide(gxid),
+        Lone::Abort => JournalItem::Abort(gxid),
+        Lone::Forget => JournalItem::Forget(gxid),
     }
 }
 
@@ -367,7 +371,7 @@ fn next_letter(word: Word, place: usize, byte: u8) -> Mem<Option<Mid>>
     }
 }
 
-// The first letter tells the item.
+// The first letter tells the item, but for finish and forget.
 fn begin(byte: u8) -> Option<Mid>
     ensures { result ≡ of.begin byte }
 {
@@ -376,9 +380,22 @@ fn begin(byte: u8) -> Option<Mid>
     } else if byte == b'c' {
         Some(Mid::Word(Word::Listed(Listed::Commit), 1))
     } else if byte == b'f' {
-        Some(Mid::Word(Word::Lone(Lone::Finish), 1))
+        Some(Mid::Fork)
+    } else if byte == b'a' {
+        Some(Mid::Word(Word::Lone(Lone::Abort), 1))
     } else {
         at(b'd', byte, Mid::Word(Word::Lone(Lone::Decide), 1))
+    }
+}
+
+// The second letter of finish or forget.
+fn fork(byte: u8) -> Option<Mid>
+    ensures { result ≡ of.fork byte }
+{
+    if byte == b'i' {
+        Some(Mid::Word(Word::Lone(Lone::Finish), 2))
+    } else {
+        at(b'o', byte, Mid::Word(Word::Lone(Lone::Forget), 2))
     }
 }
 
@@ -444,6 +461,7 @@ pub(crate) fn next(alloc: Global, mid: Mid, byte: u8) -> Mem<Option<Mid>>
 {
     match mid {
         Mid::Start => Ok(begin(byte)),
+        Mid::Fork => Ok(fork(byte)),
         Mid::Word(word, place) => next_letter(word, place, byte),
         Mid::Digits(field, number) => next_digit(alloc, field, number, byte),
         Mid::Value(spot, values) => begin_value(alloc, spot, values, byte),

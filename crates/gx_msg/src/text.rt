@@ -38,6 +38,7 @@ fn push_reply(text: &mut Vec<u8>, gxid: Gxid, reply: &Reply) -> Mem<()>
         Reply::Again => push_named(text, b"again", gxid.0),
         Reply::Aborted => push_named(text, b"aborted", gxid.0),
         Reply::Forgotten => push_named(text, b"forgotten", gxid.0),
+        Reply::Restarted => push_named(text, b"restarted", gxid.0),
     }
 }
 
@@ -54,10 +55,12 @@ fn push_message(text: &mut Vec<u8>, message: &Message) -> Mem<()>
         Message::Collect(round) => push_named(text, b"collect", *round),
         Message::Answer(gxid, reply) => push_reply(text, *gxid, reply),
         Message::Graph(round, _) => push_named(text, b"graph", *round),
+        Message::Up => push_bytes(text, b"up"),
     }
 }
 
-/// The text of a message in a trace: its name, and its transaction (with the command, where it has one) or its round.
+/// The text of a message in a trace: its name, and its transaction (with the command, where it has one) or its round, if it has
+/// one.
 pub fn message_text(alloc: Global, message: &Message) -> Mem<Vec<u8>>
     ensures { IfOk result (λ text. text.items ≡ text_of_message message.now) }
 {

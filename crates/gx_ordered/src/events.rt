@@ -45,7 +45,7 @@ pub(crate) fn is_event_at(script: &Script, progress: &Progress, step: &Step) -> 
         Event::Receive { from, to, number } => {
             stamp.node == to && is_delivery(script, progress, stamp, from, number)
         }
-        Event::Resume { node, .. } => stamp.node == node,
+        Event::Resume { node, .. } | Event::Restart(node) => stamp.node == node,
         Event::Start(_) | Event::End(_) | Event::Resend { .. } | Event::Round => {
             is_coordinator(stamp.node)
         }

@@ -39,7 +39,8 @@ fn is_at_node(script: &Script, node: Node, mark: &Mark) -> bool
     match mark {
         Mark::Write { node: named, .. }
         | Mark::Prepared { node: named, .. }
-        | Mark::LocalCommit { node: named, .. } => is_own_segment(script, node, *named),
+        | Mark::LocalCommit { node: named, .. }
+        | Mark::Restart { node: named } => is_own_segment(script, node, *named),
         Mark::Hold { node: named, .. }
         | Mark::Wait { node: named, .. }
         | Mark::Release { node: named, .. }

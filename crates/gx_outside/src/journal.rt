@@ -7,7 +7,8 @@ pub enum AppendFault {
 
 /// Where a node keeps items for ever.
 pub trait Journal: Drop {
-    ghost use Rattle.std.specs.Prelude.{◌≡◌};
+    ghost use Rattle.std.specs.Prelude.{◌≡◌, slice_get};
+    ghost use Rattle.std.specs.Option.{option_copied};
     ghost use Rattle.gx_outside.specs.Shelves.{Shelf, IsAppended};
 
     /// The items kept, and how often it has failed.
@@ -17,6 +18,10 @@ pub trait Journal: Drop {
     /// is answered by want of memory.
     fn append(&mut self, item: Vec<u8>) -> Result<(), AppendFault>
         ensures appended { IsAppended (shelf self.old) (shelf self.new) item.items result };
+
+    /// The item at a place, from 0, the oldest first. None where no more items are kept.
+    fn item(&self, place: u64) -> Option<&[u8]>
+        ensures { option_copied result ≡ slice_get (shelf self.now).items place };
 
     /// How often it has failed. The count never falls, and rises with each failure.
     fn faults(&self) -> u64

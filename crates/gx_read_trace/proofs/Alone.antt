@@ -24,6 +24,7 @@ alone script (seen.Whole (mark.Prepared k g)) is = (is, refl)
 alone script (seen.Whole (mark.LocalCommit k g)) is = (is, refl)
 alone script (seen.Whole (mark.Decided g)) is = (is, refl)
 alone script (seen.Whole (mark.JournalFailed k g)) is = (is, refl)
+alone script (seen.Whole (mark.Restart k)) is = (is, refl)
 alone script (seen.Whole (mark.Report k r graph)) is = (is, refl)
 alone script (seen.Whole (mark.Answer session number said)) is = absurd is
 alone script (seen.Whole (mark.Sent to number message)) is = absurd is

@@ -142,6 +142,7 @@ refused-plain refused.DivisionByZero is = from-test (codes "ERROR 4 division by 
 refused-plain refused.InFailedBlock is = from-test (codes "ERROR 5 block has failed") refl
 refused-plain (refused.JournalFault node) is = (cat (lit (codes "ERROR 6 journal of node") refl) (cat (number node.0 (of-8 node.0 is)) (lit (codes " failed") refl))).1
 refused-plain refused.NotInBlock is = from-test (codes "ERROR 7 not in a block") refl
+refused-plain (refused.Restarted node) is = (cat (lit (codes "ERROR 8 segment") refl) (cat (number node.0 (of-8 node.0 is)) (lit (codes " restarted") refl))).1
 
 abbrev of-name : (w : Plain) (name : List ℕ) → IsLine name → Plain
 of-name w name line = cat w (of-word (name, line))
@@ -155,6 +156,7 @@ event-plain script (event.End session) is = (cat (lit (codes "end") refl) (of-wo
 event-plain script (event.Resend segment (Some gxid)) is = (two (lit (codes "resend") refl) (of-node segment is.0) (of-gxid gxid is.1)).1
 event-plain script (event.Resend segment None) is = (cat (one (lit (codes "resend") refl) (of-node segment is)) (lit (codes " round") refl)).1
 event-plain script event.Round is = from-test (codes "round") refl
+event-plain script (event.Restart node) is = (one (lit (codes "restart") refl) (of-node node is)).1
 
 moment-plain : (script : Script) (step : SeenStep) → IsSeenStep script step → IsLine (moment_text script (moment_of_step step))
 moment-plain script step is =
@@ -173,6 +175,7 @@ reply-plain g reply.Jfault is more = (of-named (lit (codes "jfault") refl) g.0 i
 reply-plain g reply.Again is more = (of-named (lit (codes "again") refl) g.0 is).1
 reply-plain g reply.Aborted is more = (of-named (lit (codes "aborted") refl) g.0 is).1
 reply-plain g reply.Forgotten is more = (of-named (lit (codes "forgotten") refl) g.0 is).1
+reply-plain g reply.Restarted is more = (of-named (lit (codes "restarted") refl) g.0 is).1
 
 message-plain : (m : Message) → IsMessage m → IsLine (text_of_message m)
 message-plain (message.Exec g cid level snapshot horizon slice) is = (of-named (of-named (lit (codes "exec") refl) g.0 is.0) cid.0 (of-32 cid.0 is.1)).1
@@ -184,6 +187,7 @@ message-plain (message.Forget g) is = (of-named (lit (codes "forget") refl) g.0 
 message-plain (message.Collect round) is = (of-named (lit (codes "collect") refl) round is).1
 message-plain (message.Answer g r) is = reply-plain g r is.0 is.1
 message-plain (message.Graph round graph) is = (of-named (lit (codes "graph") refl) round is).1
+message-plain message.Up is = from-test (codes "up") refl
 
 -- LOCKS
 mode-small : (m : Mode) → number_of m < 2 ^ 64
@@ -251,6 +255,7 @@ module _ (script : Script) where
   mark-plain (seen.Whole (mark.LocalCommit k g)) is = sole _ (blank (two (lit (codes "local") refl) (of-node k is.0) (of-gxid g is.1))).1
   mark-plain (seen.Whole (mark.Decided g)) is = sole _ (blank (one (lit (codes "decided") refl) (of-gxid g is))).1
   mark-plain (seen.Whole (mark.JournalFailed k g)) is = sole _ (blank (two (lit (codes "journal") refl) (of-node k is.0) (of-gxid g is.1))).1
+  mark-plain (seen.Whole (mark.Restart k)) is = sole _ (blank (one (lit (codes "restart") refl) (of-node k is))).1
   mark-plain (seen.Whole (mark.Report k r graph)) is = sole _ (blank (cat (cat (two (lit (codes "report") refl) (of-node k is.0) (number r is.2)) colon)
       (flat_map edge_text (in_order edge_order graph.edges), each-in IsEdge edge_text edge-plain (in_order edge_order graph.edges) (subst (All IsEdge) (sym is.3.order) is.3.edges)))).1
   mark-plain (seen.Whole (mark.Answer session n said)) is = absurd is

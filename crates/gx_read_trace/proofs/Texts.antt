@@ -69,6 +69,7 @@ refused-fed refused.DivisionByZero = refl
 refused-fed refused.InFailedBlock = refl
 refused-fed (refused.JournalFault node) = ap (λ y. codes "ERROR 6 journal of node " ++ y) (append_assoc (decimal node.0) (codes " failed") (codes "\n"))
 refused-fed refused.NotInBlock = refl
+refused-fed (refused.Restarted node) = ap (λ y. codes "ERROR 8 segment " ++ y) (append_assoc (decimal node.0) (codes " restarted") (codes "\n"))
 
 head-fed : (name : List ℕ) (number : ℕ) (h : AnswerHead) (more t : List ℕ) → head_text h ++ codes "\n" ≡ t → fed_line (answer_head_text name number h) ++ more ≡ name ++ codes "." ++ decimal number ++ codes " " ++ t ++ more
 head-fed name number h more t e = parted ∙ ap (λ y. name ++ codes "." ++ decimal number ++ codes " " ++ y ++ more) e
@@ -125,6 +126,7 @@ module _ (script : Script) where
   mark-fed (seen.Whole (mark.LocalCommit k g)) is = one-line (seen_mark_text script (seen.Whole (mark.LocalCommit k g)))
   mark-fed (seen.Whole (mark.Decided g)) is = one-line (seen_mark_text script (seen.Whole (mark.Decided g)))
   mark-fed (seen.Whole (mark.JournalFailed k g)) is = one-line (seen_mark_text script (seen.Whole (mark.JournalFailed k g)))
+  mark-fed (seen.Whole (mark.Restart k)) is = one-line (seen_mark_text script (seen.Whole (mark.Restart k)))
   mark-fed (seen.Whole (mark.Report k r graph)) is = one-line (seen_mark_text script (seen.Whole (mark.Report k r graph)))
   mark-fed (seen.Whole (mark.Answer session number said)) is = absurd is
   mark-fed (seen.Whole (mark.Sent to number message)) is = absurd is

@@ -197,6 +197,7 @@ module _ (script : Script) where
   mark-leads s step n (seen.Whole (mark.LocalCommit k g)) is = lone-mark s step n (seen.Whole (mark.LocalCommit k g)) is
   mark-leads s step n (seen.Whole (mark.Decided g)) is = lone-mark s step n (seen.Whole (mark.Decided g)) is
   mark-leads s step n (seen.Whole (mark.JournalFailed k g)) is = lone-mark s step n (seen.Whole (mark.JournalFailed k g)) is
+  mark-leads s step n (seen.Whole (mark.Restart k)) is = lone-mark s step n (seen.Whole (mark.Restart k)) is
   mark-leads s step n (seen.Whole (mark.Report k r graph)) is = lone-mark s step n (seen.Whole (mark.Report k r graph)) is
   mark-leads s step n (seen.Whole (mark.Answer session number said)) is = absurd is
   mark-leads s step n (seen.Whole (mark.Sent to number message)) is = absurd is

@@ -25,6 +25,9 @@ victim_text round = numbered_text (codes "ERROR 2 victim of round ") round (code
 abbrev pub journal_text : Node → List ℕ
 journal_text node = numbered_text (codes "ERROR 6 journal of node ") node.0 (codes " failed\n")
 
+abbrev pub restarted_text : Node → List ℕ
+restarted_text segment = numbered_text (codes "ERROR 8 segment ") segment.0 (codes " restarted\n")
+
 abbrev pub error_text : Refused → List ℕ
 error_text (refused.Serialization rid newer) = serialization_text rid newer
 error_text (refused.Victim round) = victim_text round
@@ -33,3 +36,4 @@ error_text refused.DivisionByZero = codes "ERROR 4 division by zero\n"
 error_text refused.InFailedBlock = codes "ERROR 5 block has failed\n"
 error_text (refused.JournalFault node) = journal_text node
 error_text refused.NotInBlock = codes "ERROR 7 not in a block\n"
+error_text (refused.Restarted segment) = restarted_text segment

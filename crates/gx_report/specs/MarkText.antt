@@ -10,7 +10,7 @@ use Rattle.gx_ids.specs.declared.ids.SessionId.{SessionId}
 use Rattle.gx_msg.specs.MessageText.{text_of_message}
 use Rattle.gx_script.specs.declared.Script.{Script}
 use Rattle.gx_store.specs.declared.mark.Mark.{Mark}
-use Rattle.gx_store.specs.declared.mark.Mark.TheVariants.{Start, Snap, Write, Skip, Fault, Commit, Abort, Answer, Hold, Wait, Release, Prepared, LocalCommit, Decided, JournalFailed, Sent, Report, Recheck}
+use Rattle.gx_store.specs.declared.mark.Mark.TheVariants.{Start, Snap, Write, Skip, Fault, Commit, Abort, Answer, Hold, Wait, Release, Prepared, LocalCommit, Decided, JournalFailed, Restart, Sent, Report, Recheck}
 use Rattle.gx_report.specs.LockText.{lock_text, recheck_text, report_text}
 use Rattle.gx_report.specs.Words.{at_node_text, gxid_text, image_text, session_name, table_name, word_text, words_text}
 
@@ -54,4 +54,5 @@ mark_text script (LocalCommit node gxid) = at_node_text (codes "local") node gxi
 mark_text script (Commit gxid) = words_text (codes "commit") (gxid.0 ∷ [])
 mark_text script (Abort gxid) = words_text (codes "abort") (gxid.0 ∷ [])
 mark_text script (JournalFailed node gxid) = at_node_text (codes "journal") node gxid
+mark_text script (Restart node) = words_text (codes "restart") (node.0 ∷ [])
 mark_text script mark = row_mark_text script mark

@@ -1,6 +1,6 @@
 // The text of a refused statement.
 ghost use Rattle.std.specs.Prelude.{◌≡◌, ◌++◌, OnOk};
-ghost use Rattle.gx_report.specs.Error.{error_text, journal_text, numbered_text, row_text, serialization_text, victim_text};
+ghost use Rattle.gx_report.specs.Error.{error_text, journal_text, numbered_text, restarted_text, row_text, serialization_text, victim_text};
 
 use crate::words::push_count_behind;
 use gx_ids::{Gxid, Mem, Node, Rid};
@@ -48,6 +48,17 @@ fn push_journal(text: &mut Vec<u8>, node: Node) -> Mem<()>
     )
 }
 
+fn push_restarted(text: &mut Vec<u8>, segment: Node) -> Mem<()>
+    ensures { OnOk result (text.new.items ≡ text.old.items ++ restarted_text segment) }
+{
+    push_numbered(
+        text,
+        b"ERROR 8 segment ",
+        u64::from(segment.0),
+        b" restarted\n",
+    )
+}
+
 /// Adds the line that tells why a statement is refused.
 pub fn push_error(text: &mut Vec<u8>, refused: Refused) -> Mem<()>
     ensures { OnOk result (text.new.items ≡ text.old.items ++ error_text refused) }
@@ -60,5 +71,6 @@ pub fn push_error(text: &mut Vec<u8>, refused: Refused) -> Mem<()>
         Refused::InFailedBlock => push_bytes(text, b"ERROR 5 block has failed\n"),
         Refused::JournalFault(node) => push_journal(text, node),
         Refused::NotInBlock => push_bytes(text, b"ERROR 7 not in a block\n"),
+        Refused::Restarted(segment) => push_restarted(text, segment),
     }
 }

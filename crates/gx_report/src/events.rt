@@ -35,5 +35,6 @@ pub fn push_event(text: &mut Vec<u8>, script: &Script, event: Event) -> Mem<()>
         Event::End(session) => push_at_session(text, script, b"end", session),
         Event::Resend { segment, gxid } => push_resend(text, script, segment, gxid),
         Event::Round => push_bytes(text, b"round"),
+        Event::Restart(segment) => push_words(text, b"restart", &[u64::from(segment.0)]),
     }
 }

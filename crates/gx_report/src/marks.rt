@@ -157,6 +157,7 @@ pub fn push_mark(alloc: Global, text: &mut Vec<u8>, script: &Script, mark: &Mark
         Mark::Commit { gxid } => push_words(text, b"commit", &[gxid.0]),
         Mark::Abort { gxid } => push_words(text, b"abort", &[gxid.0]),
         Mark::JournalFailed { node, gxid } => push_at_node(text, b"journal", *node, *gxid),
+        Mark::Restart { node } => push_words(text, b"restart", &[u64::from(node.0)]),
         _ => push_row_mark(alloc, text, script, mark),
     }
 }

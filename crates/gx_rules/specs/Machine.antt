@@ -41,11 +41,12 @@ abbrev pub new_world : World
 new_world = record { coord = new_coordinator; segs = λ i. new_segment (record { 0 = i }); steps = []; sent = [] }
 
 -- MESSAGES
--- what the marks of a node's step have sent, on top of what was sent before
+-- What the marks of a node's step have sent, on top of what was sent before. No segment has restarted, so all are in their first
+-- incarnation.
 abbrev pub posted : Node → ℕ → List Mark → List Letter → List Letter
 posted from clock [] sent = sent
 posted from clock (Sent to number message ∷ ms) sent =
-    posted from clock ms (record { from = from; to = to; envelope = record { number = number; clock = clock; message = message } } ∷ sent)
+    posted from clock ms (record { from = from; to = to; envelope = record { number = number; clock = clock; incarnation = 1; message = message } } ∷ sent)
 posted from clock (_ ∷ ms) sent = posted from clock ms sent
 
 abbrev pub is_at : Node → Node → ℕ → Letter → Bool
@@ -65,8 +66,9 @@ node_of (event.Start session) = the_coordinator
 node_of (event.End session) = the_coordinator
 node_of (event.Resend segment g) = the_coordinator
 node_of event.Round = the_coordinator
+node_of (event.Restart n) = n
 
--- what happens at that node; a delivery names a message that was sent
+-- what happens at that node; a delivery names a message that was sent, and no node has a rule for restarts yet
 abbrev pub delivered : Node → Option Envelope → Option NodeEvent
 delivered from None = None
 delivered from (Some envelope) = Some (node.Deliver from envelope)
@@ -78,6 +80,7 @@ at_node w (event.Start s) = Some (node.Start s)
 at_node w (event.End s) = Some (node.End s)
 at_node w (event.Resend i g) = Some (node.Resend i g)
 at_node w event.Round = Some node.Round
+at_node w (event.Restart n) = None
 
 -- A segment takes deliveries, and, where it is one of the script's, resumes whoever has a wait there whose way is clear. What the
 -- coordinator admits, it says itself.

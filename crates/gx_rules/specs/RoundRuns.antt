@@ -141,7 +141,7 @@ abbrev pub half : List (Event × Bool) → World
 half events = world_of over_two (until_first ++ events)
 
 abbrev pub hears_at : Coord → ℕ → ℕ → LocalGraph → CoordTurn
-hears_at at i number told = coord_rule over_two at (Deliver (node i) (record { number = 2; clock = 0; message = message.Graph number told })) false
+hears_at at i number told = coord_rule over_two at (Deliver (node i) (record { number = 2; clock = 0; incarnation = 1; message = message.Graph number told })) false
 
 abbrev pub hears_graph : ℕ → ℕ → LocalGraph → CoordTurn
 hears_graph i number told = hears_at (half []).coord i number told

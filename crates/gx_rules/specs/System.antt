@@ -20,13 +20,14 @@ use Rattle.gx_rules.specs.Coordinators.{Coord, new_coordinator}
 use Rattle.gx_rules.specs.Machine.{seg_can}
 use Rattle.gx_rules.specs.Segments.{Seg, new_segment}
 
--- an envelope that was sent on a link in these steps, with the clock of the sender's step
+-- an envelope that was sent on a link in these steps, with the clock of the sender's step; no segment has restarted, so all are in their first incarnation
 pub record IsPosted (steps : List Step) (from to : Node) (number : ℕ) (envelope : Envelope) : Type 0 where
   pub step : ℕ
   pub mark : ℕ
   pub sending : IsSending steps step mark from to number envelope.message
   pub counted : envelope.number ≡ number
   pub clock : envelope.clock ≡ sending.sender.stamp.clock
+  pub incarnation : envelope.incarnation ≡ 1
 
 -- what an event is at its node
 abbrev pub IsHere : List Step → Event → NodeEvent → Type 0

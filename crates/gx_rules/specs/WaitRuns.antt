@@ -104,7 +104,7 @@ abbrev pub waiting_run : World
 waiting_run = drives 14 lost_forget never new_world
 
 abbrev pub hears : World → Message → SegTurn
-hears w told = seg_rule lost_forget (w.segs 2) (Deliver (node 0) (record { number = 4; clock = 0; message = told })) false
+hears w told = seg_rule lost_forget (w.segs 2) (Deliver (node 0) (record { number = 4; clock = 0; incarnation = 1; message = told })) false
 
 -- its command of this number comes to the segment
 abbrev pub exec : ℕ → Message

@@ -124,6 +124,7 @@ message-keeps script s fails (message.Forget g) = order-keeps order.Forget s g f
 message-keeps script s fails (message.Collect round) = collect-keeps s round (nat_lt s.round round) (eqb s.round round)
 message-keeps script s fails (message.Answer g r) = itself s
 message-keeps script s fails (message.Graph round graph) = itself s
+message-keeps script s fails message.Up = itself s
 
 pub event-keeps : (script : Script) (s : Seg) (e : NodeEvent) (fails : Bool) → Keeps s (report_behind s e) (on_event script s e fails).seg
 event-keeps script s (node.Deliver from envelope) fails = message-keeps script s fails envelope.message

@@ -34,9 +34,9 @@ nobody = record { 0 = 0 }
 abbrev pub no_command : Cid
 no_command = record { 0 = 0 }
 
--- a message comes, with its number and its sender's clock
-abbrev pub delivered : Node → ℕ → ℕ → Message → NodeEvent
-delivered from number clock message = Deliver from (record { number = number; clock = clock; message = message })
+-- a message comes, with its number, its sender's clock, and its incarnation
+abbrev pub delivered : Node → ℕ → ℕ → ℕ → Message → NodeEvent
+delivered from number clock incarnation message = Deliver from (record { number = number; clock = clock; incarnation = incarnation; message = message })
 
 -- The step is the rule's, for an append that fails or not: the data with the clock, the marks, which tell the message, and what
 -- the journal took. The horizon doesn't fall.

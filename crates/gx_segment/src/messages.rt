@@ -190,6 +190,6 @@ pub(crate) fn take_message<J: Journal, G: Gate>(
             marks,
         ),
         Message::Collect(round) => collect(alloc, node, held, report, *round, marks),
-        Message::Answer(_, _) | Message::Graph(_, _) => Ok(nothing()),
+        Message::Answer(_, _) | Message::Graph(_, _) | Message::Up => Ok(nothing()),
     }
 }

@@ -113,12 +113,13 @@ impl Segment {
         Ok(())
     }
 
-    /// The same of the delivery of a message that is lent, with its number and its sender's clock.
+    /// The same of the delivery of a message that is lent, with its number, its sender's clock and its incarnation.
     pub fn receive<J: Journal, G: Gate>(
         &mut self,
         from: Node,
         number: u64,
         clock: u64,
+        incarnation: u64,
         message: &Message,
         journal: &mut J,
         gate: &G,
@@ -126,14 +127,14 @@ impl Segment {
     ) -> Mem<()>
         ghost s: { Seg }
         requires is { self.old.spent ≡ false → IsSegment self.old s }
-        requires admitted { seg_can self.old.script.value s (delivered from number clock message.now) ≡ true }
+        requires admitted { seg_can self.old.script.value s (delivered from number clock incarnation message.now) ≡ true }
         requires clock { self.old.clock < 2 ^ 62 }
         requires heard { clock < 2 ^ 62 }
         requires numbers { self.old.sent < 2 ^ 62 }
         requires blank { marks.old.items ≡ [] }
-        ensures stepped { OnOk result (HasStepped self.old self.new s (delivered from number clock message.now) (J.shelf journal.old) (J.shelf journal.new) marks.new.items) }
+        ensures stepped { OnOk result (HasStepped self.old self.new s (delivered from number clock incarnation message.now) (J.shelf journal.old) (J.shelf journal.new) marks.new.items) }
         ensures later { IsLater (J.shelf journal.old) (J.shelf journal.new) }
-        ensures item { IsLaterBy (J.shelf journal.old) (J.shelf journal.new) (seg_rule self.old.script.value s (delivered from number clock message.now) false).item }
+        ensures item { IsLaterBy (J.shelf journal.old) (J.shelf journal.new) (seg_rule self.old.script.value s (delivered from number clock incarnation message.now) false).item }
         ensures spent { OnErr result (self.new.spent ≡ true) }
         ensures again { self.old.spent ≡ true → IsErr result }
         ensures untouched { self.old.spent ≡ true → (J.shelf journal.new).items ≡ (J.shelf journal.old).items }
@@ -154,6 +155,7 @@ impl Segment {
             from,
             number,
             clock,
+            incarnation,
             message,
             journal,
             gate,

@@ -59,7 +59,7 @@ pub(crate) fn step_on<J: Journal, G: Gate>(
     Ok(())
 }
 
-// The same of a message that is lent, with its number and its sender's clock.
+// The same of a message that is lent, with its number, its sender's clock and its incarnation.
 pub(crate) fn receive_on<J: Journal, G: Gate>(
     alloc: Global,
     node: Node,
@@ -72,6 +72,7 @@ pub(crate) fn receive_on<J: Journal, G: Gate>(
     from: Node,
     number: u64,
     heard: u64,
+    incarnation: u64,
     message: &Message,
     journal: &mut J,
     gate: &G,
@@ -89,8 +90,8 @@ pub(crate) fn receive_on<J: Journal, G: Gate>(
     requires early { clock.old < 2 ^ 62 }
     requires heard { heard < 2 ^ 62 }
     requires blank { marks.old.items ≡ [] }
-    ensures gone { OnOk result (HasGone was (delivered from number heard message.now) held.new horizon.new report.new sent.new clock.new (J.shelf journal.old) (J.shelf journal.new) marks.new.items) }
-    ensures later { IsLaterBy (J.shelf journal.old) (J.shelf journal.new) (seg_rule was.script was.seg (delivered from number heard message.now) false).item }
+    ensures gone { OnOk result (HasGone was (delivered from number heard incarnation message.now) held.new horizon.new report.new sent.new clock.new (J.shelf journal.old) (J.shelf journal.new) marks.new.items) }
+    ensures later { IsLaterBy (J.shelf journal.old) (J.shelf journal.new) (seg_rule was.script was.seg (delivered from number heard incarnation message.now) false).item }
 {
     *clock = clock_behind(*clock, heard);
     let done = take_message(

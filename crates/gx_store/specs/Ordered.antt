@@ -27,6 +27,7 @@ IsAtNode script node (mark.Wait n g object mode) = n ≡ node
 IsAtNode script node (mark.Release n g object mode) = n ≡ node
 IsAtNode script node (mark.Prepared n g) = (n ≡ node) × IsSegment script node
 IsAtNode script node (mark.LocalCommit n g) = (n ≡ node) × IsSegment script node
+IsAtNode script node (mark.Restart n) = (n ≡ node) × IsSegment script node
 IsAtNode script node (mark.JournalFailed n g) = n ≡ node
 IsAtNode script node (mark.Report n round graph) = n ≡ node
 IsAtNode script node (mark.Sent to number told) = IsLink script node to
@@ -74,6 +75,7 @@ IsEventAt script steps step (event.Start session) = step.stamp.node ≡ the_coor
 IsEventAt script steps step (event.End session) = step.stamp.node ≡ the_coordinator
 IsEventAt script steps step (event.Resend segment g) = step.stamp.node ≡ the_coordinator
 IsEventAt script steps step event.Round = step.stamp.node ≡ the_coordinator
+IsEventAt script steps step (event.Restart segment) = step.stamp.node ≡ segment
 
 -- the clock of a node's last step, or 0
 abbrev pub clock_of : Node → List Step → ℕ

@@ -18,7 +18,7 @@ use Rattle.gx_msg.specs.declared.reply.Cause.{Cause}
 use Rattle.gx_msg.specs.declared.reply.Cause.TheVariants as cause
 use Rattle.gx_script.specs.declared.Script.{Script}
 use Rattle.gx_store.specs.declared.answer.Refused.{Refused as Reason}
-use Rattle.gx_store.specs.declared.answer.Refused.TheVariants.{Serialization, Victim, Overflow, DivisionByZero, InFailedBlock, JournalFault, NotInBlock}
+use Rattle.gx_store.specs.declared.answer.Refused.TheVariants.{Serialization, Victim, Overflow, DivisionByZero, InFailedBlock, JournalFault, NotInBlock, Restarted}
 use Rattle.gx_store.specs.declared.answer.StmtAnswer.{StmtAnswer}
 use Rattle.gx_store.specs.declared.answer.StmtAnswer.TheVariants.{Begin, Commit, Rollback, Refused}
 use Rattle.gx_store.specs.declared.mark.Mark.{Mark}
@@ -102,6 +102,7 @@ IsReason point line level g c DivisionByZero = IsFaulted point line level g c ar
 IsReason point line level g c (JournalFault node) = HasJournalFailed point g node
 IsReason point line level g c InFailedBlock = ⊥
 IsReason point line level g c NotInBlock = ⊥
+IsReason point line level g c (Restarted node) = ⊥
 
 -- a line that has a transaction is refused for a reason, in the step in which the transaction aborts
 pub record IsRefusedFor (point : Point) (session : SessionId) (state : BlockState) (line : Stmt) (reason : Reason) : Type 0 where

@@ -24,7 +24,7 @@ use Rattle.gx_script.specs.declared.Script.{Script}
 use Rattle.gx_waits.specs.declared.graph.LocalGraph.{LocalGraph}
 use Rattle.gx_waits.specs.declared.verdict.Verdict.TheVariants.{Victims}
 use Rattle.gx_store.specs.declared.answer.Refused.{Refused}
-use Rattle.gx_store.specs.declared.answer.Refused.TheVariants.{Serialization, Victim, Overflow, DivisionByZero, InFailedBlock, JournalFault, NotInBlock}
+use Rattle.gx_store.specs.declared.answer.Refused.TheVariants.{Serialization, Victim, Overflow, DivisionByZero, InFailedBlock, JournalFault, NotInBlock, Restarted}
 use Rattle.gx_store.specs.declared.mark.Mark.{Mark}
 use Rattle.gx_store.specs.declared.mark.Mark.TheVariants.{Fault, JournalFailed, Recheck}
 use Rattle.gx_store.specs.declared.run.Step.{Step}
@@ -138,6 +138,7 @@ HasJournalFailed point g node = failed_at node.0
     failed_at zero = Contains point.earlier (JournalFailed node g)
     failed_at (suc i) = Receives point.steps point.event node the_coordinator (message.Answer g reply.Jfault) × Contains (before point) (JournalFailed node g)
 
+-- no segment restarts yet
 abbrev pub IsCause : Point → Stmt → Level → Gxid → Cid → Refused → Type 0
 IsCause point stmt level g c (Serialization rid h) = IsOvertaken point stmt level g c rid h
 IsCause point stmt level g c (Victim round) = IsNamed point.earlier round g
@@ -146,6 +147,7 @@ IsCause point stmt level g c DivisionByZero = HasFaulted point stmt level g c ar
 IsCause point stmt level g c (JournalFault node) = HasJournalFailed point g node
 IsCause point stmt level g c InFailedBlock = ⊥
 IsCause point stmt level g c NotInBlock = ⊥
+IsCause point stmt level g c (Restarted node) = ⊥
 
 abbrev pub is_journal : Refused → Bool
 is_journal (JournalFault node) = true

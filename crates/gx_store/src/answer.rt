@@ -33,4 +33,6 @@ pub enum Refused {
     JournalFault(Node),
     /// LOCK TABLE outside a block.
     NotInBlock,
+    /// The segment has restarted since the transaction came there.
+    Restarted(Node),
 }

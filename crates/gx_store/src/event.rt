@@ -17,6 +17,8 @@ pub enum Event {
     Resend { segment: Node, gxid: Option<Gxid> },
     /// The detector begins a round.
     Round,
+    /// The segment loses all that it holds in memory, and rebuilds itself from its journal.
+    Restart(Node),
 }
 
 /// The event that a word draws among these: the one at the word's remainder by their number. None where there is none.

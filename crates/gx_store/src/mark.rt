@@ -96,6 +96,10 @@ pub enum Mark {
         node: Node,
         gxid: Gxid,
     },
+    /// A segment has restarted: what it held in memory is lost.
+    Restart {
+        node: Node,
+    },
     /// The node of this step sent a message, under the next number of its link.
     Sent {
         to: Node,

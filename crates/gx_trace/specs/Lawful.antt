@@ -110,6 +110,7 @@ abbrev pub IsRefused : Refused → Type 0
 IsRefused (refused.Serialization rid newer) = IsRid rid × IsGxid newer
 IsRefused (refused.Victim round) = round < 2 ^ 64
 IsRefused (refused.JournalFault node) = IsNode node
+IsRefused (refused.Restarted segment) = IsNode segment
 IsRefused _ = Unit {0}
 
 -- counts are below 2 ^ 64
@@ -130,6 +131,7 @@ IsEvent script (event.End session) = IsSession script session
 IsEvent script (event.Resend segment (Some gxid)) = IsNode segment × IsGxid gxid
 IsEvent script (event.Resend segment None) = IsNode segment
 IsEvent script event.Round = Unit {0}
+IsEvent script (event.Restart segment) = IsNode segment
 
 -- MARKS
 -- its own conditions (who runs rises, below its bounds) are the type's
@@ -171,6 +173,7 @@ IsMessage (message.Forget gxid) = IsGxid gxid
 IsMessage (message.Collect round) = round < 2 ^ 64
 IsMessage (message.Answer gxid reply) = IsGxid gxid × IsReply reply
 IsMessage (message.Graph round graph) = round < 2 ^ 64
+IsMessage message.Up = Unit {0}
 
 -- a message's name and numbers, as printed
 abbrev pub IsMessageText : List ℕ → Type 0
@@ -197,6 +200,7 @@ IsWhole script (mark.Prepared node gxid) = IsNode node × IsGxid gxid
 IsWhole script (mark.LocalCommit node gxid) = IsNode node × IsGxid gxid
 IsWhole script (mark.Decided gxid) = IsGxid gxid
 IsWhole script (mark.JournalFailed node gxid) = IsNode node × IsGxid gxid
+IsWhole script (mark.Restart node) = IsNode node
 IsWhole script (mark.Sent to number message) = ⊥
 IsWhole script (mark.Report node round graph) = IsNode node × (node ≢ the_coordinator) × (round < 2 ^ 64) × IsGraph node graph
 IsWhole script (mark.Recheck round own verdict) = (round < 2 ^ 64) × IsGraph the_coordinator own × IsVerdict verdict

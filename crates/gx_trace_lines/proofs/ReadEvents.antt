@@ -19,7 +19,7 @@ use Rattle.gx_trace.proofs.ReadFields.{counts, gxids, nodes}
 use Rattle.gx_trace.proofs.Readers.{behind-word, made-into, numbers-below, one-behind-other}
 use Rattle.gx_trace.proofs.Wholes.{not-word}
 use Rattle.gx_trace_lines.specs.Choices.{just, nothing, on, on_by}
-use Rattle.gx_trace_lines.specs.Events.{IsMoment, end_of, ended, event_at, moment, moment_of, moment_text, receive, receive_of, resend, resend_of, resume, resume_of, some_of, stamp, stamp_of, start_of, started, whose}
+use Rattle.gx_trace_lines.specs.Events.{IsMoment, end_of, ended, event_at, moment, moment_of, moment_text, receive, receive_of, resend, resend_of, restart, restart_of, resume, resume_of, some_of, stamp, stamp_of, start_of, started, whose}
 use Rattle.gx_trace_lines.specs.declared.events.Moment.{Moment}
 use Rattle.gx_trace_lines.proofs.FirstWords.{IsSoundBehind, as-sound, made-again, made-sound, nothing-sound, on-sound}
 use Rattle.gx_trace_lines.proofs.ReadHeads.{ends-number}
@@ -77,6 +77,9 @@ module _ (script : Script) where
   resume-text : (x : Node × Gxid) → text (resume_of x) ≡ codes " resume" ++ (number_text x.0.0 ++ gxid_text x.1)
   resume-text x = simp (append_assoc, append-nil)
 
+  restart-text : (n : Node) → text (restart_of n) ≡ codes " restart" ++ number_text n.0
+  restart-text n = simp (append_assoc, append-nil)
+
   event-again : (e : Event) (rest : List ℕ) → IsEvent script e → IsEnd rest → event_at script (text e ++ rest) ≡ Some (e, rest)
   event-again (event.Receive from to number) rest is end =
       made-again text (event_at script) (codes " recv") receive_of receives (λ bytes. refl) (from, (to, number)) rest (is.0, (is.1, is.2)) (ends-number rest end) (receive-text (from, (to, number)))
@@ -86,6 +89,7 @@ module _ (script : Script) where
   event-again (event.Resend n None) rest is end = made-again text (event_at script) (codes " resend") resend_of resends (λ bytes. refl) (n, None) rest (is, tt) end (resend-whole (n, None) (is, tt)).1
   event-again (event.Resend n (Some g)) rest is end = made-again text (event_at script) (codes " resend") resend_of resends (λ bytes. refl) (n, Some g) rest is end (resend-whole (n, Some g) is).1
   event-again event.Round rest is end = refl
+  event-again (event.Restart n) rest is end = made-again text (event_at script) (codes " restart") restart_of nodes (λ bytes. refl) n rest is (ends-number rest end) (restart-text n)
 
   event-sound : IsSoundBehind [] text (IsEvent script) (event_at script)
   event-sound =
@@ -94,7 +98,8 @@ module _ (script : Script) where
       (on-sound text (IsEvent script) (codes " start") (made-sound (codes " start") text (IsEvent script) start_of (sessions script) (λ x is. (is, refl)))
       (on-sound text (IsEvent script) (codes " end") (made-sound (codes " end") text (IsEvent script) end_of (sessions script) (λ x is. (is, refl)))
       (on-sound text (IsEvent script) (codes " resend") (made-sound (codes " resend") text (IsEvent script) resend_of resends resend-whole)
-      (on-sound text (IsEvent script) (codes " round") (as-sound text (IsEvent script) event.Round tt) (nothing-sound text (IsEvent script)))))))
+      (on-sound text (IsEvent script) (codes " round") (as-sound text (IsEvent script) event.Round tt)
+      (on-sound text (IsEvent script) (codes " restart") (made-sound (codes " restart") text (IsEvent script) restart_of nodes (λ x is. (is, restart-text x))) (nothing-sound text (IsEvent script))))))))
 
   events : IsReaderOf text (IsEvent script) IsEnd (event_at script)
   events = record { again = event-again; sound = λ bytes rest a e. event-sound bytes rest a e }

@@ -20,7 +20,7 @@ use Rattle.gx_trace.proofs.Readers.{behind-word, numbers-below, one-behind-other
 use Rattle.gx_trace.proofs.Words.{if-true, word-again, word-sound}
 use Rattle.gx_trace_lines.specs.Answers.{answer_head, answer_head_text, behind_number, exactly, kept_number}
 use Rattle.gx_trace_lines.specs.Choices.{just, nothing, on}
-use Rattle.gx_trace_lines.specs.Heads.{IsHead, counted, deleted_of, head, head_text, inserted_of, journal, journal_of, refusal, refused_head, refused_of, refused_text, rows_of, serialization, serialization_of, updated_of, victim, victim_of}
+use Rattle.gx_trace_lines.specs.Heads.{IsHead, counted, deleted_of, head, head_text, inserted_of, journal, journal_of, restarted, restarted_of, refusal, refused_head, refused_of, refused_text, rows_of, serialization, serialization_of, updated_of, victim, victim_of}
 use Rattle.gx_trace_lines.specs.declared.heads.AnswerHead.{AnswerHead}
 use Rattle.gx_trace_lines.specs.declared.heads.AnswerHead.TheVariants.{Said, Rows}
 use Rattle.gx_trace_lines.proofs.FirstWords.{IsSoundBehind, as-sound, made-again, made-sound, nothing-sound, on-sound}
@@ -39,6 +39,9 @@ serializations = one-behind-other rids (behind-word (codes " changed by") gxids)
 journals : IsReaderOf (λ (x : Node × Unit {0}). number_text x.0.0 ++ codes " failed") (λ x. IsNode x.0 × Unit {0}) EndsNumber (both node (word (codes " failed")))
 journals = one-behind-other nodes (words (codes " failed")) (λ b rest is ends. refl)
 
+restarts : IsReaderOf (λ (x : Node × Unit {0}). number_text x.0.0 ++ codes " restarted") (λ x. IsNode x.0 × Unit {0}) EndsNumber (both node (word (codes " restarted")))
+restarts = one-behind-other nodes (words (codes " restarted")) (λ b rest is ends. refl)
+
 refusal-again : (why : Refused) (rest : List ℕ) → IsRefused why → IsEnd rest → refusal (refused_text why ++ rest) ≡ Some (why, rest)
 refusal-again (refused.Serialization rid newer) rest is end =
     made-again refused_text refusal (codes "ERROR 1 serialization row") serialization_of serializations (λ bytes. refl) (rid, newer) rest is (ends-number rest end) refl
@@ -49,6 +52,8 @@ refusal-again refused.InFailedBlock rest is end = refl
 refusal-again (refused.JournalFault node) rest is end =
     made-again refused_text refusal (codes "ERROR 6 journal of node") journal_of journals (λ bytes. refl) (node, tt) rest (is, tt) (ends-number rest end) refl
 refusal-again refused.NotInBlock rest is end = refl
+refusal-again (refused.Restarted node) rest is end =
+    made-again refused_text refusal (codes "ERROR 8 segment") restarted_of restarts (λ bytes. refl) (node, tt) rest (is, tt) (ends-number rest end) refl
 
 refusal-sound : IsSoundBehind [] refused_text IsRefused refusal
 refusal-sound =
@@ -58,7 +63,8 @@ refusal-sound =
     (on-sound refused_text IsRefused (codes "ERROR 4 division by zero") (as-sound refused_text IsRefused refused.DivisionByZero tt)
     (on-sound refused_text IsRefused (codes "ERROR 5 block has failed") (as-sound refused_text IsRefused refused.InFailedBlock tt)
     (on-sound refused_text IsRefused (codes "ERROR 6 journal of node") (made-sound (codes "ERROR 6 journal of node") refused_text IsRefused journal_of journals (λ a is. (is.0, refl)))
-    (on-sound refused_text IsRefused (codes "ERROR 7 not in a block") (as-sound refused_text IsRefused refused.NotInBlock tt) (nothing-sound refused_text IsRefused)))))))
+    (on-sound refused_text IsRefused (codes "ERROR 7 not in a block") (as-sound refused_text IsRefused refused.NotInBlock tt)
+    (on-sound refused_text IsRefused (codes "ERROR 8 segment") (made-sound (codes "ERROR 8 segment") refused_text IsRefused restarted_of restarts (λ a is. (is.0, refl))) (nothing-sound refused_text IsRefused))))))))
 
 refusals : IsReaderOf refused_text IsRefused IsEnd refusal
 refusals = record { again = refusal-again; sound = λ bytes rest a e. refusal-sound bytes rest a e }
@@ -72,6 +78,7 @@ no-other refused.DivisionByZero rest = refl
 no-other refused.InFailedBlock rest = refl
 no-other (refused.JournalFault node) rest = refl
 no-other refused.NotInBlock rest = refl
+no-other (refused.Restarted node) rest = refl
 
 counted-again : (w : List ℕ) (f : ℕ → AnswerHead) → ((n : ℕ) → head_text (f n) ≡ w ++ number_text n) → ((bytes : List ℕ) → head (w ++ bytes) ≡ counted f bytes)
     → (n : ℕ) (rest : List ℕ) → n < 2 ^ 64 → IsEnd rest → head (head_text (f n) ++ rest) ≡ Some (f n, rest)

@@ -46,7 +46,7 @@ use Rattle.gx_trace.proofs.Rows.{images}
 use Rattle.gx_trace.proofs.Words.{if-true}
 use Rattle.gx_trace_lines.specs.Edges.{are_in_order}
 use Rattle.gx_trace_lines.specs.Marks.{IsAlone, IsMarkLine, abort_of, addressed, answer_of, begin_of, colon_of, command, command_at, command_on, commit_of, decided_of, dropped_of, ended_of, fault_of, graph, hold_of, journal_of, kept_order}
-use Rattle.gx_trace_lines.specs.Marks.{local_of, locked, mark_line, mark_line_text, node_and_gxid, prepared_of, release_of, report_of, reported, round, sent_of, skip_of, snap_of, spot, verdict_at, victims_of, wait_of, write_of}
+use Rattle.gx_trace_lines.specs.Marks.{local_of, locked, mark_line, mark_line_text, node_and_gxid, prepared_of, release_of, report_of, restart_of, reported, round, sent_of, skip_of, snap_of, spot, verdict_at, victims_of, wait_of, write_of}
 use Rattle.gx_trace_lines.specs.Messages.{message}
 use Rattle.gx_trace_lines.specs.Snapshots.{snapshot}
 use Rattle.gx_trace_lines.specs.declared.marks.MarkLine.{MarkLine}
@@ -234,6 +234,9 @@ module _ (script : Script) where
   journal-text : (x : Node × Gxid) → text (journal_of x) ≡ codes "journal" ++ (number_text x.0.0 ++ gxid_text x.1)
   journal-text x = simp (append_assoc, append-nil)
 
+  restart-text : (n : Node) → text (restart_of n) ≡ codes "restart" ++ number_text n.0
+  restart-text n = simp (append_assoc, append-nil)
+
   send-text : (x : (Node × ℕ) × List ℕ) → text (sent_of x) ≡ codes "send" ++ ((number_text x.0.0.0 ++ number_text x.0.1) ++ word_text x.1)
   send-text x = two-and (codes "send") (number_text x.0.0.0) (number_text x.0.1) (word_text x.1)
 
@@ -309,6 +312,7 @@ module _ (script : Script) where
   line-again (Alone (seen.Whole (mark.Prepared n g))) rest is end = made-again text read (codes "prepared") prepared_of at-nodes (λ bytes. refl) (n, g) rest is (ends-number rest end) (prepared-text (n, g))
   line-again (Alone (seen.Whole (mark.LocalCommit n g))) rest is end = made-again text read (codes "local") local_of at-nodes (λ bytes. refl) (n, g) rest is (ends-number rest end) (local-text (n, g))
   line-again (Alone (seen.Whole (mark.JournalFailed n g))) rest is end = made-again text read (codes "journal") journal_of at-nodes (λ bytes. refl) (n, g) rest is (ends-number rest end) (journal-text (n, g))
+  line-again (Alone (seen.Whole (mark.Restart n))) rest is end = made-again text read (codes "restart") restart_of nodes (λ bytes. refl) n rest is (ends-number rest end) (restart-text n)
   line-again (Alone (seen.Sent to n m)) rest is end = made-again text read (codes "send") sent_of sendings (λ bytes. refl) ((to, n), m) rest ((is.0, is.1), is.2) end (send-text ((to, n), m))
   line-again (Alone (seen.Whole (mark.Write g c n t r i))) rest is end =
       made-again text read (codes "write") write_of (writes script) (λ bytes. refl) (((g, c), (n, (t, r))), i) rest (((is.0, is.1), (is.2, (is.3, is.4))), is.5) end (write-text (((g, c), (n, (t, r))), i))
@@ -353,7 +357,8 @@ module _ (script : Script) where
       (on-sound text Is (codes "report") (made-sound (codes "report") text Is report_of reports report-whole)
       (on-sound text Is (codes "recheck") (made-sound (codes "recheck") text Is ended_of rechecks (λ x is. (is, recheck-text x)))
       (on-sound text Is (codes "snap") (made-sound (codes "snap") text Is snap_of snaps (λ x is. ((is.0.0, is.0.1, is.1), snap-text x)))
-      (nothing-sound text Is))))))))))))))))))
+      (on-sound text Is (codes "restart") (made-sound (codes "restart") text Is restart_of nodes (λ x is. (is, restart-text x)))
+      (nothing-sound text Is)))))))))))))))))))
 
 pub mark-lines : (script : Script) → IsReaderOf (mark_line_text script) (IsMarkLine script) IsEnd (mark_line script)
 mark-lines script = record { again = line-again script; sound = λ bytes rest m e. line-sound script bytes rest m e }

@@ -25,8 +25,8 @@ use Rattle.gx_trace.specs.Readers.{Front, behind, both, EndsNumber, IsEnd, IsRea
 use Rattle.gx_trace.proofs.ReadFields.{cids, counts, gxids}
 use Rattle.gx_trace.proofs.Readers.{behind-word, one-behind-other}
 use Rattle.gx_trace.proofs.Words.{if-true}
-use Rattle.gx_trace_lines.specs.Messages.{commanded, is_all, is_message, is_numbered, is_of_command, is_of_slice, is_reply, is_request, message as read_message, message_words, numbered}
-use Rattle.gx_trace_lines.proofs.ReadHeads.{ends-number}
+use Rattle.gx_trace_lines.specs.Messages.{commanded, is_all, is_message, is_numbered, is_of_command, is_of_restart, is_of_slice, is_reply, is_request, is_up, message as read_message, message_words, numbered}
+use Rattle.gx_trace_lines.proofs.ReadHeads.{ends-number, words}
 
 numbers : (name : List ℕ) → IsReaderOf (λ n. name ++ number_text n) (λ n. n < 2 ^ 64) EndsNumber (numbered name)
 numbers name = behind-word name counts
@@ -143,9 +143,25 @@ replied bytes e =
           ]
     ]
 
+up-is : (bytes : List ℕ) → is_up bytes ≡ true → IsMessageText bytes
+up-is bytes e = let (x, whole, t) = all-there (words (codes "up")) bytes e in (message.Up, tt, t)
+
+of-restart : (bytes : List ℕ) → is_of_restart bytes ≡ true → IsMessageText bytes
+of-restart bytes e =
+    elim (either-of (is_numbered (codes "restarted") bytes) (is_up bytes) e) [
+      | inl h ↦ numbered-is (codes "restarted") bytes (λ n. message.Answer (of_txn n) reply.Restarted) (λ n small. ((small, tt), refl)) h
+      | inr h ↦ up-is bytes h
+    ]
+
 message-sound : (bytes : List ℕ) → is_message bytes ≡ true → IsMessageText bytes
 message-sound bytes e =
-    elim (either-of (is_of_slice bytes) _ e) [ inl h ↦ of-slice bytes h | inr h ↦ elim (either-of (is_request bytes) _ h) [ inl k ↦ request bytes k | inr k ↦ replied bytes k ] ]
+    elim (either-of (is_of_slice bytes) _ e) [
+      | inl h ↦ of-slice bytes h
+      | inr h ↦ elim (either-of (is_request bytes) _ h) [
+        | inl k ↦ request bytes k
+        | inr k ↦ elim (either-of (is_reply bytes) (is_of_restart bytes) k) [ inl j ↦ replied bytes j | inr j ↦ of-restart bytes j ]
+      ]
+    ]
 
 -- TO WORDS
 numbered-there : (name : List ℕ) (n : ℕ) → n < 2 ^ 64 → is_numbered name (name ++ number_text n) ≡ true
@@ -155,13 +171,20 @@ commanded-there : (name : List ℕ) (g : Gxid) (c : Cid) (text : List ℕ) → I
 commanded-there name g c text is same = ap (is_of_command name) same ∙ there-all (commands name) (g, c) is
 
 is-slice : (bytes : List ℕ) → is_of_slice bytes ≡ true → is_message bytes ≡ true
-is-slice bytes e = left-of (is_of_slice bytes) (is_request bytes || is_reply bytes) e
+is-slice bytes e = left-of (is_of_slice bytes) (is_request bytes || (is_reply bytes || is_of_restart bytes)) e
 
 is-request : (bytes : List ℕ) → is_request bytes ≡ true → is_message bytes ≡ true
-is-request bytes e = right-of (is_of_slice bytes) (is_request bytes || is_reply bytes) (left-of (is_request bytes) (is_reply bytes) e)
+is-request bytes e = right-of (is_of_slice bytes) (is_request bytes || (is_reply bytes || is_of_restart bytes)) (left-of (is_request bytes) (is_reply bytes || is_of_restart bytes) e)
 
 is-reply : (bytes : List ℕ) → is_reply bytes ≡ true → is_message bytes ≡ true
-is-reply bytes e = right-of (is_of_slice bytes) (is_request bytes || is_reply bytes) (right-of (is_request bytes) (is_reply bytes) e)
+is-reply bytes e =
+    right-of (is_of_slice bytes) (is_request bytes || (is_reply bytes || is_of_restart bytes))
+    (right-of (is_request bytes) (is_reply bytes || is_of_restart bytes) (left-of (is_reply bytes) (is_of_restart bytes) e))
+
+is-of-restart : (bytes : List ℕ) → is_of_restart bytes ≡ true → is_message bytes ≡ true
+is-of-restart bytes e =
+    right-of (is_of_slice bytes) (is_request bytes || (is_reply bytes || is_of_restart bytes))
+    (right-of (is_request bytes) (is_reply bytes || is_of_restart bytes) (right-of (is_reply bytes) (is_of_restart bytes) e))
 
 exec-is : (t : List ℕ) → is_of_command (codes "exec") t ≡ true → is_message t ≡ true
 exec-is t e = is-slice t (left-of (is_of_command (codes "exec") t) (is_of_command (codes "done") t || is_of_command (codes "failed") t) e)
@@ -277,6 +300,12 @@ graph-is t e = is-reply t
     (right-of (is_numbered (codes "aborted") t) (is_numbered (codes "forgotten") t || is_numbered (codes "graph") t)
     (right-of (is_numbered (codes "forgotten") t) (is_numbered (codes "graph") t) e))))))
 
+restarted-is : (t : List ℕ) → is_numbered (codes "restarted") t ≡ true → is_message t ≡ true
+restarted-is t e = is-of-restart t (left-of (is_numbered (codes "restarted") t) (is_up t) e)
+
+up-there : is_message (codes "up") ≡ true
+up-there = is-of-restart (codes "up") (right-of (is_numbered (codes "restarted") (codes "up")) (is_up (codes "up")) (there-all (words (codes "up")) tt tt))
+
 reply-there : (g : Gxid) (r : Reply) → IsGxid g × IsReply r → is_message (text_of_message (message.Answer g r)) ≡ true
 reply-there g (reply.Done c wrote count part) is =
     done-is (text_of_message (message.Answer g (reply.Done c wrote count part))) (commanded-there (codes "done") g c (text_of_message (message.Answer g (reply.Done c wrote count part))) is (simp append_assoc))
@@ -288,6 +317,7 @@ reply-there g reply.Jfault is = jfault-is (codes "jfault" ++ number_text g.0) (n
 reply-there g reply.Again is = again-is (codes "again" ++ number_text g.0) (numbered-there (codes "again") g.0 is.0)
 reply-there g reply.Aborted is = aborted-is (codes "aborted" ++ number_text g.0) (numbered-there (codes "aborted") g.0 is.0)
 reply-there g reply.Forgotten is = forgotten-is (codes "forgotten" ++ number_text g.0) (numbered-there (codes "forgotten") g.0 is.0)
+reply-there g reply.Restarted is = restarted-is (codes "restarted" ++ number_text g.0) (numbered-there (codes "restarted") g.0 is.0)
 
 message-there : (m : Message) → IsMessage m → is_message (text_of_message m) ≡ true
 message-there (message.Exec g c level snapshot horizon part) is =
@@ -300,6 +330,7 @@ message-there (message.Forget g) is = forget-is (codes "forget" ++ number_text g
 message-there (message.Collect round) is = collect-is (codes "collect" ++ number_text round) (numbered-there (codes "collect") round is)
 message-there (message.Answer g r) is = reply-there g r is
 message-there (message.Graph round graph) is = graph-is (codes "graph" ++ number_text round) (numbered-there (codes "graph") round is)
+message-there message.Up is = up-there
 
 words-by : (bytes text rest : List ℕ) (c : Bool) → is_message bytes ≡ c → ◌≡◌ {A = Front (List ℕ)} (if c then Some (bytes, []) else None) (Some (text, rest)) → IsMessageText text × (bytes ≡ text ++ rest)
 words-by bytes text rest false is e = absurd (none-some _ e)

@@ -42,6 +42,9 @@ end_of s = event.End s
 abbrev pub resend_of : Node × Option Gxid → Event
 resend_of x = event.Resend x.0 x.1
 
+abbrev pub restart_of : Node → Event
+restart_of n = event.Restart n
+
 abbrev pub some_of : Gxid → Option Gxid
 some_of g = Some g
 
@@ -64,6 +67,9 @@ whose = on (codes " round") (just None) (λ bytes. made some_of (gxid bytes))
 abbrev pub resend : List ℕ → Front Event
 resend bytes = made resend_of (both node whose bytes)
 
+abbrev pub restart : List ℕ → Front Event
+restart bytes = made restart_of (node bytes)
+
 abbrev pub event_at : Script → List ℕ → Front Event
 event_at script =
     on (codes " recv") receive
@@ -71,7 +77,8 @@ event_at script =
     (on (codes " start") (started script)
     (on (codes " end") (ended script)
     (on (codes " resend") resend
-    (on (codes " round") (just event.Round) nothing)))))
+    (on (codes " round") (just event.Round)
+    (on (codes " restart") restart nothing))))))
 
 abbrev pub stamp_of : ℕ × ℕ → Stamp
 stamp_of x = record { clock = x.0; node = node_of x.1 }

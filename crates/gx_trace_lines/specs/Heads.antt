@@ -26,6 +26,7 @@ refused_text refused.DivisionByZero = codes "ERROR 4 division by zero"
 refused_text refused.InFailedBlock = codes "ERROR 5 block has failed"
 refused_text (refused.JournalFault node) = codes "ERROR 6 journal of node" ++ (number_text node.0 ++ codes " failed")
 refused_text refused.NotInBlock = codes "ERROR 7 not in a block"
+refused_text (refused.Restarted segment) = codes "ERROR 8 segment" ++ (number_text segment.0 ++ codes " restarted")
 
 -- an answer that has no rows
 abbrev pub said_text : StmtAnswer → List ℕ
@@ -61,6 +62,9 @@ victim_of n = refused.Victim n
 abbrev pub journal_of : Node × Unit {0} → Refused
 journal_of x = refused.JournalFault x.0
 
+abbrev pub restarted_of : Node × Unit {0} → Refused
+restarted_of x = refused.Restarted x.0
+
 abbrev pub serialization : List ℕ → Front Refused
 serialization bytes = made serialization_of (both rid (behind (codes " changed by") gxid) bytes)
 
@@ -70,6 +74,9 @@ victim bytes = made victim_of (count bytes)
 abbrev pub journal : List ℕ → Front Refused
 journal bytes = made journal_of (both node (word (codes " failed")) bytes)
 
+abbrev pub restarted : List ℕ → Front Refused
+restarted bytes = made restarted_of (both node (word (codes " restarted")) bytes)
+
 abbrev pub refusal : List ℕ → Front Refused
 refusal =
     on (codes "ERROR 1 serialization row") serialization
@@ -78,7 +85,8 @@ refusal =
     (on (codes "ERROR 4 division by zero") (just refused.DivisionByZero)
     (on (codes "ERROR 5 block has failed") (just refused.InFailedBlock)
     (on (codes "ERROR 6 journal of node") journal
-    (on (codes "ERROR 7 not in a block") (just refused.NotInBlock) nothing))))))
+    (on (codes "ERROR 7 not in a block") (just refused.NotInBlock)
+    (on (codes "ERROR 8 segment") restarted nothing)))))))
 
 abbrev pub refused_of : Refused → AnswerHead
 refused_of why = Said (answer.Refused why)

@@ -83,6 +83,9 @@ local_of x = whole (mark.LocalCommit x.0 x.1)
 abbrev pub journal_of : Node × Gxid → MarkLine
 journal_of x = whole (mark.JournalFailed x.0 x.1)
 
+abbrev pub restart_of : Node → MarkLine
+restart_of n = whole (mark.Restart n)
+
 abbrev pub answer_of : SessionId × ℕ → MarkLine
 answer_of x = Alone (seen.Answer x.0 x.1)
 
@@ -100,6 +103,9 @@ node_and_gxid = both node gxid
 
 abbrev pub at_node : (Node × Gxid → MarkLine) → List ℕ → Front MarkLine
 at_node f bytes = made f (node_and_gxid bytes)
+
+abbrev pub restarted : List ℕ → Front MarkLine
+restarted bytes = made restart_of (node bytes)
 
 abbrev pub answered : Script → List ℕ → Front MarkLine
 answered script bytes = made answer_of (both (session script) (behind (codes ".") (number_below (2 ^ 32))) bytes)
@@ -214,7 +220,7 @@ recheck bytes = made ended_of (both round verdict_at bytes)
 
 -- BY ITS WORD
 abbrev pub detector_mark : List ℕ → Front MarkLine
-detector_mark = on (codes "report") report (on (codes "recheck") recheck (on (codes "snap") snapped nothing))
+detector_mark = on (codes "report") report (on (codes "recheck") recheck (on (codes "snap") snapped (on (codes "restart") restarted nothing)))
 
 abbrev pub lock_mark : Script → List ℕ → Front MarkLine
 lock_mark script = on (codes "hold") (lock script hold_of) (on (codes "wait") (lock script wait_of) (on (codes "release") (lock script release_of) detector_mark))

@@ -3,7 +3,7 @@ use Rattle.std.specs.Prelude.{ℕ, Bool, true, false, ◌||◌, if◌then◌else
 use Rattle.gx_ids.specs.declared.ids.Cid.{Cid}
 use Rattle.gx_ids.specs.declared.ids.Gxid.{Gxid}
 use Rattle.gx_trace.specs.Fields.{cid, count, gxid}
-use Rattle.gx_trace.specs.Readers.{Front, behind, both}
+use Rattle.gx_trace.specs.Readers.{Front, behind, both, word}
 
 -- something was read, and nothing is left
 abbrev pub is_all : {A : Type 0} → Front A → Bool
@@ -41,8 +41,15 @@ is_reply bytes =
     is_numbered (codes "prepared") bytes || (is_numbered (codes "committed") bytes || (is_numbered (codes "jfault") bytes || (is_numbered (codes "again") bytes
     || (is_numbered (codes "aborted") bytes || (is_numbered (codes "forgotten") bytes || is_numbered (codes "graph") bytes)))))
 
+abbrev pub is_up : List ℕ → Bool
+is_up bytes = is_all (word (codes "up") bytes)
+
+-- what a segment says that has restarted
+abbrev pub is_of_restart : List ℕ → Bool
+is_of_restart bytes = is_numbered (codes "restarted") bytes || is_up bytes
+
 abbrev pub is_message : List ℕ → Bool
-is_message bytes = is_of_slice bytes || (is_request bytes || is_reply bytes)
+is_message bytes = is_of_slice bytes || (is_request bytes || (is_reply bytes || is_of_restart bytes))
 
 -- a message, to the end
 abbrev pub message_words : List ℕ → Front (List ℕ)

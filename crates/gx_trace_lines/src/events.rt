@@ -67,6 +67,13 @@ fn resend<'a>(cursor: &mut Cursor<'a>) -> Option<Event>
     Some(Event::Resend { segment, gxid })
 }
 
+fn restart<'a>(cursor: &mut Cursor<'a>) -> Option<Event>
+    ensures { IsRead result cursor.new (of.restart cursor.old) }
+{
+    let segment = cursor.node()?;
+    Some(Event::Restart(segment))
+}
+
 fn event<'a>(cursor: &mut Cursor<'a>, script: &Script) -> Option<Event>
     ensures { IsRead result cursor.new (of.event_at script.now cursor.old) }
 {
@@ -82,6 +89,8 @@ fn event<'a>(cursor: &mut Cursor<'a>, script: &Script) -> Option<Event>
         resend(cursor)
     } else if skips(cursor, b" round") {
         Some(Event::Round)
+    } else if skips(cursor, b" restart") {
+        restart(cursor)
     } else {
         None
     }

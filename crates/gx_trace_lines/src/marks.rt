@@ -11,7 +11,7 @@ use crate::locking::{hold, release, wait};
 use crate::rows::{fault, skipped, write};
 use crate::snapshots::snapped;
 use crate::transactions::{
-    abort, answered, begin, commit, decided, journal, local, prepared, sent,
+    abort, answered, begin, commit, decided, journal, local, prepared, restarted, sent,
 };
 use gx_ids::{Mem, Seq};
 use gx_script::Script;
@@ -38,6 +38,8 @@ fn detector_mark<'a>(alloc: Global, cursor: &mut Cursor<'a>) -> Mem<Option<MarkL
         recheck(alloc, cursor)
     } else if skips(cursor, b"snap") {
         snapped(alloc, cursor)
+    } else if skips(cursor, b"restart") {
+        Ok(restarted(cursor))
     } else {
         Ok(None)
     }

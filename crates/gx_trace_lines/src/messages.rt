@@ -80,10 +80,26 @@ fn is_reply(words: &[u8]) -> bool
         || is_numbered(words, b"graph")
 }
 
+fn is_up(words: &[u8]) -> bool
+    ensures { result ≡ of.is_up words.now }
+{
+    let mut cursor = Cursor::new(words);
+    match cursor.skip(b"up") {
+        Some(()) => cursor.is_at_end(),
+        None => false,
+    }
+}
+
+fn is_of_restart(words: &[u8]) -> bool
+    ensures { result ≡ of.is_of_restart words.now }
+{
+    is_numbered(words, b"restarted") || is_up(words)
+}
+
 fn is_message(words: &[u8]) -> bool
     ensures { result ≡ of.is_message words.now }
 {
-    is_of_slice(words) || is_request(words) || is_reply(words)
+    is_of_slice(words) || is_request(words) || is_reply(words) || is_of_restart(words)
 }
 
 fn words<'a>(alloc: Global, cursor: &mut Cursor<'a>) -> Mem<Option<Txt>>

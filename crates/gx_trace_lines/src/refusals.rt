@@ -30,6 +30,14 @@ fn journal<'a>(cursor: &mut Cursor<'a>) -> Option<Refused>
     Some(Refused::JournalFault(node))
 }
 
+fn restarted<'a>(cursor: &mut Cursor<'a>) -> Option<Refused>
+    ensures { IsRead result cursor.new (of.restarted cursor.old) }
+{
+    let segment = cursor.node()?;
+    cursor.skip(b" restarted")?;
+    Some(Refused::Restarted(segment))
+}
+
 // Reads why a statement was refused.
 pub fn refusal<'a>(cursor: &mut Cursor<'a>) -> Option<Refused>
     ensures { IsRead result cursor.new (of.refusal cursor.old) }
@@ -48,6 +56,8 @@ pub fn refusal<'a>(cursor: &mut Cursor<'a>) -> Option<Refused>
         journal(cursor)
     } else if skips(cursor, b"ERROR 7 not in a block") {
         Some(Refused::NotInBlock)
+    } else if skips(cursor, b"ERROR 8 segment") {
+        restarted(cursor)
     } else {
         None
     }

@@ -1,4 +1,4 @@
-// The marks of transactions.
+// The marks of transactions, and that of a restart.
 ghost use Rattle.std.specs.Prelude.{IfOk};
 ghost use Rattle.gx_trace.specs.Readers.{IsRead};
 ghost use Rattle.gx_trace_lines.specs.Marks as of;
@@ -67,6 +67,13 @@ pub fn journal<'a>(cursor: &mut Cursor<'a>) -> Option<MarkLine>
 {
     let (node, gxid) = node_and_gxid(cursor)?;
     Some(MarkLine::Alone(SeenMark::Whole(Mark::JournalFailed { node, gxid })))
+}
+
+pub fn restarted<'a>(cursor: &mut Cursor<'a>) -> Option<MarkLine>
+    ensures { IsRead result cursor.new (of.restarted cursor.old) }
+{
+    let node = cursor.node()?;
+    Some(MarkLine::Alone(SeenMark::Whole(Mark::Restart { node })))
 }
 
 pub fn answered<'a>(cursor: &mut Cursor<'a>, script: &Script) -> Option<MarkLine>

@@ -20,6 +20,7 @@ comes script w network stands (event.Start s) here there = there
 comes script w network stands (event.End s) here there = there
 comes script w network stands (event.Resend i g) here there = there
 comes script w network stands event.Round here there = there
+comes script w network stands (event.Restart n) here there = there
 
 -- what an event is at its node; nothing else where that is nothing
 abbrev pub here_in : machine.World → Event → NodeEvent

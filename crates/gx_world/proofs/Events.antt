@@ -56,6 +56,7 @@ heard-within script steps room w same here (event.Start s) h = subst (λ x. hear
 heard-within script steps room w same here (event.End s) h = subst (λ x. heard_in x ≤ length steps) (some-same (node.End s) here h) (omega arith)
 heard-within script steps room w same here (event.Resend i g) h = subst (λ x. heard_in x ≤ length steps) (some-same (node.Resend i g) here h) (omega arith)
 heard-within script steps room w same here event.Round h = subst (λ x. heard_in x ≤ length steps) (some-same node.Round here h) (omega arith)
+heard-within script steps room w same here (event.Restart n) h = absurd (cc)
 
 module _ (script : Script) (w : machine.World) (e : Event) (here : NodeEvent) (there : at_node w e ≡ Some here) (admitted : can script w e ≡ true) where
   pub admitted-here : can_here script w (node_of e) (Some here) ≡ true
@@ -144,6 +145,7 @@ module _ (script : Script) (some : 1 ≤ script.segments) (w : machine.World) (g
   few-by (event.End s) h c = omega arith
   few-by (event.Resend i g) h c = omega arith
   few-by event.Round h c = omega arith
+  few-by (event.Restart n) h c = absurd (cc)
 
   pub few-here : (node_of e).0 ≤ script.segments
   few-here = few-by e there (admitted-here script w e here there admitted)

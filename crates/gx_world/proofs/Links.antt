@@ -83,7 +83,7 @@ module _ (node to : Node) (steps all : List Step) (s : Step) (last : slice_get a
   mine t k = if is_same_node t to then here k ∷ [] else []
 
   abbrev letter : Node → ℕ → Message → Letter
-  letter t k told = record { from = node; to = t; envelope = record { number = k; clock = s.stamp.clock; message = told } }
+  letter t k told = record { from = node; to = t; envelope = record { number = k; clock = s.stamp.clock; incarnation = 1; message = told } }
 
   one-place : (k : ℕ) (t : Node) (n : ℕ) (told : Message) (ms : List Mark) → places_from (length steps) k to (mark.Sent t n told ∷ ms) ≡ mine t k ++ places_from (length steps) (k + 1) to ms
   one-place k t n told ms = by_test (is_same_node t to)
@@ -108,7 +108,7 @@ module _ (node to : Node) (steps all : List Step) (s : Step) (last : slice_get a
   one-more earlier ms old sent t k told e next h n =
       by_test (is_same_node t to) next ∙ ap (λ (b : Bool). if b then Some (letter t k told).envelope else found node to n sent) (sym (same-first (is_same_node t to && eqb k n)))
     where
-      is_there : (number : ℕ) → stands_at all number (Some (here (length earlier))) ≡ Some (record { number = number; clock = s.stamp.clock; message = told })
+      is_there : (number : ℕ) → stands_at all number (Some (here (length earlier))) ≡ Some (record { number = number; clock = s.stamp.clock; incarnation = 1; message = told })
       is_there number =
           ap (sent_in_step number (length earlier)) last
           ∙ ap (λ ms. sent_by number s.stamp.clock (slice_get ms (length earlier))) e
@@ -131,7 +131,7 @@ module _ (node to : Node) (steps all : List Step) (s : Step) (last : slice_get a
           ∙ ap (λ (b : Bool). if b then Some (letter t k told).envelope else found node to (suc i) sent) (sym (same_test k i is))
         where
           by_place : (b : Bool) → eqb k (suc i) ≡ b → stands_at all (suc i) (if b then Some (here (length earlier)) else slice_get old i) ≡ (if b then Some (letter t k told).envelope else found node to (suc i) sent)
-          by_place true x = is_there (suc i) ∙ ap (λ a. let y : Envelope = record { number = a; clock = s.stamp.clock; message = told } in Some y) (same_number k (suc i) x)
+          by_place true x = is_there (suc i) ∙ ap (λ a. let y : Envelope = record { number = a; clock = s.stamp.clock; incarnation = 1; message = told } in Some y) (same_number k (suc i) x)
           by_place false x = h (suc i)
 
       by_test : (b : Bool) → (b ≡ true → k ≡ length old + 1) → letter_at all (old ++ (if b then here (length earlier) ∷ [] else [])) n ≡ (if b && eqb k n then Some (letter t k told).envelope else found node to n sent)

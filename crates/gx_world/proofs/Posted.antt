@@ -27,7 +27,7 @@ found-other from to n node clock (mark.Sent t k told ∷ ms) sent e =
     found-other from to n node clock ms (letter ∷ sent) e ∙ ap (λ (b : Bool). if b && (is_same_node t to && (k == n)) then Some letter.envelope else found from to n sent) e
   where
     letter : Letter
-    letter = record { from = node; to = t; envelope = record { number = k; clock = clock; message = told } }
+    letter = record { from = node; to = t; envelope = record { number = k; clock = clock; incarnation = 1; message = told } }
 found-other from to n node clock (m ∷ ms) sent e = found-other from to n node clock ms sent e
 
 turned-round : (a b : Node) → is_same_node a b ≡ false → is_same_node b a ≡ false

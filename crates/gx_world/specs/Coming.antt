@@ -21,10 +21,12 @@ coming steps letters (event.Start s) = Some (node.Start s)
 coming steps letters (event.End s) = Some (node.End s)
 coming steps letters (event.Resend i g) = Some (node.Resend i g)
 coming steps letters event.Round = Some node.Round
+coming steps letters (event.Restart n) = None
 
--- whether a node does it by itself, and no message brings it
+-- whether a node does it by itself, and no message brings it; a restart no node does yet
 abbrev pub is_own : Event → Bool
 is_own (event.Receive from to number) = false
+is_own (event.Restart n) = false
 is_own _ = true
 
 -- where the machine stands, and what an event is at its node there

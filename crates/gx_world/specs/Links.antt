@@ -41,7 +41,7 @@ places_from step mark to (_ ∷ ms) = places_from step (mark + 1) to ms
 
 -- the message that a mark has sent, with the clock of its step
 abbrev pub sent_by : ℕ → ℕ → Option Mark → Option Envelope
-sent_by number clock (Some (Sent to n message)) = Some (record { number = number; clock = clock; message = message })
+sent_by number clock (Some (Sent to n message)) = Some (record { number = number; clock = clock; incarnation = 1; message = message })
 sent_by number clock _ = None
 
 abbrev pub sent_in_step : ℕ → ℕ → Option Step → Option Envelope

@@ -34,6 +34,7 @@ pub(crate) fn can(network: &Network, event: Event) -> bool
         Event::Resend { segment, gxid } => { can_begin(network, NodeEvent::Resend(segment, gxid)) }
         Event::Round => can_begin(network, NodeEvent::Round),
         Event::Resume { node, gxid } => can_resume(network, node, gxid),
+        Event::Restart(_) => false,
     }
 }
 

@@ -18,7 +18,7 @@ pub(crate) fn event_node(event: Event) -> Node
             to,
             number: _,
         } => to,
-        Event::Resume { node, gxid: _ } => node,
+        Event::Resume { node, gxid: _ } | Event::Restart(node) => node,
         _ => Node(0),
     }
 }
@@ -35,5 +35,6 @@ pub(crate) fn own_event(event: Event) -> NodeEvent
         Event::End(session) => NodeEvent::End(session),
         Event::Resend { segment, gxid } => NodeEvent::Resend(segment, gxid),
         Event::Round => NodeEvent::Round,
+        Event::Restart(_) => unreachable!(),
     }
 }

@@ -1,12 +1,13 @@
 use gx_msg::Message;
 use std::marker::Model;
 
-/// A message as it stands in the run in which it was sent, with its number on its link and the clock of its step. Contracts see
-/// the envelope.
+/// A message as it stands in the run in which it was sent, with its number on its link, the clock of its step and its incarnation.
+/// Contracts see the envelope.
 #[derive(Drop)]
 pub struct Letter<'a> {
     pub(crate) number: u64,
     pub(crate) clock: u64,
+    pub(crate) incarnation: u64,
     pub(crate) message: &'a Message,
 }
 
@@ -21,5 +22,5 @@ impl<'a> Model for Letter<'a> {
 
     ghost coded = { Prim.hlevel (codes, expr_type.the_row.coded, cond_type.the_row.coded, snapshot_type.the_row.coded) };
 
-    ghost view = { λ l. record { number = l.number; clock = l.clock; message = l.message.now } };
+    ghost view = { λ l. record { number = l.number; clock = l.clock; incarnation = l.incarnation; message = l.message.now } };
 }

@@ -199,6 +199,7 @@ fn letter_of<'a>(step: &StepView<'a>, mark: usize, number: u64) -> Option<Letter
         ) => Some(Letter {
             number,
             clock: step.stamp().clock,
+            incarnation: 1,
             message,
         }),
         _ => None,

@@ -124,6 +124,7 @@ fn coord_event<J: Journal>(
             Some(letter) => coord_receives(script, coord, from, letter, journal, marks),
             None => unreachable!(),
         },
+        Event::Restart(_) => unreachable!(),
         _ => coord.step(script, own_event(event), journal, marks),
     }
 }
@@ -154,9 +155,19 @@ fn coord_receives<J: Journal>(
     let Letter {
         number,
         clock,
+        incarnation,
         message,
     } = letter;
-    coord.receive(script, from, number, clock, message, journal, marks)
+    coord.receive(
+        script,
+        from,
+        number,
+        clock,
+        incarnation,
+        message,
+        journal,
+        marks,
+    )
 }
 
 // A segment does an event.
@@ -250,6 +261,7 @@ fn seg_event<J: Journal, G: Gate>(
             Some(letter) => seg_receives(segment, from, letter, journal, gate, marks),
             None => unreachable!(),
         },
+        Event::Restart(_) => unreachable!(),
         _ => segment.step(own_event(event), journal, gate, marks),
     }
 }
@@ -276,9 +288,19 @@ fn seg_receives<J: Journal, G: Gate>(
     let Letter {
         number,
         clock,
+        incarnation,
         message,
     } = letter;
-    segment.receive(from, number, clock, message, journal, gate, marks)
+    segment.receive(
+        from,
+        number,
+        clock,
+        incarnation,
+        message,
+        journal,
+        gate,
+        marks,
+    )
 }
 
 // The step of a node's event.

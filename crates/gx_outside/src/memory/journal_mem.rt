@@ -71,6 +71,13 @@ impl Journal for JournalMem {
         }
     }
 
+    fn item(&self, place: u64) -> Option<&[u8]> {
+        match self.items.get(place as usize) {
+            Some(item) => Some(item.as_slice()),
+            None => None,
+        }
+    }
+
     fn faults(&self) -> u64 {
         self.faults
     }

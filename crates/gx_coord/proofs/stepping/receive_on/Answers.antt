@@ -16,7 +16,7 @@ send_and_cancel-requires-clause-some g c = subst (λ (s : Script). 1 ≤ s.segme
 
 pub send_and_cancel-requires-clause-sound : goal.send_and_cancel-requires-clause-sound
 send_and_cancel-requires-clause-sound g c =
-    let x : NodeEvent = Deliver c.args.from (record { number = c.args.number; clock = c.args.clock; message = c.args.message.now }) in
+    let x : NodeEvent = Deliver c.args.from (record { number = c.args.number; clock = c.args.clock; incarnation = c.args.incarnation; message = c.args.message.now }) in
     turned-sound c.args.coord.now c.take_message.new.coord c.args.script.now x c.in_ok-turned.turned.fails _ _ (sym c.requires.same) c.in_ok-turned.ensures.turn c.requires.language.some_segments c.requires.sound c.take_message.ensures.small c.requires.admitted
 
 pub send_and_cancel-requires-clause-sent : goal.send_and_cancel-requires-clause-sent
@@ -31,7 +31,7 @@ pub send_and_cancel-requires-clause-links : goal.send_and_cancel-requires-clause
 send_and_cancel-requires-clause-links g c =
     let old = c.args.coord.now in
     let turn = c.in_ok-turned.ensures.turn in
-    let x : NodeEvent = Deliver c.args.from (record { number = c.args.number; clock = c.args.clock; message = c.args.message.now }) in
+    let x : NodeEvent = Deliver c.args.from (record { number = c.args.number; clock = c.args.clock; incarnation = c.args.incarnation; message = c.args.message.now }) in
     links-sent c.args.script.now old.script.value (coord_of old) x c.in_ok-turned.turned.fails _ _ (sym c.requires.same) c.requires.sound c.requires.language.some_segments c.in_ok-turned.ensures.outs
     (ap (λ v. length v.items) turn.framed.sent ∙ c.requires.links)
 
@@ -41,7 +41,7 @@ returns-clause-gone g c =
     let fails = c.in_ok-turned.turned.fails in
     let e = c.in_ok-turned.ensures in
     let same = sym c.requires.same in
-    let x : NodeEvent = Deliver c.args.from (record { number = c.args.number; clock = c.args.clock; message = c.args.message.now }) in
+    let x : NodeEvent = Deliver c.args.from (record { number = c.args.number; clock = c.args.clock; incarnation = c.args.incarnation; message = c.args.message.now }) in
     let is =
     step-is old c.take_message.new.coord c.send_and_cancel.new.coord c.args.script.now x fails c.clock_after-after.result _ _ _ _ _ same c.requires.blank c.clock_after-after.ensures e.turn e.outs e.victims c.in_ok-send_and_cancel.ensures.turn in
     record {

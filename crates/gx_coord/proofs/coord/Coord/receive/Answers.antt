@@ -9,7 +9,7 @@ use Rattle.gx_coord.proofs.coord.Coord.receive.Goals as goal
 
 pub returns-in-Ok-clause-stepped : goal.returns-in-Ok-clause-stepped
 returns-in-Ok-clause-stepped g c =
-    let x : NodeEvent = Deliver c.args.from (record { number = c.args.number; clock = c.args.clock; message = c.args.message.now }) in
+    let x : NodeEvent = Deliver c.args.from (record { number = c.args.number; clock = c.args.clock; incarnation = c.args.incarnation; message = c.args.message.now }) in
     has-stepped c.args.self.now c.receive_on.new.coord x _ _ c.receive_on.new.marks.items g.c (c.requires.1.1.0 c.if-self.false) (c.requires.1.1.1.0 c.if-self.false) c.in-Ok.ensures.gone
 
 pub returns-in-Err-clause-item : goal.returns-in-Err-clause-item
