@@ -46,12 +46,13 @@ pub record IsToldApart (options : Options) (script : Script) (run : Run) (is_who
   pub told : text ≡ front ++ (if options.trace then trace_of script run else [])
 
 -- THE VERDICT
--- So much is said of the run that nodes apart have made of the script, and it is told.
+-- So much is said of the run that nodes apart have made of the script, and it is told; in threads it is whole.
 pub record IsJudgedApart (script : Script) (options : Options) (verdict : Verdict) : Type 0 where
   pub run : Run
   pub is_whole : Bool
   pub shelves : List Shelf
   pub made : IsMade script run.steps is_whole shelves
+  pub threads : options.threads ≡ true → is_whole ≡ true
   pub said : IsSaid script run verdict
   pub told : IsToldApart options script run is_whole (text_in verdict)
 

@@ -1,5 +1,5 @@
 // Nodes apart: from the words and the source to the verdict on the run that the nodes' histories make.
-ghost use Rattle.std.specs.Prelude.{◌≡◌, ◌≤◌, [], IfOk, None, length, map};
+ghost use Rattle.std.specs.Prelude.{◌≡◌, ◌≤◌, [], IfOk, None, length, map, true};
 ghost use Rattle.gx_apart.specs.Made.{IsMade};
 ghost use Rattle.gx_outside.specs.Memory.{shelf_of};
 ghost use Rattle.gx_outside.specs.Shelves.{AreEmpty};
@@ -109,6 +109,7 @@ fn made<R: Threads + Wait + Sync>(
     ensures made { IfOk result (λ apart. IsMade script.now.value apart.run.steps apart.is_whole (map shelf_of apart.journals.items)) }
     ensures all { IfOk result (λ apart. length apart.tables.items ≡ length script.now.value.tables) }
     ensures rows { IfOk result (λ apart. AreFinalFrom 0 (marks_in apart.run.steps) apart.tables.items) }
+    ensures threads { IfOk result (λ apart. options.threads ≡ true → apart.is_whole ≡ true) }
 {
     let journal = new_journal(alloc)?;
     let journals = new_journals(alloc, script.segments)?;
@@ -141,6 +142,7 @@ fn made_in_threads<R: Threads + Wait + Sync>(
     ensures made { IfOk result (λ apart. IsMade script.now.value apart.run.steps apart.is_whole (map shelf_of apart.journals.items)) }
     ensures all { IfOk result (λ apart. length apart.tables.items ≡ length script.now.value.tables) }
     ensures rows { IfOk result (λ apart. AreFinalFrom 0 (marks_in apart.run.steps) apart.tables.items) }
+    ensures whole { IfOk result (λ apart. apart.is_whole ≡ true) }
 {
     let shared = script.clone()?;
     let end = run_threads(rt, alloc, shared, journal, journals, &PassGate)?;
