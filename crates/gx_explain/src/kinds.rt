@@ -53,13 +53,6 @@ fn right_parts<T: Written>(alloc: Global, columns: &[Column], parts: &[T]) -> Me
     Ok(parts.len())
 }
 
-fn right_items(alloc: Global, columns: &[Column], items: &[ItemSyn]) -> Mem<usize>
-    requires { length columns.now ≤ 256 }
-    ensures { IfOk result (λ count. count ≡ of.good_items columns.now items.now) }
-{
-    right_parts(alloc, columns, items)
-}
-
 fn among(count: usize, all: usize) -> Option<usize>
     ensures { result ≡ of.among count all }
 {
@@ -73,7 +66,7 @@ fn wrong_item(alloc: Global, columns: &[Column], items: &ItemsSyn) -> Mem<Option
     match items {
         ItemsSyn::All => Ok(None),
         ItemsSyn::These(items) => {
-            let count = right_items(alloc, columns, items.as_slice())?;
+            let count = right_parts(alloc, columns, items.as_slice())?;
             Ok(among(count, items.as_slice().len()))
         }
     }

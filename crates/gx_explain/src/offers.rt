@@ -18,9 +18,6 @@ const NEAR: usize = 20_000;
 // What stands before offers.
 const OFFERED: &[u8] = b"  could stand there:";
 
-// The same, and behind it that a name could stand there, which is offered first.
-const NAMED: &[u8] = b"  could stand there:  a name";
-
 // The most bytes of a line of offers, but for its end.
 const ROOM: usize = 98;
 
@@ -170,9 +167,12 @@ fn offer(alloc: Global, front: Front, tokens: &mut Vec<Token>, number: usize, wo
     tokens.truncate(place);
 }
 
-// Gives a line of what could stand behind these tokens, the end where they are a line, where anything could.
-fn push_offers(alloc: Global, words: &mut Words, front: Front, tokens: &mut Vec<Token>) {
-    for number in 0..CANDIDATES {
+// Gives a line of what could stand behind these tokens, the end where they are a line, where anything could. Says whether a name,
+// which is offered first, could.
+fn push_offers(alloc: Global, words: &mut Words, front: Front, tokens: &mut Vec<Token>) -> bool {
+    offer(alloc, front, tokens, 0, words);
+    let named = !words.is_empty();
+    for number in 1..CANDIDATES {
         offer(alloc, front, tokens, number, words);
     }
     if let Going::Whole = how_far(alloc, front, tokens.as_slice(), words) {
@@ -181,6 +181,7 @@ fn push_offers(alloc: Global, words: &mut Words, front: Front, tokens: &mut Vec<
     if !words.is_empty() {
         words.push(b"\n");
     }
+    named
 }
 
 // Whether a fault may be one of the grammar.
@@ -227,9 +228,9 @@ fn push_offers_at(
     if let Stray::Fitting = stray {
         return stray;
     }
-    push_offers(alloc, words, front, tokens);
+    let named = push_offers(alloc, words, front, tokens);
     match stray {
-        Stray::Keyword if place == 0 || !words.as_slice().starts_with(NAMED) => Stray::Other,
+        Stray::Keyword if place == 0 || !named => Stray::Other,
         _ => stray,
     }
 }
