@@ -2,6 +2,8 @@
 use Rattle.std.proofs.Common.{◌≡◌, ℕ, Bool, true, false, not, if◌then◌else◌, Option, Some, None, refl, ap, eqb}
 use Rattle.std.proofs.lemmas.Bool.{eqb-true}
 use Rattle.gx_ids.specs.declared.ids.Gxid.{Gxid}
+use Rattle.gx_msg.specs.declared.item.JournalItem.{JournalItem}
+use Rattle.gx_msg.specs.declared.item.JournalItem.TheVariants as item
 use Rattle.gx_msg.specs.declared.reply.Reply.{Reply}
 use Rattle.gx_msg.specs.declared.reply.Reply.TheVariants as answer
 use Rattle.gx_dtx.specs.declared.order.Order.{Order}
@@ -81,32 +83,40 @@ module _ (s : Seg) (g : Gxid) where
   finish-makes fails Writing = stays-makes
   finish-makes fails Aborted = stays-makes
 
-  ends-makes : (p : Phase) (r : Reply) → Makes s g (rule.ends s g l p r) (change.ends_now l p r)
-  ends-makes p r = record { locals = λ h. refl; locks = refl; others = refl; marks = refl; outs = refl; item = refl }
+  ends-makes : (p : Phase) (r : Reply) (it : Option JournalItem) → Makes s g (rule.ends s g l p r it) (change.ends_now l p r it)
+  ends-makes p r it = record { locals = λ h. refl; locks = refl; others = refl; marks = refl; outs = refl; item = refl }
 
   fits-makes : (waits : Bool) (turn : SegTurn) (new : Change) → Makes s g turn new → Makes s g (rule.if_fits s (not waits) turn) (if waits then change.stays l else new)
   fits-makes true turn new e = stays-makes
   fits-makes false turn new e = e
 
-  abort-makes : (p : Phase) → Makes s g (rule.on_abort s g l p) (change.aborts l p)
-  abort-makes Reading = ends-makes Aborted answer.Aborted
-  abort-makes Writing = ends-makes Aborted answer.Aborted
-  abort-makes Prepared = ends-makes Aborted answer.Aborted
-  abort-makes Aborted = tells-makes (Some answer.Aborted)
-  abort-makes Committed = stays-makes
-  abort-makes (Forgotten committed) = stays-makes
+  withdraws-makes : (fails : Bool) → Makes s g (rule.withdraws s g fails l) (change.ends_noted s.node g (item.Abort g) Aborted answer.Aborted fails l)
+  withdraws-makes true = record { locals = λ h. refl; locks = refl; others = refl; marks = refl; outs = refl; item = refl }
+  withdraws-makes false = ends-makes Aborted answer.Aborted (Some (item.Abort g))
 
-  forget-makes : (p : Phase) → Makes s g (rule.on_forget s g l p) (change.forgets l p)
-  forget-makes Aborted = stays-makes
-  forget-makes (Forgotten committed) = tells-makes (Some answer.Forgotten)
-  forget-makes Reading = ends-makes (Forgotten (has_committed l.phase)) answer.Forgotten
-  forget-makes Writing = ends-makes (Forgotten (has_committed l.phase)) answer.Forgotten
-  forget-makes Prepared = ends-makes (Forgotten (has_committed l.phase)) answer.Forgotten
-  forget-makes Committed = ends-makes (Forgotten (has_committed l.phase)) answer.Forgotten
+  abort-makes : (fails : Bool) (p : Phase) → Makes s g (rule.on_abort s g fails l p) (change.aborts s.node g fails l p)
+  abort-makes fails Reading = ends-makes Aborted answer.Aborted None
+  abort-makes fails Writing = ends-makes Aborted answer.Aborted None
+  abort-makes fails Prepared = withdraws-makes fails
+  abort-makes fails Aborted = tells-makes (Some answer.Aborted)
+  abort-makes fails Committed = stays-makes
+  abort-makes fails (Forgotten committed) = stays-makes
+
+  forgets-makes : (fails : Bool) → Makes s g (rule.forgets_committed s g fails l) (change.ends_noted s.node g (item.Forget g) (Forgotten (has_committed l.phase)) answer.Forgotten fails l)
+  forgets-makes true = record { locals = λ h. refl; locks = refl; others = refl; marks = refl; outs = refl; item = refl }
+  forgets-makes false = ends-makes (Forgotten (has_committed l.phase)) answer.Forgotten (Some (item.Forget g))
+
+  forget-makes : (fails : Bool) (p : Phase) → Makes s g (rule.on_forget s g fails l p) (change.forgets s.node g fails l p)
+  forget-makes fails Aborted = stays-makes
+  forget-makes fails (Forgotten committed) = tells-makes (Some answer.Forgotten)
+  forget-makes fails Reading = ends-makes (Forgotten (has_committed l.phase)) answer.Forgotten None
+  forget-makes fails Writing = ends-makes (Forgotten (has_committed l.phase)) answer.Forgotten None
+  forget-makes fails Prepared = ends-makes (Forgotten (has_committed l.phase)) answer.Forgotten None
+  forget-makes fails Committed = forgets-makes fails
 
 pub turn-makes : (o : Order) (s : Seg) (g : Gxid) (fails : Bool) → Makes s g (turn_of o s g fails (local_of s g)) (change_of o s.node g (kept_of s g) fails (local_of s g))
 turn-makes order.Prepare s g fails = fits-makes s g (is_waiting (local_of s g)) _ _ (prepare-makes s g fails (local_of s g).phase)
 turn-makes order.Commit s g fails = fits-makes s g (is_waiting (local_of s g)) _ _ (commit-makes s g fails (local_of s g).phase)
 turn-makes order.CommitPrepared s g fails = finish-makes s g fails (local_of s g).phase
-turn-makes order.Abort s g fails = abort-makes s g (local_of s g).phase
-turn-makes order.Forget s g fails = forget-makes s g (local_of s g).phase
+turn-makes order.Abort s g fails = abort-makes s g fails (local_of s g).phase
+turn-makes order.Forget s g fails = forget-makes s g fails (local_of s g).phase

@@ -83,23 +83,29 @@ finishes node g fails l Committed = tells l (Some answer.Committed)
 finishes node g fails l (Forgotten true) = tells l (Some answer.Committed)
 finishes node g fails l _ = stays l
 
-abbrev pub ends_now : Local → Phase → Reply → Change
-ends_now l phase r = record { now = record l { phase = phase; suspended = None }; mark = None; reply = Some r; item = None; ends = true }
+abbrev pub ends_now : Local → Phase → Reply → Option JournalItem → Change
+ends_now l phase r it = record { now = record l { phase = phase; suspended = None }; mark = None; reply = Some r; item = it; ends = true }
+
+-- once the journal has its item, it ends in this phase, with this answer; else the order must come again
+abbrev pub ends_noted : Node → Gxid → JournalItem → Phase → Reply → Bool → Local → Change
+ends_noted node g it phase r true l = record { now = l; mark = Some (mark.JournalFailed node g); reply = Some answer.Again; item = Some it; ends = false }
+ends_noted node g it phase r false l = ends_now l phase r (Some it)
 
 abbrev pub aborts_now : Local → Change
-aborts_now l = ends_now l Aborted answer.Aborted
+aborts_now l = ends_now l Aborted answer.Aborted None
 
-abbrev pub aborts : Local → Phase → Change
-aborts l Reading = aborts_now l
-aborts l Writing = aborts_now l
-aborts l Prepared = aborts_now l
-aborts l Aborted = tells l (Some answer.Aborted)
-aborts l _ = stays l
+abbrev pub aborts : Node → Gxid → Bool → Local → Phase → Change
+aborts node g fails l Reading = aborts_now l
+aborts node g fails l Writing = aborts_now l
+aborts node g fails l Prepared = ends_noted node g (item.Abort g) Aborted answer.Aborted fails l
+aborts node g fails l Aborted = tells l (Some answer.Aborted)
+aborts node g fails l _ = stays l
 
-abbrev pub forgets : Local → Phase → Change
-forgets l Aborted = stays l
-forgets l (Forgotten committed) = tells l (Some answer.Forgotten)
-forgets l _ = ends_now l (Forgotten (has_committed l.phase)) answer.Forgotten
+abbrev pub forgets : Node → Gxid → Bool → Local → Phase → Change
+forgets node g fails l Aborted = stays l
+forgets node g fails l (Forgotten committed) = tells l (Some answer.Forgotten)
+forgets node g fails l Committed = ends_noted node g (item.Forget g) (Forgotten (has_committed l.phase)) answer.Forgotten fails l
+forgets node g fails l _ = ends_now l (Forgotten (has_committed l.phase)) answer.Forgotten None
 
 -- PREPARE and COMMIT fit only where no slice waits
 abbrev pub unless_waiting : Local → Change → Change
@@ -111,16 +117,16 @@ abbrev pub turn_of : Order → Seg → Gxid → Bool → Local → SegTurn
 turn_of order.Prepare s g fails l = if_fits s (not (is_waiting l)) (on_prepare s g fails l l.phase)
 turn_of order.Commit s g fails l = if_fits s (not (is_waiting l)) (on_commit s g fails l l.phase)
 turn_of order.CommitPrepared s g fails l = on_commit_prepared s g fails l l.phase
-turn_of order.Abort s g fails l = on_abort s g l l.phase
-turn_of order.Forget s g fails l = on_forget s g l l.phase
+turn_of order.Abort s g fails l = on_abort s g fails l l.phase
+turn_of order.Forget s g fails l = on_forget s g fails l l.phase
 
 -- what it makes of the transaction
 abbrev pub change_of : Order → Node → Gxid → List Kept → Bool → Local → Change
 change_of order.Prepare node g kept fails l = unless_waiting l (prepares node g kept fails l l.phase)
 change_of order.Commit node g kept fails l = unless_waiting l (commits node g kept fails l l.phase)
 change_of order.CommitPrepared node g kept fails l = finishes node g fails l l.phase
-change_of order.Abort node g kept fails l = aborts l l.phase
-change_of order.Forget node g kept fails l = forgets l l.phase
+change_of order.Abort node g kept fails l = aborts node g fails l l.phase
+change_of order.Forget node g kept fails l = forgets node g fails l l.phase
 
 abbrev pub marks_in : Option Mark → List Mark
 marks_in None = []

@@ -14,9 +14,9 @@ use gx_ids::{Gxid, Mem, Node};
 use gx_outside::Journal;
 use std::alloc::Global;
 
-/// Takes an order of the coordinator for a transaction at this segment, where it has written the `kept` rows. PREPARE and
-/// COMMIT PREPARED and COMMIT append an item to the journal before anything else happens; where it fails to take it, `fails`
-/// is true, and JFAULT or AGAIN is answered.
+/// Takes an order of the coordinator for a transaction at this segment, where it has written the `kept` rows. PREPARE, COMMIT and
+/// COMMIT PREPARED, ABORT of what was promised and FORGET of what was committed append an item to the journal before anything else
+/// happens; where it fails to take it, `fails` is true, and JFAULT or AGAIN is answered.
 pub fn take_order<J: Journal, W: Written>(
     alloc: Global,
     node: Node,
@@ -34,7 +34,7 @@ pub fn take_order<J: Journal, W: Written>(
         Order::Prepare => take_prepare(alloc, node, gxid, local, kept, journal),
         Order::Commit => take_commit(alloc, node, gxid, local, kept, journal),
         Order::CommitPrepared => take_commit_prepared(alloc, node, gxid, local, journal),
-        Order::Abort => Ok(take_abort(node, gxid, local)),
-        Order::Forget => Ok(take_forget(node, gxid, local)),
+        Order::Abort => take_abort(alloc, node, gxid, local, journal),
+        Order::Forget => take_forget(alloc, node, gxid, local, journal),
     }
 }

@@ -109,29 +109,43 @@ on_commit_prepared s g fails l _ = stays s
 
 -- ABORT
 -- A transaction that ends there drops its wait and gives all its locks back.
-abbrev pub ends : Seg → Gxid → Local → Phase → Reply → SegTurn
-ends s g l phase r =
-    changes (record s { locks = released s.locks g }) g (record l { phase = phase; suspended = None }) (release_marks s.node s.locks g) r None
+abbrev pub ends : Seg → Gxid → Local → Phase → Reply → Option JournalItem → SegTurn
+ends s g l phase r it =
+    changes (record s { locks = released s.locks g }) g (record l { phase = phase; suspended = None }) (release_marks s.node s.locks g) r it
 
--- Whoever has not committed there is aborted, also one that is unknown there.
+-- where the journal fails, nothing changes and the message must come again
+abbrev pub again : Seg → Gxid → Local → JournalItem → SegTurn
+again s g l it = changes s g l (mark.JournalFailed s.node g ∷ []) answer.Again (Some it)
+
+-- Whoever has not committed there is aborted, also one that is unknown there. Of one that was promised the journal takes an item.
 abbrev pub aborts : Seg → Gxid → Local → SegTurn
-aborts s g l = ends s g l Aborted answer.Aborted
+aborts s g l = ends s g l Aborted answer.Aborted None
 
-abbrev pub on_abort : Seg → Gxid → Local → Phase → SegTurn
-on_abort s g l Reading = aborts s g l
-on_abort s g l Writing = aborts s g l
-on_abort s g l Prepared = aborts s g l
-on_abort s g l Aborted = tells s g answer.Aborted
-on_abort s g l _ = stays s
+abbrev pub withdraws : Seg → Gxid → Bool → Local → SegTurn
+withdraws s g true l = again s g l (item.Abort g)
+withdraws s g false l = ends s g l Aborted answer.Aborted (Some (item.Abort g))
+
+abbrev pub on_abort : Seg → Gxid → Bool → Local → Phase → SegTurn
+on_abort s g fails l Reading = aborts s g l
+on_abort s g fails l Writing = aborts s g l
+on_abort s g fails l Prepared = withdraws s g fails l
+on_abort s g fails l Aborted = tells s g answer.Aborted
+on_abort s g fails l _ = stays s
 
 -- FORGET
+-- Of one that has committed there the journal takes an item.
 abbrev pub forgets : Seg → Gxid → Local → SegTurn
-forgets s g l = ends s g l (Forgotten (has_committed l.phase)) answer.Forgotten
+forgets s g l = ends s g l (Forgotten (has_committed l.phase)) answer.Forgotten None
 
-abbrev pub on_forget : Seg → Gxid → Local → Phase → SegTurn
-on_forget s g l Aborted = stays s
-on_forget s g l (Forgotten committed) = tells s g answer.Forgotten
-on_forget s g l _ = forgets s g l
+abbrev pub forgets_committed : Seg → Gxid → Bool → Local → SegTurn
+forgets_committed s g true l = again s g l (item.Forget g)
+forgets_committed s g false l = ends s g l (Forgotten (has_committed l.phase)) answer.Forgotten (Some (item.Forget g))
+
+abbrev pub on_forget : Seg → Gxid → Bool → Local → Phase → SegTurn
+on_forget s g fails l Aborted = stays s
+on_forget s g fails l (Forgotten committed) = tells s g answer.Forgotten
+on_forget s g fails l Committed = forgets_committed s g fails l
+on_forget s g fails l _ = forgets s g l
 
 -- COLLECT
 -- A round that is new is told the graph of this moment, which is kept; the last one is told the kept graph again; an older one is
@@ -173,8 +187,8 @@ on_message script s fails (message.Prepare g) =
 on_message script s fails (message.Commit g) =
     unless_below s g (if_fits s (not (is_waiting (local_of s g))) (on_commit s g fails (local_of s g) (local_of s g).phase))
 on_message script s fails (message.CommitPrepared g) = unless_below s g (on_commit_prepared s g fails (local_of s g) (local_of s g).phase)
-on_message script s fails (message.Abort g) = unless_below s g (on_abort s g (local_of s g) (local_of s g).phase)
-on_message script s fails (message.Forget g) = unless_below s g (on_forget s g (local_of s g) (local_of s g).phase)
+on_message script s fails (message.Abort g) = unless_below s g (on_abort s g fails (local_of s g) (local_of s g).phase)
+on_message script s fails (message.Forget g) = unless_below s g (on_forget s g fails (local_of s g) (local_of s g).phase)
 on_message script s fails (message.Collect round) = on_collect s round
 on_message script s fails _ = stays s
 

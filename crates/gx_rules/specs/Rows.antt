@@ -143,7 +143,7 @@ snaps_of w = flat_map snaps_in (marks_in w.steps)
 
 -- what the journal of a node holds
 abbrev pub journal_of : World → Node → List JournalItem
-journal_of w node = items_of node (marks_in w.steps)
+journal_of w node = items_of node w.steps
 
 abbrev pub numbers : ℕ → ℕ → List Cell
 numbers a b = cell.Int (pos a) ∷ cell.Int (pos b) ∷ []

@@ -176,7 +176,9 @@ no-commit {point = point} node g e c = by_how c.by
 failed-there : {script : Script} {point : Point} (node : Node) (g : Gxid) → NoReceipt point.event → ((node ≡ the_coordinator) × Decides script (before point) g → ⊥) → FailsThere script point node g → ⊥
 failed-there node g e own (inl x) = own x
 failed-there node g e own (inr (inl x)) = no-promise node g e x
-failed-there node g e own (inr (inr x)) = no-commit node g e x
+failed-there node g e own (inr (inr (inl x))) = no-commit node g e x
+failed-there {point = point} node g e own (inr (inr (inr (inl x)))) = nothing-comes point.steps point.event the_coordinator node (message.Abort g) e x.told
+failed-there {point = point} node g e own (inr (inr (inr (inr x)))) = nothing-comes point.steps point.event the_coordinator node (message.Forget g) e x.told
 
 pub causes-unasked : (script : Script) → BreaksProtocol (empty_block script) failed_unasked
 causes-unasked script h = failed-there the_segment first_txn tt (λ x. not-own x.0) h.1.0.0

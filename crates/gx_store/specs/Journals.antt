@@ -1,5 +1,5 @@
 -- The items that the journals hold after a run.
-use Rattle.std.specs.Prelude.{◌==◌, Bool, false, if◌then◌else◌, ◌&&◌, ◌||◌, List, [], ◌∷◌, ◌++◌}
+use Rattle.std.specs.Prelude.{◌==◌, Bool, false, not, if◌then◌else◌, ◌&&◌, ◌||◌, List, [], ◌∷◌, ◌++◌}
 use Rattle.std.specs.Ordering.{is_lt}
 use Rattle.gx_ids.specs.declared.ids.Gxid.{Gxid}
 use Rattle.gx_ids.specs.declared.ids.Node.{Node}
@@ -7,8 +7,11 @@ use Rattle.gx_meaning.specs.Order.{rid_order}
 use Rattle.gx_msg.specs.declared.item.JournalItem.{JournalItem}
 use Rattle.gx_msg.specs.declared.item.JournalItem.TheVariants as item
 use Rattle.gx_msg.specs.declared.item.Kept.{Kept}
+use Rattle.gx_msg.specs.declared.message.Message.TheVariants as message
+use Rattle.gx_msg.specs.declared.reply.Reply.TheVariants as reply
 use Rattle.gx_store.specs.declared.mark.Mark.{Mark}
-use Rattle.gx_store.specs.declared.mark.Mark.TheVariants.{Write, Prepared, LocalCommit, Decided}
+use Rattle.gx_store.specs.declared.mark.Mark.TheVariants.{Write, Prepared, LocalCommit, Decided, Sent}
+use Rattle.gx_store.specs.declared.run.Step.{Step}
 use Rattle.gx_store.specs.Marks.{is_same_gxid, is_same_rid}
 
 abbrev pub is_same_node : Node → Node → Bool
@@ -36,18 +39,45 @@ is_prepared [] node g = false
 is_prepared (Prepared n h ∷ ms) node g = (is_same_node n node && is_same_gxid h g) || is_prepared ms node g
 is_prepared (_ ∷ ms) node g = is_prepared ms node g
 
--- the item that a mark stands for in a node's journal, if it stands for one
+-- the node has committed the transaction
+abbrev pub is_committed_there : List Mark → Node → Gxid → Bool
+is_committed_there [] node g = false
+is_committed_there (LocalCommit n h ∷ ms) node g = (is_same_node n node && is_same_gxid h g) || is_committed_there ms node g
+is_committed_there (_ ∷ ms) node g = is_committed_there ms node g
+
+-- these marks, which are one node's own, have said that the transaction is aborted there
+abbrev pub has_told_aborted : List Mark → Gxid → Bool
+has_told_aborted [] g = false
+has_told_aborted (Sent to number (message.Answer h reply.Aborted) ∷ ms) g = is_same_gxid h g || has_told_aborted ms g
+has_told_aborted (_ ∷ ms) g = has_told_aborted ms g
+
+-- or forgotten
+abbrev pub has_told_forgotten : List Mark → Gxid → Bool
+has_told_forgotten [] g = false
+has_told_forgotten (Sent to number (message.Answer h reply.Forgotten) ∷ ms) g = is_same_gxid h g || has_told_forgotten ms g
+has_told_forgotten (_ ∷ ms) g = has_told_forgotten ms g
+
+-- The item that a node's mark stands for in its journal, behind its own marks, if it stands for one. That a transaction is aborted or
+-- forgotten there no mark says but the first answer that tells so.
 abbrev pub item_of : Node → List Mark → Mark → List JournalItem
 item_of node before (Prepared n g) = if is_same_node n node then item.Prepare g (kept_at node g before) ∷ [] else []
 item_of node before (LocalCommit n g) =
     if is_same_node n node then (if is_prepared before node g then item.Finish g ∷ [] else item.Commit g (kept_at node g before) ∷ []) else []
 item_of node before (Decided g) = if node.0 == 0 then item.Decide g ∷ [] else []
+item_of node before (Sent to number (message.Answer g reply.Aborted)) = if is_prepared before node g && not (has_told_aborted before g) then item.Abort g ∷ [] else []
+item_of node before (Sent to number (message.Answer g reply.Forgotten)) =
+    if is_committed_there before node g && not (has_told_forgotten before g) then item.Forget g ∷ [] else []
 item_of node before _ = []
 
--- a node's items, in the order of the marks that they stand for
+-- a node's items, in the order of its own marks that they stand for
 abbrev pub items_from : Node → List Mark → List Mark → List JournalItem
 items_from node before [] = []
 items_from node before (m ∷ ms) = item_of node before m ++ items_from node (before ++ m ∷ []) ms
 
-abbrev pub items_of : Node → List Mark → List JournalItem
-items_of node marks = items_from node [] marks
+-- the marks of a node's own steps
+abbrev pub own_marks : Node → List Step → List Mark
+own_marks node [] = []
+own_marks node (s ∷ ss) = if is_same_node s.stamp.node node then s.marks ++ own_marks node ss else own_marks node ss
+
+abbrev pub items_of : Node → List Step → List JournalItem
+items_of node steps = items_from node [] (own_marks node steps)

@@ -152,9 +152,26 @@ pub record WritesThere (point : Point) (node : Node) (g : Gxid) (c : Cid) : Type
 abbrev pub FaultsThere : Point → Node → Gxid → Cid → Option (List Value) → Type 0
 FaultsThere point node g c image = ((node ≡ the_coordinator) × (image ≡ None) × (is_aborted (before point) g ≡ false)) ⊎ IsExecuted point g c node
 
--- A journal fails in the place of what it was to take: the coordinator's of a decision, a segment's of a promise or of a commit.
+-- a segment that has promised is told that the transaction has aborted
+pub record Withdraws (point : Point) (node : Node) (g : Gxid) : Type 0 where
+  pub told : Receives point.steps point.event the_coordinator node (message.Abort g)
+  pub aborted : is_aborted (before point) g ≡ true
+  pub promised : prepared_count (before point) node g ≡ 1
+  pub uncommitted : local_count (before point) node g ≡ 0
+  pub unfailed : HasFailed point node g → ⊥
+
+-- a segment that has committed is told that the transaction has committed everywhere
+pub record ForgetsThere (point : Point) (node : Node) (g : Gxid) : Type 0 where
+  pub told : Receives point.steps point.event the_coordinator node (message.Forget g)
+  pub ended : is_committed (before point) g ≡ true
+  pub committed : local_count (before point) node g ≡ 1
+  pub unfailed : HasFailed point node g → ⊥
+
+-- A journal fails in the place of what it was to take: the coordinator's of a decision, a segment's of a promise or of a commit, or that
+-- a promise is withdrawn or a commit forgotten.
 abbrev pub FailsThere : Script → Point → Node → Gxid → Type 0
-FailsThere script point node g = ((node ≡ the_coordinator) × Decides script (before point) g) ⊎ Promises point node g ⊎ CommitsThere point node g
+FailsThere script point node g =
+    ((node ≡ the_coordinator) × Decides script (before point) g) ⊎ Promises point node g ⊎ CommitsThere point node g ⊎ Withdraws point node g ⊎ ForgetsThere point node g
 
 -- ORDERS
 -- EXEC is of a command under way, of a transaction that nobody was asked to prepare or to commit
