@@ -39,7 +39,7 @@ use Rattle.gx_store.specs.declared.mark.Mark.TheVariants as mark
 use Rattle.gx_store.specs.Marks.{is_aborted, is_committed, is_ended, is_same_gxid}
 use Rattle.gx_store.specs.Refusals.{the_coordinator}
 use Rattle.gx_store.specs.Waits.{holds_from}
-use Rattle.gx_rules.specs.AtSegment.{aborts, commits, ends, finishes, forgets, if_fits, on_abort, on_commit, on_commit_prepared, on_exec, on_forget, on_message, on_prepare, once, promises, raised, repeats, resumes, takes, unless_below, was_prepared}
+use Rattle.gx_rules.specs.AtSegment.{aborts, again, commits, ends, finishes, forgets, forgets_committed, if_fits, on_abort, on_commit, on_commit_prepared, on_exec, on_forget, on_message, on_prepare, once, promises, raised, repeats, resumes, takes, unless_below, was_prepared, withdraws}
 use Rattle.gx_rules.specs.Fits.{fits_exec, holds_locks, is_right_slice, is_waiting, reads_nothing}
 use Rattle.gx_rules.specs.Maps.{each_below}
 use Rattle.gx_rules.specs.Locks.{has_there, hold_mark, release_mark, release_marks, released, wait_mark, with_hold, with_wait}
@@ -488,8 +488,8 @@ module _ (script : Script) (P : Gxid → Table → Type 0) (here : Node) (before
     commit-prepared g fails Aborted e = stay
 
     -- it ends, and gives all back that it has here
-    ended : (g : Gxid) (p : Phase) (r : Reply) → has_ended p ≡ true → is_ended before g ≡ true → MayGive before s.locks.waits g → Goes (ends s g (local_of s g) p r)
-    ended g p r over e may =
+    ended : (g : Gxid) (p : Phase) (r : Reply) (it : Option JournalItem) → has_ended p ≡ true → is_ended before g ≡ true → MayGive before s.locks.waits g → Goes (ends s g (local_of s g) p r it)
+    ended g p r it over e may =
         record {
           locking = subst (λ k. Locking here before s.locks (release_marks k s.locks g) (released s.locks g)) (sym n) (gives-back s.locks g here before e may);
           lasts = λ h. lasts-so h (eqb h.0 g.0) refl;
@@ -513,26 +513,37 @@ module _ (script : Script) (P : Gxid → Table → Type 0) (here : Node) (before
             (local_of s h).suspended (rows h)
 
     dropped : (g : Gxid) → is_aborted before g ≡ true → Goes (aborts s g (local_of s g))
-    dropped g e = ended g Aborted _ refl (or_right (is_committed before g) (is_aborted before g) e) (inr e)
+    dropped g e = ended g Aborted _ None refl (or_right (is_committed before g) (is_aborted before g) e) (inr e)
 
-    abort : (g : Gxid) (p : Phase) → is_aborted before g ≡ true → Goes (on_abort s g (local_of s g) p)
-    abort g Reading e = dropped g e
-    abort g Writing e = dropped g e
-    abort g Prepared e = dropped g e
-    abort g Committed e = stay
-    abort g (Forgotten b) e = stay
-    abort g Aborted e = tell g _
+    once-more : (g : Gxid) (it : JournalItem) → Goes (again s g (local_of s g) it)
+    once-more g it = unchanged g _ _ _ _ (tt, tt) refl refl
+
+    withdrawn : (g : Gxid) (fails : Bool) → is_aborted before g ≡ true → Goes (withdraws s g fails (local_of s g))
+    withdrawn g true e = once-more g _
+    withdrawn g false e = ended g Aborted _ _ refl (or_right (is_committed before g) (is_aborted before g) e) (inr e)
+
+    abort : (g : Gxid) (fails : Bool) (p : Phase) → is_aborted before g ≡ true → Goes (on_abort s g fails (local_of s g) p)
+    abort g fails Reading e = dropped g e
+    abort g fails Writing e = dropped g e
+    abort g fails Prepared e = withdrawn g fails e
+    abort g fails Committed e = stay
+    abort g fails (Forgotten b) e = stay
+    abort g fails Aborted e = tell g _
 
     forgotten : (g : Gxid) → (is_ended before g ≡ true) × ((local_of s g).suspended ≡ None) → Goes (forgets s g (local_of s g))
-    forgotten g e = ended g _ _ refl e.0 (inl (single.none g e.1))
+    forgotten g e = ended g _ _ None refl e.0 (inl (single.none g e.1))
 
-    forget : (g : Gxid) (p : Phase) → (is_ended before g ≡ true) × ((local_of s g).suspended ≡ None) → Goes (on_forget s g (local_of s g) p)
-    forget g Reading e = forgotten g e
-    forget g Writing e = forgotten g e
-    forget g Prepared e = forgotten g e
-    forget g Committed e = forgotten g e
-    forget g (Forgotten b) e = tell g _
-    forget g Aborted e = stay
+    forgotten-noted : (g : Gxid) (fails : Bool) → (is_ended before g ≡ true) × ((local_of s g).suspended ≡ None) → Goes (forgets_committed s g fails (local_of s g))
+    forgotten-noted g true e = once-more g _
+    forgotten-noted g false e = ended g _ _ _ refl e.0 (inl (single.none g e.1))
+
+    forget : (g : Gxid) (fails : Bool) (p : Phase) → (is_ended before g ≡ true) × ((local_of s g).suspended ≡ None) → Goes (on_forget s g fails (local_of s g) p)
+    forget g fails Reading e = forgotten g e
+    forget g fails Writing e = forgotten g e
+    forget g fails Prepared e = forgotten g e
+    forget g fails Committed e = forgotten-noted g fails e
+    forget g fails (Forgotten b) e = tell g _
+    forget g fails Aborted e = stay
 
     -- ALL MESSAGES
     below : (g : Gxid) (turn : SegTurn) → Goes turn → Goes (unless_below s g turn)
@@ -552,8 +563,8 @@ module _ (script : Script) (P : Gxid → Table → Type 0) (here : Node) (before
     message_locks fails (message.Prepare g) e has = below g _ (fits (not (is_waiting (local_of s g))) _ (λ fit. prepare g fails (local_of s g).phase refl))
     message_locks fails (message.Commit g) e has = below g _ (fits (not (is_waiting (local_of s g))) _ (λ fit. commit g fails (local_of s g).phase refl))
     message_locks fails (message.CommitPrepared g) e has = below g _ (commit-prepared g fails (local_of s g).phase refl)
-    message_locks fails (message.Abort g) e has = below g _ (abort g (local_of s g).phase e)
-    message_locks fails (message.Forget g) e has = below g _ (forget g (local_of s g).phase e)
+    message_locks fails (message.Abort g) e has = below g _ (abort g fails (local_of s g).phase e)
+    message_locks fails (message.Forget g) e has = below g _ (forget g fails (local_of s g).phase e)
     message_locks fails (message.Collect round) e has =
         collect-ways Goes s round stay
         (λ new. record { locking = no-lock here before s.locks (mark.Report s.node round (graph_at s.locks) ∷ []) (tt, tt); lasts = λ h e. (e, λ c is m i. i); rows = rows; writes = tt; written = (tt, tt) })

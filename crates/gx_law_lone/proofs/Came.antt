@@ -25,6 +25,7 @@ use Rattle.gx_waits.specs.declared.object.Object.TheVariants.{Relation, Transact
 use Rattle.gx_waits.specs.Claim.{same_claim}
 use Rattle.gx_waits.specs.Claims.{is_clear, is_of, with_claim, without}
 use Rattle.gx_meaning.specs.declared.fault.ArithFault.{ArithFault}
+use Rattle.gx_msg.specs.declared.item.JournalItem.{JournalItem}
 use Rattle.gx_msg.specs.declared.message.Message.{Message}
 use Rattle.gx_msg.specs.declared.message.Message.TheVariants as message
 use Rattle.gx_msg.specs.declared.reply.Reply.{Reply}
@@ -36,7 +37,7 @@ use Rattle.gx_store.specs.declared.mark.Mark.{Mark}
 use Rattle.gx_store.specs.declared.mark.Mark.TheVariants as mark
 use Rattle.gx_store.specs.declared.node.NodeEvent.{NodeEvent}
 use Rattle.gx_store.specs.declared.node.NodeEvent.TheVariants as here
-use Rattle.gx_rules.specs.AtSegment.{commits, ends, finishes, if_fits, on_abort, on_commit, on_commit_prepared, on_exec, on_forget, on_message, on_prepare, once, promises, raised, repeats, seg_rule, takes, unless_below, was_prepared}
+use Rattle.gx_rules.specs.AtSegment.{commits, ends, finishes, forgets_committed, if_fits, on_abort, on_commit, on_commit_prepared, on_exec, on_forget, on_message, on_prepare, once, promises, raised, repeats, seg_rule, takes, unless_below, was_prepared, withdraws}
 use Rattle.gx_rules.specs.Changes.{Change, RowTurn, change_of, changes_rows, goes_through, suspended_at, suspends_at, tuple_lock, waits}
 use Rattle.gx_rules.specs.Fits.{fits_exec, holds_locks, is_waiting, reads_nothing}
 use Rattle.gx_rules.specs.Locks.{hold_mark, with_hold, with_wait}
@@ -301,26 +302,34 @@ module _ (script : Script) (s : Seg) (k : Came s) (g : Gxid) where
       by_test true q e = e
       by_test false q e = ap (λ b. b || holds_any g.0 (without g xs)) q ∙ e
 
-  end : (p : Phase) (r : Reply) → Keep (ends s g l p r)
-  end p r =
+  end : (p : Phase) (r : Reply) (it : Option JournalItem) → Keep (ends s g l p r it)
+  end p r it =
       changed s g (record l { phase = p; suspended = None }) (without g s.locks.holds)
       (λ h n f. none-left (is_of (gx h)) (is_of (gx h)) (λ claim. not (is_of g claim)) (λ x q z. z) s.locks.holds (k h f)) (λ f. none-ended s.locks.holds)
 
-  abort : (p : Phase) → Keep (on_abort s g l p)
-  abort Reading = end _ answer.Aborted
-  abort Writing = end _ answer.Aborted
-  abort Prepared = end _ answer.Aborted
-  abort Committed = k
-  abort (Forgotten b) = k
-  abort Aborted = k
+  withdrawn : (fails : Bool) → l.phase ≡ Prepared → Keep (withdraws s g fails l)
+  withdrawn true e = onward l.phase l.vote (ap has_ended e)
+  withdrawn false e = end _ answer.Aborted _
 
-  forget : (p : Phase) → Keep (on_forget s g l p)
-  forget Reading = end _ answer.Forgotten
-  forget Writing = end _ answer.Forgotten
-  forget Prepared = end _ answer.Forgotten
-  forget Committed = end _ answer.Forgotten
-  forget (Forgotten b) = k
-  forget Aborted = k
+  abort : (fails : Bool) (p : Phase) → l.phase ≡ p → Keep (on_abort s g fails l p)
+  abort fails Reading e = end _ answer.Aborted _
+  abort fails Writing e = end _ answer.Aborted _
+  abort fails Prepared e = withdrawn fails e
+  abort fails Committed e = k
+  abort fails (Forgotten b) e = k
+  abort fails Aborted e = k
+
+  forgotten : (fails : Bool) → l.phase ≡ Committed → Keep (forgets_committed s g fails l)
+  forgotten true e = onward l.phase l.vote (ap has_ended e)
+  forgotten false e = end _ answer.Forgotten _
+
+  forget : (fails : Bool) (p : Phase) → l.phase ≡ p → Keep (on_forget s g fails l p)
+  forget fails Reading e = end _ answer.Forgotten _
+  forget fails Writing e = end _ answer.Forgotten _
+  forget fails Prepared e = end _ answer.Forgotten _
+  forget fails Committed e = forgotten fails e
+  forget fails (Forgotten b) e = k
+  forget fails Aborted e = k
 
   below : (turn : SegTurn) → Keep turn → Keep (unless_below s g turn)
   below turn e = both (is_below s.horizon g) _ _ k e
@@ -365,8 +374,8 @@ message-came script s k fails (message.Exec g c level snapshot h x) = below scri
 message-came script s k fails (message.Prepare g) = below script s k g _ (fits script s k g (not (is_waiting (local_of s g))) _ (λ e. prepare script s k g fails (local_of s g).phase refl))
 message-came script s k fails (message.Commit g) = below script s k g _ (fits script s k g (not (is_waiting (local_of s g))) _ (λ e. commit script s k g fails (local_of s g).phase refl))
 message-came script s k fails (message.CommitPrepared g) = below script s k g _ (commit_prepared script s k g fails (local_of s g).phase refl)
-message-came script s k fails (message.Abort g) = below script s k g _ (abort script s k g (local_of s g).phase)
-message-came script s k fails (message.Forget g) = below script s k g _ (forget script s k g (local_of s g).phase)
+message-came script s k fails (message.Abort g) = below script s k g _ (abort script s k g fails (local_of s g).phase refl)
+message-came script s k fails (message.Forget g) = below script s k g _ (forget script s k g fails (local_of s g).phase refl)
 message-came script s k fails (message.Collect round) = collect-ways Keep s round k (λ e. k) (λ e graph q. k)
 message-came script s k fails (message.Answer g r) = k
 message-came script s k fails (message.Graph round graph) = k

@@ -25,7 +25,7 @@ use Rattle.gx_msg.specs.declared.reply.Reply.TheVariants as answer
 use Rattle.gx_script.specs.declared.Script.{Script}
 use Rattle.gx_store.specs.Locks.{slice_lock}
 use Rattle.gx_store.specs.declared.mark.Mark.{Mark}
-use Rattle.gx_rules.specs.AtSegment.{changes, commits, ends, finishes, if_fits, on_abort, on_commit, on_commit_prepared, on_exec, on_forget, on_message, on_prepare, once, promises, raised, repeats, takes, unless_below, was_prepared}
+use Rattle.gx_rules.specs.AtSegment.{changes, commits, ends, finishes, forgets_committed, if_fits, on_abort, on_commit, on_commit_prepared, on_exec, on_forget, on_message, on_prepare, once, promises, raised, repeats, takes, unless_below, was_prepared, withdraws}
 use Rattle.gx_rules.specs.Changes.{Change, change_of, end_lock}
 use Rattle.gx_rules.specs.Fits.{fits_exec, is_waiting, reads_nothing}
 use Rattle.gx_rules.specs.Locks.{hold_mark, wait_mark, with_hold, with_wait}
@@ -185,8 +185,8 @@ module _ (A : ℕ → Bool) (script : Script) (s : Seg) (k : Rows A s) (g : Gxid
     commit_prepared fails Aborted q = stay
 
     -- it ends there, and gives all its locks back
-    end : (p : Phase) (r : Reply) → is_open_phase p ≡ false → TellsSo (record l { phase = p; suspended = None }) (message.Answer g r) → Turn (ends s g l p r)
-    end p r closed t =
+    end : (p : Phase) (r : Reply) (it : Option JournalItem) → is_open_phase p ≡ false → TellsSo (record l { phase = p; suspended = None }) (message.Answer g r) → Turn (ends s g l p r it)
+    end p r it closed t =
         record {
           rows = λ h. by_test h (eqb h g.0) refl;
           failed = λ x y. absurd (true-false (is_open_phase p) (ap (λ (z : Local). is_open_phase z.phase) (sym (here now)) ∙ y) closed);
@@ -200,21 +200,29 @@ module _ (A : ℕ → Bool) (script : Script) (s : Seg) (k : Rows A s) (g : Gxid
         by_test h true e = subst (λ j. RowsOf A j now (without g s.locks.holds)) (sym (eqb-true h g.0 e)) (λ a f. strays-ended g None s.locks.holds)
         by_test h false e = λ a f. strays-left (gx h) (row_of (s.locals h).suspended) (λ claim. not (is_of g claim)) s.locks.holds (k h a f)
 
-    abort : (p : Phase) → Turn (on_abort s g l p)
-    abort Reading = end Aborted answer.Aborted refl tt
-    abort Writing = end Aborted answer.Aborted refl tt
-    abort Prepared = end Aborted answer.Aborted refl tt
-    abort Committed = stay
-    abort (Forgotten b) = stay
-    abort Aborted = tell answer.Aborted tt
+    withdrawn : (fails : Bool) → Turn (withdraws s g fails l)
+    withdrawn true = with_record l.phase l.vote _ _ _ (λ e. e) (λ a f. f) tt
+    withdrawn false = end Aborted answer.Aborted _ refl tt
 
-    forget : (p : Phase) → Turn (on_forget s g l p)
-    forget Reading = end _ answer.Forgotten refl tt
-    forget Writing = end _ answer.Forgotten refl tt
-    forget Prepared = end _ answer.Forgotten refl tt
-    forget Committed = end _ answer.Forgotten refl tt
-    forget (Forgotten b) = tell answer.Forgotten tt
-    forget Aborted = stay
+    abort : (fails : Bool) (p : Phase) → Turn (on_abort s g fails l p)
+    abort fails Reading = end Aborted answer.Aborted _ refl tt
+    abort fails Writing = end Aborted answer.Aborted _ refl tt
+    abort fails Prepared = withdrawn fails
+    abort fails Committed = stay
+    abort fails (Forgotten b) = stay
+    abort fails Aborted = tell answer.Aborted tt
+
+    forgotten : (fails : Bool) → Turn (forgets_committed s g fails l)
+    forgotten true = with_record l.phase l.vote _ _ _ (λ e. e) (λ a f. f) tt
+    forgotten false = end _ answer.Forgotten _ refl tt
+
+    forget : (fails : Bool) (p : Phase) → Turn (on_forget s g fails l p)
+    forget fails Reading = end _ answer.Forgotten _ refl tt
+    forget fails Writing = end _ answer.Forgotten _ refl tt
+    forget fails Prepared = end _ answer.Forgotten _ refl tt
+    forget fails Committed = forgotten fails
+    forget fails (Forgotten b) = tell answer.Forgotten tt
+    forget fails Aborted = stay
 
     below : (turn : SegTurn) → Turn turn → Turn (unless_below s g turn)
     below turn e = both (is_below s.horizon g) _ _ (λ q. stay) e
@@ -329,8 +337,8 @@ message-did A script s k fails (message.Exec g c level snapshot h x) v f =
 message-did A script s k fails (message.Prepare g) v f = below A script s k g (λ n. ⊥) _ (fits A script s k g (λ n. ⊥) (not (is_waiting (local_of s g))) _ (λ e. prepare A script s k g (λ n. ⊥) v f fails (local_of s g).phase))
 message-did A script s k fails (message.Commit g) v f = below A script s k g (λ n. ⊥) _ (fits A script s k g (λ n. ⊥) (not (is_waiting (local_of s g))) _ (λ e. commit A script s k g (λ n. ⊥) v f fails (local_of s g).phase))
 message-did A script s k fails (message.CommitPrepared g) v f = below A script s k g (λ n. ⊥) _ (commit_prepared A script s k g (λ n. ⊥) fails (local_of s g).phase refl)
-message-did A script s k fails (message.Abort g) v f = below A script s k g (λ n. ⊥) _ (abort A script s k g (λ n. ⊥) (local_of s g).phase)
-message-did A script s k fails (message.Forget g) v f = below A script s k g (λ n. ⊥) _ (forget A script s k g (λ n. ⊥) (local_of s g).phase)
+message-did A script s k fails (message.Abort g) v f = below A script s k g (λ n. ⊥) _ (abort A script s k g (λ n. ⊥) fails (local_of s g).phase)
+message-did A script s k fails (message.Forget g) v f = below A script s k g (λ n. ⊥) _ (forget A script s k g (λ n. ⊥) fails (local_of s g).phase)
 message-did A script s k fails (message.Collect round) v f =
     collect-ways (Did A (s.locals 0) (gx 0) (λ n. ⊥)) s round (stay A script s k (gx 0) (λ n. ⊥))
     (λ e. record { rows = k; failed = λ x y. inl (x, y, refl); outs = (tt, tt) })

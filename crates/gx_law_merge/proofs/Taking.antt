@@ -150,22 +150,6 @@ exec-quiet script s g c level snapshot h work l Committed = repeat-quiet s g c l
 exec-quiet script s g c level snapshot h work l (Forgotten committed) = refl
 exec-quiet script s g c level snapshot h work l Aborted = refl
 
-abort-quiet : (s : Seg) (g : Gxid) (l : Local) (p : Phase) → IsQuiet (segment.on_abort s g l p)
-abort-quiet s g l Reading = refl
-abort-quiet s g l Writing = refl
-abort-quiet s g l Prepared = refl
-abort-quiet s g l Committed = refl
-abort-quiet s g l (Forgotten committed) = refl
-abort-quiet s g l Aborted = refl
-
-forget-quiet : (s : Seg) (g : Gxid) (l : Local) (p : Phase) → IsQuiet (segment.on_forget s g l p)
-forget-quiet s g l Reading = refl
-forget-quiet s g l Writing = refl
-forget-quiet s g l Prepared = refl
-forget-quiet s g l Committed = refl
-forget-quiet s g l (Forgotten committed) = refl
-forget-quiet s g l Aborted = refl
-
 collect-quiet : (s : Seg) (round : ℕ) → IsQuiet (segment.on_collect s round)
 collect-quiet s round = collect-ways IsQuiet s round refl (λ new. refl) (λ last graph kept. refl)
 
@@ -232,6 +216,27 @@ finish-tells s g l (Forgotten true) = inl (λ fails. refl)
 finish-tells s g l (Forgotten false) = inl (λ fails. refl)
 finish-tells s g l Aborted = inl (λ fails. refl)
 
+-- what is given back is no failure
+given-unfailed : (node : Node) (claims : List Claim) → has_failed (map (release_mark node) claims) ≡ false
+given-unfailed node [] = refl
+given-unfailed node (x ∷ xs) = given-unfailed node xs
+
+abort-tells : (s : Seg) (g : Gxid) (l : Local) (p : Phase) → TellsTaken (λ fails. segment.on_abort s g fails l p)
+abort-tells s g l Reading = inl (λ fails. refl)
+abort-tells s g l Writing = inl (λ fails. refl)
+abort-tells s g l Prepared = inr (refl, given-unfailed s.node (has_there s.locks g))
+abort-tells s g l Committed = inl (λ fails. refl)
+abort-tells s g l (Forgotten committed) = inl (λ fails. refl)
+abort-tells s g l Aborted = inl (λ fails. refl)
+
+forget-tells : (s : Seg) (g : Gxid) (l : Local) (p : Phase) → TellsTaken (λ fails. segment.on_forget s g fails l p)
+forget-tells s g l Reading = inl (λ fails. refl)
+forget-tells s g l Writing = inl (λ fails. refl)
+forget-tells s g l Prepared = inl (λ fails. refl)
+forget-tells s g l Committed = inr (refl, given-unfailed s.node (has_there s.locks g))
+forget-tells s g l (Forgotten committed) = inl (λ fails. refl)
+forget-tells s g l Aborted = inl (λ fails. refl)
+
 message-tells : (script : Script) (s : Seg) (told : Message) → TellsTaken (λ fails. segment.on_message script s fails told)
 message-tells script s (message.Exec g c level snapshot h work) =
     let run = segment.on_exec script s g c level snapshot h work (local_of s g) (local_of s g).phase in
@@ -243,8 +248,8 @@ message-tells script s (message.Commit g) =
     tells-unless _ s (λ fails. segment.if_fits s (not (is_waiting (local_of s g))) (segment.on_commit s g fails (local_of s g) (local_of s g).phase))
     (tells-fits (not (is_waiting (local_of s g))) s (λ fails. segment.on_commit s g fails (local_of s g) (local_of s g).phase) (commit-tells s g (local_of s g) (local_of s g).phase))
 message-tells script s (message.CommitPrepared g) = tells-unless _ s (λ fails. segment.on_commit_prepared s g fails (local_of s g) (local_of s g).phase) (finish-tells s g (local_of s g) (local_of s g).phase)
-message-tells script s (message.Abort g) = tells-unless _ s (λ fails. segment.on_abort s g (local_of s g) (local_of s g).phase) (inl (λ fails. abort-quiet s g (local_of s g) (local_of s g).phase))
-message-tells script s (message.Forget g) = tells-unless _ s (λ fails. segment.on_forget s g (local_of s g) (local_of s g).phase) (inl (λ fails. forget-quiet s g (local_of s g) (local_of s g).phase))
+message-tells script s (message.Abort g) = tells-unless _ s (λ fails. segment.on_abort s g fails (local_of s g) (local_of s g).phase) (abort-tells s g (local_of s g) (local_of s g).phase)
+message-tells script s (message.Forget g) = tells-unless _ s (λ fails. segment.on_forget s g fails (local_of s g) (local_of s g).phase) (forget-tells s g (local_of s g) (local_of s g).phase)
 message-tells script s (message.Collect round) = inl (λ fails. collect-quiet s round)
 message-tells script s (message.Answer g r) = inl (λ fails. refl)
 message-tells script s (message.Graph round graph) = inl (λ fails. refl)

@@ -20,6 +20,7 @@ use Rattle.gx_waits.specs.declared.object.Object.TheVariants.{Relation, Transact
 use Rattle.gx_locks.specs.Locks.{wait_of}
 use Rattle.gx_waits.specs.Claims.{is_clear}
 use Rattle.gx_meaning.specs.declared.fault.ArithFault.{ArithFault}
+use Rattle.gx_msg.specs.declared.item.JournalItem.{JournalItem}
 use Rattle.gx_msg.specs.declared.message.Message.{Message}
 use Rattle.gx_msg.specs.declared.message.Message.TheVariants as message
 use Rattle.gx_msg.specs.declared.reply.Reply.{Reply}
@@ -30,7 +31,7 @@ use Rattle.gx_store.specs.declared.node.NodeEvent.{NodeEvent}
 use Rattle.gx_store.specs.declared.node.NodeEvent.TheVariants as event
 use Rattle.gx_store.specs.Ordered.{IsAtNode, IsSegment}
 use Rattle.gx_store.specs.Refusals.{the_coordinator}
-use Rattle.gx_rules.specs.AtSegment.{commits, ends, finishes, if_fits, on_abort, on_collect, on_commit, on_commit_prepared, on_event, on_exec, on_forget, on_message, on_prepare, once, promises, raised, repeats, resumes, takes, unless_below, was_prepared}
+use Rattle.gx_rules.specs.AtSegment.{again, commits, ends, finishes, forgets_committed, if_fits, on_abort, on_collect, on_commit, on_commit_prepared, on_event, on_exec, on_forget, on_message, on_prepare, once, promises, raised, repeats, resumes, takes, unless_below, was_prepared, withdraws}
 use Rattle.gx_rules.specs.Changes.{Change, RowTurn, change_of, changes_rows, goes_on_at, suspended_at, suspends_at, waits}
 use Rattle.gx_rules.specs.Locks.{hold_mark, with_hold}
 use Rattle.gx_rules.specs.Segments.{Local, Phase, Seg, SegTurn, Suspended, after_marks, local_of, stays, tells, tells_kept}
@@ -231,24 +232,35 @@ module _ (script : Script) (s : Seg) (at : IsSegment script s.node) where
   commit_prepared g fails l (Forgotten false) = stay
   commit_prepared g fails l Aborted = stay
 
-  ended : (g : Gxid) (l : Local) (p : Phase) (r : Reply) → Stays (ends s g l p r)
-  ended g l p r = record { node = refl; sent = refl; marks = each-released (PlainAt script s.node) s.node s.locks g (λ claim. refl); outs = (refl, tt) }
+  ended : (g : Gxid) (l : Local) (p : Phase) (r : Reply) (it : Option JournalItem) → Stays (ends s g l p r it)
+  ended g l p r it = record { node = refl; sent = refl; marks = each-released (PlainAt script s.node) s.node s.locks g (λ claim. refl); outs = (refl, tt) }
 
-  abort : (g : Gxid) (l : Local) (p : Phase) → Stays (on_abort s g l p)
-  abort g l Reading = ended g l _ _
-  abort g l Writing = ended g l _ _
-  abort g l Prepared = ended g l _ _
-  abort g l Committed = stay
-  abort g l (Forgotten b) = stay
-  abort g l Aborted = tell g _
+  once_more : (g : Gxid) (l : Local) (it : JournalItem) → Stays (again s g l it)
+  once_more g l it = record { node = refl; sent = refl; marks = (refl, tt); outs = (refl, tt) }
 
-  forget : (g : Gxid) (l : Local) (p : Phase) → Stays (on_forget s g l p)
-  forget g l Reading = ended g l _ _
-  forget g l Writing = ended g l _ _
-  forget g l Prepared = ended g l _ _
-  forget g l Committed = ended g l _ _
-  forget g l (Forgotten b) = tell g _
-  forget g l Aborted = stay
+  withdrawn : (g : Gxid) (fails : Bool) (l : Local) → Stays (withdraws s g fails l)
+  withdrawn g true l = once_more g l _
+  withdrawn g false l = ended g l _ _ _
+
+  abort : (g : Gxid) (fails : Bool) (l : Local) (p : Phase) → Stays (on_abort s g fails l p)
+  abort g fails l Reading = ended g l _ _ _
+  abort g fails l Writing = ended g l _ _ _
+  abort g fails l Prepared = withdrawn g fails l
+  abort g fails l Committed = stay
+  abort g fails l (Forgotten b) = stay
+  abort g fails l Aborted = tell g _
+
+  forgotten : (g : Gxid) (fails : Bool) (l : Local) → Stays (forgets_committed s g fails l)
+  forgotten g true l = once_more g l _
+  forgotten g false l = ended g l _ _ _
+
+  forget : (g : Gxid) (fails : Bool) (l : Local) (p : Phase) → Stays (on_forget s g fails l p)
+  forget g fails l Reading = ended g l _ _ _
+  forget g fails l Writing = ended g l _ _ _
+  forget g fails l Prepared = ended g l _ _ _
+  forget g fails l Committed = forgotten g fails l
+  forget g fails l (Forgotten b) = tell g _
+  forget g fails l Aborted = stay
 
   below : (g : Gxid) (turn : SegTurn) → Stays turn → Stays (unless_below s g turn)
   below g turn e = both (is_below s.horizon g) _ _ stay e
@@ -266,8 +278,8 @@ module _ (script : Script) (s : Seg) (at : IsSegment script s.node) where
   message_stays fails (message.Prepare g) = below g _ (fits (not (is_waiting (local_of s g))) _ (prepare g fails (local_of s g) (local_of s g).phase))
   message_stays fails (message.Commit g) = below g _ (fits (not (is_waiting (local_of s g))) _ (commit g fails (local_of s g) (local_of s g).phase))
   message_stays fails (message.CommitPrepared g) = below g _ (commit_prepared g fails (local_of s g) (local_of s g).phase)
-  message_stays fails (message.Abort g) = below g _ (abort g (local_of s g) (local_of s g).phase)
-  message_stays fails (message.Forget g) = below g _ (forget g (local_of s g) (local_of s g).phase)
+  message_stays fails (message.Abort g) = below g _ (abort g fails (local_of s g) (local_of s g).phase)
+  message_stays fails (message.Forget g) = below g _ (forget g fails (local_of s g) (local_of s g).phase)
   message_stays fails (message.Collect round) = collect round
   message_stays fails (message.Answer g r) = stay
   message_stays fails (message.Graph round graph) = stay

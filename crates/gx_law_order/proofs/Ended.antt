@@ -17,7 +17,7 @@ use Rattle.gx_msg.specs.declared.reply.Reply.{Reply}
 use Rattle.gx_msg.specs.declared.reply.Reply.TheVariants as reply
 use Rattle.gx_script.specs.declared.Script.{Script}
 use Rattle.gx_store.specs.declared.mark.Mark.{Mark}
-use Rattle.gx_rules.specs.AtSegment.{changes, commits, ends, finishes, if_fits, on_abort, on_collect, on_commit, on_commit_prepared, on_exec, on_forget, on_message, on_prepare, once, promises, raised, repeats, resumes, takes, unless_below, was_prepared}
+use Rattle.gx_rules.specs.AtSegment.{changes, commits, ends, finishes, forgets_committed, if_fits, on_abort, on_collect, on_commit, on_commit_prepared, on_exec, on_forget, on_message, on_prepare, once, promises, raised, repeats, resumes, takes, unless_below, was_prepared, withdraws}
 use Rattle.gx_rules.specs.Fits.{fits_exec, is_waiting}
 use Rattle.gx_rules.specs.Maps.{with_at}
 use Rattle.gx_rules.specs.Segments.{Local, Phase, Seg, SegTurn, Suspended, has_committed, has_ended, stays, tells, tells_kept}
@@ -178,8 +178,8 @@ module _ (script : Script) (told : Message) (s : Seg) (g : ℕ) (wrote : Bool) (
   commit-prepared fails (Forgotten false) f = stay
   commit-prepared fails Aborted f = stay
 
-  ended : (p : Phase) (r : Reply) → has_ended p ≡ true → TellsEnd p (message.Answer (gx g) r) → EndsSo (ends s (gx g) l p r)
-  ended p r e t =
+  ended : (p : Phase) (r : Reply) (it : Option JournalItem) → has_ended p ≡ true → TellsEnd p (message.Answer (gx g) r) → EndsSo (ends s (gx g) l p r it)
+  ended p r it e t =
       let x : Local = record l { phase = p; suspended = None } in
       record {
         ended = λ q. subst (λ (y : Local). has_ended y.phase ≡ true) (sym (here x)) e;
@@ -187,21 +187,29 @@ module _ (script : Script) (told : Message) (s : Seg) (g : ℕ) (wrote : Bool) (
         outs = (subst (λ (y : Local). TellsEnd y.phase (message.Answer (gx g) r)) (sym (here x)) t, tt);
       }
 
-  abort : (p : Phase) → l.phase ≡ p → EndsSo (on_abort s (gx g) l p)
-  abort Reading f = ended Aborted reply.Aborted refl refl
-  abort Writing f = ended Aborted reply.Aborted refl refl
-  abort Prepared f = ended Aborted reply.Aborted refl refl
-  abort Committed f = stay
-  abort (Forgotten b) f = stay
-  abort Aborted f = tell reply.Aborted (ap has_ended f)
+  withdrawn : (fails : Bool) → EndsSo (withdraws s (gx g) fails l)
+  withdrawn true = change l _ reply.Again _ (λ e. e) refl tt
+  withdrawn false = ended Aborted reply.Aborted _ refl refl
 
-  forget : (p : Phase) → l.phase ≡ p → EndsSo (on_forget s (gx g) l p)
-  forget Reading f = ended (Forgotten (has_committed l.phase)) reply.Forgotten refl refl
-  forget Writing f = ended (Forgotten (has_committed l.phase)) reply.Forgotten refl refl
-  forget Prepared f = ended (Forgotten (has_committed l.phase)) reply.Forgotten refl refl
-  forget Committed f = ended (Forgotten (has_committed l.phase)) reply.Forgotten refl refl
-  forget (Forgotten b) f = tell reply.Forgotten (ap has_ended f)
-  forget Aborted f = stay
+  abort : (fails : Bool) (p : Phase) → l.phase ≡ p → EndsSo (on_abort s (gx g) fails l p)
+  abort fails Reading f = ended Aborted reply.Aborted _ refl refl
+  abort fails Writing f = ended Aborted reply.Aborted _ refl refl
+  abort fails Prepared f = withdrawn fails
+  abort fails Committed f = stay
+  abort fails (Forgotten b) f = stay
+  abort fails Aborted f = tell reply.Aborted (ap has_ended f)
+
+  forgotten : (fails : Bool) → EndsSo (forgets_committed s (gx g) fails l)
+  forgotten true = change l _ reply.Again _ (λ e. e) refl tt
+  forgotten false = ended (Forgotten (has_committed l.phase)) reply.Forgotten _ refl refl
+
+  forget : (fails : Bool) (p : Phase) → l.phase ≡ p → EndsSo (on_forget s (gx g) fails l p)
+  forget fails Reading f = ended (Forgotten (has_committed l.phase)) reply.Forgotten _ refl refl
+  forget fails Writing f = ended (Forgotten (has_committed l.phase)) reply.Forgotten _ refl refl
+  forget fails Prepared f = ended (Forgotten (has_committed l.phase)) reply.Forgotten _ refl refl
+  forget fails Committed f = forgotten fails
+  forget fails (Forgotten b) f = tell reply.Forgotten (ap has_ended f)
+  forget fails Aborted f = stay
 
   below : (turn : SegTurn) → EndsSo turn → EndsSo (unless_below s (gx g) turn)
   below turn e = both (is_below s.horizon (gx g)) _ _ stay e
@@ -215,8 +223,8 @@ ends-so script fails s (message.Exec g c level x h y) wrote v a = let m : Messag
 ends-so script fails s (message.Prepare g) wrote v a = below script (message.Prepare g) s g.0 wrote v a _ (fits script (message.Prepare g) s g.0 wrote v a (not (is_waiting (s.locals g.0))) _ (prepare script (message.Prepare g) s g.0 wrote v a fails (s.locals g.0).phase refl))
 ends-so script fails s (message.Commit g) wrote v a = below script (message.Commit g) s g.0 wrote v a _ (fits script (message.Commit g) s g.0 wrote v a (not (is_waiting (s.locals g.0))) _ (commit script (message.Commit g) s g.0 wrote v a fails (s.locals g.0).phase refl))
 ends-so script fails s (message.CommitPrepared g) wrote v a = below script (message.CommitPrepared g) s g.0 wrote v a _ (commit-prepared script (message.CommitPrepared g) s g.0 wrote v a fails (s.locals g.0).phase refl)
-ends-so script fails s (message.Abort g) wrote v a = below script (message.Abort g) s g.0 wrote v a _ (abort script (message.Abort g) s g.0 wrote v a (s.locals g.0).phase refl)
-ends-so script fails s (message.Forget g) wrote v a = below script (message.Forget g) s g.0 wrote v a _ (forget script (message.Forget g) s g.0 wrote v a (s.locals g.0).phase refl)
+ends-so script fails s (message.Abort g) wrote v a = below script (message.Abort g) s g.0 wrote v a _ (abort script (message.Abort g) s g.0 wrote v a fails (s.locals g.0).phase refl)
+ends-so script fails s (message.Forget g) wrote v a = below script (message.Forget g) s g.0 wrote v a _ (forget script (message.Forget g) s g.0 wrote v a fails (s.locals g.0).phase refl)
 ends-so script fails s (message.Answer g r) wrote v a = stay script (message.Answer g r) s g.0 wrote v a
 ends-so script fails s (message.Collect round) wrote v a = collect script (message.Collect round) s 0 wrote v a round
 ends-so script fails s (message.Graph round graph) wrote v a = stay script (message.Graph round graph) s 0 wrote v a

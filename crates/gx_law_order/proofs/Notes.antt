@@ -35,7 +35,7 @@ use Rattle.gx_store.specs.declared.mark.Mark.{Mark}
 use Rattle.gx_store.specs.declared.mark.Mark.TheVariants as mark
 use Rattle.gx_store.specs.declared.node.NodeEvent.{NodeEvent}
 use Rattle.gx_store.specs.declared.node.NodeEvent.TheVariants as event
-use Rattle.gx_rules.specs.AtSegment.{commits, ends, finishes, if_fits, on_abort, on_commit, on_commit_prepared, on_event, on_exec, on_forget, on_message, on_prepare, once, promises, raised, repeats, resumes, takes, unless_below, was_prepared, changes}
+use Rattle.gx_rules.specs.AtSegment.{again, changes, commits, ends, finishes, forgets_committed, if_fits, on_abort, on_commit, on_commit_prepared, on_event, on_exec, on_forget, on_message, on_prepare, once, promises, raised, repeats, resumes, takes, unless_below, was_prepared, withdraws}
 use Rattle.gx_rules.specs.Changes.{Change, RowTurn, change_of, changes_rows, goes_on_at, suspended_at, suspends_at}
 use Rattle.gx_rules.specs.Fits.{fits_exec, is_waiting}
 use Rattle.gx_rules.specs.Locks.{hold_mark, release_marks, wait_mark, with_hold, with_wait}
@@ -181,8 +181,8 @@ module _ (ms : List Mark) (node : Node) where
     commit-prepared g fails l Aborted h = stay
 
     -- it gives its locks back
-    ended : (g : Gxid) (l : Local) (p : Phase) (r : Reply) → LocalNoted ms node g l → IsNoted (ms ++ release_marks s.node s.locks g) node (message.Answer g r) → Notes (ends s g l p r)
-    ended g l p r h n =
+    ended : (g : Gxid) (l : Local) (p : Phase) (r : Reply) (it : Option JournalItem) → LocalNoted ms node g l → IsNoted (ms ++ release_marks s.node s.locks g) node (message.Answer g r) → Notes (ends s g l p r it)
+    ended g l p r it h n =
         record {
           locals = local-at (ms ++ released-marks) s g _ (more-all released-marks) (record { answer = in-more ms released-marks node g l.answer h.answer; vote = in-more ms released-marks node g l.vote h.vote });
           outs = (n, tt);
@@ -191,21 +191,32 @@ module _ (ms : List Mark) (node : Node) where
         released-marks : List Mark
         released-marks = release_marks s.node s.locks g
 
-    abort : (g : Gxid) (l : Local) (p : Phase) → LocalNoted ms node g l → Notes (on_abort s g l p)
-    abort g l Reading h = ended g l Aborted reply.Aborted h tt
-    abort g l Writing h = ended g l Aborted reply.Aborted h tt
-    abort g l Prepared h = ended g l Aborted reply.Aborted h tt
-    abort g l Committed h = stay
-    abort g l (Forgotten b) h = stay
-    abort g l Aborted h = tell g _ tt
+    once-more : (g : Gxid) (l : Local) (it : JournalItem) → LocalNoted ms node g l → Notes (again s g l it)
+    once-more g l it h = change g l (mark.JournalFailed s.node g ∷ []) reply.Again _ (local-more ms (mark.JournalFailed s.node g ∷ []) node g l h) tt
 
-    forget : (g : Gxid) (l : Local) (p : Phase) → LocalNoted ms node g l → Notes (on_forget s g l p)
-    forget g l Reading h = ended g l _ reply.Forgotten h tt
-    forget g l Writing h = ended g l _ reply.Forgotten h tt
-    forget g l Prepared h = ended g l _ reply.Forgotten h tt
-    forget g l Committed h = ended g l _ reply.Forgotten h tt
-    forget g l (Forgotten b) h = tell g _ tt
-    forget g l Aborted h = stay
+    withdrawn : (g : Gxid) (fails : Bool) (l : Local) → LocalNoted ms node g l → Notes (withdraws s g fails l)
+    withdrawn g true l h = once-more g l _ h
+    withdrawn g false l h = ended g l Aborted reply.Aborted _ h tt
+
+    abort : (g : Gxid) (fails : Bool) (l : Local) (p : Phase) → LocalNoted ms node g l → Notes (on_abort s g fails l p)
+    abort g fails l Reading h = ended g l Aborted reply.Aborted _ h tt
+    abort g fails l Writing h = ended g l Aborted reply.Aborted _ h tt
+    abort g fails l Prepared h = withdrawn g fails l h
+    abort g fails l Committed h = stay
+    abort g fails l (Forgotten b) h = stay
+    abort g fails l Aborted h = tell g _ tt
+
+    forgotten : (g : Gxid) (fails : Bool) (l : Local) → LocalNoted ms node g l → Notes (forgets_committed s g fails l)
+    forgotten g true l h = once-more g l _ h
+    forgotten g false l h = ended g l _ reply.Forgotten _ h tt
+
+    forget : (g : Gxid) (fails : Bool) (l : Local) (p : Phase) → LocalNoted ms node g l → Notes (on_forget s g fails l p)
+    forget g fails l Reading h = ended g l _ reply.Forgotten _ h tt
+    forget g fails l Writing h = ended g l _ reply.Forgotten _ h tt
+    forget g fails l Prepared h = ended g l _ reply.Forgotten _ h tt
+    forget g fails l Committed h = forgotten g fails l h
+    forget g fails l (Forgotten b) h = tell g _ tt
+    forget g fails l Aborted h = stay
 
   -- SLICES
   answered : (s : Seg) → SegNoted ms node s → (g : Gxid) (c : Cid) (marks : List Mark) (r : Reply) → IsNoted (ms ++ marks) node (message.Answer g r) → Notes (answers s g c marks r)
@@ -346,8 +357,8 @@ module _ (ms : List Mark) (node : Node) where
     message-notes fails (message.Prepare g) = below g _ (fits (not (is_waiting (local_of s g))) _ (prepare ms node s is all g fails (local_of s g) (local_of s g).phase (all g.0)))
     message-notes fails (message.Commit g) = below g _ (fits (not (is_waiting (local_of s g))) _ (commit ms node s is all g fails (local_of s g) (local_of s g).phase (all g.0)))
     message-notes fails (message.CommitPrepared g) = below g _ (commit-prepared ms node s is all g fails (local_of s g) (local_of s g).phase (all g.0))
-    message-notes fails (message.Abort g) = below g _ (abort ms node s is all g (local_of s g) (local_of s g).phase (all g.0))
-    message-notes fails (message.Forget g) = below g _ (forget ms node s is all g (local_of s g) (local_of s g).phase (all g.0))
+    message-notes fails (message.Abort g) = below g _ (abort ms node s is all g fails (local_of s g) (local_of s g).phase (all g.0))
+    message-notes fails (message.Forget g) = below g _ (forget ms node s is all g fails (local_of s g) (local_of s g).phase (all g.0))
     message-notes fails (message.Collect round) =
         collect-ways (Notes ms node) s round (stay ms node s is all)
         (λ new. record { locals = λ g. local-more ms (mark.Report s.node round (graph_at s.locks) ∷ []) node (gx g) (s.locals g) (all g); outs = (tt, tt) })

@@ -14,7 +14,7 @@ use Rattle.gx_msg.specs.declared.message.Out.{Out}
 use Rattle.gx_msg.specs.declared.reply.Reply.{Reply}
 use Rattle.gx_script.specs.declared.Script.{Script}
 use Rattle.gx_store.specs.declared.mark.Mark.{Mark}
-use Rattle.gx_rules.specs.AtSegment.{changes, commits, ends, finishes, if_fits, on_abort, on_commit, on_commit_prepared, on_exec, on_forget, on_message, on_prepare, once, promises, raised, repeats, resumes, takes, unless_below, was_prepared}
+use Rattle.gx_rules.specs.AtSegment.{changes, commits, ends, finishes, forgets_committed, if_fits, on_abort, on_commit, on_commit_prepared, on_exec, on_forget, on_message, on_prepare, once, promises, raised, repeats, resumes, takes, unless_below, was_prepared, withdraws}
 use Rattle.gx_rules.specs.Fits.{fits_exec, is_waiting}
 use Rattle.gx_rules.specs.Segments.{Local, Phase, Seg, SegTurn, Suspended, local_of, stays, tells, tells_kept}
 use Rattle.gx_rules.specs.Segments.Phase.{Aborted, Committed, Forgotten, Prepared, Reading, Writing}
@@ -121,24 +121,32 @@ module _ (script : Script) (s : Seg) (Q : Gxid → Type 0) (base : Q s.horizon) 
   commit_prepared g fails l (Forgotten false) = stay
   commit_prepared g fails l Aborted = stay
 
-  ended : (g : Gxid) (l : Local) (p : Phase) (r : Reply) → SegKeeps (ends s g l p r)
-  ended g l p r = record { horizon = base; outs = (refl, tt) }
+  ended : (g : Gxid) (l : Local) (p : Phase) (r : Reply) (it : Option JournalItem) → SegKeeps (ends s g l p r it)
+  ended g l p r it = record { horizon = base; outs = (refl, tt) }
 
-  abort : (g : Gxid) (l : Local) (p : Phase) → SegKeeps (on_abort s g l p)
-  abort g l Reading = ended g l _ _
-  abort g l Writing = ended g l _ _
-  abort g l Prepared = ended g l _ _
-  abort g l Committed = stay
-  abort g l (Forgotten b) = stay
-  abort g l Aborted = tell g _
+  withdrawn : (g : Gxid) (fails : Bool) (l : Local) → SegKeeps (withdraws s g fails l)
+  withdrawn g true l = changed g _ _ _ _
+  withdrawn g false l = ended g l _ _ _
 
-  forget : (g : Gxid) (l : Local) (p : Phase) → SegKeeps (on_forget s g l p)
-  forget g l Reading = ended g l _ _
-  forget g l Writing = ended g l _ _
-  forget g l Prepared = ended g l _ _
-  forget g l Committed = ended g l _ _
-  forget g l (Forgotten b) = tell g _
-  forget g l Aborted = stay
+  abort : (g : Gxid) (fails : Bool) (l : Local) (p : Phase) → SegKeeps (on_abort s g fails l p)
+  abort g fails l Reading = ended g l _ _ _
+  abort g fails l Writing = ended g l _ _ _
+  abort g fails l Prepared = withdrawn g fails l
+  abort g fails l Committed = stay
+  abort g fails l (Forgotten b) = stay
+  abort g fails l Aborted = tell g _
+
+  forgotten : (g : Gxid) (fails : Bool) (l : Local) → SegKeeps (forgets_committed s g fails l)
+  forgotten g true l = changed g _ _ _ _
+  forgotten g false l = ended g l _ _ _
+
+  forget : (g : Gxid) (fails : Bool) (l : Local) (p : Phase) → SegKeeps (on_forget s g fails l p)
+  forget g fails l Reading = ended g l _ _ _
+  forget g fails l Writing = ended g l _ _ _
+  forget g fails l Prepared = ended g l _ _ _
+  forget g fails l Committed = forgotten g fails l
+  forget g fails l (Forgotten b) = tell g _
+  forget g fails l Aborted = stay
 
   below : (g : Gxid) (turn : SegTurn) → SegKeeps turn → SegKeeps (unless_below s g turn)
   below g turn e = both (is_below s.horizon g) _ _ stay e
@@ -152,8 +160,8 @@ module _ (script : Script) (s : Seg) (Q : Gxid → Type 0) (base : Q s.horizon) 
   message_keeps fails (message.Prepare g) q = below g _ (fits (not (is_waiting (local_of s g))) _ (prepare g fails (local_of s g) (local_of s g).phase))
   message_keeps fails (message.Commit g) q = below g _ (fits (not (is_waiting (local_of s g))) _ (commit g fails (local_of s g) (local_of s g).phase))
   message_keeps fails (message.CommitPrepared g) q = below g _ (commit_prepared g fails (local_of s g) (local_of s g).phase)
-  message_keeps fails (message.Abort g) q = below g _ (abort g (local_of s g) (local_of s g).phase)
-  message_keeps fails (message.Forget g) q = below g _ (forget g (local_of s g) (local_of s g).phase)
+  message_keeps fails (message.Abort g) q = below g _ (abort g fails (local_of s g) (local_of s g).phase)
+  message_keeps fails (message.Forget g) q = below g _ (forget g fails (local_of s g) (local_of s g).phase)
   message_keeps fails (message.Collect round) q = collect-ways SegKeeps s round stay (λ e. record { horizon = base; outs = (refl, tt) }) (λ e graph f. record { horizon = base; outs = (refl, tt) })
   message_keeps fails (message.Answer g r) q = stay
   message_keeps fails (message.Graph round graph) q = stay

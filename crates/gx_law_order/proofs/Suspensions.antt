@@ -23,6 +23,7 @@ use Rattle.gx_waits.specs.declared.object.Object.TheVariants.{Relation, Transact
 use Rattle.gx_waits.specs.Claims.{is_clear, is_of, without}
 use Rattle.gx_locks.specs.Locks.{Locks, wait_of}
 use Rattle.gx_meaning.specs.declared.fault.ArithFault.{ArithFault}
+use Rattle.gx_msg.specs.declared.item.JournalItem.{JournalItem}
 use Rattle.gx_msg.specs.declared.message.Message.{Message}
 use Rattle.gx_msg.specs.declared.message.Message.TheVariants as message
 use Rattle.gx_msg.specs.declared.reply.Reply.{Reply}
@@ -32,7 +33,7 @@ use Rattle.gx_store.specs.declared.mark.Mark.{Mark}
 use Rattle.gx_store.specs.declared.mark.Mark.TheVariants as mark
 use Rattle.gx_store.specs.declared.node.NodeEvent.{NodeEvent}
 use Rattle.gx_store.specs.declared.node.NodeEvent.TheVariants as event
-use Rattle.gx_rules.specs.AtSegment.{commits, ends, finishes, if_fits, on_abort, on_commit, on_commit_prepared, on_event, on_exec, on_forget, on_message, on_prepare, once, promises, raised, repeats, resumes, takes, unless_below, was_prepared}
+use Rattle.gx_rules.specs.AtSegment.{again, commits, ends, finishes, forgets_committed, if_fits, on_abort, on_commit, on_commit_prepared, on_event, on_exec, on_forget, on_message, on_prepare, once, promises, raised, repeats, resumes, takes, unless_below, was_prepared, withdraws}
 use Rattle.gx_rules.specs.Changes.{Change, RowTurn, change_of, changes_rows, goes_on_at, suspended_at, suspends_at, waits}
 use Rattle.gx_rules.specs.Fits.{fits_exec, is_right_slice, is_waiting, reads_nothing}
 use Rattle.gx_rules.specs.Locks.{with_hold, with_wait}
@@ -423,26 +424,40 @@ module _ (script : Script) (Come : Message → Type 0) where
     others : (g : Gxid) (h : ℕ) → eqb h g.0 ≡ false → filter (is_of (gx h)) (without g s.locks.waits) ≡ filter (is_of (gx h)) s.locks.waits
     others g h n = others-left g (gx h) s.locks.waits n
 
-    ended : (g : Gxid) (p : Phase) (r : Reply) → Keeps (ends s g (local_of s g) p r)
-    ended g p r =
+    ended : (g : Gxid) (p : Phase) (r : Reply) (it : Option JournalItem) → Keeps (ends s g (local_of s g) p r it)
+    ended g p r it =
         let a = changed s g (record (local_of s g) { phase = p; suspended = None }) (record s.locks { holds = without g s.locks.holds; waits = without g s.locks.waits }) k (nothing-suits script Come s.horizon g.0 _ refl) (none-left g s.locks.waits) (others g) in
         record { each = a.each; own = a.own }
 
-    abort : (g : Gxid) (p : Phase) → Keeps (on_abort s g (local_of s g) p)
-    abort g Reading = ended g _ answer.Aborted
-    abort g Writing = ended g _ answer.Aborted
-    abort g Prepared = ended g _ answer.Aborted
-    abort g Committed = k
-    abort g (Forgotten b) = k
-    abort g Aborted = k
+    -- who is open no more waits for nothing, and so it stays
+    once-more : (g : Gxid) (it : JournalItem) → is_open_phase (local_of s g).phase ≡ false → Keeps (again s g (local_of s g) it)
+    once-more g it closed =
+        let rests = closed-rests script Come s.horizon g.0 (local_of s g) (k.each g.0) closed in
+        resting s g _ k rests rests
 
-    forget : (g : Gxid) (p : Phase) → Keeps (on_forget s g (local_of s g) p)
-    forget g Reading = ended g _ answer.Forgotten
-    forget g Writing = ended g _ answer.Forgotten
-    forget g Prepared = ended g _ answer.Forgotten
-    forget g Committed = ended g _ answer.Forgotten
-    forget g (Forgotten b) = k
-    forget g Aborted = k
+    withdrawn : (g : Gxid) (fails : Bool) → (local_of s g).phase ≡ Prepared → Keeps (withdraws s g fails (local_of s g))
+    withdrawn g true e = once-more g _ (ap is_open_phase e)
+    withdrawn g false e = ended g _ answer.Aborted _
+
+    abort : (g : Gxid) (fails : Bool) (p : Phase) → (local_of s g).phase ≡ p → Keeps (on_abort s g fails (local_of s g) p)
+    abort g fails Reading e = ended g _ answer.Aborted _
+    abort g fails Writing e = ended g _ answer.Aborted _
+    abort g fails Prepared e = withdrawn g fails e
+    abort g fails Committed e = k
+    abort g fails (Forgotten b) e = k
+    abort g fails Aborted e = k
+
+    forgotten : (g : Gxid) (fails : Bool) → (local_of s g).phase ≡ Committed → Keeps (forgets_committed s g fails (local_of s g))
+    forgotten g true e = once-more g _ (ap is_open_phase e)
+    forgotten g false e = ended g _ answer.Forgotten _
+
+    forget : (g : Gxid) (fails : Bool) (p : Phase) → (local_of s g).phase ≡ p → Keeps (on_forget s g fails (local_of s g) p)
+    forget g fails Reading e = ended g _ answer.Forgotten _
+    forget g fails Writing e = ended g _ answer.Forgotten _
+    forget g fails Prepared e = ended g _ answer.Forgotten _
+    forget g fails Committed e = forgotten g fails e
+    forget g fails (Forgotten b) e = k
+    forget g fails Aborted e = k
 
     below : (g : Gxid) (turn : SegTurn) → Keeps turn → Keeps (unless_below s g turn)
     below g turn e = both (is_below s.horizon g) _ _ k e
@@ -463,8 +478,8 @@ module _ (script : Script) (Come : Message → Type 0) where
     message_keeps fails (message.Prepare g) come = below g _ (fits (not (is_waiting (local_of s g))) _ (λ e. prepare g (nobody (local_of s g) e) fails (local_of s g).phase))
     message_keeps fails (message.Commit g) come = below g _ (fits (not (is_waiting (local_of s g))) _ (λ e. commit g (nobody (local_of s g) e) fails (local_of s g).phase))
     message_keeps fails (message.CommitPrepared g) come = below g _ (commit_prepared g fails (local_of s g).phase refl)
-    message_keeps fails (message.Abort g) come = below g _ (abort g (local_of s g).phase)
-    message_keeps fails (message.Forget g) come = below g _ (forget g (local_of s g).phase)
+    message_keeps fails (message.Abort g) come = below g _ (abort g fails (local_of s g).phase refl)
+    message_keeps fails (message.Forget g) come = below g _ (forget g fails (local_of s g).phase refl)
     message_keeps fails (message.Collect round) come = collect-ways Keeps s round k (λ e. record { each = k.each; own = k.own }) (λ e graph f. k)
     message_keeps fails (message.Answer g r) come = k
     message_keeps fails (message.Graph round graph) come = k

@@ -27,6 +27,7 @@ use Rattle.gx_waits.specs.declared.object.Object.TheVariants.{Relation, Transact
 use Rattle.gx_waits.specs.Claims.{is_clear, is_of, with_claim, without}
 use Rattle.gx_locks.specs.Locks.{Locks, wait_of}
 use Rattle.gx_meaning.specs.declared.fault.ArithFault.{ArithFault}
+use Rattle.gx_msg.specs.declared.item.JournalItem.{JournalItem}
 use Rattle.gx_msg.specs.declared.message.Message.{Message}
 use Rattle.gx_msg.specs.declared.message.Message.TheVariants as message
 use Rattle.gx_msg.specs.declared.reply.Reply.{Reply}
@@ -37,7 +38,7 @@ use Rattle.gx_store.specs.declared.mark.Mark.TheVariants as mark
 use Rattle.gx_store.specs.declared.node.NodeEvent.{NodeEvent}
 use Rattle.gx_store.specs.declared.node.NodeEvent.TheVariants as event
 use Rattle.gx_store.specs.Marks.{is_same_gxid}
-use Rattle.gx_rules.specs.AtSegment.{commits, ends, finishes, if_fits, on_abort, on_commit, on_commit_prepared, on_event, on_exec, on_forget, on_message, on_prepare, once, promises, raised, repeats, resumes, takes, unless_below, was_prepared}
+use Rattle.gx_rules.specs.AtSegment.{again, commits, ends, finishes, forgets_committed, if_fits, on_abort, on_commit, on_commit_prepared, on_event, on_exec, on_forget, on_message, on_prepare, once, promises, raised, repeats, resumes, takes, unless_below, was_prepared, withdraws}
 use Rattle.gx_rules.specs.Changes.{Change, RowTurn, change_of, changes_rows, end_lock, goes_on_at, suspended_at, suspends_at, tuple_lock, waits}
 use Rattle.gx_rules.specs.Fits.{fits_exec, is_waiting}
 use Rattle.gx_rules.specs.Locks.{with_hold, with_wait, without_hold}
@@ -340,8 +341,8 @@ module _ (script : Script) (Come : Message → Type 0) (s : Seg) (waits : AreSus
   commit_prepared g fails Aborted e = k
 
   -- it ends there, and gives its own lock back
-  ended : (g : Gxid) (l : Local) (p : Phase) (r : Reply) → has_ended p ≡ true → ((a : Bool) → SaysWritten p a) → Keeps (ends s g l p r)
-  ended g l p r e says = record { owns = each_filter IsOwn (λ claim. not (is_of g claim)) s.locks.holds k.owns; each = λ h. by_test h (eqb h g.0) refl; awaited = left-awaited s g k }
+  ended : (g : Gxid) (l : Local) (p : Phase) (r : Reply) (it : Option JournalItem) → has_ended p ≡ true → ((a : Bool) → SaysWritten p a) → Keeps (ends s g l p r it)
+  ended g l p r it e says = record { owns = each_filter IsOwn (λ claim. not (is_of g claim)) s.locks.holds k.owns; each = λ h. by_test h (eqb h g.0) refl; awaited = left-awaited s g k }
     where
       none : (a : Bool) → false ≡ a && not (has_ended p)
       none a = sym (ap (λ b. a && not b) e ∙ and-false a)
@@ -350,21 +351,32 @@ module _ (script : Script) (Come : Message → Type 0) (s : Seg) (waits : AreSus
       by_test h true q = record { says = says _; holds = ap (λ i. holds_own i (without g s.locks.holds)) (eqb-true h g.0 q) ∙ none-left g.0 s.locks.holds ∙ none (has_version h s.versions) }
       by_test h false q = subst (LocksItself (s.locals h).phase (has_version h s.versions)) (sym (others-left h g.0 s.locks.holds q)) (k.each h)
 
-  abort : (g : Gxid) (l : Local) (p : Phase) → Keeps (on_abort s g l p)
-  abort g l Reading = ended g l Aborted answer.Aborted refl (λ a. tt)
-  abort g l Writing = ended g l Aborted answer.Aborted refl (λ a. tt)
-  abort g l Prepared = ended g l Aborted answer.Aborted refl (λ a. tt)
-  abort g l Committed = k
-  abort g l (Forgotten b) = k
-  abort g l Aborted = k
+  once-more : (g : Gxid) (it : JournalItem) → Keeps (again s g (local_of s g) it)
+  once-more g it = same-phase s g _ k refl
 
-  forget : (g : Gxid) (l : Local) (p : Phase) → Keeps (on_forget s g l p)
-  forget g l Reading = ended g l _ answer.Forgotten refl (λ a. tt)
-  forget g l Writing = ended g l _ answer.Forgotten refl (λ a. tt)
-  forget g l Prepared = ended g l _ answer.Forgotten refl (λ a. tt)
-  forget g l Committed = ended g l _ answer.Forgotten refl (λ a. tt)
-  forget g l (Forgotten b) = k
-  forget g l Aborted = k
+  withdrawn : (g : Gxid) (fails : Bool) → Keeps (withdraws s g fails (local_of s g))
+  withdrawn g true = once-more g _
+  withdrawn g false = ended g (local_of s g) Aborted answer.Aborted _ refl (λ a. tt)
+
+  abort : (g : Gxid) (fails : Bool) (p : Phase) → Keeps (on_abort s g fails (local_of s g) p)
+  abort g fails Reading = ended g (local_of s g) Aborted answer.Aborted _ refl (λ a. tt)
+  abort g fails Writing = ended g (local_of s g) Aborted answer.Aborted _ refl (λ a. tt)
+  abort g fails Prepared = withdrawn g fails
+  abort g fails Committed = k
+  abort g fails (Forgotten b) = k
+  abort g fails Aborted = k
+
+  forgotten : (g : Gxid) (fails : Bool) → Keeps (forgets_committed s g fails (local_of s g))
+  forgotten g true = once-more g _
+  forgotten g false = ended g (local_of s g) _ answer.Forgotten _ refl (λ a. tt)
+
+  forget : (g : Gxid) (fails : Bool) (p : Phase) → Keeps (on_forget s g fails (local_of s g) p)
+  forget g fails Reading = ended g (local_of s g) _ answer.Forgotten _ refl (λ a. tt)
+  forget g fails Writing = ended g (local_of s g) _ answer.Forgotten _ refl (λ a. tt)
+  forget g fails Prepared = ended g (local_of s g) _ answer.Forgotten _ refl (λ a. tt)
+  forget g fails Committed = forgotten g fails
+  forget g fails (Forgotten b) = k
+  forget g fails Aborted = k
 
   below : (g : Gxid) (turn : SegTurn) → Keeps turn → Keeps (unless_below s g turn)
   below g turn e = both (is_below s.horizon g) _ _ k e
@@ -378,8 +390,8 @@ module _ (script : Script) (Come : Message → Type 0) (s : Seg) (waits : AreSus
   message_keeps fails (message.Prepare g) = below g _ (fits (not (is_waiting (local_of s g))) _ (prepare g fails (local_of s g).phase refl))
   message_keeps fails (message.Commit g) = below g _ (fits (not (is_waiting (local_of s g))) _ (commit g fails (local_of s g).phase refl))
   message_keeps fails (message.CommitPrepared g) = below g _ (commit_prepared g fails (local_of s g).phase refl)
-  message_keeps fails (message.Abort g) = below g _ (abort g (local_of s g) (local_of s g).phase)
-  message_keeps fails (message.Forget g) = below g _ (forget g (local_of s g) (local_of s g).phase)
+  message_keeps fails (message.Abort g) = below g _ (abort g fails (local_of s g).phase)
+  message_keeps fails (message.Forget g) = below g _ (forget g fails (local_of s g).phase)
   message_keeps fails (message.Collect round) = collect-ways Keeps s round k (λ e. record { owns = k.owns; each = k.each; awaited = k.awaited }) (λ e graph f. k)
   message_keeps fails (message.Answer g r) = k
   message_keeps fails (message.Graph round graph) = k

@@ -197,21 +197,23 @@ finish-stays s g fails l Reading = refl
 finish-stays s g fails l Writing = refl
 finish-stays s g fails l Aborted = refl
 
-abort-stays : (s : Seg) (g : Gxid) (l : Local) (p : Phase) → Stays s (on_abort s g l p)
-abort-stays s g l Reading = refl
-abort-stays s g l Writing = refl
-abort-stays s g l Prepared = refl
-abort-stays s g l Aborted = refl
-abort-stays s g l Committed = refl
-abort-stays s g l (Forgotten c) = refl
+abort-stays : (s : Seg) (g : Gxid) (fails : Bool) (l : Local) (p : Phase) → Stays s (on_abort s g fails l p)
+abort-stays s g true l Prepared = refl
+abort-stays s g false l Prepared = refl
+abort-stays s g fails l Reading = refl
+abort-stays s g fails l Writing = refl
+abort-stays s g fails l Aborted = refl
+abort-stays s g fails l Committed = refl
+abort-stays s g fails l (Forgotten c) = refl
 
-forget-stays : (s : Seg) (g : Gxid) (l : Local) (p : Phase) → Stays s (on_forget s g l p)
-forget-stays s g l Aborted = refl
-forget-stays s g l (Forgotten c) = refl
-forget-stays s g l Reading = refl
-forget-stays s g l Writing = refl
-forget-stays s g l Prepared = refl
-forget-stays s g l Committed = refl
+forget-stays : (s : Seg) (g : Gxid) (fails : Bool) (l : Local) (p : Phase) → Stays s (on_forget s g fails l p)
+forget-stays s g true l Committed = refl
+forget-stays s g false l Committed = refl
+forget-stays s g fails l Aborted = refl
+forget-stays s g fails l (Forgotten c) = refl
+forget-stays s g fails l Reading = refl
+forget-stays s g fails l Writing = refl
+forget-stays s g fails l Prepared = refl
 
 abbrev pub IsAnswer : Out → Type 0
 IsAnswer o = is_answer o.message ≡ true
@@ -272,8 +274,8 @@ module _ (script : Script) (limit : ℕ) where
   message-under s fails (message.Prepare g) l u = unless-under s g _ l (fits-under s (not (is_waiting (local_of s g))) _ l (by-stays s (on_prepare s g fails (local_of s g) (local_of s g).phase) l (prepare-stays s g fails (local_of s g) (local_of s g).phase)))
   message-under s fails (message.Commit g) l u = unless-under s g _ l (fits-under s (not (is_waiting (local_of s g))) _ l (by-stays s (on_commit s g fails (local_of s g) (local_of s g).phase) l (commit-stays s g fails (local_of s g) (local_of s g).phase)))
   message-under s fails (message.CommitPrepared g) l u = unless-under s g _ l (by-stays s (on_commit_prepared s g fails (local_of s g) (local_of s g).phase) l (finish-stays s g fails (local_of s g) (local_of s g).phase))
-  message-under s fails (message.Abort g) l u = unless-under s g _ l (by-stays s (on_abort s g (local_of s g) (local_of s g).phase) l (abort-stays s g (local_of s g) (local_of s g).phase))
-  message-under s fails (message.Forget g) l u = unless-under s g _ l (by-stays s (on_forget s g (local_of s g) (local_of s g).phase) l (forget-stays s g (local_of s g) (local_of s g).phase))
+  message-under s fails (message.Abort g) l u = unless-under s g _ l (by-stays s (on_abort s g fails (local_of s g) (local_of s g).phase) l (abort-stays s g fails (local_of s g) (local_of s g).phase))
+  message-under s fails (message.Forget g) l u = unless-under s g _ l (by-stays s (on_forget s g fails (local_of s g) (local_of s g).phase) l (forget-stays s g fails (local_of s g) (local_of s g).phase))
   message-under s fails (message.Answer g r) l u = l
   message-under s fails (message.Collect round) l u = collect-ways Under s round l (λ e. l) (λ e graph f. l)
   message-under s fails (message.Graph round graph) l u = l

@@ -19,6 +19,7 @@ use Rattle.gx_waits.specs.declared.object.Object.TheVariants.{Relation, Transact
 use Rattle.gx_locks.specs.Locks.{wait_of}
 use Rattle.gx_waits.specs.Claims.{is_clear}
 use Rattle.gx_meaning.specs.declared.fault.ArithFault.{ArithFault}
+use Rattle.gx_msg.specs.declared.item.JournalItem.{JournalItem}
 use Rattle.gx_msg.specs.declared.message.Message.{Message}
 use Rattle.gx_msg.specs.declared.message.Message.TheVariants as message
 use Rattle.gx_msg.specs.declared.reply.Reply.{Reply}
@@ -27,7 +28,7 @@ use Rattle.gx_ids.specs.declared.ids.Node.{Node}
 use Rattle.gx_script.specs.declared.Script.{Script}
 use Rattle.gx_store.specs.declared.node.NodeEvent.{NodeEvent}
 use Rattle.gx_store.specs.declared.node.NodeEvent.TheVariants as here
-use Rattle.gx_rules.specs.AtSegment.{commits, ends, finishes, if_fits, on_abort, on_commit, on_commit_prepared, on_event, on_exec, on_forget, on_message, on_prepare, once, promises, raised, repeats, resumes, seg_rule, takes, unless_below, was_prepared}
+use Rattle.gx_rules.specs.AtSegment.{commits, ends, finishes, forgets_committed, if_fits, on_abort, on_commit, on_commit_prepared, on_event, on_exec, on_forget, on_message, on_prepare, once, promises, raised, repeats, resumes, seg_rule, takes, unless_below, was_prepared, withdraws}
 use Rattle.gx_rules.specs.Changes.{Change, RowTurn, change_of, changes_rows, goes_on_at}
 use Rattle.gx_rules.specs.Fits.{fits_exec, is_waiting}
 use Rattle.gx_rules.specs.Locks.{has_there, release_mark, release_marks, wait_mark, with_hold}
@@ -164,8 +165,8 @@ module _ (s : Seg) (g : Gxid) (fails : Bool) where
       both (nat_lt l.last c.0) (starts_slice script (raised s h) g c level snapshot x) (repeats s g c l)
       (may-none s.node fails (starts_slice script (raised s h) g c level snapshot x).marks (starts-none (raised s h) g c level snapshot x (slice_lock script g x))) (repeat c l)
 
-  ended : (l : Local) (p : Phase) (r : Reply) → May (ends s g l p r)
-  ended l p r = may-none s.node fails (release_marks s.node s.locks g) (released-none s.node (has_there s.locks g))
+  ended : (l : Local) (p : Phase) (r : Reply) (it : Option JournalItem) → May (ends s g l p r it)
+  ended l p r it = may-none s.node fails (release_marks s.node s.locks g) (released-none s.node (has_there s.locks g))
 
   exec : (script : Script) (c : Cid) (level : Level) (snapshot : Option Snapshot) (h : Gxid) (x : Slice) (l : Local) (p : Phase) → May (on_exec script s g c level snapshot h x l p)
   exec script c level snapshot h x l Reading = take script c level snapshot h x l
@@ -188,6 +189,14 @@ finish : (s : Seg) (g : Gxid) (fails : Bool) (l : Local) → MayFail s.node fail
 finish s g true l = (refl, refl, tt)
 finish s g false l = tt
 
+withdrawn : (s : Seg) (g : Gxid) (fails : Bool) (l : Local) → MayFail s.node fails (withdraws s g fails l).marks
+withdrawn s g true l = (refl, refl, tt)
+withdrawn s g false l = ended s g false l Aborted reply.Aborted _
+
+forgotten : (s : Seg) (g : Gxid) (fails : Bool) (l : Local) → MayFail s.node fails (forgets_committed s g fails l).marks
+forgotten s g true l = (refl, refl, tt)
+forgotten s g false l = ended s g false l (Forgotten (has_committed l.phase)) reply.Forgotten _
+
 module _ (s : Seg) (g : Gxid) (fails : Bool) where
   prepare : (l : Local) (p : Phase) → May s g fails (on_prepare s g fails l p)
   prepare l Reading = only s g fails l.vote (promises s g fails l) (promise s g fails l)
@@ -208,19 +217,19 @@ module _ (s : Seg) (g : Gxid) (fails : Bool) where
   commit-prepared l (Forgotten false) = tt
   commit-prepared l p = tt
 
-  abort : (l : Local) (p : Phase) → May s g fails (on_abort s g l p)
-  abort l Reading = ended s g fails l Aborted reply.Aborted
-  abort l Writing = ended s g fails l Aborted reply.Aborted
-  abort l Prepared = ended s g fails l Aborted reply.Aborted
+  abort : (l : Local) (p : Phase) → May s g fails (on_abort s g fails l p)
+  abort l Reading = ended s g fails l Aborted reply.Aborted None
+  abort l Writing = ended s g fails l Aborted reply.Aborted None
+  abort l Prepared = withdrawn s g fails l
   abort l p = tt
 
-  forget : (l : Local) (p : Phase) → May s g fails (on_forget s g l p)
+  forget : (l : Local) (p : Phase) → May s g fails (on_forget s g fails l p)
   forget l Aborted = tt
   forget l (Forgotten b) = tt
-  forget l Reading = ended s g fails l (Forgotten (has_committed l.phase)) reply.Forgotten
-  forget l Writing = ended s g fails l (Forgotten (has_committed l.phase)) reply.Forgotten
-  forget l Prepared = ended s g fails l (Forgotten (has_committed l.phase)) reply.Forgotten
-  forget l Committed = ended s g fails l (Forgotten (has_committed l.phase)) reply.Forgotten
+  forget l Reading = ended s g fails l (Forgotten (has_committed l.phase)) reply.Forgotten None
+  forget l Writing = ended s g fails l (Forgotten (has_committed l.phase)) reply.Forgotten None
+  forget l Prepared = ended s g fails l (Forgotten (has_committed l.phase)) reply.Forgotten None
+  forget l Committed = forgotten s g fails l
 
 told : (script : Script) (s : Seg) (fails : Bool) (m : Message) → MayFail s.node fails (on_message script s fails m).marks
 told script s fails (message.Exec g c level snapshot h x) =
@@ -232,8 +241,8 @@ told script s fails (message.Prepare g) =
 told script s fails (message.Commit g) =
     unless s g fails (if_fits s (not (is_waiting (local_of s g))) (on_commit s g fails (local_of s g) (local_of s g).phase)) (fitting s g fails (not (is_waiting (local_of s g))) (on_commit s g fails (local_of s g) (local_of s g).phase) (commit s g fails (local_of s g) (local_of s g).phase))
 told script s fails (message.CommitPrepared g) = unless s g fails (on_commit_prepared s g fails (local_of s g) (local_of s g).phase) (commit-prepared s g fails (local_of s g) (local_of s g).phase)
-told script s fails (message.Abort g) = unless s g fails (on_abort s g (local_of s g) (local_of s g).phase) (abort s g fails (local_of s g) (local_of s g).phase)
-told script s fails (message.Forget g) = unless s g fails (on_forget s g (local_of s g) (local_of s g).phase) (forget s g fails (local_of s g) (local_of s g).phase)
+told script s fails (message.Abort g) = unless s g fails (on_abort s g fails (local_of s g) (local_of s g).phase) (abort s g fails (local_of s g) (local_of s g).phase)
+told script s fails (message.Forget g) = unless s g fails (on_forget s g fails (local_of s g) (local_of s g).phase) (forget s g fails (local_of s g) (local_of s g).phase)
 told script s fails (message.Collect round) = collect-ways (λ (turn : SegTurn). MayFail s.node fails turn.marks) s round tt (λ newer. tt) (λ again graph is. tt)
 told script s fails m = tt
 

@@ -91,6 +91,26 @@ on-commit-prepared s g l Committed = inl refl
 on-commit-prepared s g l (Forgotten true) = inl refl
 on-commit-prepared s g l p = inl refl
 
+given-unfailed : (node : Node) (claims : List Claim) → has_failed (map (release_mark node) claims) ≡ false
+given-unfailed node [] = refl
+given-unfailed node (x ∷ xs) = given-unfailed node xs
+
+on-abort : (s : Seg) (g : Gxid) (l : Local) (p : Phase) → SegTells (λ fails. segment.on_abort s g fails l p)
+on-abort s g l Reading = inl refl
+on-abort s g l Writing = inl refl
+on-abort s g l Prepared = inr (refl, given-unfailed s.node (has_there s.locks g))
+on-abort s g l Committed = inl refl
+on-abort s g l (Forgotten committed) = inl refl
+on-abort s g l Aborted = inl refl
+
+on-forget : (s : Seg) (g : Gxid) (l : Local) (p : Phase) → SegTells (λ fails. segment.on_forget s g fails l p)
+on-forget s g l Reading = inl refl
+on-forget s g l Writing = inl refl
+on-forget s g l Prepared = inl refl
+on-forget s g l Committed = inr (refl, given-unfailed s.node (has_there s.locks g))
+on-forget s g l (Forgotten committed) = inl refl
+on-forget s g l Aborted = inl refl
+
 seg-message : (script : Script) (s : Seg) (told : Message) → SegTells (λ fails. segment.on_message script s fails told)
 seg-message script s (message.Prepare g) =
     seg-if _ s (λ fails. segment.if_fits s (not (is_waiting (s.locals g.0))) (segment.on_prepare s g fails (s.locals g.0) (s.locals g.0).phase))
@@ -99,6 +119,8 @@ seg-message script s (message.Commit g) =
     seg-if _ s (λ fails. segment.if_fits s (not (is_waiting (s.locals g.0))) (segment.on_commit s g fails (s.locals g.0) (s.locals g.0).phase))
     (seg-fits (not (is_waiting (s.locals g.0))) s (λ fails. segment.on_commit s g fails (s.locals g.0) (s.locals g.0).phase) (on-commit s g (s.locals g.0) (s.locals g.0).phase))
 seg-message script s (message.CommitPrepared g) = seg-if _ s (λ fails. segment.on_commit_prepared s g fails (s.locals g.0) (s.locals g.0).phase) (on-commit-prepared s g (s.locals g.0) (s.locals g.0).phase)
+seg-message script s (message.Abort g) = seg-if _ s (λ fails. segment.on_abort s g fails (s.locals g.0) (s.locals g.0).phase) (on-abort s g (s.locals g.0) (s.locals g.0).phase)
+seg-message script s (message.Forget g) = seg-if _ s (λ fails. segment.on_forget s g fails (s.locals g.0) (s.locals g.0).phase) (on-forget s g (s.locals g.0) (s.locals g.0).phase)
 seg-message script s told = inl refl
 
 seg-event : (script : Script) (s : Seg) (x : NodeEvent) → SegTells (λ fails. segment.on_event script s x fails)
@@ -161,14 +183,10 @@ failed-more [] ys e = e
 failed-more (mark.JournalFailed node g ∷ xs) ys e = refl
 failed-more (m ∷ xs) ys e = failed-more xs ys e
 
-back-unfailed : (claims : List Claim) → has_failed (map (release_mark the_coordinator) claims) ≡ false
-back-unfailed [] = refl
-back-unfailed (x ∷ xs) = back-unfailed xs
-
 cancel-unfailed : (c : Coord) (g : Gxid) → has_failed (coordinator.cancel_turn c g).marks ≡ false
 cancel-unfailed c g =
     failed-sent (coordinator.cancels c g).marks (coordinator.cancels c g).coord.sent (coordinator.cancels c g).outs
-    ∙ cancel-ways (λ (t : CoordTurn). has_failed t.marks ≡ false) c g refl (λ live busy. back-unfailed (has_there c.locks g))
+    ∙ cancel-ways (λ (t : CoordTurn). has_failed t.marks ≡ false) c g refl (λ live busy. given-unfailed the_coordinator (has_there c.locks g))
 
 all-failed : (victims : List Gxid) (turn : CoordTurn) → has_failed (coordinator.and_cancels_all victims turn).marks ≡ has_failed turn.marks
 all-failed [] turn = refl

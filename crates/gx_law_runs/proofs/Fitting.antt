@@ -28,7 +28,7 @@ use Rattle.gx_msg.specs.declared.reply.Reply.TheVariants as reply
 use Rattle.gx_msg.specs.declared.message.Out.{Out}
 use Rattle.gx_script.specs.declared.Script.{Script}
 use Rattle.gx_store.specs.declared.mark.Mark.{Mark}
-use Rattle.gx_rules.specs.AtSegment.{changes, commits, ends, finishes, if_fits, on_abort, on_commit, on_commit_prepared, on_exec, on_forget, on_message, on_prepare, once, promises, raised, repeats, resumes, takes, unless_below, was_prepared}
+use Rattle.gx_rules.specs.AtSegment.{again, changes, commits, ends, finishes, forgets_committed, if_fits, on_abort, on_commit, on_commit_prepared, on_exec, on_forget, on_message, on_prepare, once, promises, raised, repeats, resumes, takes, unless_below, was_prepared, withdraws}
 use Rattle.gx_rules.specs.Segments.{Local, Phase, Seg, SegTurn, Suspended, local_of, stays, tells, tells_kept}
 use Rattle.gx_rules.specs.Segments.Phase.{Aborted, Committed, Forgotten, Prepared, Reading, Writing}
 use Rattle.gx_rules.specs.Changes.{Change, RowTurn, change_of, changes_rows, goes_on_at, suspended_at, suspends_at}
@@ -272,24 +272,35 @@ module _ (P : ℕ → Reply → Type 0) (partless : (g : ℕ) (r : Reply) → Is
     commit-prepared g fails (Forgotten false) = stay
     commit-prepared g fails Aborted = stay
 
-    ended : (g : Gxid) (p : Phase) (r : Reply) → P g.0 r → TurnSo (ends s g (own g) p r)
-    ended g p r q = record { locals = with-so s.locals so g.0 _ (so-by g (own g).vote _ refl refl (so g.0).vote); outs = (q, tt) }
+    ended : (g : Gxid) (p : Phase) (r : Reply) (it : Option JournalItem) → P g.0 r → TurnSo (ends s g (own g) p r it)
+    ended g p r it q = record { locals = with-so s.locals so g.0 _ (so-by g (own g).vote _ refl refl (so g.0).vote); outs = (q, tt) }
 
-    abort : (g : Gxid) (p : Phase) → TurnSo (on_abort s g (own g) p)
-    abort g Reading = ended g Aborted reply.Aborted (partless g.0 reply.Aborted tt)
-    abort g Writing = ended g Aborted reply.Aborted (partless g.0 reply.Aborted tt)
-    abort g Prepared = ended g Aborted reply.Aborted (partless g.0 reply.Aborted tt)
-    abort g Committed = stay
-    abort g (Forgotten b) = stay
-    abort g Aborted = tell g reply.Aborted (partless g.0 reply.Aborted tt)
+    once-more : (g : Gxid) (it : JournalItem) → TurnSo (again s g (own g) it)
+    once-more g it = changed g _ _ reply.Again _ (so g.0) (partless g.0 reply.Again tt)
 
-    forget : (g : Gxid) (p : Phase) → TurnSo (on_forget s g (own g) p)
-    forget g Reading = ended g _ reply.Forgotten (partless g.0 reply.Forgotten tt)
-    forget g Writing = ended g _ reply.Forgotten (partless g.0 reply.Forgotten tt)
-    forget g Prepared = ended g _ reply.Forgotten (partless g.0 reply.Forgotten tt)
-    forget g Committed = ended g _ reply.Forgotten (partless g.0 reply.Forgotten tt)
-    forget g (Forgotten b) = tell g reply.Forgotten (partless g.0 reply.Forgotten tt)
-    forget g Aborted = stay
+    withdrawn : (g : Gxid) (fails : Bool) → TurnSo (withdraws s g fails (own g))
+    withdrawn g true = once-more g _
+    withdrawn g false = ended g Aborted reply.Aborted _ (partless g.0 reply.Aborted tt)
+
+    abort : (g : Gxid) (fails : Bool) (p : Phase) → TurnSo (on_abort s g fails (own g) p)
+    abort g fails Reading = ended g Aborted reply.Aborted _ (partless g.0 reply.Aborted tt)
+    abort g fails Writing = ended g Aborted reply.Aborted _ (partless g.0 reply.Aborted tt)
+    abort g fails Prepared = withdrawn g fails
+    abort g fails Committed = stay
+    abort g fails (Forgotten b) = stay
+    abort g fails Aborted = tell g reply.Aborted (partless g.0 reply.Aborted tt)
+
+    forgotten : (g : Gxid) (fails : Bool) → TurnSo (forgets_committed s g fails (own g))
+    forgotten g true = once-more g _
+    forgotten g false = ended g _ reply.Forgotten _ (partless g.0 reply.Forgotten tt)
+
+    forget : (g : Gxid) (fails : Bool) (p : Phase) → TurnSo (on_forget s g fails (own g) p)
+    forget g fails Reading = ended g _ reply.Forgotten _ (partless g.0 reply.Forgotten tt)
+    forget g fails Writing = ended g _ reply.Forgotten _ (partless g.0 reply.Forgotten tt)
+    forget g fails Prepared = ended g _ reply.Forgotten _ (partless g.0 reply.Forgotten tt)
+    forget g fails Committed = forgotten g fails
+    forget g fails (Forgotten b) = tell g reply.Forgotten (partless g.0 reply.Forgotten tt)
+    forget g fails Aborted = stay
 
     -- ALL MESSAGES
     below : (g : Gxid) (turn : SegTurn) → TurnSo turn → TurnSo (unless_below s g turn)
@@ -309,8 +320,8 @@ module _ (P : ℕ → Reply → Type 0) (partless : (g : ℕ) (r : Reply) → Is
     message-so script fails (message.Prepare g) r = below g _ (fits (not (is_waiting (local_of s g))) _ (prepare g fails (local_of s g).phase))
     message-so script fails (message.Commit g) r = below g _ (fits (not (is_waiting (local_of s g))) _ (commit g fails (local_of s g).phase))
     message-so script fails (message.CommitPrepared g) r = below g _ (commit-prepared g fails (local_of s g).phase)
-    message-so script fails (message.Abort g) r = below g _ (abort g (local_of s g).phase)
-    message-so script fails (message.Forget g) r = below g _ (forget g (local_of s g).phase)
+    message-so script fails (message.Abort g) r = below g _ (abort g fails (local_of s g).phase)
+    message-so script fails (message.Forget g) r = below g _ (forget g fails (local_of s g).phase)
     message-so script fails (message.Collect round) r = collect-ways TurnSo s round stay (λ new. record { locals = so; outs = (tt, tt) }) (λ last graph is. record { locals = so; outs = (tt, tt) })
     message-so script fails (message.Answer g a) r = stay
     message-so script fails (message.Graph round graph) r = stay

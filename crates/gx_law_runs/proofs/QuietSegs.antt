@@ -12,13 +12,14 @@ use Rattle.gx_tree.specs.declared.stmt.Level.{Level}
 use Rattle.gx_dsnap.specs.Gxids.{is_below}
 use Rattle.gx_dsnap.specs.declared.snapshot.Snapshot.{Snapshot}
 use Rattle.gx_meaning.specs.declared.fault.ArithFault.{ArithFault}
+use Rattle.gx_msg.specs.declared.item.JournalItem.{JournalItem}
 use Rattle.gx_msg.specs.declared.message.Message.{Message}
 use Rattle.gx_msg.specs.declared.message.Message.TheVariants as message
 use Rattle.gx_msg.specs.declared.reply.Reply.{Reply}
 use Rattle.gx_script.specs.declared.Script.{Script}
 use Rattle.gx_store.specs.declared.node.NodeEvent.{NodeEvent}
 use Rattle.gx_store.specs.declared.node.NodeEvent.TheVariants as event
-use Rattle.gx_rules.specs.AtSegment.{ends, commits, finishes, if_fits, on_abort, on_commit, on_commit_prepared, on_event, on_exec, on_forget, on_message, on_prepare, once, promises, raised, repeats, resumes, takes, unless_below, was_prepared}
+use Rattle.gx_rules.specs.AtSegment.{commits, ends, finishes, forgets_committed, if_fits, on_abort, on_commit, on_commit_prepared, on_event, on_exec, on_forget, on_message, on_prepare, once, promises, raised, repeats, resumes, takes, unless_below, was_prepared, withdraws}
 use Rattle.gx_rules.specs.Segments.{Local, Phase, Seg, SegTurn, Suspended, local_of, stays, tells, tells_kept}
 use Rattle.gx_rules.specs.Segments.Phase.{Aborted, Committed, Forgotten, Prepared, Reading, Writing}
 use Rattle.gx_rules.specs.Changes.{Change, change_of, changes_rows, goes_on_at}
@@ -151,24 +152,32 @@ module _ (script : Script) (s : Seg) where
   commit_prepared g fails l (Forgotten false) = stay
   commit_prepared g fails l Aborted = stay
 
-  ended : (g : Gxid) (l : Local) (p : Phase) (r : Reply) → IsStill (ends s g l p r)
-  ended g l p r = record { outs = one-sent }
+  ended : (g : Gxid) (l : Local) (p : Phase) (r : Reply) (it : Option JournalItem) → IsStill (ends s g l p r it)
+  ended g l p r it = record { outs = one-sent }
 
-  abort : (g : Gxid) (l : Local) (p : Phase) → IsStill (on_abort s g l p)
-  abort g l Reading = ended g l _ _
-  abort g l Writing = ended g l _ _
-  abort g l Prepared = ended g l _ _
-  abort g l Committed = stay
-  abort g l (Forgotten b) = stay
-  abort g l Aborted = tell g _
+  withdrawn : (g : Gxid) (fails : Bool) (l : Local) → IsStill (withdraws s g fails l)
+  withdrawn g true l = record { outs = one-sent }
+  withdrawn g false l = ended g l _ _ _
 
-  forget : (g : Gxid) (l : Local) (p : Phase) → IsStill (on_forget s g l p)
-  forget g l Reading = ended g l _ _
-  forget g l Writing = ended g l _ _
-  forget g l Prepared = ended g l _ _
-  forget g l Committed = ended g l _ _
-  forget g l (Forgotten b) = tell g _
-  forget g l Aborted = stay
+  abort : (g : Gxid) (fails : Bool) (l : Local) (p : Phase) → IsStill (on_abort s g fails l p)
+  abort g fails l Reading = ended g l _ _ _
+  abort g fails l Writing = ended g l _ _ _
+  abort g fails l Prepared = withdrawn g fails l
+  abort g fails l Committed = stay
+  abort g fails l (Forgotten b) = stay
+  abort g fails l Aborted = tell g _
+
+  forgotten : (g : Gxid) (fails : Bool) (l : Local) → IsStill (forgets_committed s g fails l)
+  forgotten g true l = record { outs = one-sent }
+  forgotten g false l = ended g l _ _ _
+
+  forget : (g : Gxid) (fails : Bool) (l : Local) (p : Phase) → IsStill (on_forget s g fails l p)
+  forget g fails l Reading = ended g l _ _ _
+  forget g fails l Writing = ended g l _ _ _
+  forget g fails l Prepared = ended g l _ _ _
+  forget g fails l Committed = forgotten g fails l
+  forget g fails l (Forgotten b) = tell g _
+  forget g fails l Aborted = stay
 
   below : (g : Gxid) (turn : SegTurn) → IsStill turn → IsStill (unless_below s g turn)
   below g turn e = both (is_below s.horizon g) _ _ stay e
@@ -182,8 +191,8 @@ module _ (script : Script) (s : Seg) where
   message_still fails (message.Prepare g) = below g _ (fits (not (is_waiting (local_of s g))) _ (prepare g fails (local_of s g) (local_of s g).phase))
   message_still fails (message.Commit g) = below g _ (fits (not (is_waiting (local_of s g))) _ (commit g fails (local_of s g) (local_of s g).phase))
   message_still fails (message.CommitPrepared g) = below g _ (commit_prepared g fails (local_of s g) (local_of s g).phase)
-  message_still fails (message.Abort g) = below g _ (abort g (local_of s g) (local_of s g).phase)
-  message_still fails (message.Forget g) = below g _ (forget g (local_of s g) (local_of s g).phase)
+  message_still fails (message.Abort g) = below g _ (abort g fails (local_of s g) (local_of s g).phase)
+  message_still fails (message.Forget g) = below g _ (forget g fails (local_of s g) (local_of s g).phase)
   message_still fails (message.Collect round) = collect-ways IsStill s round stay (λ new. record { outs = one-sent }) (λ last graph is. record { outs = one-sent })
   message_still fails (message.Answer g r) = stay
   message_still fails (message.Graph round graph) = stay

@@ -33,7 +33,7 @@ use Rattle.gx_store.specs.declared.mark.Mark.{Mark}
 use Rattle.gx_store.specs.declared.node.NodeEvent.{NodeEvent}
 use Rattle.gx_store.specs.declared.node.NodeEvent.TheVariants as here
 use Rattle.gx_rules.specs.AtSegment as segment
-use Rattle.gx_rules.specs.AtSegment.{commits, finishes, if_fits, on_abort, on_commit, on_commit_prepared, on_exec, on_forget, on_message, on_prepare, once, promises, raised, repeats, resumes, seg_rule, takes, unless_below, was_prepared}
+use Rattle.gx_rules.specs.AtSegment.{commits, finishes, forgets_committed, if_fits, on_abort, on_commit, on_commit_prepared, on_exec, on_forget, on_message, on_prepare, once, promises, raised, repeats, resumes, seg_rule, takes, unless_below, was_prepared, withdraws}
 use Rattle.gx_rules.specs.Fits.{fits_exec, is_waiting}
 use Rattle.gx_rules.specs.Machine.{World, found, seg_can}
 use Rattle.gx_rules.specs.Running.{is_granted, runs_locked, starts_slice, suspends, runs_slice}
@@ -126,21 +126,29 @@ module _ (s : Seg) where
   commit-prepared g fails l (Forgotten false) = tt
   commit-prepared g fails l Aborted = tt
 
-  abort : (g : Gxid) (l : Local) (p : Phase) → Silent (on_abort s g l p)
-  abort g l Reading = each-released NoAsk s.node s.locks g (λ claim. tt)
-  abort g l Writing = each-released NoAsk s.node s.locks g (λ claim. tt)
-  abort g l Prepared = each-released NoAsk s.node s.locks g (λ claim. tt)
-  abort g l Committed = tt
-  abort g l (Forgotten b) = tt
-  abort g l Aborted = tt
+  withdrawn : (g : Gxid) (fails : Bool) (l : Local) → Silent (withdraws s g fails l)
+  withdrawn g true l = (tt, tt)
+  withdrawn g false l = each-released NoAsk s.node s.locks g (λ claim. tt)
 
-  forget : (g : Gxid) (l : Local) (p : Phase) → Silent (on_forget s g l p)
-  forget g l Reading = each-released NoAsk s.node s.locks g (λ claim. tt)
-  forget g l Writing = each-released NoAsk s.node s.locks g (λ claim. tt)
-  forget g l Prepared = each-released NoAsk s.node s.locks g (λ claim. tt)
-  forget g l Committed = each-released NoAsk s.node s.locks g (λ claim. tt)
-  forget g l (Forgotten b) = tt
-  forget g l Aborted = tt
+  abort : (g : Gxid) (fails : Bool) (l : Local) (p : Phase) → Silent (on_abort s g fails l p)
+  abort g fails l Reading = each-released NoAsk s.node s.locks g (λ claim. tt)
+  abort g fails l Writing = each-released NoAsk s.node s.locks g (λ claim. tt)
+  abort g fails l Prepared = withdrawn g fails l
+  abort g fails l Committed = tt
+  abort g fails l (Forgotten b) = tt
+  abort g fails l Aborted = tt
+
+  forgotten : (g : Gxid) (fails : Bool) (l : Local) → Silent (forgets_committed s g fails l)
+  forgotten g true l = (tt, tt)
+  forgotten g false l = each-released NoAsk s.node s.locks g (λ claim. tt)
+
+  forget : (g : Gxid) (fails : Bool) (l : Local) (p : Phase) → Silent (on_forget s g fails l p)
+  forget g fails l Reading = each-released NoAsk s.node s.locks g (λ claim. tt)
+  forget g fails l Writing = each-released NoAsk s.node s.locks g (λ claim. tt)
+  forget g fails l Prepared = each-released NoAsk s.node s.locks g (λ claim. tt)
+  forget g fails l Committed = forgotten g fails l
+  forget g fails l (Forgotten b) = tt
+  forget g fails l Aborted = tt
 
   below : (g : Gxid) (turn : SegTurn) → Silent turn → Silent (unless_below s g turn)
   below g turn e = either (is_below s.horizon g) _ _ tt e
@@ -159,8 +167,8 @@ order-silent script s fails (message.Exec g c level snapshot h x) e = absurd e
 order-silent script s fails (message.Prepare g) e = below s g _ (fits s (not (is_waiting (local_of s g))) _ (prepare s g fails (local_of s g) (local_of s g).phase))
 order-silent script s fails (message.Commit g) e = below s g _ (fits s (not (is_waiting (local_of s g))) _ (commit s g fails (local_of s g) (local_of s g).phase))
 order-silent script s fails (message.CommitPrepared g) e = below s g _ (commit-prepared s g fails (local_of s g) (local_of s g).phase)
-order-silent script s fails (message.Abort g) e = below s g _ (abort s g (local_of s g) (local_of s g).phase)
-order-silent script s fails (message.Forget g) e = below s g _ (forget s g (local_of s g) (local_of s g).phase)
+order-silent script s fails (message.Abort g) e = below s g _ (abort s g fails (local_of s g) (local_of s g).phase)
+order-silent script s fails (message.Forget g) e = below s g _ (forget s g fails (local_of s g) (local_of s g).phase)
 order-silent script s fails (message.Collect round) e = collect-ways (λ (turn : SegTurn). Silent s turn) s round tt (λ new. (tt, tt)) (λ same graph is. tt)
 order-silent script s fails (message.Answer g r) e = tt
 order-silent script s fails (message.Graph round graph) e = tt

@@ -27,7 +27,7 @@ use Rattle.gx_msg.specs.declared.reply.Reply.TheVariants as reply
 use Rattle.gx_script.specs.declared.Script.{Script}
 use Rattle.gx_store.specs.declared.mark.Mark.{Mark}
 use Rattle.gx_store.specs.declared.mark.Mark.TheVariants as mark
-use Rattle.gx_rules.specs.AtSegment.{changes, commits, ends, finishes, if_fits, is_refused, on_abort, on_commit, on_commit_prepared, on_exec, on_forget, on_message, on_prepare, once, promises, raised, repeats, resumes, takes, unless_below, was_prepared}
+use Rattle.gx_rules.specs.AtSegment.{again, changes, commits, ends, finishes, forgets_committed, if_fits, is_refused, on_abort, on_commit, on_commit_prepared, on_exec, on_forget, on_message, on_prepare, once, promises, raised, repeats, resumes, takes, unless_below, was_prepared, withdraws}
 use Rattle.gx_rules.specs.Changes.{Change, change_of, changes_rows}
 use Rattle.gx_rules.specs.Fits.{fits_exec, holds_locks, is_right_slice, is_waiting, reads_nothing}
 use Rattle.gx_rules.specs.Locks.{hold_mark, release_marks, with_hold}
@@ -293,26 +293,37 @@ module _ (script : Script) (s : Seg) where
   commit-prepared g fails (Forgotten false) = stay
   commit-prepared g fails Aborted = stay
 
-  moved : (g : Gxid) (p : Phase) (r : Reply) → IsOldReply s g r → Rests (ends s g (s.locals g.0) p r)
-  moved g p r o =
-      let x = change g (record (s.locals g.0) { phase = p; suspended = None }) (release_marks s.node s.locks g) r None (each-released NoRow s.node s.locks g (λ claim. tt)) refl refl (drops-next (s.locals g.0).suspended (s.locals g.0).last) (inr refl) o in
+  moved : (g : Gxid) (p : Phase) (r : Reply) (it : Option JournalItem) → IsOldReply s g r → Rests (ends s g (s.locals g.0) p r it)
+  moved g p r it o =
+      let x = change g (record (s.locals g.0) { phase = p; suspended = None }) (release_marks s.node s.locks g) r it (each-released NoRow s.node s.locks g (λ claim. tt)) refl refl (drops-next (s.locals g.0).suspended (s.locals g.0).last) (inr refl) o in
       record { marks = x.marks; answers = x.answers; lasts = x.lasts; nexts = x.nexts; waits = x.waits; versions = x.versions; outs = x.outs }
 
-  abort : (g : Gxid) (p : Phase) → Rests (on_abort s g (s.locals g.0) p)
-  abort g Reading = moved g Aborted reply.Aborted tt
-  abort g Writing = moved g Aborted reply.Aborted tt
-  abort g Prepared = moved g Aborted reply.Aborted tt
-  abort g Committed = stay
-  abort g (Forgotten b) = stay
-  abort g Aborted = tell g _ tt
+  once-more : (g : Gxid) (it : JournalItem) → Rests (again s g (s.locals g.0) it)
+  once-more g it = change g _ _ reply.Again _ (tt, tt) refl refl (same-le (next_command (s.locals g.0))) (inl refl) tt
 
-  forget : (g : Gxid) (p : Phase) → Rests (on_forget s g (s.locals g.0) p)
-  forget g Reading = moved g _ reply.Forgotten tt
-  forget g Writing = moved g _ reply.Forgotten tt
-  forget g Prepared = moved g _ reply.Forgotten tt
-  forget g Committed = moved g _ reply.Forgotten tt
-  forget g (Forgotten b) = tell g _ tt
-  forget g Aborted = stay
+  withdrawn : (g : Gxid) (fails : Bool) → Rests (withdraws s g fails (s.locals g.0))
+  withdrawn g true = once-more g _
+  withdrawn g false = moved g Aborted reply.Aborted _ tt
+
+  abort : (g : Gxid) (fails : Bool) (p : Phase) → Rests (on_abort s g fails (s.locals g.0) p)
+  abort g fails Reading = moved g Aborted reply.Aborted _ tt
+  abort g fails Writing = moved g Aborted reply.Aborted _ tt
+  abort g fails Prepared = withdrawn g fails
+  abort g fails Committed = stay
+  abort g fails (Forgotten b) = stay
+  abort g fails Aborted = tell g _ tt
+
+  forgotten : (g : Gxid) (fails : Bool) → Rests (forgets_committed s g fails (s.locals g.0))
+  forgotten g true = once-more g _
+  forgotten g false = moved g _ reply.Forgotten _ tt
+
+  forget : (g : Gxid) (fails : Bool) (p : Phase) → Rests (on_forget s g fails (s.locals g.0) p)
+  forget g fails Reading = moved g _ reply.Forgotten _ tt
+  forget g fails Writing = moved g _ reply.Forgotten _ tt
+  forget g fails Prepared = moved g _ reply.Forgotten _ tt
+  forget g fails Committed = forgotten g fails
+  forget g fails (Forgotten b) = tell g _ tt
+  forget g fails Aborted = stay
 
   -- SLICES
   -- a new command fits only where nobody waits
@@ -415,8 +426,8 @@ module _ (script : Script) (s : Seg) where
   message-turns fails (message.Prepare g) = below _ g _ (fits _ (not (is_waiting (local_of s g))) _ (inl (prepare g fails _)))
   message-turns fails (message.Commit g) = below _ g _ (fits _ (not (is_waiting (local_of s g))) _ (inl (commit g fails _)))
   message-turns fails (message.CommitPrepared g) = below _ g _ (inl (commit-prepared g fails _))
-  message-turns fails (message.Abort g) = below _ g _ (inl (abort g _))
-  message-turns fails (message.Forget g) = below _ g _ (inl (forget g _))
+  message-turns fails (message.Abort g) = below _ g _ (inl (abort g fails _))
+  message-turns fails (message.Forget g) = below _ g _ (inl (forget g fails _))
   message-turns fails (message.Collect round) =
       collect-ways (Turns script s (message.Collect round)) s round (inl stay)
       (λ new. inl (record { marks = (tt, tt); answers = λ h. refl; lasts = λ h. refl; nexts = λ h. same-le (next_command (s.locals h)); waits = λ h. inl refl; versions = refl; outs = (tt, tt) }))
