@@ -309,11 +309,11 @@ module _ (script : Script) (s : Seg) (k : Came s) (g : Gxid) where
 
   withdrawn : (fails : Bool) → l.phase ≡ Prepared → Keep (withdraws s g fails l)
   withdrawn true e = onward l.phase l.vote (ap has_ended e)
-  withdrawn false e = end _ answer.Aborted _
+  withdrawn false e = end _ answer.Aborted None
 
   abort : (fails : Bool) (p : Phase) → l.phase ≡ p → Keep (on_abort s g fails l p)
-  abort fails Reading e = end _ answer.Aborted _
-  abort fails Writing e = end _ answer.Aborted _
+  abort fails Reading e = end _ answer.Aborted None
+  abort fails Writing e = end _ answer.Aborted None
   abort fails Prepared e = withdrawn fails e
   abort fails Committed e = k
   abort fails (Forgotten b) e = k
@@ -321,12 +321,12 @@ module _ (script : Script) (s : Seg) (k : Came s) (g : Gxid) where
 
   forgotten : (fails : Bool) → l.phase ≡ Committed → Keep (forgets_committed s g fails l)
   forgotten true e = onward l.phase l.vote (ap has_ended e)
-  forgotten false e = end _ answer.Forgotten _
+  forgotten false e = end _ answer.Forgotten None
 
   forget : (fails : Bool) (p : Phase) → l.phase ≡ p → Keep (on_forget s g fails l p)
-  forget fails Reading e = end _ answer.Forgotten _
-  forget fails Writing e = end _ answer.Forgotten _
-  forget fails Prepared e = end _ answer.Forgotten _
+  forget fails Reading e = end _ answer.Forgotten None
+  forget fails Writing e = end _ answer.Forgotten None
+  forget fails Prepared e = end _ answer.Forgotten None
   forget fails Committed e = forgotten fails e
   forget fails (Forgotten b) e = k
   forget fails Aborted e = k

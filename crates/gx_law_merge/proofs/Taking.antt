@@ -1,7 +1,9 @@
 -- The marks of a turn tell what its journal took.
 use Rattle.std.proofs.Common.{◌≡◌, ◌⊎◌, inl, inr, ℕ, List, [], ◌∷◌, ◌++◌, Option, Some, None, Bool, true, false, refl, sym, ap, ◌∙◌, if◌then◌else◌, not, append-nil}
+use Rattle.std.specs.Prelude.{map}
 use Rattle.gx_ids.specs.declared.ids.Cid.{Cid}
 use Rattle.gx_ids.specs.declared.ids.Gxid.{Gxid}
+use Rattle.gx_ids.specs.declared.ids.Node.{Node}
 use Rattle.gx_ids.specs.declared.ids.Table.{Table}
 use Rattle.gx_ids.specs.declared.rid.Rid.{Rid}
 use Rattle.gx_tree.specs.declared.query.Query.{Query}
@@ -31,6 +33,7 @@ use Rattle.gx_rules.specs.AtSegment as segment
 use Rattle.gx_rules.specs.Changes.{Change, change_of, changes_rows, goes_on_at, goes_through, selected, shown_to, unless_fault}
 use Rattle.gx_rules.specs.Coordinators.{Coord, CoordTurn}
 use Rattle.gx_rules.specs.Fits.{fits_exec, is_waiting}
+use Rattle.gx_rules.specs.Locks.{has_there, release_mark}
 use Rattle.gx_rules.specs.Machine.{kept_item}
 use Rattle.gx_rules.specs.Rounds.{victims_at}
 use Rattle.gx_rules.specs.Running.{goes_on, is_granted, requests, runs_locked, runs_slice, starts_slice, suspends}

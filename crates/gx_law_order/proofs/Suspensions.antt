@@ -33,7 +33,7 @@ use Rattle.gx_store.specs.declared.mark.Mark.{Mark}
 use Rattle.gx_store.specs.declared.mark.Mark.TheVariants as mark
 use Rattle.gx_store.specs.declared.node.NodeEvent.{NodeEvent}
 use Rattle.gx_store.specs.declared.node.NodeEvent.TheVariants as event
-use Rattle.gx_rules.specs.AtSegment.{again, commits, ends, finishes, forgets_committed, if_fits, on_abort, on_commit, on_commit_prepared, on_event, on_exec, on_forget, on_message, on_prepare, once, promises, raised, repeats, resumes, takes, unless_below, was_prepared, withdraws}
+use Rattle.gx_rules.specs.AtSegment.{commits, ends, finishes, forgets_committed, if_fits, on_abort, on_commit, on_commit_prepared, on_event, on_exec, on_forget, on_message, on_prepare, once, promises, raised, repeats, resumes, takes, unless_below, was_prepared, withdraws}
 use Rattle.gx_rules.specs.Changes.{Change, RowTurn, change_of, changes_rows, goes_on_at, suspended_at, suspends_at, waits}
 use Rattle.gx_rules.specs.Fits.{fits_exec, is_right_slice, is_waiting, reads_nothing}
 use Rattle.gx_rules.specs.Locks.{with_hold, with_wait}
@@ -430,31 +430,31 @@ module _ (script : Script) (Come : Message → Type 0) where
         record { each = a.each; own = a.own }
 
     -- who is open no more waits for nothing, and so it stays
-    once-more : (g : Gxid) (it : JournalItem) → is_open_phase (local_of s g).phase ≡ false → Keeps (again s g (local_of s g) it)
-    once-more g it closed =
+    same : (g : Gxid) → is_open_phase (local_of s g).phase ≡ false → Rightly (with_local s g (local_of s g))
+    same g closed =
         let rests = closed-rests script Come s.horizon g.0 (local_of s g) (k.each g.0) closed in
         resting s g _ k rests rests
 
     withdrawn : (g : Gxid) (fails : Bool) → (local_of s g).phase ≡ Prepared → Keeps (withdraws s g fails (local_of s g))
-    withdrawn g true e = once-more g _ (ap is_open_phase e)
-    withdrawn g false e = ended g _ answer.Aborted _
+    withdrawn g true e = same g (ap is_open_phase e)
+    withdrawn g false e = ended g _ answer.Aborted None
 
     abort : (g : Gxid) (fails : Bool) (p : Phase) → (local_of s g).phase ≡ p → Keeps (on_abort s g fails (local_of s g) p)
-    abort g fails Reading e = ended g _ answer.Aborted _
-    abort g fails Writing e = ended g _ answer.Aborted _
+    abort g fails Reading e = ended g _ answer.Aborted None
+    abort g fails Writing e = ended g _ answer.Aborted None
     abort g fails Prepared e = withdrawn g fails e
     abort g fails Committed e = k
     abort g fails (Forgotten b) e = k
     abort g fails Aborted e = k
 
     forgotten : (g : Gxid) (fails : Bool) → (local_of s g).phase ≡ Committed → Keeps (forgets_committed s g fails (local_of s g))
-    forgotten g true e = once-more g _ (ap is_open_phase e)
-    forgotten g false e = ended g _ answer.Forgotten _
+    forgotten g true e = same g (ap is_open_phase e)
+    forgotten g false e = ended g _ answer.Forgotten None
 
     forget : (g : Gxid) (fails : Bool) (p : Phase) → (local_of s g).phase ≡ p → Keeps (on_forget s g fails (local_of s g) p)
-    forget g fails Reading e = ended g _ answer.Forgotten _
-    forget g fails Writing e = ended g _ answer.Forgotten _
-    forget g fails Prepared e = ended g _ answer.Forgotten _
+    forget g fails Reading e = ended g _ answer.Forgotten None
+    forget g fails Writing e = ended g _ answer.Forgotten None
+    forget g fails Prepared e = ended g _ answer.Forgotten None
     forget g fails Committed e = forgotten g fails e
     forget g fails (Forgotten b) e = k
     forget g fails Aborted e = k

@@ -38,7 +38,7 @@ use Rattle.gx_store.specs.declared.mark.Mark.TheVariants as mark
 use Rattle.gx_store.specs.declared.node.NodeEvent.{NodeEvent}
 use Rattle.gx_store.specs.declared.node.NodeEvent.TheVariants as event
 use Rattle.gx_store.specs.Marks.{is_same_gxid}
-use Rattle.gx_rules.specs.AtSegment.{again, commits, ends, finishes, forgets_committed, if_fits, on_abort, on_commit, on_commit_prepared, on_event, on_exec, on_forget, on_message, on_prepare, once, promises, raised, repeats, resumes, takes, unless_below, was_prepared, withdraws}
+use Rattle.gx_rules.specs.AtSegment.{commits, ends, finishes, forgets_committed, if_fits, on_abort, on_commit, on_commit_prepared, on_event, on_exec, on_forget, on_message, on_prepare, once, promises, raised, repeats, resumes, takes, unless_below, was_prepared, withdraws}
 use Rattle.gx_rules.specs.Changes.{Change, RowTurn, change_of, changes_rows, end_lock, goes_on_at, suspended_at, suspends_at, tuple_lock, waits}
 use Rattle.gx_rules.specs.Fits.{fits_exec, is_waiting}
 use Rattle.gx_rules.specs.Locks.{with_hold, with_wait, without_hold}
@@ -351,29 +351,26 @@ module _ (script : Script) (Come : Message → Type 0) (s : Seg) (waits : AreSus
       by_test h true q = record { says = says _; holds = ap (λ i. holds_own i (without g s.locks.holds)) (eqb-true h g.0 q) ∙ none-left g.0 s.locks.holds ∙ none (has_version h s.versions) }
       by_test h false q = subst (LocksItself (s.locals h).phase (has_version h s.versions)) (sym (others-left h g.0 s.locks.holds q)) (k.each h)
 
-  once-more : (g : Gxid) (it : JournalItem) → Keeps (again s g (local_of s g) it)
-  once-more g it = same-phase s g _ k refl
-
   withdrawn : (g : Gxid) (fails : Bool) → Keeps (withdraws s g fails (local_of s g))
-  withdrawn g true = once-more g _
-  withdrawn g false = ended g (local_of s g) Aborted answer.Aborted _ refl (λ a. tt)
+  withdrawn g true = same-phase s g _ k refl
+  withdrawn g false = ended g (local_of s g) Aborted answer.Aborted None refl (λ a. tt)
 
   abort : (g : Gxid) (fails : Bool) (p : Phase) → Keeps (on_abort s g fails (local_of s g) p)
-  abort g fails Reading = ended g (local_of s g) Aborted answer.Aborted _ refl (λ a. tt)
-  abort g fails Writing = ended g (local_of s g) Aborted answer.Aborted _ refl (λ a. tt)
+  abort g fails Reading = ended g (local_of s g) Aborted answer.Aborted None refl (λ a. tt)
+  abort g fails Writing = ended g (local_of s g) Aborted answer.Aborted None refl (λ a. tt)
   abort g fails Prepared = withdrawn g fails
   abort g fails Committed = k
   abort g fails (Forgotten b) = k
   abort g fails Aborted = k
 
   forgotten : (g : Gxid) (fails : Bool) → Keeps (forgets_committed s g fails (local_of s g))
-  forgotten g true = once-more g _
-  forgotten g false = ended g (local_of s g) _ answer.Forgotten _ refl (λ a. tt)
+  forgotten g true = same-phase s g _ k refl
+  forgotten g false = ended g (local_of s g) _ answer.Forgotten None refl (λ a. tt)
 
   forget : (g : Gxid) (fails : Bool) (p : Phase) → Keeps (on_forget s g fails (local_of s g) p)
-  forget g fails Reading = ended g (local_of s g) _ answer.Forgotten _ refl (λ a. tt)
-  forget g fails Writing = ended g (local_of s g) _ answer.Forgotten _ refl (λ a. tt)
-  forget g fails Prepared = ended g (local_of s g) _ answer.Forgotten _ refl (λ a. tt)
+  forget g fails Reading = ended g (local_of s g) _ answer.Forgotten None refl (λ a. tt)
+  forget g fails Writing = ended g (local_of s g) _ answer.Forgotten None refl (λ a. tt)
+  forget g fails Prepared = ended g (local_of s g) _ answer.Forgotten None refl (λ a. tt)
   forget g fails Committed = forgotten g fails
   forget g fails (Forgotten b) = k
   forget g fails Aborted = k

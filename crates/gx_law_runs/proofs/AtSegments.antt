@@ -191,11 +191,11 @@ finish s g false l = tt
 
 withdrawn : (s : Seg) (g : Gxid) (fails : Bool) (l : Local) → MayFail s.node fails (withdraws s g fails l).marks
 withdrawn s g true l = (refl, refl, tt)
-withdrawn s g false l = ended s g false l Aborted reply.Aborted _
+withdrawn s g false l = ended s g false l Aborted reply.Aborted None
 
 forgotten : (s : Seg) (g : Gxid) (fails : Bool) (l : Local) → MayFail s.node fails (forgets_committed s g fails l).marks
 forgotten s g true l = (refl, refl, tt)
-forgotten s g false l = ended s g false l (Forgotten (has_committed l.phase)) reply.Forgotten _
+forgotten s g false l = ended s g false l (Forgotten (has_committed l.phase)) reply.Forgotten None
 
 module _ (s : Seg) (g : Gxid) (fails : Bool) where
   prepare : (l : Local) (p : Phase) → May s g fails (on_prepare s g fails l p)

@@ -6,13 +6,15 @@ use Rattle.gx_ids.specs.declared.ids.Gxid.{Gxid}
 use Rattle.gx_ids.specs.declared.ids.Node.{Node}
 use Rattle.gx_dtx.specs.declared.order.Order.{Order}
 use Rattle.gx_dtx.specs.declared.order.Order.TheVariants as order
+use Rattle.gx_msg.specs.declared.item.JournalItem.{JournalItem}
+use Rattle.gx_msg.specs.declared.item.JournalItem.TheVariants as item
 use Rattle.gx_msg.specs.declared.item.Kept.{Kept}
 use Rattle.gx_msg.specs.declared.reply.Reply.{Reply}
 use Rattle.gx_msg.specs.declared.reply.Reply.TheVariants as answer
 use Rattle.gx_rules.specs.AtSegment.{was_prepared}
 use Rattle.gx_rules.specs.Fits.{is_waiting}
 use Rattle.gx_rules.specs.Segments.{Local, Phase, Reading, Writing, Prepared, Committed, Forgotten, Aborted, Suspended, has_committed, has_ended}
-use Rattle.gx_node.specs.Changes.{Change, aborts, change_of, commits, commits_now, ends_now, finishes, finishes_now, forgets, once, prepares, promises, stays, tells}
+use Rattle.gx_node.specs.Changes.{Change, aborts, change_of, commits, commits_now, ends_noted, ends_now, finishes, finishes_now, forgets, once, prepares, promises, stays, tells}
 use Rattle.gx_slices.specs.Waiting.{is_open}
 
 pub record Follows (l : Local) (change : Change) : Type 0 where
@@ -110,8 +112,8 @@ module _ (node : Node) (g : Gxid) (kept : List Kept) (fails : Bool) (l : Local) 
   finishes-follows Aborted e = itself l _ refl refl
 
   -- ABORT and FORGET end it
-  ends-follows : (p : Phase) (r : Reply) → has_ended p ≡ true → Follows l (ends_now l p r)
-  ends-follows p r e = record {
+  ends-follows : (p : Phase) (r : Reply) (it : Option JournalItem) → has_ended p ≡ true → Follows l (ends_now l p r it)
+  ends-follows p r it e = record {
     last = refl;
     ended = λ f. absurd (not-both (has_ended p) f e);
     lasts = λ f. absurd (never (sym f));
@@ -122,21 +124,25 @@ module _ (node : Node) (g : Gxid) (kept : List Kept) (fails : Bool) (l : Local) 
       never : false ≡ true → ⊥
       never e = cc
 
-  aborts-follows : (p : Phase) → Follows l (aborts l p)
-  aborts-follows Reading = ends-follows Aborted answer.Aborted refl
-  aborts-follows Writing = ends-follows Aborted answer.Aborted refl
-  aborts-follows Prepared = ends-follows Aborted answer.Aborted refl
+  noted-follows : (it : JournalItem) (p : Phase) (r : Reply) → has_ended p ≡ true → (b : Bool) → Follows l (ends_noted node g it p r b l)
+  noted-follows it p r e true = itself l _ refl refl
+  noted-follows it p r e false = ends-follows p r (Some it) e
+
+  aborts-follows : (p : Phase) → Follows l (aborts node g fails l p)
+  aborts-follows Reading = ends-follows Aborted answer.Aborted None refl
+  aborts-follows Writing = ends-follows Aborted answer.Aborted None refl
+  aborts-follows Prepared = noted-follows (item.Abort g) Aborted answer.Aborted refl fails
   aborts-follows Aborted = itself l _ refl refl
   aborts-follows Committed = itself l _ refl refl
   aborts-follows (Forgotten committed) = itself l _ refl refl
 
-  forgets-follows : (p : Phase) → Follows l (forgets l p)
+  forgets-follows : (p : Phase) → Follows l (forgets node g fails l p)
   forgets-follows Aborted = itself l _ refl refl
   forgets-follows (Forgotten committed) = itself l _ refl refl
-  forgets-follows Reading = ends-follows (Forgotten (has_committed l.phase)) answer.Forgotten refl
-  forgets-follows Writing = ends-follows (Forgotten (has_committed l.phase)) answer.Forgotten refl
-  forgets-follows Prepared = ends-follows (Forgotten (has_committed l.phase)) answer.Forgotten refl
-  forgets-follows Committed = ends-follows (Forgotten (has_committed l.phase)) answer.Forgotten refl
+  forgets-follows Reading = ends-follows (Forgotten (has_committed l.phase)) answer.Forgotten None refl
+  forgets-follows Writing = ends-follows (Forgotten (has_committed l.phase)) answer.Forgotten None refl
+  forgets-follows Prepared = ends-follows (Forgotten (has_committed l.phase)) answer.Forgotten None refl
+  forgets-follows Committed = noted-follows (item.Forget g) (Forgotten (has_committed l.phase)) answer.Forgotten refl fails
 
 pub follows-change_of : (o : Order) (node : Node) (g : Gxid) (kept : List Kept) (fails : Bool) (l : Local) → Follows l (change_of o node g kept fails l)
 follows-change_of order.Prepare node g kept fails l = waiting-follows node g kept fails l _ (is_waiting l) refl (λ free. prepares-follows node g kept fails l free l.phase refl)

@@ -4,11 +4,13 @@ use Rattle.gx_ids.specs.declared.ids.Gxid.{Gxid}
 use Rattle.gx_ids.specs.declared.ids.Node.{Node}
 use Rattle.gx_dtx.specs.declared.order.Order.{Order}
 use Rattle.gx_dtx.specs.declared.order.Order.TheVariants as order
+use Rattle.gx_msg.specs.declared.item.JournalItem.TheVariants as item
 use Rattle.gx_msg.specs.declared.item.Kept.{Kept}
+use Rattle.gx_msg.specs.declared.reply.Reply.TheVariants as answer
 use Rattle.gx_rules.specs.AtSegment.{was_prepared}
 use Rattle.gx_rules.specs.Fits.{is_waiting}
 use Rattle.gx_rules.specs.Segments.{Local, Phase, Reading, Writing, Prepared, Committed, Forgotten, Aborted, has_committed, is_unaborted}
-use Rattle.gx_node.specs.Changes.{Change, aborts, change_of, commits, finishes, forgets, prepares, stays, tells}
+use Rattle.gx_node.specs.Changes.{Change, aborts, change_of, commits, ends_noted, finishes, forgets, prepares, stays, tells}
 
 pub record Lasts (l : Local) (change : Change) : Type 0 where
   pub committed : has_committed l.phase ≡ true → has_committed change.now.phase ≡ true
@@ -65,7 +67,7 @@ module _ (node : Node) (g : Gxid) (kept : List Kept) (fails : Bool) (l : Local) 
   finishes-lasts Writing e = same _ refl
   finishes-lasts Aborted e = same _ refl
 
-  aborts-lasts : (p : Phase) → l.phase ≡ p → Lasts l (aborts l p)
+  aborts-lasts : (p : Phase) → l.phase ≡ p → Lasts l (aborts node g fails l p)
   aborts-lasts Reading e = undecided Reading e refl refl _
   aborts-lasts Writing e = undecided Writing e refl refl _
   aborts-lasts Prepared e = undecided Prepared e refl refl _
@@ -74,16 +76,20 @@ module _ (node : Node) (g : Gxid) (kept : List Kept) (fails : Bool) (l : Local) 
   aborts-lasts (Forgotten committed) e = same _ refl
 
   -- who is forgotten is so as one that had committed or not
-  forgets-lasts : (p : Phase) → l.phase ≡ p → Lasts l (forgets l p)
+  forgotten-lasts : l.phase ≡ Committed → (b : Bool) → Lasts l (ends_noted node g (item.Forget g) (Forgotten (has_committed l.phase)) answer.Forgotten b l)
+  forgotten-lasts e true = same _ refl
+  forgotten-lasts e false = record {
+    committed = λ was. was;
+    aborted = λ was. absurd (differ (ap (λ (q : Phase). not (is_unaborted q)) (sym e) ∙ was));
+  }
+
+  forgets-lasts : (p : Phase) → l.phase ≡ p → Lasts l (forgets node g fails l p)
   forgets-lasts Aborted e = same _ refl
   forgets-lasts (Forgotten committed) e = same _ refl
   forgets-lasts Reading e = undecided Reading e refl refl _
   forgets-lasts Writing e = undecided Writing e refl refl _
   forgets-lasts Prepared e = undecided Prepared e refl refl _
-  forgets-lasts Committed e = record {
-    committed = λ was. was;
-    aborted = λ was. absurd (differ (ap (λ (q : Phase). not (is_unaborted q)) (sym e) ∙ was));
-  }
+  forgets-lasts Committed e = forgotten-lasts e fails
 
 pub lasts-change_of : (o : Order) (node : Node) (g : Gxid) (kept : List Kept) (fails : Bool) (l : Local) → Lasts l (change_of o node g kept fails l)
 lasts-change_of order.Prepare node g kept fails l = waiting-lasts node g kept fails l _ (is_waiting l) (prepares-lasts node g kept fails l l.phase refl)
