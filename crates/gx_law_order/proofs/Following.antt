@@ -19,7 +19,7 @@ use Rattle.gx_store.specs.Journals.{is_same_node}
 use Rattle.gx_store.specs.Marks.{is_aborted, is_committed}
 use Rattle.gx_store.specs.Messages.{HasReceived, Receives}
 use Rattle.gx_store.specs.Points.{Point, before, marks_in}
-use Rattle.gx_store.specs.Protocol.{CommitsAlone, CommitsAsPromised, CommitsThere, IsExecuted, Promises, WritesThere, decided_count, is_writer, local_count, prepared_count}
+use Rattle.gx_store.specs.Protocol.{CommitsAlone, CommitsAsPromised, CommitsThere, ForgetsThere, IsExecuted, Promises, Withdraws, WritesThere, decided_count, is_writer, local_count, prepared_count}
 use Rattle.gx_store.specs.Refusals.{the_coordinator}
 use Rattle.gx_rules.specs.Sending.{counted, numbered}
 use Rattle.gx_law_order.proofs.Lists.{each_append, each_weaker}
@@ -33,7 +33,7 @@ use Rattle.gx_law_order.proofs.CoordItems.{DecidesAlone}
 use Rattle.gx_law_order.proofs.SegItems.{Dull}
 use Rattle.gx_law_order.proofs.Counts.{NoEnd, decided-append, local-append, no-aborted, no-committed, no-decided, prepared-append}
 use Rattle.gx_law_order.proofs.Ended.{IsExec}
-use Rattle.gx_law_order.proofs.Handled.{Follows, HasMark, IsExecOf, IsReplyTo, IsUnsettled, MayCommit, MayPromise, NoVote, Tells, Votes, no-vote-of-command, no-votes-local, no-votes-prepared}
+use Rattle.gx_law_order.proofs.Handled.{Follows, HasMark, IsExecOf, IsReplyTo, IsUnsettled, MayCommit, MayFail, MayForget, MayPromise, MayWithdraw, NoVote, Tells, Votes, no-vote-of-command, no-votes-local, no-votes-prepared}
 use Rattle.gx_law_order.proofs.Unfinished.{IsUnfinished}
 use Rattle.gx_law_order.proofs.RightOrders.{IsRightOrder, order-on}
 use Rattle.gx_law_order.proofs.Ways.{Fol, FolAt, IsOf}
@@ -269,15 +269,40 @@ module _ (script : Script) (steps : List Step) (step : Step) where
           by = commits-by later m.3;
         }))
 
+    withdraws-there : (later : List Mark) (n : Node) (h : Gxid) → h.0 ≡ g → n.0 ≡ i → MayWithdraw told k p g → Withdraws (point [] later) n h
+    withdraws-there later n h e f m =
+        subst (λ (y : Gxid). Withdraws (point [] later) n y) (same-gxid h e)
+        (subst (λ (y : Node). Withdraws (point [] later) y (gx g)) (same-at n f)
+        (record {
+          told = gets (message.Abort (gx g)) (λ z. z) m.0;
+          aborted = ap (λ x. is_aborted x (gx g)) here-nil ∙ sym aborted ∙ m.1;
+          promised = ap (λ x. prepared_count x (at i) (gx g)) here-nil ∙ of.promises ∙ m.2;
+          uncommitted = ap (λ x. local_count x (at i) (gx g)) here-nil ∙ of.commits ∙ m.3;
+          unfailed = λ x. lt-none x.0 x.1;
+        }))
+
+    forgets-there : (later : List Mark) (n : Node) (h : Gxid) → h.0 ≡ g → n.0 ≡ i → MayForget told k p g → ForgetsThere (point [] later) n h
+    forgets-there later n h e f m =
+        subst (λ (y : Gxid). ForgetsThere (point [] later) n y) (same-gxid h e)
+        (subst (λ (y : Node). ForgetsThere (point [] later) y (gx g)) (same-at n f)
+        (record {
+          told = gets (message.Forget (gx g)) (λ z. z) m.0;
+          ended = ap (λ x. is_committed x (gx g)) here-nil ∙ sym committed ∙ m.1;
+          committed = ap (λ x. local_count x (at i) (gx g)) here-nil ∙ of.commits ∙ m.2;
+          unfailed = λ x. lt-none x.0 x.1;
+        }))
+
     -- the first mark
     follow-first : (later ns : List Mark) (m : Mark) → Follows told k i g m → Votes told k p g (m ∷ ns) → IsUnsettled p m → EndsAt script step.stamp.node (point [] later) m
     follow-first later ns (mark.Prepared n h) f v u = promises-there later n h f.0 f.1 (f.2, f.3, v.0, v.1, v.2)
     follow-first later ns (mark.LocalCommit n h) f v u = commits-there later n h f.0 f.1 (f.3, f.4, v.0, v.1)
     follow-first later ns (mark.JournalFailed n h) f v u = inr (by_order v.0)
       where
-        by_order : MayPromise told k p g ⊎ MayCommit told k p g → Promises (point [] later) n h ⊎ CommitsThere (point [] later) n h
+        by_order : MayFail told k p g → Promises (point [] later) n h ⊎ CommitsThere (point [] later) n h ⊎ Withdraws (point [] later) n h ⊎ ForgetsThere (point [] later) n h
         by_order (inl m) = inl (promises-there later n h f.0 f.1 m)
-        by_order (inr m) = inr (commits-there later n h f.0 f.1 m)
+        by_order (inr (inl m)) = inr (inl (commits-there later n h f.0 f.1 m))
+        by_order (inr (inr (inl m))) = inr (inr (inl (withdraws-there later n h f.0 f.1 m)))
+        by_order (inr (inr (inr m))) = inr (inr (inr (forgets-there later n h f.0 f.1 m)))
     follow-first later ns m f v u = follow-one [] later m tt f tt u
 
     votes-rest : (m : Mark) (ns : List Mark) → Votes told k p g (m ∷ ns) → Each NoVote ns

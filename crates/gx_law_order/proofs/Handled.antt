@@ -35,7 +35,7 @@ use Rattle.gx_script.specs.declared.Script.{Script}
 use Rattle.gx_store.specs.declared.mark.Mark.{Mark}
 use Rattle.gx_store.specs.declared.mark.Mark.TheVariants as mark
 use Rattle.gx_store.specs.Protocol.{is_writer, local_count, prepared_count}
-use Rattle.gx_rules.specs.AtSegment.{changes, commits, ends, finishes, if_fits, is_refused, on_abort, on_collect, on_commit, on_commit_prepared, on_exec, on_forget, on_message, on_prepare, once, promises, raised, repeats, takes, unless_below, was_prepared}
+use Rattle.gx_rules.specs.AtSegment.{again, changes, commits, ends, finishes, forgets_committed, if_fits, is_refused, on_abort, on_collect, on_commit, on_commit_prepared, on_exec, on_forget, on_message, on_prepare, once, promises, raised, repeats, takes, unless_below, was_prepared, withdraws}
 use Rattle.gx_rules.specs.Changes.{Change, RowTurn, change_of, changes_rows, goes_through, suspended_at, suspends_at, tuple_lock}
 use Rattle.gx_rules.specs.Changes as loop
 use Rattle.gx_rules.specs.Fits.{fits_exec, is_right_slice, is_waiting, reads_nothing}
@@ -77,7 +77,8 @@ pub record IsExecOf (told : Message) (g : ℕ) (c : Cid) : Type 0 where
 
 -- the message is an order that a journal takes an item for
 abbrev pub IsOrderTo : Message → ℕ → Type 0
-IsOrderTo told g = (told ≡ message.Prepare (gx g)) ⊎ (told ≡ message.Commit (gx g)) ⊎ (told ≡ message.CommitPrepared (gx g))
+IsOrderTo told g =
+    (told ≡ message.Prepare (gx g)) ⊎ (told ≡ message.Commit (gx g)) ⊎ (told ≡ message.CommitPrepared (gx g)) ⊎ (told ≡ message.Abort (gx g)) ⊎ (told ≡ message.Forget (gx g))
 
 -- what a mark of the segment answers
 abbrev pub Follows : Message → Known → ℕ → ℕ → Mark → Type 0
@@ -108,14 +109,24 @@ abbrev pub MayCommit : Message → Known → Part → ℕ → Type 0
 MayCommit told k p g =
     (k.aborted ≡ false) × (k.committed ≡ false) × (p.commits ≡ 0) × (((told ≡ message.Commit (gx g)) × (k.at ≡ One true)) ⊎ ((told ≡ message.CommitPrepared (gx g)) × (k.at ≡ Two true)))
 
+-- what withdraws a promise, and what forgets a commit
+abbrev pub MayWithdraw : Message → Known → Part → ℕ → Type 0
+MayWithdraw told k p g = (told ≡ message.Abort (gx g)) × (k.aborted ≡ true) × (p.promises ≡ 1) × (p.commits ≡ 0)
+
+abbrev pub MayForget : Message → Known → Part → ℕ → Type 0
+MayForget told k p g = (told ≡ message.Forget (gx g)) × (k.committed ≡ true) × (p.commits ≡ 1)
+
+abbrev pub MayFail : Message → Known → Part → ℕ → Type 0
+MayFail told k p g = MayPromise told k p g ⊎ MayCommit told k p g ⊎ MayWithdraw told k p g ⊎ MayForget told k p g
+
 -- who promises has written, and has neither promised nor committed before; who commits has not before, and is told so as the only
--- writer or behind the decision; a journal fails where one of both might be
+-- writer or behind the decision; a journal fails where one of both might be, or a promise withdrawn, or a commit forgotten
 abbrev pub Votes : Message → Known → Part → ℕ → List Mark → Type 0
 Votes told k p g [] = Unit {0}
 Votes told k p g (mark.Prepared n h ∷ ms) = (p.wrote ≡ true) × (p.promises ≡ 0) × (p.commits ≡ 0) × Each NoVote ms
 Votes told k p g (mark.LocalCommit n h ∷ ms) =
     (p.commits ≡ 0) × (((told ≡ message.Commit (gx g)) × (k.at ≡ One true)) ⊎ ((told ≡ message.CommitPrepared (gx g)) × (k.at ≡ Two true))) × Each NoVote ms
-Votes told k p g (mark.JournalFailed n h ∷ ms) = (MayPromise told k p g ⊎ MayCommit told k p g) × Each NoVote ms
+Votes told k p g (mark.JournalFailed n h ∷ ms) = MayFail told k p g × Each NoVote ms
 Votes told k p g (m ∷ ms) = Each NoVote ms
 
 -- who writes has neither promised nor committed
@@ -151,9 +162,17 @@ no-vote-of-command told k i g c e (mark.JournalFailed n h) f = absurd (by_order 
       where
         differ : message.Exec (gx g) c e.level e.snapshot e.horizon e.slice ≡ message.Commit (gx g) → ⊥
         differ q = cc
-    by_order (inr (inr q)) = differ (sym e.is ∙ q)
+    by_order (inr (inr (inl q))) = differ (sym e.is ∙ q)
       where
         differ : message.Exec (gx g) c e.level e.snapshot e.horizon e.slice ≡ message.CommitPrepared (gx g) → ⊥
+        differ q = cc
+    by_order (inr (inr (inr (inl q)))) = differ (sym e.is ∙ q)
+      where
+        differ : message.Exec (gx g) c e.level e.snapshot e.horizon e.slice ≡ message.Abort (gx g) → ⊥
+        differ q = cc
+    by_order (inr (inr (inr (inr q)))) = differ (sym e.is ∙ q)
+      where
+        differ : message.Exec (gx g) c e.level e.snapshot e.horizon e.slice ≡ message.Forget (gx g) → ⊥
         differ q = cc
 no-vote-of-command told k i g c e m f = tt
 
@@ -332,7 +351,7 @@ module _ (told : Message) (k : Known) (s : Seg) (i g : ℕ) (named : s.node ≡ 
   at-node : s.node.0 ≡ i
   at-node = ap (λ (n : Node). n.0) named
 
-  refuse : (it : JournalItem) → l.vote ≡ None → is_open l.phase ≡ true → (k.at ≡ Preparing true) ⊎ (k.at ≡ One true) ⊎ (k.aborted ≡ true) → IsOrderTo told g → MayPromise told k p g ⊎ MayCommit told k p g → Does (is_refused s (gx g) l it)
+  refuse : (it : JournalItem) → l.vote ≡ None → is_open l.phase ≡ true → (k.at ≡ Preparing true) ⊎ (k.at ≡ One true) ⊎ (k.aborted ≡ true) → IsOrderTo told g → MayFail told k p g → Does (is_refused s (gx g) l it)
   refuse it v o st order may =
       let n : Next k p (refusing p) = refuse-next k p e v o st in
       change (record l { vote = Some reply.Jfault }) (mark.JournalFailed s.node (gx g) ∷ []) reply.Jfault (Some it)
@@ -414,7 +433,7 @@ module _ (told : Message) (k : Known) (s : Seg) (i g : ℕ) (named : s.node ≡ 
   committed : (fails : Bool) → told ≡ message.Commit (gx g) → l.vote ≡ None → is_open l.phase ≡ true → k.at ≡ One true → is_waiting l ≡ false → Does (commits s (gx g) fails l)
   committed true m v o st y =
       let x = live-marks (one-not-over st) in
-      refuse _ v o (inr (inl st)) (inr (inl m)) (inr (x.0, x.1, uncommitted l.phase refl (open-uncommitted l.phase o), inl (m, st)))
+      refuse _ v o (inr (inl st)) (inr (inl m)) (inr (inl (x.0, x.1, uncommitted l.phase refl (open-uncommitted l.phase o), inl (m, st))))
   committed false m v o st y =
       let n : Next k p (committing p) = commit-next k p e v o y st in
       let x = live-marks (one-not-over st) in
@@ -437,7 +456,7 @@ module _ (told : Message) (k : Known) (s : Seg) (i g : ℕ) (named : s.node ≡ 
   finished : (fails : Bool) → told ≡ message.CommitPrepared (gx g) → l.phase ≡ Prepared → k.at ≡ Two true → Does (finishes s (gx g) fails l)
   finished true m f st =
       let x = live-marks (two-not-over st) in
-      change l (mark.JournalFailed s.node (gx g) ∷ []) reply.Again _ same-next ((refl, at-node, inr (inr m)), tt) (inr (x.0, x.1, uncommitted Prepared f refl, inr (m, st)), tt) (tt, tt) (refl, failed-here) tt (λ v. inl v)
+      change l (mark.JournalFailed s.node (gx g) ∷ []) reply.Again _ same-next ((refl, at-node, inr (inr (inl m))), tt) (inr (inl (x.0, x.1, uncommitted Prepared f refl, inr (m, st))), tt) (tt, tt) (refl, failed-here) tt (λ v. inl v)
   finished false m f st =
       let n : Next k p (finishing p) = finish-next k p e f st in
       let x = live-marks (two-not-over st) in
@@ -458,8 +477,8 @@ module _ (told : Message) (k : Known) (s : Seg) (i g : ℕ) (named : s.node ≡ 
   commit-prepared fails Aborted f m st = stay
 
   -- ABORT and FORGET
-  ended : (ph : Phase) (r : Reply) → IsReplyTo told g (message.Answer (gx g) r) → not-again r ≡ true → ((q : Part) → Answers k q r) → is_open ph ≡ false → (ph ≡ Prepared → ⊥) → has_committed ph ≡ has_committed l.phase → k.at ≡ Over → Does (ends s (gx g) l ph r)
-  ended ph r y n a o d c st =
+  ended : (ph : Phase) (r : Reply) (it : Option JournalItem) → IsReplyTo told g (message.Answer (gx g) r) → not-again r ≡ true → ((q : Part) → Answers k q r) → is_open ph ≡ false → (ph ≡ Prepared → ⊥) → has_committed ph ≡ has_committed l.phase → k.at ≡ Over → Does (ends s (gx g) l ph r it)
+  ended ph r it y n a o d c st =
       let x : Local = record l { phase = ph; suspended = None } in
       let back : List Mark = release_marks s.node s.locks (gx g) in
       record {
@@ -474,24 +493,36 @@ module _ (told : Message) (k : Known) (s : Seg) (i g : ℕ) (named : s.node ≡ 
         fails = λ v. inl (subst (λ (y : Local). y.vote ≡ Some reply.Jfault) (here x) v);
       }
 
-  abort : (ph : Phase) → l.phase ≡ ph → told ≡ message.Abort (gx g) → Said k p (message.Abort (gx g)) → Does (on_abort s (gx g) l ph)
-  abort Reading f m st = ended Aborted reply.Aborted m refl (λ q. tt) refl (λ x. absurd (cc)) (sym (ap has_committed f)) (e.aborts st)
-  abort Writing f m st = ended Aborted reply.Aborted m refl (λ q. tt) refl (λ x. absurd (cc)) (sym (ap has_committed f)) (e.aborts st)
-  abort Prepared f m st = ended Aborted reply.Aborted m refl (λ q. tt) refl (λ x. absurd (cc)) (sym (ap has_committed f)) (e.aborts st)
-  abort Committed f m st = stay
-  abort (Forgotten b) f m st = stay
-  abort Aborted f m st = tell reply.Aborted refl tt m
+  -- where the journal fails, nothing changes
+  once-more : (it : JournalItem) → IsOrderTo told g → MayFail told k p g → Does (again s (gx g) l it)
+  once-more it order may = change l (mark.JournalFailed s.node (gx g) ∷ []) reply.Again (Some it) same-next ((refl, at-node, order), tt) (may, tt) (tt, tt) (refl, failed-here) tt (λ v. inl v)
 
-  forgotten : told ≡ message.Forget (gx g) → Said k p (message.Forget (gx g)) → Does (ends s (gx g) l (Forgotten (has_committed l.phase)) reply.Forgotten)
-  forgotten m st = ended (Forgotten (has_committed l.phase)) reply.Forgotten m refl (λ q. tt) refl (λ x. absurd (cc)) refl (e.ends st)
+  withdrawn : (fails : Bool) → told ≡ message.Abort (gx g) → l.phase ≡ Prepared → k.aborted ≡ true → Does (withdraws s (gx g) fails l)
+  withdrawn true m f st = once-more _ (inr (inr (inr (inl m)))) (inr (inr (inl (m, st, e.promised ∙ ap bit (e.prepared f), uncommitted Prepared f refl))))
+  withdrawn false m f st = ended Aborted reply.Aborted _ m refl (λ q. tt) refl (λ x. absurd (cc)) (sym (ap has_committed f)) (e.aborts st)
 
-  forget : (ph : Phase) → l.phase ≡ ph → told ≡ message.Forget (gx g) → Said k p (message.Forget (gx g)) → Does (on_forget s (gx g) l ph)
-  forget Reading f m st = forgotten m st
-  forget Writing f m st = forgotten m st
-  forget Prepared f m st = forgotten m st
-  forget Committed f m st = forgotten m st
-  forget (Forgotten b) f m st = tell reply.Forgotten refl tt m
-  forget Aborted f m st = stay
+  abort : (fails : Bool) (ph : Phase) → l.phase ≡ ph → told ≡ message.Abort (gx g) → Said k p (message.Abort (gx g)) → Does (on_abort s (gx g) fails l ph)
+  abort fails Reading f m st = ended Aborted reply.Aborted _ m refl (λ q. tt) refl (λ x. absurd (cc)) (sym (ap has_committed f)) (e.aborts st)
+  abort fails Writing f m st = ended Aborted reply.Aborted _ m refl (λ q. tt) refl (λ x. absurd (cc)) (sym (ap has_committed f)) (e.aborts st)
+  abort fails Prepared f m st = withdrawn fails m f st
+  abort fails Committed f m st = stay
+  abort fails (Forgotten b) f m st = stay
+  abort fails Aborted f m st = tell reply.Aborted refl tt m
+
+  forgotten : (it : Option JournalItem) → told ≡ message.Forget (gx g) → Said k p (message.Forget (gx g)) → Does (ends s (gx g) l (Forgotten (has_committed l.phase)) reply.Forgotten it)
+  forgotten it m st = ended (Forgotten (has_committed l.phase)) reply.Forgotten it m refl (λ q. tt) refl (λ x. absurd (cc)) refl (e.ends st)
+
+  forgotten-noted : (fails : Bool) → told ≡ message.Forget (gx g) → l.phase ≡ Committed → k.committed ≡ true → Does (forgets_committed s (gx g) fails l)
+  forgotten-noted true m f st = once-more _ (inr (inr (inr (inr m)))) (inr (inr (inr (m, st, e.committed ∙ ap (λ x. bit (has_committed x)) f))))
+  forgotten-noted false m f st = forgotten _ m st
+
+  forget : (fails : Bool) (ph : Phase) → l.phase ≡ ph → told ≡ message.Forget (gx g) → Said k p (message.Forget (gx g)) → Does (on_forget s (gx g) fails l ph)
+  forget fails Reading f m st = forgotten _ m st
+  forget fails Writing f m st = forgotten _ m st
+  forget fails Prepared f m st = forgotten _ m st
+  forget fails Committed f m st = forgotten-noted fails m f st
+  forget fails (Forgotten b) f m st = tell reply.Forgotten refl tt m
+  forget fails Aborted f m st = stay
 
   -- EXEC
   kept-answers : (k.at ≡ Unborn → ⊥) → (q : Part) (r : Reply) → Pair k q → q.answer ≡ Some r → Answers k q r
@@ -885,8 +916,8 @@ handled script fails k s i named w pc lc (message.Exec g c level x h y) e st =
 handled script fails k s i named w pc lc (message.Prepare g) e st = unless-low _ k s i g.0 named w pc lc e _ (if-fit _ k s i g.0 named w pc lc e (not (is_waiting (s.locals g.0))) _ (λ fit. prepare _ k s i g.0 named w pc lc e fails (s.locals g.0).phase refl refl (st refl) (off (is_waiting (s.locals g.0)) fit)))
 handled script fails k s i named w pc lc (message.Commit g) e st = unless-low _ k s i g.0 named w pc lc e _ (if-fit _ k s i g.0 named w pc lc e (not (is_waiting (s.locals g.0))) _ (λ fit. commit _ k s i g.0 named w pc lc e fails (s.locals g.0).phase refl refl (st refl) (off (is_waiting (s.locals g.0)) fit)))
 handled script fails k s i named w pc lc (message.CommitPrepared g) e st = unless-low _ k s i g.0 named w pc lc e _ (commit-prepared _ k s i g.0 named w pc lc e fails (s.locals g.0).phase refl refl (st refl))
-handled script fails k s i named w pc lc (message.Abort g) e st = unless-low _ k s i g.0 named w pc lc e _ (abort _ k s i g.0 named w pc lc e (s.locals g.0).phase refl refl (st refl))
-handled script fails k s i named w pc lc (message.Forget g) e st = unless-low _ k s i g.0 named w pc lc e _ (forget _ k s i g.0 named w pc lc e (s.locals g.0).phase refl refl (st refl))
+handled script fails k s i named w pc lc (message.Abort g) e st = unless-low _ k s i g.0 named w pc lc e _ (abort _ k s i g.0 named w pc lc e fails (s.locals g.0).phase refl refl (st refl))
+handled script fails k s i named w pc lc (message.Forget g) e st = unless-low _ k s i g.0 named w pc lc e _ (forget _ k s i g.0 named w pc lc e fails (s.locals g.0).phase refl refl (st refl))
 handled script fails k s i named w pc lc (message.Answer g r) e st = stay (message.Answer g r) k s i g.0 named w pc lc e
 handled script fails k s i named w pc lc (message.Collect round) e st = collect (message.Collect round) k s i 0 named w pc lc e round refl
 handled script fails k s i named w pc lc (message.Graph round graph) e st = stay (message.Graph round graph) k s i 0 named w pc lc e

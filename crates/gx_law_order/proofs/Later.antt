@@ -86,7 +86,9 @@ module _ (script : Script) (steps : List Step) (event : Event) (earlier later ne
   fails-later : (n : Node) (g : Gxid) → FailsThere script old n g → FailsThere script now n g
   fails-later n g (inl e) = inl e
   fails-later n g (inr (inl e)) = inr (inl (promises-later n g e))
-  fails-later n g (inr (inr e)) = inr (inr (commits-later n g e))
+  fails-later n g (inr (inr (inl e))) = inr (inr (inl (commits-later n g e)))
+  fails-later n g (inr (inr (inr (inl e)))) = inr (inr (inr (inl (record { told = e.told; aborted = e.aborted; promised = e.promised; uncommitted = e.uncommitted; unfailed = e.unfailed }))))
+  fails-later n g (inr (inr (inr (inr e)))) = inr (inr (inr (inr (record { told = e.told; ended = e.ended; committed = e.committed; unfailed = e.unfailed }))))
 
   sent-later : (node to : Node) (number : ℕ) (m : Message) → EndsAt script node old (mark.Sent to number m) → EndsAt script node now (mark.Sent to number m)
   sent-later node to number (message.Answer g reply.Jfault) e = e
