@@ -10,7 +10,6 @@ use Rattle.gx_script.specs.declared.Script.{Script}
 use Rattle.gx_store.specs.Groups.{AreStartsLet}
 use Rattle.gx_store.specs.Journals.{items_of}
 use Rattle.gx_store.specs.Language.{IsScript}
-use Rattle.gx_store.specs.Points.{marks_in}
 use Rattle.gx_store.specs.Schedule.{is_any_unfinished}
 use Rattle.gx_store.specs.declared.run.Step.{Step}
 use Rattle.gx_rules.specs.AtCoordinator.{is_unfinished_there}
@@ -33,15 +32,15 @@ module _ (script : Script) (language : IsScript script) (histories : List (List 
   pub does-hold : (shelves : List Shelf) → DoHoldItems script histories shelves → DoHold steps shelves
   does-hold shelves held node shelf at = by node.0 refl at
     where
-      by : (k : ℕ) → node.0 ≡ k → slice_get shelves k ≡ Some shelf → shelf.items ≡ map bytes_of_item (items_of node (marks_in steps))
+      by : (k : ℕ) → node.0 ≡ k → slice_get shelves k ≡ Some shelf → shelf.items ≡ map bytes_of_item (items_of node steps)
       by zero is there =
           held 0 shelf there
           ∙ ap (map bytes_of_item) (sym (coordinators-items-at-end script language.some_segments histories fit steps merge))
-          ∙ ap (λ (n : Node). map bytes_of_item (items_of n (marks_in steps))) (sym (ap (λ (k : ℕ). let n : Node = record { 0 = k } in n) is))
+          ∙ ap (λ (n : Node). map bytes_of_item (items_of n steps)) (sym (ap (λ (k : ℕ). let n : Node = record { 0 = k } in n) is))
       by (suc k) is there =
           held (suc k) shelf there
           ∙ ap (map bytes_of_item) (sym (segments-items-at-end script language.some_segments histories fit steps merge (record { 0 = suc k }) (one-up k)))
-          ∙ ap (λ (n : Node). map bytes_of_item (items_of n (marks_in steps))) (sym (ap (λ (k : ℕ). let n : Node = record { 0 = k } in n) is))
+          ∙ ap (λ (n : Node). map bytes_of_item (items_of n steps)) (sym (ap (λ (k : ℕ). let n : Node = record { 0 = k } in n) is))
 
   module _ (reached : IsReached script steps) (c : Coord) (is : coordinator_in script histories ≡ c) where
     coordinator-is : c ≡ coordinator_after script steps

@@ -15,7 +15,7 @@ use Rattle.gx_law_runs.specs.Reached.{IsReached}
 
 -- each journal, from the coordinator's on, holds the bytes of the items that its node's marks stand for
 abbrev pub DoHold : List Step → List Shelf → Type 0
-DoHold steps shelves = (node : Node) (shelf : Shelf) → slice_get shelves node.0 ≡ Some shelf → shelf.items ≡ map bytes_of_item (items_of node (marks_in steps))
+DoHold steps shelves = (node : Node) (shelf : Shelf) → slice_get shelves node.0 ≡ Some shelf → shelf.items ≡ map bytes_of_item (items_of node steps)
 
 -- There are histories of all nodes that fit, and the steps are their merge, which is reached. There is a journal for each node, and these
 -- hold its items. It is whole where no session is unfinished. Its lines were started where the

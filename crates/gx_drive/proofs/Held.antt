@@ -9,7 +9,6 @@ use Rattle.gx_store.specs.declared.event.Event.TheVariants as event
 use Rattle.gx_store.specs.declared.node.NodeEvent.{NodeEvent}
 use Rattle.gx_store.specs.declared.run.Step.{Step}
 use Rattle.gx_store.specs.Journals.{is_same_node, items_of}
-use Rattle.gx_store.specs.Points.{marks_in}
 use Rattle.gx_store.specs.Refusals.{the_coordinator}
 use Rattle.gx_rules.specs.AtCoordinator.{coord_rule}
 use Rattle.gx_rules.specs.AtSegment.{seg_rule}
@@ -65,12 +64,12 @@ module _ (script : Script) (some : 1 ≤ script.segments) (steps : List Step) (i
       ∙ ap (λ o. if can script v e then (if is_same_node (node_of e) node then kept_item fails (item_at script w (node_of e) fails o) else []) else []) (here-alike e)
       ∙ ap (λ o. if can script v e then (if is_same_node (node_of e) node then kept_item fails o else []) else []) (item-alike (node_of e) fails (at_node v e))
 
-  pub items-after : (e : Event) (fails : Bool) (node : Node) → items_of node (marks_in (happens script v e fails).steps) ≡ items_of node (marks_in steps) ++ takes script v e fails node
+  pub items-after : (e : Event) (fails : Bool) (node : Node) → items_of node ((happens script v e fails).steps) ≡ items_of node steps ++ takes script v e fails node
   items-after e fails node =
-      ap (λ ss. items_of node (marks_in ss)) (sym (happens-alike script steps w r is.is e fails))
-      ∙ ap (λ (u : World). items_of node (marks_in u.steps)) (sym (after-last script new_world is.events (e, fails)))
+      ap (λ ss. items_of node ss) (sym (happens-alike script steps w r is.is e fails))
+      ∙ ap (λ (u : World). items_of node u.steps) (sym (after-last script new_world is.events (e, fails)))
       ∙ sym (journal-holds script some node.0 (is.events ++ (e, fails) ∷ []))
       ∙ journal-last script node is.events (e, fails) new_world []
       ∙ ap (λ xs. xs ++ takes script w e fails node) (journal-holds script some node.0 is.events)
-      ∙ ap (λ ss. items_of node (marks_in ss) ++ takes script w e fails node) is.is
-      ∙ ap (λ xs. items_of node (marks_in steps) ++ xs) (takes-alike e fails node)
+      ∙ ap (λ ss. items_of node ss ++ takes script w e fails node) is.is
+      ∙ ap (λ xs. items_of node steps ++ xs) (takes-alike e fails node)

@@ -79,8 +79,8 @@ module _ (script : Script) (some : 1 ≤ script.segments) (old new : List Step) 
       let was = there-too before after node.0 a (sym h.count) there in
       (h.journals node was.0 a was.1 there).items
       ∙ ap (λ xs. xs ++ map bytes_of_item (takes script (world_behind script old) event h.fails node)) (held node was.0 was.1)
-      ∙ sym (map-append (items_of node (marks_in old)) (takes script (world_behind script old) event h.fails node))
-      ∙ ap (map bytes_of_item) (sym (items-after script some old is event h.fails node) ∙ ap (λ ss. items_of node (marks_in ss)) (sym h.by_rule))
+      ∙ sym (map-append (items_of node old) (takes script (world_behind script old) event h.fails node))
+      ∙ ap (map bytes_of_item) (sym (items-after script some old is event h.fails node) ∙ ap (λ ss. items_of node ss) (sym h.by_rule))
     where
       map-append : (xs ys : List JournalItem) → map bytes_of_item (xs ++ ys) ≡ map bytes_of_item xs ++ map bytes_of_item ys
       map-append [] ys = refl

@@ -24,13 +24,13 @@ AreFirst script before steps = AreChosen (IsFirst script) before steps
 
 -- each journal holds the items that the marks of its node stand for, and nothing else
 abbrev pub AreHeld : List Step → List Shelf → Type 0
-AreHeld steps shelves = (node : Node) (shelf : Shelf) → slice_get shelves node.0 ≡ Some shelf → shelf.items ≡ map bytes_of_item (items_of node (marks_in steps))
+AreHeld steps shelves = (node : Node) (shelf : Shelf) → slice_get shelves node.0 ≡ Some shelf → shelf.items ≡ map bytes_of_item (items_of node steps)
 
 -- The same, but that one node's journal may hold one item more, which a step has added in which memory ran out.
 pub record AreHeldSoFar (steps : List Step) (shelves : List Shelf) : Type 0 where
   pub last : Node
-  pub own : (shelf : Shelf) → slice_get shelves last.0 ≡ Some shelf → IsAtMostOneMore (map bytes_of_item (items_of last (marks_in steps))) shelf.items
-  pub others : (node : Node) (shelf : Shelf) → (node.0 ≡ last.0 → ⊥) → slice_get shelves node.0 ≡ Some shelf → shelf.items ≡ map bytes_of_item (items_of node (marks_in steps))
+  pub own : (shelf : Shelf) → slice_get shelves last.0 ≡ Some shelf → IsAtMostOneMore (map bytes_of_item (items_of last steps)) shelf.items
+  pub others : (node : Node) (shelf : Shelf) → (node.0 ≡ last.0 → ⊥) → slice_get shelves node.0 ≡ Some shelf → shelf.items ≡ map bytes_of_item (items_of node steps)
 
 -- no node has more JournalFailed marks than the count of its journal has risen
 abbrev pub AreFailuresFew : List Step → List Shelf → List Shelf → Type 0

@@ -8,7 +8,6 @@ use Rattle.gx_store.specs.declared.event.Event.{Event}
 use Rattle.gx_store.specs.declared.node.NodeEvent.{NodeEvent}
 use Rattle.gx_store.specs.declared.run.Step.{Step}
 use Rattle.gx_store.specs.Journals.{is_same_node, items_of}
-use Rattle.gx_store.specs.Points.{marks_in}
 use Rattle.gx_store.specs.Refusals.{the_coordinator}
 use Rattle.gx_rules.specs.AtCoordinator.{coord_can, coord_rule}
 use Rattle.gx_rules.specs.AtSegment.{seg_rule}
@@ -65,12 +64,12 @@ module _ (script : Script) (some : 1 ≤ script.segments) (before : List Step) (
   here-then x is = at-here w s.event (was.sent ∙ ap letters_after (sym reached.is)) ∙ ap (λ ss. here_at ss s.event) reached.is ∙ is
 
   -- an event that leads on by the step
-  step-items : (fails : Bool) → steps_after script (reached.events ++ (s.event, fails) ∷ []) ≡ before ++ s ∷ [] → (i : ℕ) → items_of (at i) (marks_in (before ++ s ∷ [])) ≡ items_of (at i) (marks_in before) ++ takes script w s.event fails (at i)
+  step-items : (fails : Bool) → steps_after script (reached.events ++ (s.event, fails) ∷ []) ≡ before ++ s ∷ [] → (i : ℕ) → items_of (at i) (before ++ s ∷ []) ≡ items_of (at i) before ++ takes script w s.event fails (at i)
   step-items fails on i =
-      ap (λ ss. items_of (at i) (marks_in ss)) (sym on)
+      ap (λ ss. items_of (at i) ss) (sym on)
       ∙ sym (journal-holds script some i (reached.events ++ (s.event, fails) ∷ []))
       ∙ journal-last script new_world (at i) [] reached.events (s.event, fails)
-      ∙ ap (λ its. its ++ takes script w s.event fails (at i)) (journal-holds script some i reached.events ∙ ap (λ ss. items_of (at i) (marks_in ss)) reached.is)
+      ∙ ap (λ its. its ++ takes script w s.event fails (at i)) (journal-holds script some i reached.events ∙ ap (λ ss. items_of (at i) ss) reached.is)
 
   coordinator-on : (next : IsNextAtCoordinator script before s) → steps_after script (reached.events ++ (s.event, next.fails) ∷ []) ≡ before ++ s ∷ []
   coordinator-on = subst (λ ss. (next : IsNextAtCoordinator script ss s) → steps_after script (reached.events ++ (s.event, next.fails) ∷ []) ≡ ss ++ s ∷ []) reached.is (coordinator-leads script reached.events s)
@@ -78,17 +77,17 @@ module _ (script : Script) (some : 1 ≤ script.segments) (before : List Step) (
   segment-on : (next : IsNextAtSegment script before s) → steps_after script (reached.events ++ (s.event, next.fails) ∷ []) ≡ before ++ s ∷ []
   segment-on = subst (λ ss. (next : IsNextAtSegment script ss s) → steps_after script (reached.events ++ (s.event, next.fails) ∷ []) ≡ ss ++ s ∷ []) reached.is (segment-leads script reached.events s)
 
-  pub coordinator-items : (next : IsNextAtCoordinator script before s) (i : ℕ) → items_of (at i) (marks_in (before ++ s ∷ [])) ≡ items_of (at i) (marks_in before) ++ (if is_same_node the_coordinator (at i) then kept_item next.fails (coord_rule script (coordinator_after script before) next.here next.fails).item else [])
+  pub coordinator-items : (next : IsNextAtCoordinator script before s) (i : ℕ) → items_of (at i) (before ++ s ∷ []) ≡ items_of (at i) before ++ (if is_same_node the_coordinator (at i) then kept_item next.fails (coord_rule script (coordinator_after script before) next.here next.fails).item else [])
   coordinator-items next i =
       step-items next.fails (coordinator-on next) i
-      ∙ ap (λ its. items_of (at i) (marks_in before) ++ its)
+      ∙ ap (λ its. items_of (at i) before ++ its)
       (coordinator-took script w s.event next.fails next.here (here-then next.here next.is) (at i) next.at (ap (λ (c : Coord). coord_can script c next.here) was.coordinator ∙ next.admitted)
       ∙ ap (λ (c : Coord). if is_same_node the_coordinator (at i) then kept_item next.fails (coord_rule script c next.here next.fails).item else []) was.coordinator)
 
-  pub segment-items : (next : IsNextAtSegment script before s) (i : ℕ) → items_of (at i) (marks_in (before ++ s ∷ [])) ≡ items_of (at i) (marks_in before) ++ (if is_same_node s.stamp.node (at i) then kept_item next.fails (seg_rule script (segment_after script s.stamp.node before) next.here next.fails).item else [])
+  pub segment-items : (next : IsNextAtSegment script before s) (i : ℕ) → items_of (at i) (before ++ s ∷ []) ≡ items_of (at i) before ++ (if is_same_node s.stamp.node (at i) then kept_item next.fails (seg_rule script (segment_after script s.stamp.node before) next.here next.fails).item else [])
   segment-items next i =
       step-items next.fails (segment-on next) i
-      ∙ ap (λ its. items_of (at i) (marks_in before) ++ its)
+      ∙ ap (λ its. items_of (at i) before ++ its)
       (segment-took script w s.event next.fails next.here (here-then next.here next.is) (at i) s.stamp.node (away s.stamp.node next.node) next.at (ap (λ (g : Seg). seg_can script g next.here) held ∙ next.admitted)
       ∙ ap (λ (g : Seg). if is_same_node s.stamp.node (at i) then kept_item next.fails (seg_rule script g next.here next.fails).item else []) held)
     where

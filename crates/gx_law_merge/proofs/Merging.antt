@@ -9,7 +9,6 @@ use Rattle.gx_script.specs.declared.Script.{Script}
 use Rattle.gx_store.specs.declared.run.Step.{Step}
 use Rattle.gx_store.specs.Journals.{is_same_node, items_of}
 use Rattle.gx_store.specs.Ordered.{AreOrdered}
-use Rattle.gx_store.specs.Points.{marks_in}
 use Rattle.gx_store.specs.Refusals.{the_coordinator}
 use Rattle.gx_rules.specs.AtCoordinator.{coord_rule}
 use Rattle.gx_rules.specs.AtSegment.{seg_rule}
@@ -69,11 +68,11 @@ module _ (script : Script) (some : 1 ≤ script.segments) (histories : List (Lis
   -- a node that has these steps left, behind the run so far
   abbrev CoordinatorGoes : List Step → List Step → Type 0
   CoordinatorGoes before left =
-      GoesOn (coordinators_rule script) the_coordinator post (coordinator_in script histories) (coordinators_items script histories) (coordinator_after script before) (items_of the_coordinator (marks_in before)) left
+      GoesOn (coordinators_rule script) the_coordinator post (coordinator_in script histories) (coordinators_items script histories) (coordinator_after script before) (items_of the_coordinator before) left
 
   abbrev SegmentGoes : Node → List Step → List Step → Type 0
   SegmentGoes node before left =
-      GoesOn (segments_rule script) node post (segment_in script histories node) (segments_items script histories node) (segment_after script node before) (items_of node (marks_in before)) left
+      GoesOn (segments_rule script) node post (segment_in script histories node) (segments_items script histories node) (segment_after script node before) (items_of node before) left
 
   -- where the merge stands before these steps
   record IsHalfway (before left : List Step) : Type 0 where
@@ -106,14 +105,14 @@ module _ (script : Script) (some : 1 ≤ script.segments) (histories : List (Lis
     whole-on = append_assoc before (s ∷ []) left ∙ half.whole
 
     -- a node whose step it isn't
-    coordinator-waits : is_same_node s.stamp.node the_coordinator ≡ false → items_of the_coordinator (marks_in on) ≡ items_of the_coordinator (marks_in before) → CoordinatorGoes on (own_steps the_coordinator left)
+    coordinator-waits : is_same_node s.stamp.node the_coordinator ≡ false → items_of the_coordinator on ≡ items_of the_coordinator before → CoordinatorGoes on (own_steps the_coordinator left)
     coordinator-waits away items =
-        goes-alike (coordinators_rule script) the_coordinator post (coordinator_in script histories) (coordinators_items script histories) (coordinator_after script before) (coordinator_after script on) (items_of the_coordinator (marks_in before)) (items_of the_coordinator (marks_in on))
+        goes-alike (coordinators_rule script) the_coordinator post (coordinator_in script histories) (coordinators_items script histories) (coordinator_after script before) (coordinator_after script on) (items_of the_coordinator before) (items_of the_coordinator on)
         (own_steps the_coordinator (s ∷ left)) (own_steps the_coordinator left) half.coordinator (sym (coordinator-left script before s away)) (sym items) (own-there the_coordinator s left away)
 
-    segment-waits : (node : Node) → 1 ≤ node.0 → is_same_node s.stamp.node node ≡ false → items_of node (marks_in on) ≡ items_of node (marks_in before) → SegmentGoes node on (own_steps node left)
+    segment-waits : (node : Node) → 1 ≤ node.0 → is_same_node s.stamp.node node ≡ false → items_of node on ≡ items_of node before → SegmentGoes node on (own_steps node left)
     segment-waits node one away items =
-        goes-alike (segments_rule script) node post (segment_in script histories node) (segments_items script histories node) (segment_after script node before) (segment_after script node on) (items_of node (marks_in before)) (items_of node (marks_in on))
+        goes-alike (segments_rule script) node post (segment_in script histories node) (segments_items script histories node) (segment_after script node before) (segment_after script node on) (items_of node before) (items_of node on)
         (own_steps node (s ∷ left)) (own_steps node left) (half.segments node one) (sym (segment-left script before s node away)) (sym items) (own-there node s left away)
 
     by-coordinator : is_same_node s.stamp.node the_coordinator ≡ true → IsHalfway on left
@@ -124,9 +123,9 @@ module _ (script : Script) (some : 1 ≤ script.segments) (histories : List (Lis
           rising = rest-rises s left half.rising;
           reached = coordinator-reached script before half.reached s next;
           coordinator = goes-own (coordinators_rule script) the_coordinator post (coordinator_in script histories) (coordinators_items script histories) (coordinator_after script before) (coordinator_after script on)
-              (items_of the_coordinator (marks_in before)) (items_of the_coordinator (marks_in on)) s (own_steps the_coordinator left) goes (coordinator-leads script post before s below goes.follows.0)
-              (added 0 ∙ all-added (items_of the_coordinator (marks_in before)) more (is_same_node the_coordinator the_coordinator) refl ∙ ap (λ its. items_of the_coordinator (marks_in before) ++ its) (coordinator-told script post before s goes.follows.0));
-          segments = λ node one. segment-waits node one (ap (λ n. is_same_node n node) (same_node s.stamp.node the_coordinator same) ∙ apart node one) (added node.0 ∙ nothing-added (items_of node (marks_in before)) more (is_same_node the_coordinator node) (apart node one));
+              (items_of the_coordinator before) (items_of the_coordinator on) s (own_steps the_coordinator left) goes (coordinator-leads script post before s below goes.follows.0)
+              (added 0 ∙ all-added (items_of the_coordinator before) more (is_same_node the_coordinator the_coordinator) refl ∙ ap (λ its. items_of the_coordinator before ++ its) (coordinator-told script post before s goes.follows.0));
+          segments = λ node one. segment-waits node one (ap (λ n. is_same_node n node) (same_node s.stamp.node the_coordinator same) ∙ apart node one) (added node.0 ∙ nothing-added (items_of node before) more (is_same_node the_coordinator node) (apart node one));
         }
       where
         goes : CoordinatorGoes before (s ∷ own_steps the_coordinator left)
@@ -138,7 +137,7 @@ module _ (script : Script) (some : 1 ≤ script.segments) (histories : List (Lis
         more : List JournalItem
         more = kept_item goes.follows.0.fails (coord_rule script (coordinator_after script before) goes.follows.0.here goes.follows.0.fails).item
 
-        added : (i : ℕ) → items_of (record { 0 = i }) (marks_in on) ≡ items_of (record { 0 = i }) (marks_in before) ++ (if is_same_node the_coordinator (record { 0 = i }) then more else [])
+        added : (i : ℕ) → items_of (record { 0 = i }) on ≡ items_of (record { 0 = i }) before ++ (if is_same_node the_coordinator (record { 0 = i }) then more else [])
         added i = coordinator-items script some before half.reached s next i
 
         apart : (n : Node) → 1 ≤ n.0 → is_same_node the_coordinator n ≡ false
@@ -151,7 +150,7 @@ module _ (script : Script) (some : 1 ≤ script.segments) (histories : List (Lis
           whole = whole-on;
           rising = rest-rises s left half.rising;
           reached = segment-reached script before half.reached s next;
-          coordinator = coordinator-waits away (added 0 ∙ nothing-added (items_of the_coordinator (marks_in before)) more (is_same_node s.stamp.node the_coordinator) away);
+          coordinator = coordinator-waits away (added 0 ∙ nothing-added (items_of the_coordinator before) more (is_same_node s.stamp.node the_coordinator) away);
           segments = λ node one. by_node node one (is_same_node s.stamp.node node) refl;
         }
       where
@@ -170,18 +169,18 @@ module _ (script : Script) (some : 1 ≤ script.segments) (histories : List (Lis
         more : List JournalItem
         more = kept_item goes.follows.0.fails (seg_rule script (segment_after script s.stamp.node before) goes.follows.0.here goes.follows.0.fails).item
 
-        added : (i : ℕ) → items_of (record { 0 = i }) (marks_in on) ≡ items_of (record { 0 = i }) (marks_in before) ++ (if is_same_node s.stamp.node (record { 0 = i }) then more else [])
+        added : (i : ℕ) → items_of (record { 0 = i }) on ≡ items_of (record { 0 = i }) before ++ (if is_same_node s.stamp.node (record { 0 = i }) then more else [])
         added i = segment-items script some before half.reached s next i
 
         own : SegmentGoes s.stamp.node on (own_steps s.stamp.node left)
         own =
             goes-own (segments_rule script) s.stamp.node post (segment_in script histories s.stamp.node) (segments_items script histories s.stamp.node) (segment_after script s.stamp.node before) (segment_after script s.stamp.node on)
-            (items_of s.stamp.node (marks_in before)) (items_of s.stamp.node (marks_in on)) s (own_steps s.stamp.node left) goes (segment-leads script post before s below (some-node s.stamp.node away) goes.follows.0)
-            (added s.stamp.node.0 ∙ all-added (items_of s.stamp.node (marks_in before)) more (is_same_node s.stamp.node s.stamp.node) (self s.stamp.node) ∙ ap (λ its. items_of s.stamp.node (marks_in before) ++ its) (segment-told script post before s goes.follows.0))
+            (items_of s.stamp.node before) (items_of s.stamp.node on) s (own_steps s.stamp.node left) goes (segment-leads script post before s below (some-node s.stamp.node away) goes.follows.0)
+            (added s.stamp.node.0 ∙ all-added (items_of s.stamp.node before) more (is_same_node s.stamp.node s.stamp.node) (self s.stamp.node) ∙ ap (λ its. items_of s.stamp.node before ++ its) (segment-told script post before s goes.follows.0))
 
         by_node : (node : Node) → 1 ≤ node.0 → (b : Bool) → is_same_node s.stamp.node node ≡ b → SegmentGoes node on (own_steps node left)
         by_node node one true same = subst (λ n. SegmentGoes n on (own_steps n left)) (same_node s.stamp.node node same) own
-        by_node node one false other = segment-waits node one other (added node.0 ∙ nothing-added (items_of node (marks_in before)) more (is_same_node s.stamp.node node) other)
+        by_node node one false other = segment-waits node one other (added node.0 ∙ nothing-added (items_of node before) more (is_same_node s.stamp.node node) other)
 
     one-on : IsHalfway on left
     one-on = by_test (is_same_node s.stamp.node the_coordinator) refl
@@ -231,8 +230,8 @@ module _ (script : Script) (some : 1 ≤ script.segments) (histories : List (Lis
   pub segment-at-end : (node : Node) → 1 ≤ node.0 → segment_after script node all ≡ segment_in script histories node
   segment-at-end node one = (at-end.segments node one).comes
 
-  pub coordinators-items-at-end : items_of the_coordinator (marks_in all) ≡ coordinators_items script histories
-  coordinators-items-at-end = sym (append-nil (items_of the_coordinator (marks_in all))) ∙ at-end.coordinator.took
+  pub coordinators-items-at-end : items_of the_coordinator all ≡ coordinators_items script histories
+  coordinators-items-at-end = sym (append-nil (items_of the_coordinator all)) ∙ at-end.coordinator.took
 
-  pub segments-items-at-end : (node : Node) → 1 ≤ node.0 → items_of node (marks_in all) ≡ segments_items script histories node
-  segments-items-at-end node one = sym (append-nil (items_of node (marks_in all))) ∙ (at-end.segments node one).took
+  pub segments-items-at-end : (node : Node) → 1 ≤ node.0 → items_of node all ≡ segments_items script histories node
+  segments-items-at-end node one = sym (append-nil (items_of node all)) ∙ (at-end.segments node one).took

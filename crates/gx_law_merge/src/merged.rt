@@ -84,7 +84,7 @@ pub fn shown_tables_are_final()
 /// The items that the merge's marks stand for are those that the nodes' journals took.
 pub fn journals_hold_the_items_of_merges()
     ensures coordinator { (script : Script) (histories : List (List OneStep)) (steps : List OneStep) → 1 ≤ script.segments
-        → DoFit script histories → IsMergeOf histories steps → items_of the_coordinator (marks_in steps) ≡ coordinators_items script histories }
+        → DoFit script histories → IsMergeOf histories steps → items_of the_coordinator steps ≡ coordinators_items script histories }
     ensures segments { (script : Script) (histories : List (List OneStep)) (steps : List OneStep) (node : OneNode) → 1 ≤ script.segments → 1 ≤ node.0
-        → DoFit script histories → IsMergeOf histories steps → items_of node (marks_in steps) ≡ segments_items script histories node }
+        → DoFit script histories → IsMergeOf histories steps → items_of node steps ≡ segments_items script histories node }
 {}

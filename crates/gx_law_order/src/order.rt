@@ -37,7 +37,7 @@ pub fn who_is_seen_has_ended()
 
 /// A node's journal holds the items that the marks stand for, in their order, and nothing else.
 pub fn journals_hold_their_items()
-    ensures { (script : Script) (events : List (OneEvent × Bool)) (node : OneNode) → 1 ≤ script.segments → journal_after script node events ≡ items_of node (marks_in (steps_after script events)) }
+    ensures { (script : Script) (events : List (OneEvent × Bool)) (node : OneNode) → 1 ≤ script.segments → journal_after script node events ≡ items_of node (steps_after script events) }
 {}
 
 /// Transactions are numbered from 1, in the order of their Start marks.

@@ -76,7 +76,13 @@ pub(crate) fn take_abort<J: Journal>(
     ensures err { OnErr result ((local.new ≡ local.old) × HasKept (J.shelf journal.old) (J.shelf journal.new)) }
 {
     match local.phase {
-        Phase::Reading | Phase::Writing => Ok(end(node, gxid, local, Phase::Aborted, Told::Aborted)),
+        Phase::Reading | Phase::Writing => Ok(end(
+            node,
+            gxid,
+            local,
+            Phase::Aborted,
+            Told::Aborted,
+        )),
         Phase::Prepared => end_noted(
             alloc,
             node,

@@ -92,7 +92,7 @@ pub runs_once : RunsOnce repeated
 runs_once = subst RunsOnce (sym (drives-repeated 39)) (record { answers = refl; marks = refl; writes = refl })
 
 pub refuses_promise : RefusesPromise refused_run
-refuses_promise = subst RefusesPromise (sym (drives-refused 39)) (record { locks = refl; answers = refl; marks = refl; journal = refl; first = refl; second = refl })
+refuses_promise = subst RefusesPromise (sym (drives-refused 39)) (record { locks = refl; answers = refl; marks = refl; journal = refl; withdrawn = refl; first = refl; second = refl })
 
 after-between : (es : List (Event × Bool)) → after reader_between new_world (start 0 ∷ es) ≡ after reader_between first_world es
 after-between es = ap (λ w. after reader_between w es) starts-two_rows

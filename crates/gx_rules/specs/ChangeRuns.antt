@@ -144,8 +144,8 @@ pub record SkipsGone (w : World) : Type 0 where
       ∷ hold 2 4 AccessShare
       ∷ answer 1 2 (told.Rows []) ∷ release 0 4 AccessShare ∷ []
   pub resumed : resumptions_of w ≡ event.Resume (node 1) (gxid 3) ∷ event.Resume (node 2) (gxid 3) ∷ []
-  pub first : drop 2 (journal_of w (node 1)) ≡ item.Prepare (gxid 2) (gone 1 ∷ []) ∷ item.Finish (gxid 2) ∷ []
-  pub second : drop 2 (journal_of w (node 2)) ≡ item.Prepare (gxid 2) (gone 2 ∷ []) ∷ item.Finish (gxid 2) ∷ []
+  pub first : drop 3 (journal_of w (node 1)) ≡ item.Prepare (gxid 2) (gone 1 ∷ []) ∷ item.Finish (gxid 2) ∷ item.Forget (gxid 2) ∷ []
+  pub second : drop 3 (journal_of w (node 2)) ≡ item.Prepare (gxid 2) (gone 2 ∷ []) ∷ item.Finish (gxid 2) ∷ item.Forget (gxid 2) ∷ []
 
 -- A CHANGED ROW IS REFUSED
 -- two repeatable-read blocks change the same rows, and the first commits

@@ -109,6 +109,7 @@ pub record RefusesPromise (w : World) : Type 0 where
   pub answers : answers_of w ≡ (session 0, 1, told.Refused (refused.JournalFault (node 2))) ∷ (session 0, 2, told.Rows []) ∷ []
   pub marks : protocol_of w ≡ mark.Prepared (node 1) (gxid 1) ∷ mark.JournalFailed (node 2) (gxid 1) ∷ mark.Abort (gxid 1) ∷ mark.Commit (gxid 2) ∷ []
   pub journal : journal_of w (node 2) ≡ []
+  pub withdrawn : journal_of w (node 1) ≡ item.Prepare (gxid 1) (kept 1 1 0 1 ∷ []) ∷ item.Abort (gxid 1) ∷ []
   pub first : (local_of (w.segs 1) (gxid 1)).phase ≡ Aborted
   pub second : (local_of (w.segs 2) (gxid 1)).phase ≡ Aborted
 

@@ -57,27 +57,38 @@ has_told_forgotten [] g = false
 has_told_forgotten (Sent to number (message.Answer h reply.Forgotten) ∷ ms) g = is_same_gxid h g || has_told_forgotten ms g
 has_told_forgotten (_ ∷ ms) g = has_told_forgotten ms g
 
--- The item that a node's mark stands for in its journal, behind its own marks, if it stands for one. That a transaction is aborted or
--- forgotten there no mark says but the first answer that tells so.
+-- the item that a mark stands for by itself in a node's journal, if it stands for one
 abbrev pub item_of : Node → List Mark → Mark → List JournalItem
 item_of node before (Prepared n g) = if is_same_node n node then item.Prepare g (kept_at node g before) ∷ [] else []
 item_of node before (LocalCommit n g) =
     if is_same_node n node then (if is_prepared before node g then item.Finish g ∷ [] else item.Commit g (kept_at node g before) ∷ []) else []
 item_of node before (Decided g) = if node.0 == 0 then item.Decide g ∷ [] else []
-item_of node before (Sent to number (message.Answer g reply.Aborted)) = if is_prepared before node g && not (has_told_aborted before g) then item.Abort g ∷ [] else []
-item_of node before (Sent to number (message.Answer g reply.Forgotten)) =
-    if is_committed_there before node g && not (has_told_forgotten before g) then item.Forget g ∷ [] else []
 item_of node before _ = []
 
--- a node's items, in the order of its own marks that they stand for
+-- those of marks, in their order
 abbrev pub items_from : Node → List Mark → List Mark → List JournalItem
 items_from node before [] = []
 items_from node before (m ∷ ms) = item_of node before m ++ items_from node (before ++ m ∷ []) ms
+
+-- That a transaction is aborted or forgotten at a segment no mark says but the first of its own answers that tells so: such an answer
+-- stands for an item, behind a promise there or a commit.
+abbrev pub told_item : Node → List Mark → Mark → List JournalItem
+told_item node before (Sent to number (message.Answer g reply.Aborted)) =
+    if not (node.0 == 0) && (is_prepared before node g && not (has_told_aborted before g)) then item.Abort g ∷ [] else []
+told_item node before (Sent to number (message.Answer g reply.Forgotten)) =
+    if not (node.0 == 0) && (is_committed_there before node g && not (has_told_forgotten before g)) then item.Forget g ∷ [] else []
+told_item node before _ = []
+
+-- both, of a node's own marks
+abbrev pub all_from : Node → List Mark → List Mark → List JournalItem
+all_from node before [] = []
+all_from node before (m ∷ ms) = (item_of node before m ++ told_item node before m) ++ all_from node (before ++ m ∷ []) ms
 
 -- the marks of a node's own steps
 abbrev pub own_marks : Node → List Step → List Mark
 own_marks node [] = []
 own_marks node (s ∷ ss) = if is_same_node s.stamp.node node then s.marks ++ own_marks node ss else own_marks node ss
 
+-- a node's items, in the order of its own marks that they stand for
 abbrev pub items_of : Node → List Step → List JournalItem
-items_of node steps = items_from node [] (own_marks node steps)
+items_of node steps = all_from node [] (own_marks node steps)

@@ -74,8 +74,8 @@ module _ (script : Script) (language : IsScript script) (histories : List (List 
       (λ id inside. alike id ∙ ap (λ (d : Coord). is_unfinished_there script d id) (coordinator-at-end script language.some_segments histories fit steps merge ∙ is) ∙ none id inside)
 
   -- the journals hold the items of the histories, so they hold those of the merge
-  items-merged : (node : Node) (k : ℕ) → node.0 ≡ k → items_of node (marks_in steps) ≡ items_at script histories k
-  items-merged node zero is = ap (λ (n : Node). items_of n (marks_in steps)) (ap (λ i. record { 0 = i }) is) ∙ coordinators-items-at-end script language.some_segments histories fit steps merge
+  items-merged : (node : Node) (k : ℕ) → node.0 ≡ k → items_of node steps ≡ items_at script histories k
+  items-merged node zero is = ap (λ (n : Node). items_of n steps) (ap (λ i. record { 0 = i }) is) ∙ coordinators-items-at-end script language.some_segments histories fit steps merge
   items-merged node (suc k) is =
       segments-items-at-end script language.some_segments histories fit steps merge node (one node.0 k is)
       ∙ ap (segments_items script histories) (ap (λ i. record { 0 = i }) is)

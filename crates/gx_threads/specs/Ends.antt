@@ -11,8 +11,8 @@ use Rattle.gx_law_runs.specs.Failures.{failures_in}
 
 -- each journal holds the items that the marks of its node stand for, and nothing else
 abbrev pub AreHeld : List Step → List Shelf → Type 0
-AreHeld steps shelves = (node : Node) (shelf : Shelf) → slice_get shelves node.0 ≡ Some shelf → shelf.items ≡ map bytes_of_item (items_of node (marks_in steps))
+AreHeld steps shelves = (node : Node) (shelf : Shelf) → slice_get shelves node.0 ≡ Some shelf → shelf.items ≡ map bytes_of_item (items_of node steps)
 
 -- no mark stands for an item of a node that the script doesn't have, or tells that its journal failed
 abbrev pub HaveNoOthers : Script → List Step → Type 0
-HaveNoOthers script steps = (node : Node) → script.segments < node.0 → (items_of node (marks_in steps) ≡ []) × (failures_in node (marks_in steps) ≡ 0)
+HaveNoOthers script steps = (node : Node) → script.segments < node.0 → (items_of node steps ≡ []) × (failures_in node (marks_in steps) ≡ 0)
