@@ -39,7 +39,7 @@ use Rattle.gx_store.specs.declared.node.NodeEvent.{NodeEvent}
 use Rattle.gx_store.specs.declared.node.NodeEvent.TheVariants as event
 use Rattle.gx_store.specs.Journals.{is_prepared, is_same_node, item_of, items_from, kept_at, kept_from, kept_with}
 use Rattle.gx_store.specs.Marks.{is_same_gxid}
-use Rattle.gx_rules.specs.AtSegment.{changes, commits, ends, finishes, if_fits, on_abort, on_commit, on_commit_prepared, on_event, on_exec, on_forget, on_message, on_prepare, once, promises, raised, repeats, resumes, takes, unless_below, was_prepared}
+use Rattle.gx_rules.specs.AtSegment.{changes, commits, ends, finishes, forgets_committed, if_fits, on_abort, on_commit, on_commit_prepared, on_event, on_exec, on_forget, on_message, on_prepare, once, promises, raised, repeats, resumes, takes, unless_below, was_prepared, withdraws}
 use Rattle.gx_rules.specs.Changes.{Change, RowTurn, change_of, changes_rows, goes_on_at, suspended_at, suspends_at, waits}
 use Rattle.gx_rules.specs.Fits.{fits_exec, is_waiting}
 use Rattle.gx_rules.specs.Locks.{has_there, hold_mark, release_mark, wait_mark, with_hold}
@@ -138,8 +138,14 @@ pub record Holds (node : Node) (s : Seg) (before : List Mark) : Type 0 where
   pub versions : s.versions ≡ writes_at node before
   pub bound : (h : ℕ) → Bound (is_prepared before node (gx h)) (s.locals h).phase
 
+-- what of an item a turn's own marks stand for: that a promise is withdrawn or a commit forgotten its answer says, behind them
+abbrev pub marked_item : Bool → Option JournalItem → List JournalItem
+marked_item fails (Some (item.Abort g)) = []
+marked_item fails (Some (item.Forget g)) = []
+marked_item fails it = kept_item fails it
+
 pub record Items (node : Node) (before : List Mark) (fails : Bool) (turn : SegTurn) : Type 0 where
-  pub items : items_from node before turn.marks ≡ kept_item fails turn.item
+  pub items : items_from node before turn.marks ≡ marked_item fails turn.item
   pub holds : Holds node turn.seg (before ++ turn.marks)
 
 node-self : (n : Node) → is_same_node n n ≡ true
@@ -176,7 +182,7 @@ module _ (s : Seg) (before : List Mark) (k : Holds s.node s before) where
       or-false false = refl
 
   -- the transaction's record changes, and nothing is written
-  dull-turn : (fails : Bool) (turn : SegTurn) → Each Dull turn.marks → writes_at s.node turn.marks ≡ [] → kept_item fails turn.item ≡ [] → turn.seg.versions ≡ s.versions → ((h : ℕ) → Bound (is_prepared before s.node (gx h)) (turn.seg.locals h).phase) → Well fails turn
+  dull-turn : (fails : Bool) (turn : SegTurn) → Each Dull turn.marks → writes_at s.node turn.marks ≡ [] → marked_item fails turn.item ≡ [] → turn.seg.versions ≡ s.versions → ((h : ℕ) → Bound (is_prepared before s.node (gx h)) (turn.seg.locals h).phase) → Well fails turn
   dull-turn fails turn e w i v b =
       record {
         items = dull-items s.node before turn.marks e ∙ sym i;
@@ -186,7 +192,7 @@ module _ (s : Seg) (before : List Mark) (k : Holds s.node s before) where
         };
       }
 
-  none-kept : (fails : Bool) → kept_item fails None ≡ []
+  none-kept : (fails : Bool) → marked_item fails None ≡ []
   none-kept true = refl
   none-kept false = refl
 
@@ -410,7 +416,7 @@ module _ (script : Script) (s : Seg) (opens : AreOpen s) (before : List Mark) (k
   exec fails g c level snapshot h x l Aborted n = stay s before k fails
 
   -- endings
-  changed : (fails : Bool) (g : Gxid) (l : Local) (ms : List Mark) (r : Reply) (it : Option JournalItem) → Each Dull ms → writes_at s.node ms ≡ [] → kept_item fails it ≡ [] → Bound (is_prepared before s.node g) l.phase → Good fails (changes s g l ms r it)
+  changed : (fails : Bool) (g : Gxid) (l : Local) (ms : List Mark) (r : Reply) (it : Option JournalItem) → Each Dull ms → writes_at s.node ms ≡ [] → marked_item fails it ≡ [] → Bound (is_prepared before s.node g) l.phase → Good fails (changes s g l ms r it)
   changed fails g l ms r it e w i b = dull-turn s before k fails (changes s g l ms r it) e w i refl (bound-with s.locals g.0 l (λ j. is_prepared before s.node (gx j)) k.bound b)
 
   only : (fails : Bool) (g : Gxid) (v : Option Reply) (turn : SegTurn) → Good fails turn → Good fails (once s g v turn)
@@ -418,10 +424,10 @@ module _ (script : Script) (s : Seg) (opens : AreOpen s) (before : List Mark) (k
   only fails g (Some v) turn e = tell s before k fails g v
 
   -- one mark that stands for an item
-  noted : (g : Gxid) (l : Local) (m : Mark) (r : Reply) (it : JournalItem) → item_of s.node before m ≡ it ∷ [] → writes_at s.node (m ∷ []) ≡ [] → ((h : ℕ) → Bound (is_prepared (before ++ m ∷ []) s.node (gx h)) (with_at s.locals g.0 l h).phase) → Good false (changes s g l (m ∷ []) r (Some it))
+  noted : (g : Gxid) (l : Local) (m : Mark) (r : Reply) (it : JournalItem) → item_of s.node before m ≡ marked_item false (Some it) → writes_at s.node (m ∷ []) ≡ [] → ((h : ℕ) → Bound (is_prepared (before ++ m ∷ []) s.node (gx h)) (with_at s.locals g.0 l h).phase) → Good false (changes s g l (m ∷ []) r (Some it))
   noted g l m r it e w b =
       record {
-        items = ap (λ q. q ++ []) e;
+        items = ap (λ q. q ++ []) e ∙ append-nil (marked_item false (Some it));
         holds = record { versions = k.versions ∙ sym (writes-append s.node before (m ∷ []) ∙ ap (λ vs. writes_at s.node before ++ vs) w ∙ append-nil (writes_at s.node before)); bound = b };
       }
 
@@ -509,9 +515,9 @@ module _ (script : Script) (s : Seg) (opens : AreOpen s) (before : List Mark) (k
   commit_prepared fails g l (Forgotten false) e b = stay s before k fails
   commit_prepared fails g l Aborted e b = stay s before k fails
 
-  ended : (fails : Bool) (g : Gxid) (l : Local) (p : Phase) (r : Reply) → has_ended p ≡ true → Good fails (ends s g l p r)
-  ended fails g l p r e =
-      dull-turn s before k fails (ends s g l p r) (each-released Dull s.node s.locks g (λ claim. tt)) (unwritten (has_there s.locks g)) (none-kept s before k fails) refl
+  ended : (fails : Bool) (g : Gxid) (l : Local) (p : Phase) (r : Reply) (it : Option JournalItem) → marked_item fails it ≡ [] → has_ended p ≡ true → Good fails (ends s g l p r it)
+  ended fails g l p r it none e =
+      dull-turn s before k fails (ends s g l p r it) (each-released Dull s.node s.locks g (λ claim. tt)) (unwritten (has_there s.locks g)) none refl
       (bound-with s.locals g.0 _ (λ j. is_prepared before s.node (gx j)) k.bound (unbound (is_prepared before s.node g) p e))
     where
       unwritten : (claims : List Claim) → writes_at s.node (map (release_mark s.node) claims) ≡ []
@@ -526,21 +532,32 @@ module _ (script : Script) (s : Seg) (opens : AreOpen s) (before : List Mark) (k
       unbound b (Forgotten q) e = tt
       unbound b Aborted e = tt
 
-  abort : (fails : Bool) (g : Gxid) (l : Local) (p : Phase) → Good fails (on_abort s g l p)
-  abort fails g l Reading = ended fails g l _ _ refl
-  abort fails g l Writing = ended fails g l _ _ refl
-  abort fails g l Prepared = ended fails g l _ _ refl
-  abort fails g l Committed = stay s before k fails
-  abort fails g l (Forgotten b) = stay s before k fails
-  abort fails g l Aborted = tell s before k fails g _
+  ended-bare : (fails : Bool) (g : Gxid) (l : Local) (p : Phase) (r : Reply) → has_ended p ≡ true → Good fails (ends s g l p r None)
+  ended-bare fails g l p r e = ended fails g l p r None (none-kept s before k fails) e
 
-  forget : (fails : Bool) (g : Gxid) (l : Local) (p : Phase) → Good fails (on_forget s g l p)
-  forget fails g l Reading = ended fails g l _ _ refl
-  forget fails g l Writing = ended fails g l _ _ refl
-  forget fails g l Prepared = ended fails g l _ _ refl
-  forget fails g l Committed = ended fails g l _ _ refl
-  forget fails g l (Forgotten b) = tell s before k fails g _
-  forget fails g l Aborted = stay s before k fails
+  withdrawn : (fails : Bool) (g : Gxid) (l : Local) → Bound (is_prepared before s.node g) l.phase → Good fails (withdraws s g fails l)
+  withdrawn true g l b = changed true g l (mark.JournalFailed s.node g ∷ []) _ _ (tt, tt) refl refl b
+  withdrawn false g l b = ended false g l Aborted answer.Aborted (Some (item.Abort g)) refl refl
+
+  abort : (fails : Bool) (g : Gxid) (l : Local) (p : Phase) → Bound (is_prepared before s.node g) l.phase → Good fails (on_abort s g fails l p)
+  abort fails g l Reading b = ended-bare fails g l _ _ refl
+  abort fails g l Writing b = ended-bare fails g l _ _ refl
+  abort fails g l Prepared b = withdrawn fails g l b
+  abort fails g l Committed b = stay s before k fails
+  abort fails g l (Forgotten q) b = stay s before k fails
+  abort fails g l Aborted b = tell s before k fails g _
+
+  forgotten : (fails : Bool) (g : Gxid) (l : Local) → Bound (is_prepared before s.node g) l.phase → Good fails (forgets_committed s g fails l)
+  forgotten true g l b = changed true g l (mark.JournalFailed s.node g ∷ []) _ _ (tt, tt) refl refl b
+  forgotten false g l b = ended false g l _ answer.Forgotten (Some (item.Forget g)) refl refl
+
+  forget : (fails : Bool) (g : Gxid) (l : Local) (p : Phase) → Bound (is_prepared before s.node g) l.phase → Good fails (on_forget s g fails l p)
+  forget fails g l Reading b = ended-bare fails g l _ _ refl
+  forget fails g l Writing b = ended-bare fails g l _ _ refl
+  forget fails g l Prepared b = ended-bare fails g l _ _ refl
+  forget fails g l Committed b = forgotten fails g l b
+  forget fails g l (Forgotten q) b = tell s before k fails g _
+  forget fails g l Aborted b = stay s before k fails
 
   below : (fails : Bool) (g : Gxid) (turn : SegTurn) → Good fails turn → Good fails (unless_below s g turn)
   below fails g turn e = both s before k fails (is_below s.horizon g) _ _ (stay s before k fails) e
@@ -554,8 +571,8 @@ module _ (script : Script) (s : Seg) (opens : AreOpen s) (before : List Mark) (k
   message_items fails (message.Prepare g) = below fails g _ (fits fails (not (is_waiting (local_of s g))) _ (prepare fails g (local_of s g) (local_of s g).phase refl (k.bound g.0)))
   message_items fails (message.Commit g) = below fails g _ (fits fails (not (is_waiting (local_of s g))) _ (commit fails g (local_of s g) (local_of s g).phase refl (k.bound g.0)))
   message_items fails (message.CommitPrepared g) = below fails g _ (commit_prepared fails g (local_of s g) (local_of s g).phase refl (k.bound g.0))
-  message_items fails (message.Abort g) = below fails g _ (abort fails g (local_of s g) (local_of s g).phase)
-  message_items fails (message.Forget g) = below fails g _ (forget fails g (local_of s g) (local_of s g).phase)
+  message_items fails (message.Abort g) = below fails g _ (abort fails g (local_of s g) (local_of s g).phase (k.bound g.0))
+  message_items fails (message.Forget g) = below fails g _ (forget fails g (local_of s g) (local_of s g).phase (k.bound g.0))
   message_items fails (message.Collect round) =
       collect-ways (Good fails) s round (stay s before k fails) (λ e. dull-turn s before k fails _ (tt, tt) refl (none-kept s before k fails) refl k.bound)
       (λ e graph f. dull-turn s before k fails _ tt refl (none-kept s before k fails) refl k.bound)
