@@ -7,6 +7,7 @@ use Rattle.gx_meaning.specs.Order.{rid_order}
 use Rattle.gx_msg.specs.declared.item.JournalItem.{JournalItem}
 use Rattle.gx_msg.specs.declared.item.JournalItem.TheVariants as item
 use Rattle.gx_msg.specs.declared.item.Kept.{Kept}
+use Rattle.gx_msg.specs.declared.message.Message.{Message}
 use Rattle.gx_msg.specs.declared.message.Message.TheVariants as message
 use Rattle.gx_msg.specs.declared.reply.Reply.TheVariants as reply
 use Rattle.gx_store.specs.declared.mark.Mark.{Mark}
@@ -45,16 +46,24 @@ is_committed_there [] node g = false
 is_committed_there (LocalCommit n h ∷ ms) node g = (is_same_node n node && is_same_gxid h g) || is_committed_there ms node g
 is_committed_there (_ ∷ ms) node g = is_committed_there ms node g
 
--- these marks, which are one node's own, have said that the transaction is aborted there
+-- the message says that the transaction is aborted where it comes from, or forgotten
+abbrev pub tells_aborted : Message → Gxid → Bool
+tells_aborted (message.Answer h reply.Aborted) g = is_same_gxid h g
+tells_aborted _ g = false
+
+abbrev pub tells_forgotten : Message → Gxid → Bool
+tells_forgotten (message.Answer h reply.Forgotten) g = is_same_gxid h g
+tells_forgotten _ g = false
+
+-- these marks, which are one node's own, have said so
 abbrev pub has_told_aborted : List Mark → Gxid → Bool
 has_told_aborted [] g = false
-has_told_aborted (Sent to number (message.Answer h reply.Aborted) ∷ ms) g = is_same_gxid h g || has_told_aborted ms g
+has_told_aborted (Sent to number told ∷ ms) g = tells_aborted told g || has_told_aborted ms g
 has_told_aborted (_ ∷ ms) g = has_told_aborted ms g
 
--- or forgotten
 abbrev pub has_told_forgotten : List Mark → Gxid → Bool
 has_told_forgotten [] g = false
-has_told_forgotten (Sent to number (message.Answer h reply.Forgotten) ∷ ms) g = is_same_gxid h g || has_told_forgotten ms g
+has_told_forgotten (Sent to number told ∷ ms) g = tells_forgotten told g || has_told_forgotten ms g
 has_told_forgotten (_ ∷ ms) g = has_told_forgotten ms g
 
 -- the item that a mark stands for by itself in a node's journal, if it stands for one
@@ -72,11 +81,13 @@ items_from node before (m ∷ ms) = item_of node before m ++ items_from node (be
 
 -- That a transaction is aborted or forgotten at a segment no mark says but the first of its own answers that tells so: such an answer
 -- stands for an item, behind a promise there or a commit.
+abbrev pub told_in : Node → List Mark → Message → List JournalItem
+told_in node before (message.Answer g reply.Aborted) = if is_prepared before node g && not (has_told_aborted before g) then item.Abort g ∷ [] else []
+told_in node before (message.Answer g reply.Forgotten) = if is_committed_there before node g && not (has_told_forgotten before g) then item.Forget g ∷ [] else []
+told_in node before _ = []
+
 abbrev pub told_item : Node → List Mark → Mark → List JournalItem
-told_item node before (Sent to number (message.Answer g reply.Aborted)) =
-    if not (node.0 == 0) && (is_prepared before node g && not (has_told_aborted before g)) then item.Abort g ∷ [] else []
-told_item node before (Sent to number (message.Answer g reply.Forgotten)) =
-    if not (node.0 == 0) && (is_committed_there before node g && not (has_told_forgotten before g)) then item.Forget g ∷ [] else []
+told_item node before (Sent to number told) = if node.0 == 0 then [] else told_in node before told
 told_item node before _ = []
 
 -- both, of a node's own marks
