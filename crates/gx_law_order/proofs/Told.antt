@@ -27,6 +27,7 @@ use Rattle.gx_store.specs.declared.node.NodeEvent.{NodeEvent}
 use Rattle.gx_store.specs.declared.node.NodeEvent.TheVariants as event
 use Rattle.gx_store.specs.Journals.{all_from, has_told_aborted, has_told_forgotten, is_committed_there, is_prepared, is_same_node, tells_aborted, tells_forgotten, told_in}
 use Rattle.gx_store.specs.Marks.{is_same_gxid}
+use Rattle.gx_store.specs.Refusals.{the_coordinator}
 use Rattle.gx_store.specs.Locks.{slice_lock}
 use Rattle.gx_rules.specs.AtSegment.{again, changes, commits, ends, finishes, forgets_committed, if_fits, on_abort, on_commit, on_commit_prepared, on_event, on_exec, on_forget, on_message, on_prepare, once, promises, raised, repeats, resumes, takes, unless_below, was_prepared, withdraws}
 use Rattle.gx_rules.specs.Fits.{fits_exec, is_waiting}
@@ -285,13 +286,16 @@ module _ (s : Seg) (f : ℕ → ℕ) (b : List Mark) (t : AreTold s.node b s) (a
   change : (fails : Bool) (g : Gxid) (l : Local) (ms : List Mark) (r : Reply) (it : Option JournalItem) → kind l.phase ≡ kind (local_of s g).phase → Each Mute ms → NotEnd r → said_item fails it ≡ [] → Tells fails (changes s g l ms r it)
   change fails g l ms r it e m n i = quiet fails (changes s g l ms r it) (changed kinds s g l (λ h. refl) e) m (plain-of r n g, tt) i
 
+  abbrev sent : Gxid → Reply → Mark
+  sent g r = mark.Sent the_coordinator (f 0 + 1) (message.Answer g r)
+
   -- one mark that says that it has promised, or committed
   noted : (g : Gxid) (l : Local) (m : Mark) (r : Reply) (it : JournalItem) → NotEnd r → said_item false (Some it) ≡ [] → Said s.node (b ++ m ∷ []) g.0 l.phase
       → ((h : ℕ) → eqb h g.0 ≡ false → Said s.node (b ++ m ∷ []) h (s.locals h).phase) → Tells false (changes s g l (m ∷ []) r (Some it))
   noted g l m r it n i own others =
       record {
-        told = λ h. mute-said s.node (b ++ m ∷ []) _ (plain-of r n g, tt) h (with_at s.locals g.0 l h).phase (by_test h (eqb h g.0) refl);
-        items = plain-items s.node (b ++ m ∷ []) f _ (plain-of r n g, tt) ∙ sym i;
+        told = λ h. mute-said s.node (b ++ m ∷ []) (sent g r ∷ []) (plain-of r n g, tt) h (with_at s.locals g.0 l h).phase (by_test h (eqb h g.0) refl);
+        items = plain-items s.node (b ++ m ∷ []) f (changes s g l (m ∷ []) r (Some it)).outs (plain-of r n g, tt) ∙ sym i;
       }
     where
       by_test : (h : ℕ) (q : Bool) → eqb h g.0 ≡ q → Said s.node (b ++ m ∷ []) h (if q then l else s.locals h).phase
@@ -329,9 +333,6 @@ module _ (s : Seg) (f : ℕ → ℕ) (b : List Mark) (t : AreTold s.node b s) (a
   was g p e = subst (λ ph. Said s.node b g.0 ph) e (t g.0)
 
   -- AN ANSWER THAT SAYS IT
-  sent : Gxid → Reply → Mark
-  sent g r = mark.Sent (Rattle.gx_store.specs.Refusals.the_coordinator) (f 0 + 1) (message.Answer g r)
-
   abbrev aborts_item : Bool → Bool → Gxid → List JournalItem
   aborts_item p a g = if p && not a then item.Abort g ∷ [] else []
 
