@@ -62,7 +62,7 @@ module _ (script : Script) (steps : List Step) (olds ends others : List Shelf) (
   beyond : (n m k : ℕ) → n ≡ m + 1 → n ≤ k → m < k
   beyond n m k e h = omega (arith, e, h)
 
-  held : ((node : Node) (shelf : Shelf) → slice_get ends node.0 ≡ Some shelf → shelf.items ≡ map bytes_of_item (items_of node (marks_in steps))) → AreHeld steps (ends ++ others)
+  held : ((node : Node) (shelf : Shelf) → slice_get ends node.0 ≡ Some shelf → shelf.items ≡ map bytes_of_item (items_of node steps)) → AreHeld steps (ends ++ others)
   held own node shelf at = elim (at-seam ends others node.0 shelf at) [
     | inl here ↦ own node shelf here
     | inr past ↦
@@ -91,7 +91,7 @@ module _ (script : Script) (steps : List Step) (olds ends others : List Shelf) (
       apart : (n m s k : ℕ) → n ≡ s + 1 → m ≡ s + 1 → k < n → m ≤ k → ⊥
       apart n m s k e f h g = omega (arith, e, f, h, g)
 
-  pub kept-lent : (over : Bool) → ((node : Node) (shelf : Shelf) → slice_get ends node.0 ≡ Some shelf → shelf.items ≡ map bytes_of_item (items_of node (marks_in steps)))
+  pub kept-lent : (over : Bool) → ((node : Node) (shelf : Shelf) → slice_get ends node.0 ≡ Some shelf → shelf.items ≡ map bytes_of_item (items_of node steps))
       → lent.AreFailuresFew steps (map (λ (h : Shelf). h.faults) olds) ends → AreKept steps over (olds ++ others) (ends ++ others)
   kept-lent over own firsts =
       record {
@@ -122,7 +122,7 @@ lent-empty f all own others x n is empty =
 
 pub kept-journals : {A : Type 0} (f : A → Shelf) (script : Script) (steps : List Step) (all own others ends back : List A) (x : A) → IsCut all x own others script.segments → AreEmpty (map f all)
     → length ends ≡ script.segments + 1 → back ≡ ends ++ others → HaveNoOthers script steps
-    → ((node : Node) (shelf : Shelf) → slice_get (map f ends) node.0 ≡ Some shelf → shelf.items ≡ map bytes_of_item (items_of node (marks_in steps)))
+    → ((node : Node) (shelf : Shelf) → slice_get (map f ends) node.0 ≡ Some shelf → shelf.items ≡ map bytes_of_item (items_of node steps))
     → lent.AreFailuresFew steps ((f x).faults ∷ map (λ j. (f j).faults) own) (map f ends) → (over : Bool)
     → AreKept steps over (map f all) (map f back)
 kept-journals f script steps all own others ends back x is empty count behind none held few over =

@@ -1,19 +1,16 @@
--- Over every run of the machine, a journal holds the items that the marks stand for.
+-- Over every run of the machine, a journal holds the items that its node's own marks stand for.
 use Rattle.std.proofs.Common.{◌≡◌, ◌≤◌, ℕ, List, [], ◌∷◌, ◌++◌, Option, Some, None, Bool, true, false, refl, sym, subst, ap, ◌∙◌, if◌then◌else◌, ◌==◌, ◌&&◌, ◌||◌, arith, eqb, append-nil}
 use Rattle.std.proofs.lemmas.Bool.Decides.{nat_tests}
-use Rattle.std.proofs.lemmas.List.{append_assoc}
 use Rattle.gx_lemmas.proofs.Numbers.{one-le-zero}
 use Rattle.gx_ids.specs.declared.ids.Node.{Node}
 use Rattle.gx_msg.specs.declared.item.JournalItem.{JournalItem}
-use Rattle.gx_msg.specs.declared.item.JournalItem.TheVariants as item
-use Rattle.gx_msg.specs.declared.message.Out.{Out}
 use Rattle.gx_script.specs.declared.Script.{Script}
 use Rattle.gx_store.specs.declared.event.Event.{Event}
 use Rattle.gx_store.specs.declared.mark.Mark.{Mark}
 use Rattle.gx_store.specs.declared.mark.Mark.TheVariants as mark
 use Rattle.gx_store.specs.declared.node.NodeEvent.{NodeEvent}
 use Rattle.gx_store.specs.declared.run.Step.{Step}
-use Rattle.gx_store.specs.Journals.{is_prepared, is_same_node, items_from, items_of, kept_at}
+use Rattle.gx_store.specs.Journals.{all_from, is_prepared, is_same_node, items_from, items_of, own_marks}
 use Rattle.gx_store.specs.Ordered.{IsAtNode, IsSegment}
 use Rattle.gx_store.specs.Points.{marks_in}
 use Rattle.gx_store.specs.Refusals.{the_coordinator}
@@ -24,8 +21,8 @@ use Rattle.gx_rules.specs.Coordinators.{Coord, CoordTurn}
 use Rattle.gx_rules.specs.Rounds.{victims_at}
 use Rattle.gx_rules.proofs.Turns.{cancels_all-each}
 use Rattle.gx_rules.specs.Machine.{World, after, and_cancelled, at_node, can, coord_did, does, happens, kept_item, new_world, node_of, seg_did, world_of, can_here, seg_can}
-use Rattle.gx_rules.specs.Segments.{Seg, SegTurn}
-use Rattle.gx_rules.specs.Sending.{clock_after, counted, numbered}
+use Rattle.gx_rules.specs.Segments.{Seg}
+use Rattle.gx_rules.specs.Sending.{clock_after, numbered}
 use Rattle.gx_law_order.specs.Moves.{Move, world_by}
 use Rattle.gx_law_order.specs.Journals.{item_at, journal_after, journal_from, takes}
 use Rattle.gx_law_order.proofs.CoordItems.{Stands, cancel-dull, event-stands}
@@ -36,37 +33,20 @@ use Rattle.gx_law_order.proofs.Lists.{each_append}
 use Rattle.gx_law_order.specs.Lists.{Each}
 use Rattle.gx_law_order.proofs.Moves.{comes, moves_after, world-moves}
 use Rattle.gx_law_order.proofs.More.{marks-last}
-use Rattle.gx_law_order.proofs.Ordered.{Well, at-both, happens_well, moves_well, new_well, rule-at, seg_marks, sends-at}
-use Rattle.gx_law_order.proofs.SegItems.{Bound, Dull, Holds, Items, dull-items, dull-prepared, event_items, items-append, prepared-append, writes-append, writes_at}
+use Rattle.gx_law_order.proofs.Ordered.{Well, at-both, moves_well, seg_marks, sends-at}
+use Rattle.gx_law_order.proofs.SegItems.{AreOpen, Bound, Dull, Holds, dull-items, event_items, items-append, prepared-append, writes-append, writes_at}
 use Rattle.gx_law_order.proofs.Sent.{at}
+use Rattle.gx_law_order.proofs.Legality.{after-last}
+use Rattle.gx_law_order.proofs.OwnItems.{Owns, coordinators-items, items-away, items-here, numbered-dull, own-away, own-here, rule-items, rule-owns, sent-holds, with-sent}
+use Rattle.gx_law_order.proofs.Told.{IsCalm, answer-calm, vote-calm}
+use Rattle.gx_law_order.proofs.Whole.{world-both}
+use Rattle.gx_law_order.specs.Pairs.{DoAgree}
 use Rattle.gx_law_order.specs.Standings.{gx}
 use Rattle.gx_ids.specs.declared.ids.Gxid.{Gxid}
 
 -- what the segments hold of the marks
 abbrev pub Hold : World → Type 0
 Hold w = (i : ℕ) → 1 ≤ i → Holds (at i) (w.segs i) (marks_in w.steps)
-
-numbered-dull : (f : ℕ → ℕ) (outs : List Out) → Each Dull (numbered f outs)
-numbered-dull f [] = tt
-numbered-dull f (o ∷ outs) = (tt, numbered-dull (counted f o) outs)
-
-numbered-unwritten : (node : Node) (f : ℕ → ℕ) (outs : List Out) → writes_at node (numbered f outs) ≡ []
-numbered-unwritten node f [] = refl
-numbered-unwritten node f (o ∷ outs) = numbered-unwritten node (counted f o) outs
-
--- marks at another node stand for nothing
-other-items : (script : Script) (here other : Node) (before ms : List Mark) → is_same_node here other ≡ false → (here ≡ the_coordinator → (other.0 == 0) ≡ false) → Each (IsAtNode script here) ms → items_from other before ms ≡ []
-other-items script here other before [] n z e = refl
-other-items script here other before (mark.Prepared m g ∷ ms) n z e =
-    ap (λ q. (if q then item.Prepare g (kept_at other g before) ∷ [] else []) ++ items_from other (before ++ mark.Prepared m g ∷ []) ms) (ap (λ x. is_same_node x other) e.0.0 ∙ n)
-    ∙ other-items script here other (before ++ mark.Prepared m g ∷ []) ms n z e.1
-other-items script here other before (mark.LocalCommit m g ∷ ms) n z e =
-    ap (λ q. (if q then (if is_prepared before other g then item.Finish g ∷ [] else item.Commit g (kept_at other g before) ∷ []) else []) ++ items_from other (before ++ mark.LocalCommit m g ∷ []) ms) (ap (λ x. is_same_node x other) e.0.0 ∙ n)
-    ∙ other-items script here other (before ++ mark.LocalCommit m g ∷ []) ms n z e.1
-other-items script here other before (mark.Decided g ∷ ms) n z e =
-    ap (λ q. (if q then item.Decide g ∷ [] else []) ++ items_from other (before ++ mark.Decided g ∷ []) ms) (z e.0)
-    ∙ other-items script here other (before ++ mark.Decided g ∷ []) ms n z e.1
-other-items script here other before (m ∷ ms) n z e = other-items script here other (before ++ m ∷ []) ms n z e.1
 
 -- marks at another node write and promise nothing here
 other-writes : (script : Script) (here other : Node) (ms : List Mark) → is_same_node here other ≡ false → Each (IsAtNode script here) ms → writes_at other ms ≡ []
@@ -95,16 +75,57 @@ holds-other script here j s before ms n e k =
     or-off : (a : Bool) {b : Bool} → b ≡ false → (a || b) ≡ a
     or-off a e = grind arith
 
--- ONE STEP, FOR THE JOURNAL OF A NODE
-pub record After (w v : World) (i : ℕ) (added : List JournalItem) : Type 0 where
-  pub hold : Hold v
-  pub items : items_of (at i) (marks_in v.steps) ≡ items_of (at i) (marks_in w.steps) ++ added
+-- ONE STEP OF A SEGMENT
+seg-holds : (script : Script) (some : 1 ≤ script.segments) (w : World) → Well script w → Hold w → (e : Event) (x : NodeEvent) (fails : Bool) (j : ℕ) → IsSegment script (at j) → Hold (seg_did w (at j) e (seg_rule script (w.segs j) x fails))
+seg-holds script some w well hold e x fails j place =
+    at-both (λ m (t : Seg). 1 ≤ m → Holds (at m) t (marks_in (w.steps ++ step ∷ []))) w.segs j (seg_rule script (w.segs j) x fails).seg
+    (λ one. subst (λ m. Holds (at j) (seg_rule script (w.segs j) x fails).seg m) (sym (marks-last w.steps step)) own)
+    (λ m away one. subst (λ y. Holds (at m) (w.segs m) y) (sym (marks-last w.steps step)) (holds-other script (at j) m (w.segs m) (marks_in w.steps) step.marks (apart j m away) (seg_marks script w well e x fails j place) (hold m one)))
+  where
+    step : Step
+    step = record { stamp = record { clock = clock_after (w.segs j).clock x; node = at j }; event = e; marks = (seg_rule script (w.segs j) x fails).marks }
 
-more-items : (i : ℕ) (steps : List Step) (s : Step) (added : List JournalItem) → items_from (at i) (marks_in steps) s.marks ≡ added → items_of (at i) (marks_in (steps ++ s ∷ [])) ≡ items_of (at i) (marks_in steps) ++ added
-more-items i steps s added e = ap (items_of (at i)) (marks-last steps s) ∙ items-append (at i) [] (marks_in steps) s.marks ∙ ap (λ q. items_of (at i) (marks_in steps) ++ q) e
+    apart : (a b : ℕ) → (b ≡ a → ⊥) → is_same_node (at a) (at b) ≡ false
+    apart a b n = grind (arith, nat_tests)
 
-with-sent : (node : Node) (before ms : List Mark) (f : ℕ → ℕ) (outs : List Out) (its : List JournalItem) → items_from node before ms ≡ its → items_from node before (ms ++ numbered f outs) ≡ its
-with-sent node before ms f outs its e = items-append node before ms (numbered f outs) ∙ ap (λ q. items_from node before ms ++ q) (dull-items node (before ++ ms) (numbered f outs) (numbered-dull f outs)) ∙ append-nil (items_from node before ms) ∙ e
+    own : Holds (at j) (seg_rule script (w.segs j) x fails).seg (marks_in w.steps ++ step.marks)
+    own =
+        sent-holds (at j) (clock_after (w.segs j).clock x) (segment.on_event script (w.segs j) x fails) (marks_in w.steps)
+        (subst (λ n. Holds n (segment.on_event script (w.segs j) x fails).seg (marks_in w.steps ++ (segment.on_event script (w.segs j) x fails).marks)) (well.names j)
+        (event_items script (w.segs j) (λ h y q. ((well.waiting j).each h y q).opens) (marks_in w.steps) (subst (λ n. Holds n (w.segs j) (marks_in w.steps)) (sym (well.names j)) (hold j place.0)) x fails).holds)
+
+new-hold : Hold new_world
+new-hold j one = record { versions = refl; bound = λ h. refl }
+
+-- ALL WORLDS
+module _ (script : Script) (some : 1 ≤ script.segments) where
+  -- a single turn of the coordinator leaves the segments
+  turn-hold : (w : World) → Hold w → (turn : CoordTurn) (clock : ℕ) (steps : List Step) → marks_in steps ≡ marks_in w.steps ++ (coord_sends clock turn).marks → CoordStays script w.coord.sent turn → Hold (after_turn w clock turn steps)
+  turn-hold w hold turn clock steps marks stays j one =
+      subst (λ m. Holds (at j) (w.segs j) m) (sym marks) (holds-other script the_coordinator j (w.segs j) (marks_in w.steps) (coord_sends clock turn).marks (apart j one) (sends-at script w.coord.sent turn clock stays) (hold j one))
+    where
+      apart : (j : ℕ) → 1 ≤ j → is_same_node the_coordinator (at j) ≡ false
+      apart j one = grind (arith, nat_tests)
+
+  pub moves-hold : (ms : List Move) → Hold (world_by script ms)
+  moves-hold =
+      at-moves script some (Well script) Hold (moves_well script some) new-hold
+      (λ w good hold e x fails t ok next.
+      turn-hold w hold (on_event script w.coord x fails) (clock_after w.coord.clock x) (coord_did w e (coord_turn script w.coord x fails)).steps (marks-by-event script w e x fails) (coord_stays script some w.coord x fails good.coordinator))
+      (λ w good hold g h next. turn-hold w hold (cancels w.coord g) w.coord.clock (and_cancelled w g).steps (marks-by-victim w g h) (cancel_stays script some w.coord g good.coordinator))
+      (λ w good hold e x fails i place t ok next. seg-holds script some w good hold e x fails i place)
+
+  pub world-hold : (es : List (Event × Bool)) → Hold (world_of script es)
+  world-hold es = subst Hold (sym (world-moves script es)) (moves-hold (moves_after script new_world es))
+
+-- THE JOURNAL OF A NODE
+-- what the segments hold of their own marks
+abbrev Own : World → Type 0
+Own w = (i : ℕ) → 1 ≤ i → Owns (at i) (w.segs i) (own_marks (at i) w.steps)
+
+record After (w v : World) (i : ℕ) (added : List JournalItem) : Type 0 where
+  own : Own v
+  items : items_of (at i) v.steps ≡ items_of (at i) w.steps ++ added
 
 -- the coordinator's whole rule: its victims append nothing
 rule-stands : (script : Script) (c : Coord) (before : List Mark) (x : NodeEvent) (fails : Bool) → Stands before fails (coord_rule script c x fails)
@@ -121,78 +142,86 @@ rule-stands script c before x fails = cancels_all-each (Stands before fails) one
         ∙ ap (λ q. items_from the_coordinator before turn.marks ++ q) (dull-items the_coordinator (before ++ turn.marks) (cancel_turn turn.coord g).marks dull)
         ∙ append-nil (items_from the_coordinator before turn.marks) ∙ e
 
-module _ (script : Script) (some : 1 ≤ script.segments) (w : World) (well : Well script w) (hold : Hold w) (e : Event) (x : NodeEvent) (fails : Bool) (i : ℕ) where
+module _ (script : Script) (w : World) (own : Own w) (e : Event) (x : NodeEvent) (fails : Bool) (i : ℕ) where
   coord-after : After w (coord_did w e (coord_rule script w.coord x fails)) i (if is_same_node the_coordinator (at i) then kept_item fails (coord_rule script w.coord x fails).item else [])
   coord-after =
       record {
-        hold = λ j one. subst (λ m. Holds (at j) (w.segs j) m) (sym (marks-last w.steps step)) (holds-other script the_coordinator j (w.segs j) (marks_in w.steps) step.marks (apart j one) all_here (hold j one));
-        items = more-items i w.steps step _ (by_test (is_same_node the_coordinator (at i)) refl);
+        own = λ j one. subst (λ ms. Owns (at j) (w.segs j) ms) (sym (own-away (at j) w.steps step (apart j one))) (own j one);
+        items = by_test (is_same_node the_coordinator (at i)) refl;
       }
     where
       step : Step
       step = record { stamp = record { clock = (coord_rule script w.coord x fails).coord.clock; node = the_coordinator }; event = e; marks = (coord_rule script w.coord x fails).marks }
 
-      all_here : Each (IsAtNode script the_coordinator) step.marks
-      all_here = rule-at script some w.coord x fails well.coordinator
-
       apart : (j : ℕ) → 1 ≤ j → is_same_node the_coordinator (at j) ≡ false
       apart j one = grind (arith, nat_tests)
 
-      back : (j : ℕ) → is_same_node the_coordinator (at j) ≡ false → eqb j 0 ≡ false
-      back j n = grind (arith, nat_tests)
+      its : all_from the_coordinator (own_marks the_coordinator w.steps) step.marks ≡ kept_item fails (coord_rule script w.coord x fails).item
+      its = coordinators-items (own_marks the_coordinator w.steps) step.marks ∙ rule-stands script w.coord (own_marks the_coordinator w.steps) x fails
 
-      by_test : (b : Bool) → is_same_node the_coordinator (at i) ≡ b → items_from (at i) (marks_in w.steps) step.marks ≡ (if b then kept_item fails (coord_rule script w.coord x fails).item else [])
-      by_test true q = subst (λ n. items_from n (marks_in w.steps) step.marks ≡ kept_item fails (coord_rule script w.coord x fails).item) (same_node the_coordinator (at i) q) (rule-stands script w.coord (marks_in w.steps) x fails)
-      by_test false q = other-items script the_coordinator (at i) (marks_in w.steps) step.marks q (λ z. back i q) all_here
+      by_test : (b : Bool) → is_same_node the_coordinator (at i) ≡ b → items_of (at i) (w.steps ++ step ∷ []) ≡ items_of (at i) w.steps ++ (if b then kept_item fails (coord_rule script w.coord x fails).item else [])
+      by_test true q =
+          subst (λ n. items_of n (w.steps ++ step ∷ []) ≡ items_of n w.steps ++ kept_item fails (coord_rule script w.coord x fails).item) (same_node the_coordinator (at i) q)
+          (items-here the_coordinator w.steps step _ refl its)
+      by_test false q = items-away (at i) w.steps step q
 
-  seg-after : (j : ℕ) → (place : IsSegment script (at j)) → After w (seg_did w (at j) e (seg_rule script (w.segs j) x fails)) i (if is_same_node (at j) (at i) then kept_item fails (seg_rule script (w.segs j) x fails).item else [])
-  seg-after j place =
-      record {
-        hold = at-both (λ m (t : Seg). 1 ≤ m → Holds (at m) t (marks_in (w.steps ++ step ∷ []))) w.segs j (seg_rule script (w.segs j) x fails).seg
-            (λ one. subst (λ m. Holds (at j) (seg_rule script (w.segs j) x fails).seg m) (sym (marks-last w.steps step)) own)
-            (λ m away one. subst (λ y. Holds (at m) (w.segs m) y) (sym (marks-last w.steps step)) (holds-other script (at j) m (w.segs m) (marks_in w.steps) step.marks (apart j m away) marks_at (hold m one)));
-        items = more-items i w.steps step _ (by_test (is_same_node (at j) (at i)) refl);
-      }
-    where
-      step : Step
-      step = record { stamp = record { clock = clock_after (w.segs j).clock x; node = at j }; event = e; marks = (seg_rule script (w.segs j) x fails).marks }
+  module _ (some : 1 ≤ script.segments) (well : Well script w) (agree : DoAgree w) where
+    seg-after : (j : ℕ) → IsSegment script (at j) → After w (seg_did w (at j) e (seg_rule script (w.segs j) x fails)) i (if is_same_node (at j) (at i) then kept_item fails (seg_rule script (w.segs j) x fails).item else [])
+    seg-after j place =
+        record {
+          own = at-both (λ m (t : Seg). 1 ≤ m → Owns (at m) t (own_marks (at m) (w.steps ++ step ∷ []))) w.segs j (seg_rule script (w.segs j) x fails).seg
+              (λ one. subst (λ ms. Owns (at j) (seg_rule script (w.segs j) x fails).seg ms) (sym (own-here (at j) w.steps step (here j))) owns)
+              (λ m away one. subst (λ ms. Owns (at m) (w.segs m) ms) (sym (own-away (at m) w.steps step (apart j m away))) (own m one));
+          items = by_test (is_same_node (at j) (at i)) refl;
+        }
+      where
+        step : Step
+        step = record { stamp = record { clock = clock_after (w.segs j).clock x; node = at j }; event = e; marks = (seg_rule script (w.segs j) x fails).marks }
 
-      turn : SegTurn
-      turn = segment.on_event script (w.segs j) x fails
+        here : (a : ℕ) → is_same_node (at a) (at a) ≡ true
+        here a = grind (arith, nat_tests)
 
-      sent : List Mark
-      sent = numbered (λ node. turn.seg.sent) turn.outs
+        apart : (a b : ℕ) → (b ≡ a → ⊥) → is_same_node (at a) (at b) ≡ false
+        apart a b n = grind (arith, nat_tests)
 
-      marks_at : Each (IsAtNode script (at j)) step.marks
-      marks_at = seg_marks script w well e x fails j place
+        at-segment : IsSegment script (w.segs j).node
+        at-segment = subst (IsSegment script) (sym (well.names j)) place
 
-      apart : (a b : ℕ) → (b ≡ a → ⊥) → is_same_node (at a) (at b) ≡ false
-      apart a b n = grind (arith, nat_tests)
+        not-zero : (n : ℕ) → 1 ≤ n → (n == 0) ≡ false
+        not-zero n one = grind (arith, nat_tests)
 
-      not-coordinator : at j ≡ the_coordinator → (i == 0) ≡ false
-      not-coordinator z = absurd (one-le-zero j place.0 (ap (λ (n : Node). n.0) z))
+        calm : (h : ℕ) → IsCalm ((w.segs j).locals h).answer × IsCalm ((w.segs j).locals h).vote
+        calm h = (answer-calm _ _ _ (agree j h).kept, vote-calm _ _ (agree j h).vote)
 
-      its : Items (at j) (marks_in w.steps) fails turn
-      its = subst (λ n. Items n (marks_in w.steps) fails turn) (well.names j) (event_items script (w.segs j) (λ h y q. ((well.waiting j).each h y q).opens) (marks_in w.steps) (subst (λ n. Holds n (w.segs j) (marks_in w.steps)) (sym (well.names j)) (hold j place.0)) x fails)
+        before : List Mark
+        before = own_marks (at j) w.steps
 
-      or-off : (a : Bool) {b : Bool} → b ≡ false → (a || b) ≡ a
-      or-off a e = grind arith
+        opens : AreOpen (w.segs j)
+        opens = λ h y q. ((well.waiting j).each h y q).opens
 
-      own : Holds (at j) (seg_rule script (w.segs j) x fails).seg (marks_in w.steps ++ step.marks)
-      own =
-          record {
-            versions = its.holds.versions ∙ sym (ap (writes_at (at j)) (sym (append_assoc (marks_in w.steps) turn.marks sent)) ∙ writes-append (at j) (marks_in w.steps ++ turn.marks) sent ∙ ap (λ vs. writes_at (at j) (marks_in w.steps ++ turn.marks) ++ vs) (numbered-unwritten (at j) (λ node. turn.seg.sent) turn.outs) ∙ append-nil (writes_at (at j) (marks_in w.steps ++ turn.marks)));
-            bound = λ h. subst (λ q. Bound q (turn.seg.locals h).phase) (sym (ap (λ m. is_prepared m (at j) (gx h)) (sym (append_assoc (marks_in w.steps) turn.marks sent)) ∙ prepared-append (marks_in w.steps ++ turn.marks) sent (at j) (gx h) ∙ or-off (is_prepared (marks_in w.steps ++ turn.marks) (at j) (gx h)) (dull-prepared sent (at j) (gx h) (numbered-dull (λ node. turn.seg.sent) turn.outs)))) (its.holds.bound h);
-          }
+        held : Owns (w.segs j).node (w.segs j) before
+        held = subst (λ n. Owns n (w.segs j) before) (sym (well.names j)) (own j place.0)
 
-      by_test : (b : Bool) → is_same_node (at j) (at i) ≡ b → items_from (at i) (marks_in w.steps) step.marks ≡ (if b then kept_item fails turn.item else [])
-      by_test true q = subst (λ n. items_from n (marks_in w.steps) step.marks ≡ kept_item fails turn.item) (same_node (at j) (at i) q) (with-sent (at j) (marks_in w.steps) turn.marks (λ node. turn.seg.sent) turn.outs _ its.items)
-      by_test false q = other-items script (at j) (at i) (marks_in w.steps) step.marks q not-coordinator marks_at
+        owns : Owns (at j) (seg_rule script (w.segs j) x fails).seg (before ++ step.marks)
+        owns =
+            subst (λ n. Owns n (seg_rule script (w.segs j) x fails).seg (before ++ step.marks)) (well.names j)
+            (rule-owns script (w.segs j) at-segment (not-zero (w.segs j).node.0 at-segment.0) opens calm before held x fails)
+
+        its : all_from (at j) before step.marks ≡ kept_item fails (seg_rule script (w.segs j) x fails).item
+        its =
+            subst (λ n. all_from n before step.marks ≡ kept_item fails (seg_rule script (w.segs j) x fails).item) (well.names j)
+            (rule-items script (w.segs j) at-segment (not-zero (w.segs j).node.0 at-segment.0) opens calm before held x fails)
+
+        by_test : (b : Bool) → is_same_node (at j) (at i) ≡ b → items_of (at i) (w.steps ++ step ∷ []) ≡ items_of (at i) w.steps ++ (if b then kept_item fails (seg_rule script (w.segs j) x fails).item else [])
+        by_test true q =
+            subst (λ n. items_of n (w.steps ++ step ∷ []) ≡ items_of n w.steps ++ kept_item fails (seg_rule script (w.segs j) x fails).item) (same_node (at j) (at i) q)
+            (items-here (at j) w.steps step _ (here j) its)
+        by_test false q = items-away (at i) w.steps step q
 
 -- ALL STEPS
 module _ (script : Script) (some : 1 ≤ script.segments) (i : ℕ) where
-  nothing-after : (w : World) → Hold w → After w w i []
-  nothing-after w h = record { hold = h; items = sym (append-nil (items_of (at i) (marks_in w.steps))) }
+  nothing-after : (w : World) → Own w → After w w i []
+  nothing-after w own = record { own = own; items = sym (append-nil (items_of (at i) w.steps)) }
 
   never-taken : (b : Bool) (fails : Bool) → (if b then kept_item fails None else []) ≡ []
   never-taken true true = refl
@@ -202,54 +231,42 @@ module _ (script : Script) (some : 1 ≤ script.segments) (i : ℕ) where
   abbrev Taken : World → Event → Node → Bool → Option NodeEvent → List JournalItem
   Taken w e n fails x = if is_same_node n (at i) then kept_item fails (item_at script w n fails x) else []
 
-  pub happens-after : (w : World) (e : Event) (fails : Bool) → Well script w → Hold w → After w (happens script w e fails) i (takes script w e fails (at i))
-  happens-after w e fails well hold = by_can (can script w e) refl
+  happens-after : (w : World) (e : Event) (fails : Bool) → Well script w → DoAgree w → Own w → After w (happens script w e fails) i (takes script w e fails (at i))
+  happens-after w e fails well agree own = by_can (can script w e) refl
     where
       by_node : (x : NodeEvent) → at_node w e ≡ Some x → (b : Bool) → is_same_node (node_of e) the_coordinator ≡ b → (if b then coord_can script w.coord x else seg_can script (w.segs (node_of e).0) x) ≡ true
           → After w (if b then coord_did w e (coord_rule script w.coord x fails) else seg_did w (node_of e) e (seg_rule script (w.segs (node_of e).0) x fails)) i
           (if is_same_node (node_of e) (at i) then kept_item fails (if b then (coord_rule script w.coord x fails).item else (seg_rule script (w.segs (node_of e).0) x fails).item) else [])
       by_node x q true is ok =
           subst (λ n. After w (coord_did w e (coord_rule script w.coord x fails)) i (if is_same_node n (at i) then kept_item fails (coord_rule script w.coord x fails).item else []))
-          (sym (same_node (node_of e) the_coordinator is)) (coord-after script some w well hold e x fails i)
-      by_node x q false is ok = seg-after script some w well hold e x fails i (node_of e).0 (place-of script w well e x (node_of e) is (comes w e x q) ok)
+          (sym (same_node (node_of e) the_coordinator is)) (coord-after script w own e x fails i)
+      by_node x q false is ok = seg-after script w own e x fails i some well agree (node_of e).0 (place-of script w well e x (node_of e) is (comes w e x q) ok)
 
       there : (o : Option NodeEvent) → at_node w e ≡ o → can_here script w (node_of e) o ≡ true → After w (does script w e (node_of e) fails o) i (Taken w e (node_of e) fails o)
-      there None q ok = subst (λ its. After w w i its) (sym (never-taken (is_same_node (node_of e) (at i)) fails)) (nothing-after w hold)
+      there None q ok = subst (λ its. After w w i its) (sym (never-taken (is_same_node (node_of e) (at i)) fails)) (nothing-after w own)
       there (Some x) q ok = by_node x q (is_same_node (node_of e) the_coordinator) refl ok
 
       by_can : (b : Bool) → can script w e ≡ b → After w (if b then does script w e (node_of e) fails (at_node w e) else w) i (if b then Taken w e (node_of e) fails (at_node w e) else [])
       by_can true ok = there (at_node w e) refl ok
-      by_can false ok = nothing-after w hold
+      by_can false ok = nothing-after w own
 
-  journal-is : (es : List (Event × Bool)) (w : World) (held : List JournalItem) → Well script w → Hold w → held ≡ items_of (at i) (marks_in w.steps) → journal_from script w (at i) held es ≡ items_of (at i) (marks_in (after script w es).steps)
-  journal-is [] w held well hold e = e
-  journal-is (x ∷ es) w held well hold e =
-      let a = happens-after w x.0 x.1 well hold in
-      journal-is es (happens script w x.0 x.1) (held ++ takes script w x.0 x.1 (at i)) (happens_well script some w x.0 x.1 well) a.hold (ap (λ q. q ++ takes script w x.0 x.1 (at i)) e ∙ sym a.items)
-
-  pub new-hold : Hold new_world
-  new-hold j one = record { versions = refl; bound = λ h. refl }
-
-  pub journal-holds : (es : List (Event × Bool)) → journal_after script (at i) es ≡ items_of (at i) (marks_in (world_of script es).steps)
-  journal-holds es = journal-is es new_world [] (new_well script some) new-hold refl
-
--- ALL WORLDS
-module _ (script : Script) (some : 1 ≤ script.segments) where
-  -- a single turn of the coordinator leaves the segments
-  turn-hold : (w : World) → Hold w → (turn : CoordTurn) (clock : ℕ) (steps : List Step) → marks_in steps ≡ marks_in w.steps ++ (coord_sends clock turn).marks → CoordStays script w.coord.sent turn → Hold (after_turn w clock turn steps)
-  turn-hold w hold turn clock steps marks stays j one =
-      subst (λ m. Holds (at j) (w.segs j) m) (sym marks) (holds-other script the_coordinator j (w.segs j) (marks_in w.steps) (coord_sends clock turn).marks (apart j one) (sends-at script w.coord.sent turn clock stays) (hold j one))
+  -- from the events done so far on, since of each world it is known what is kept and voted there
+  journal-is : (es done : List (Event × Bool)) (held : List JournalItem) → Own (world_of script done) → held ≡ items_of (at i) (world_of script done).steps
+      → journal_from script (world_of script done) (at i) held es ≡ items_of (at i) (after script (world_of script done) es).steps
+  journal-is [] done held own e = e
+  journal-is (x ∷ es) done held own e =
+      let w = world_of script done in
+      let next = after-last script some new_world done x in
+      let a = happens-after w x.0 x.1 (well_at done) (world-both script some done).holds.stands.pairs own in
+      subst (λ v. journal_from script v (at i) (held ++ takes script w x.0 x.1 (at i)) es ≡ items_of (at i) (after script v es).steps) next
+      (journal-is es (done ++ x ∷ []) (held ++ takes script w x.0 x.1 (at i)) (subst Own (sym next) a.own)
+      (ap (λ its. its ++ takes script w x.0 x.1 (at i)) e ∙ sym a.items ∙ ap (λ (v : World). items_of (at i) v.steps) (sym next)))
     where
-      apart : (j : ℕ) → 1 ≤ j → is_same_node the_coordinator (at j) ≡ false
-      apart j one = grind (arith, nat_tests)
+      well_at : (es : List (Event × Bool)) → Well script (world_of script es)
+      well_at es = (world-both script some es).knows.well
 
-  pub moves-hold : (ms : List Move) → Hold (world_by script ms)
-  moves-hold =
-      at-moves script some (Well script) Hold (moves_well script some) (new-hold script some 0)
-      (λ w good hold e x fails t ok next.
-      turn-hold w hold (on_event script w.coord x fails) (clock_after w.coord.clock x) (coord_did w e (coord_turn script w.coord x fails)).steps (marks-by-event script w e x fails) (coord_stays script some w.coord x fails good.coordinator))
-      (λ w good hold g h next. turn-hold w hold (cancels w.coord g) w.coord.clock (and_cancelled w g).steps (marks-by-victim w g h) (cancel_stays script some w.coord g good.coordinator))
-      (λ w good hold e x fails i place t ok next. (seg-after script some w good hold e x fails 0 i place).hold)
+  new-own : Own new_world
+  new-own j one = record { holds = record { versions = refl; bound = λ h. refl }; told = λ h. (refl, refl, refl, refl) }
 
-  pub world-hold : (es : List (Event × Bool)) → Hold (world_of script es)
-  world-hold es = subst Hold (sym (world-moves script es)) (moves-hold (moves_after script new_world es))
+  pub journal-holds : (es : List (Event × Bool)) → journal_after script (at i) es ≡ items_of (at i) (world_of script es).steps
+  journal-holds es = journal-is es [] [] new-own refl

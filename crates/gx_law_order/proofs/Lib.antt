@@ -34,6 +34,9 @@ pub mod Replies
 pub mod World
 pub mod Waiting
 pub mod SegItems
+pub mod Kinds
+pub mod Told
+pub mod OwnItems
 pub mod CoordItems
 pub mod Journals
 pub mod Numbers
