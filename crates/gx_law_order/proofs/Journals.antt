@@ -41,7 +41,7 @@ use Rattle.gx_law_order.proofs.OwnItems.{Owns, coordinators-items, items-away, i
 use Rattle.gx_law_order.proofs.Told.{IsCalm, answer-calm, vote-calm}
 use Rattle.gx_law_order.proofs.Whole.{world-both}
 use Rattle.gx_law_order.specs.Pairs.{DoAgree}
-use Rattle.gx_law_order.specs.Standings.{gx}
+use Rattle.gx_law_order.specs.Standings.{gx, part_at}
 use Rattle.gx_ids.specs.declared.ids.Gxid.{Gxid}
 
 -- what the segments hold of the marks
@@ -191,7 +191,7 @@ module _ (script : Script) (w : World) (own : Own w) (e : Event) (x : NodeEvent)
         not-zero n one = grind (arith, nat_tests)
 
         calm : (h : ℕ) → IsCalm ((w.segs j).locals h).answer × IsCalm ((w.segs j).locals h).vote
-        calm h = (answer-calm _ _ _ (agree j h).kept, vote-calm _ _ (agree j h).vote)
+        calm h = let p = part_at (w.segs j) (marks_in w.steps) j h in (answer-calm p.last p.wrote p.answer (agree j h).kept, vote-calm p.phase p.vote (agree j h).vote)
 
         before : List Mark
         before = own_marks (at j) w.steps
@@ -257,13 +257,10 @@ module _ (script : Script) (some : 1 ≤ script.segments) (i : ℕ) where
   journal-is (x ∷ es) done held own e =
       let w = world_of script done in
       let next = after-last script some new_world done x in
-      let a = happens-after w x.0 x.1 (well_at done) (world-both script some done).holds.stands.pairs own in
+      let a = happens-after w x.0 x.1 (world-both script some done).knows.well (world-both script some done).holds.stands.pairs own in
       subst (λ v. journal_from script v (at i) (held ++ takes script w x.0 x.1 (at i)) es ≡ items_of (at i) (after script v es).steps) next
       (journal-is es (done ++ x ∷ []) (held ++ takes script w x.0 x.1 (at i)) (subst Own (sym next) a.own)
       (ap (λ its. its ++ takes script w x.0 x.1 (at i)) e ∙ sym a.items ∙ ap (λ (v : World). items_of (at i) v.steps) (sym next)))
-    where
-      well_at : (es : List (Event × Bool)) → Well script (world_of script es)
-      well_at es = (world-both script some es).knows.well
 
   new-own : Own new_world
   new-own j one = record { holds = record { versions = refl; bound = λ h. refl }; told = λ h. (refl, refl, refl, refl) }

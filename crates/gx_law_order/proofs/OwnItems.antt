@@ -101,10 +101,10 @@ pub record Owns (node : Node) (s : Seg) (own : List Mark) : Type 0 where
 
 module _ (script : Script) (s : Seg) (place : IsSegment script s.node) (away : (s.node.0 == 0) ≡ false) (opens : AreOpen s) (calm : (h : ℕ) → IsCalm (s.locals h).answer × IsCalm (s.locals h).vote)
     (own : List Mark) (k : Owns s.node s own) (x : NodeEvent) (fails : Bool) where
-  turn : SegTurn
+  abbrev turn : SegTurn
   turn = on_event script s x fails
 
-  sent : List Mark
+  abbrev sent : List Mark
   sent = numbered (λ node. turn.seg.sent) turn.outs
 
   tells : Tells s (λ node. turn.seg.sent) own k.told away fails turn
