@@ -34,7 +34,7 @@ pub mod Replies
 pub mod World
 pub mod Waiting
 pub mod SegItems
-pub mod Kinds
+pub mod Phases
 pub mod Told
 pub mod OwnItems
 pub mod CoordItems

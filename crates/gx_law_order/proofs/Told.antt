@@ -1,5 +1,5 @@
 -- What a segment's answers stand for in its journal: of each of its transactions, what its own marks have said, by what it has become there.
-use Rattle.std.proofs.Common.{◌≡◌, ℕ, List, [], ◌∷◌, ◌++◌, Option, Some, None, Bool, true, false, not, refl, sym, subst, ap, ◌∙◌, if◌then◌else◌, ◌==◌, ◌||◌, ◌&&◌, nat_lt, arith, eqb, append-nil}
+use Rattle.std.proofs.Common.{◌≡◌, ◌+◌, ℕ, List, [], ◌∷◌, ◌++◌, Option, Some, None, Bool, true, false, not, refl, sym, subst, ap, ◌∙◌, if◌then◌else◌, ◌==◌, ◌||◌, ◌&&◌, nat_lt, arith, eqb, append-nil}
 use Rattle.std.proofs.lemmas.Bool.{eqb-true}
 use Rattle.std.proofs.lemmas.Bool.Decides.{nat_tests}
 use Rattle.gx_lemmas.proofs.Numbers.{eqb-self}
@@ -12,6 +12,7 @@ use Rattle.gx_tree.specs.declared.stmt.Level.{Level}
 use Rattle.gx_dsnap.specs.Gxids.{is_below}
 use Rattle.gx_dsnap.specs.declared.snapshot.Snapshot.{Snapshot}
 use Rattle.gx_waits.specs.declared.claim.Claim.{Claim}
+use Rattle.gx_waits.specs.declared.graph.LocalGraph.{LocalGraph}
 use Rattle.gx_locks.specs.Locks.{wait_of}
 use Rattle.gx_msg.specs.declared.item.JournalItem.{JournalItem}
 use Rattle.gx_msg.specs.declared.item.JournalItem.TheVariants as item
@@ -38,7 +39,7 @@ use Rattle.gx_rules.specs.Segments.{Local, Phase, Seg, SegTurn, Suspended, has_c
 use Rattle.gx_rules.specs.Segments.Phase.{Aborted, Committed, Forgotten, Prepared, Reading, Writing}
 use Rattle.gx_rules.specs.Sending.{counted, numbered}
 use Rattle.gx_rules.proofs.Rounds.{collect-ways}
-use Rattle.gx_law_order.proofs.Kinds.{AreKinds, Bare, Stays, changed, kind, request-stays, resumed-stays}
+use Rattle.gx_law_order.proofs.Phases.{AreKinds, Bare, Stays, changed, kind, request-stays, resumed-stays}
 use Rattle.gx_law_order.proofs.Leaving.{Leaves, request-leaves, resumed-leaves}
 use Rattle.gx_law_order.proofs.Lists.{each_weaker}
 use Rattle.gx_law_order.proofs.Releases.{each-released}
@@ -68,6 +69,9 @@ pub record IsPlain (told : Message) : Type 0 where
   pub aborted : (g : Gxid) → tells_aborted told g ≡ false
   pub forgotten : (g : Gxid) → tells_forgotten told g ≡ false
   pub item : (node : Node) (before : List Mark) → told_in node before told ≡ []
+
+plain-graph : (round : ℕ) (graph : LocalGraph) → IsPlain (message.Graph round graph)
+plain-graph round graph = record { aborted = λ h. refl; forgotten = λ h. refl; item = λ node before. refl }
 
 abbrev pub NotEnd : Reply → Type 0
 NotEnd reply.Aborted = ⊥
@@ -566,10 +570,7 @@ module _ (s : Seg) (f : ℕ → ℕ) (b : List Mark) (t : AreTold s.node b s) (a
     message_told fails (message.Abort g) = below fails g _ (abort fails g (local_of s g).phase refl)
     message_told fails (message.Forget g) = below fails g _ (forget fails g (local_of s g).phase refl)
     message_told fails (message.Collect round) =
-        collect-ways (Tells fails) s round (stay fails) (λ e. quiet fails _ (λ h. refl) (tt, tt) (plain-graph, tt) refl) (λ e graph q. quiet fails _ (λ h. refl) tt (plain-graph, tt) refl)
-      where
-        plain-graph : {n : ℕ} {graph : Rattle.gx_waits.specs.declared.graph.LocalGraph.LocalGraph} → IsPlain (message.Graph n graph)
-        plain-graph = record { aborted = λ h. refl; forgotten = λ h. refl; item = λ node before. refl }
+        collect-ways (Tells fails) s round (stay fails) (λ e. quiet fails _ (λ h. refl) (tt, tt) (plain-graph _ _, tt) refl) (λ e graph q. quiet fails _ (λ h. refl) tt (plain-graph _ _, tt) refl)
     message_told fails (message.Answer g r) = stay fails
     message_told fails (message.Graph round graph) = stay fails
     message_told fails message.Up = stay fails
