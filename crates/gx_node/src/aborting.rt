@@ -1,7 +1,5 @@
 // ABORT and FORGET.
-ghost use Rattle.std.specs.Prelude.{◌≡◌, false, Some, IfOk, OnErr};
-ghost use Rattle.std.specs.declared.option.Option.{Option};
-ghost use Rattle.gx_msg.specs.declared.item.JournalItem.{JournalItem as Item};
+ghost use Rattle.std.specs.Prelude.{◌≡◌, false, true, None, Some, IfOk, OnErr};
 ghost use Rattle.gx_outside.specs.Shelves.{HasKept};
 ghost use Rattle.gx_node.specs.Changes.{Does};
 ghost use Rattle.gx_node.specs.Changes as change;
@@ -20,8 +18,8 @@ use std::alloc::Global;
 
 // It ends here: its slice waits no more, and it gives its locks back.
 fn end(node: Node, gxid: Gxid, local: &mut Local, phase: Phase, told: Told) -> Taken
-    ensures does { (it : Option Item) → Does (change.ends_now (local_of local.old) (phase_of phase) (answer_of told) it) (local_of local.new) result }
-    ensures took { result.fails ≡ false }
+    ensures local { local_of local.new ≡ record (local_of local.old) { phase = phase_of phase; suspended = None } }
+    ensures taken { result ≡ record { mark = None; reply = Some (answer_of told); fails = false; ends = true } }
 {
     local.phase = phase;
     local.suspended = None;
