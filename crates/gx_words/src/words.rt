@@ -1,5 +1,5 @@
 // The words, read.
-ghost use Rattle.std.specs.Prelude.{◌≡◌, ◌≤◌, List, IfOk, Err, map, option_and_then, string_bytes, true};
+ghost use Rattle.std.specs.Prelude.{◌≡◌, ◌≤◌, List, IfErr, IfOk, Err, false, map, option_and_then, string_bytes, true};
 ghost use Rattle.std.specs.List.{list_all};
 ghost use Rattle.clap.specs.Walk.{rows_of};
 ghost use Rattle.clap.specs.Matches.{first_value, found_of};
@@ -55,6 +55,7 @@ fn options_of(matches: &ArgMatches) -> Options
 fn limited(options: Options) -> Result<Options, WordsFault>
     ensures taken { IfOk result (λ o. (o ≡ options) × (1 ≤ options.turns) × (options.turns ≤ 10000000)) }
     ensures refused { result ≡ Err words_fault.Usage → 1 ≤ options.turns → options.turns ≤ 10000000 → ⊥ }
+    ensures only { IfErr result (λ fault. fault ≡ words_fault.Usage) }
 {
     if options.turns == 0 || options.turns > 10_000_000 {
         return Err(WordsFault::Usage);
@@ -65,6 +66,7 @@ fn limited(options: Options) -> Result<Options, WordsFault>
 fn read_matches(matches: &ArgMatches) -> Result<Options, WordsFault>
     ensures taken { IfOk result (λ options. (parts : List Part) → rows_of (found_of matches.now) ≡ found_of_parts parts → IsOf parts options) }
     ensures refused { result ≡ Err words_fault.Usage → (parts : List Part) → rows_of (found_of matches.now) ≡ found_of_parts parts → (options : Options) → IsOf parts options → ⊥ }
+    ensures only { IfErr result (λ fault. fault ≡ words_fault.Usage) }
 {
     if are_mixed(matches) {
         return Err(WordsFault::Usage);
@@ -99,6 +101,9 @@ pub fn read_words(alloc: Global, words: &[String]) -> Result<Options, WordsFault
 
     // and for no others.
     ensures alone { IfOk result (λ options. (others : Options) → IsCommand (map string_bytes words.now) others → others ≡ options) }
+
+    // A word that isn't known is refused, and isn't told as want of memory.
+    ensures unknown { list_all (λ w. is_known (string_bytes w)) words.now ≡ false → result ≡ Err words_fault.Usage }
 
     // Words are refused only where they aren't in the language.
     ensures refused { result ≡ Err words_fault.Usage → (options : Options) → IsCommand (map string_bytes words.now) options → ⊥ }
